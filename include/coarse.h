@@ -6,7 +6,15 @@
  *
  * Each call returns one of the answers below. A refused call changes no word; only coarse_bucket_recording and
  * coarse_why, refused for the recording's records or its steps, leave a freshly reset screen, and coarse_why refused with 12 leaves
- * the recording's. */
+ * the recording's.
+ *
+ * Places are counted from 0, rightward and downward, in two ways. A tile is 4 x 4 pixels, and a row is one tile high.
+ *   of the scene:  pixels and tiles, from the scene's corner. So is what is drawn: viewports, clip boxes, filters' boxes, segments.
+ *   of the screen: rows and tiles, from the viewport's corner, and depth buckets, from its left edge, as wide as the setup says. So is
+ *                  what is painted or asked about: rows, pieces, runs, reasons.
+ * With the corner of the screen's viewport at the pixels x0, y0, tile t of row r of the screen is tile x0 / 4 + t of row y0 / 4 + r of
+ * the scene: with the corner at 20, 8 a segment on the tiles 8 to 60 of row 3 gives pieces on the tiles 3 to 55 of row 1. No box, range
+ * or run has its end in it. */
 #ifndef COARSE_H
 #define COARSE_H
 
@@ -57,11 +65,11 @@ static inline const char *coarse_answer_text(uint32_t answer) {
     }
 }
 
-/* The screen's own numbers: viewport x0 y0 x1 y1, clip box x0 y0 x1 y1, C, D, next draw id, the numbers of paint attributes, layer
- * attributes, filter paints and open layers, 1 if painting has begun, else 0, and a bucket's width: 0 for 128 pixels, 1 for 64, 2 for
- * 256. A host starts with zeros and lends them to every call. Another length is answer 4, whatever else is wrong, save that with a setup
- * that is none its own answer, and before it a recording's 3, come first; a painting word above 1 or a width word above 2 is answer 4
- * after 3, 2 and 1. */
+/* The screen's own numbers: viewport x0 y0 x1 y1 in pixels of the scene, clip box x0 y0 x1 y1 in pixels from the viewport's corner,
+ * C, D, next draw id, the numbers of paint attributes, layer attributes, filter paints and open layers, 1 if painting has begun,
+ * else 0, and a bucket's width: 0 for 128 pixels, 1 for 64, 2 for 256. A host starts with zeros and lends them to every call.
+ * Another length is answer 4, whatever else is wrong, save that with a setup that is none its own answer, and before it a
+ * recording's 3, come first; a painting word above 1 or a width word above 2 is answer 4 after 3, 2 and 1. */
 #define COARSE_STATE 17
 
 /* A panel: the number, 0 to 255, of the program module that drew a fill or a layer. It goes with the draw or the layer to its attribute,
@@ -69,21 +77,23 @@ static inline const char *coarse_answer_text(uint32_t answer) {
  * call and in a table's words. A recording has none: all its draws and layers have panel 0. */
 #define COARSE_LAST_PANEL 255
 
-/* Words of one record. */
+/* Words of one record. An alpha index is the first tile's; a tile has 16. */
 #define COARSE_PAINT 4        /* a paint: 1 if opaque else 0, handle, shift x, shift y */
-#define COARSE_SEGMENT 5      /* a segment: 0 solid or 1 alpha, tile row, first tile, end tile, alpha index or 0 */
-#define COARSE_PIECE 7        /* a piece: 1 paint solid, 2 paint alpha, 3 layer solid, 4 layer alpha; attribute; first tile; end tile; alpha index or 0; nesting; panel */
-#define COARSE_RUN 2          /* a run: first, end */
+#define COARSE_SEGMENT 5      /* a segment: 0 solid or 1 alpha; row, first tile, end tile of the scene; alpha index or 0 */
+#define COARSE_PIECE 7        /* a piece: 1 paint solid, 2 paint alpha, 3 layer solid, 4 layer alpha; attribute; first tile, end tile of the screen; alpha index or 0; nesting; panel */
+#define COARSE_RUN 2          /* a run: first, end, in tiles or buckets of the screen's row, as the call says */
 #define COARSE_REASON 4       /* a reason: one of the cases below; its number or 0; the asked attribute's panel; the panel of the one that hides it, or 0 */
 #define COARSE_OPEN_LAYER 17  /* an open layer's own; the last is its panel */
-#define COARSE_PAINT_ATTR 9   /* a paint attribute: paint, mix, compose, mask, draw id, thread, origin x, origin y, panel */
+#define COARSE_PAINT_ATTR 9   /* a paint attribute: paint, mix, compose, mask, draw id, thread, viewport's x0 and y0 (pixels of the scene), panel */
 #define COARSE_LAYER_ATTR 7   /* a layer attribute: mix, compose, mask, draw id, thread, the opacity's bits if it is a NaN else 0, panel */
-#define COARSE_FILTER_PAINT 4 /* a filter fill's paint, as a paint */
+#define COARSE_FILTER_PAINT 4 /* a filter fill's paint, as a paint; its shifts are source_x less x0 and source_y less y0, in pixels */
+#define COARSE_PAINTING 2     /* where a row's painting stands: its next step, and the nesting there */
 
-/* How many there may be: layers open at once, attributes of each kind, paints of filter fills. */
+/* How many there may be: layers open at once, attributes of each kind, paints of filter fills, buckets of a row. */
 #define COARSE_MOST_LAYERS 16
 #define COARSE_MOST_ATTRS 1024
 #define COARSE_MOST_FILTERS 256
+#define COARSE_MOST_BUCKETS 64
 
 /* Lengths that no viewport changes. coarse_sizes gives the others. Opacities: of the open layers, then of the layer attributes. */
 #define COARSE_LAYERS (COARSE_MOST_LAYERS * COARSE_OPEN_LAYER)
@@ -117,11 +127,12 @@ enum coarse_reason_case {
     COARSE_SHOWN = 5              /* number: its place in the tile's list, from 0 */
 };
 
-/* The lengths of the ten tables for a viewport in a setup, in the order that coarse_reset takes them. sizes_len is 10. */
+/* The lengths of the ten tables for a viewport in a setup, in the order that coarse_reset takes them. x0 to y1: the viewport in
+ * pixels of the scene. sizes_len is 10. */
 uint32_t coarse_sizes(uint32_t x0, uint32_t y0, uint32_t x1, uint32_t y1, coarse_setup setup,
                       size_t *sizes, size_t sizes_len);
 
-/* A fresh screen of this viewport in a setup: every lent word is 0. */
+/* A fresh screen of this viewport, in pixels of the scene, in a setup: every lent word is 0. */
 uint32_t coarse_reset(uint32_t *state, size_t state_len,
                       uint32_t x0, uint32_t y0, uint32_t x1, uint32_t y1, coarse_setup setup,
                       uint32_t *render, size_t render_len,
@@ -135,8 +146,9 @@ uint32_t coarse_reset(uint32_t *state, size_t state_len,
                       uint32_t *layer_attrs, size_t layer_attrs_len,
                       int32_t *filter_paints, size_t filter_paints_len);
 
-/* A recording, as the little-endian words of its file, bucketed from a fresh screen of its own viewport in a setup. The tables have the
- * lengths that coarse_sizes gives for that. */
+/* A recording, as the little-endian words of its file, bucketed from a fresh screen of its own viewport in a setup. The tables have
+ * the lengths that coarse_sizes gives for that. The file's viewport and boxes are in pixels, its segments in tiles, all of the
+ * scene. */
 uint32_t coarse_bucket_recording(uint32_t *state, size_t state_len,
                                  const uint32_t *file, size_t file_len, coarse_setup setup,
                                  uint32_t *render, size_t render_len,
@@ -151,9 +163,9 @@ uint32_t coarse_bucket_recording(uint32_t *state, size_t state_len,
                                  int32_t *filter_paints, size_t filter_paints_len);
 
 /* Why does this tile show that? A recording is bucketed as by coarse_bucket_recording, and answers for one attribute at one row and
- * tile of its screen: a draw's (layer 0) or a layer's (layer 1; above 1 is answer 4 after 3, 2 and 1). The answer is the recording's
- * own, then 12 for a row or tile off the screen; the state and the tables are what coarse_bucket_recording leaves. result_len is
- * COARSE_REASON; result is written only with answer 0. */
+ * tile of its screen, each from 0: a draw's (layer 0) or a layer's (layer 1; above 1 is answer 4 after 3, 2 and 1). The answer is
+ * the recording's own, then 12 for a row or tile off the screen; the state and the tables are what coarse_bucket_recording leaves.
+ * result_len is COARSE_REASON; result is written only with answer 0. */
 uint32_t coarse_why(uint32_t *state, size_t state_len,
                     const uint32_t *file, size_t file_len, coarse_setup setup,
                     uint32_t row, uint32_t tile, uint32_t layer, uint32_t attribute,
@@ -169,8 +181,8 @@ uint32_t coarse_why(uint32_t *state, size_t state_len,
                     int32_t *filter_paints, size_t filter_paints_len,
                     uint32_t *result, size_t result_len);
 
-/* The segments start to end of a list, filled with the paint at a place of a paint list. Default blend is mix 0, compose 3; mask 0 is
- * none. */
+/* The segments start to end of a list, filled with the paint at a place of a paint list. The segments are in tiles of the scene;
+ * start, end and paint are places in the lists. Default blend is mix 0, compose 3; mask 0 is none. */
 uint32_t coarse_fill(uint32_t *state, size_t state_len,
                      uint32_t *rows, size_t rows_len,
                      uint32_t *render, size_t render_len,
@@ -181,8 +193,9 @@ uint32_t coarse_fill(uint32_t *state, size_t state_len,
                      uint32_t thread, size_t start, size_t end, uint32_t paint,
                      uint32_t mix, uint32_t compose, uint32_t mask, uint32_t panel);
 
-/* Opens a layer. opacity: the bits of an f32, any; every pattern is kept. flag: 1 with a clip, whose box, segment range and thread
- * follow, or 0 without, and those are not read. */
+/* Opens a layer. opacity: the bits of an f32, any; every pattern is kept. flag: 1 with a clip, whose box (x0 to y1, in pixels of the
+ * scene), segment range (start to end, places in the list that the pop is lent) and thread follow, or 0 without, and those are not
+ * read. */
 uint32_t coarse_push_layer(uint32_t *state, size_t state_len,
                            uint32_t *rows, size_t rows_len,
                            uint32_t *render, size_t render_len,
@@ -193,8 +206,8 @@ uint32_t coarse_push_layer(uint32_t *state, size_t state_len,
                            uint32_t flag, uint32_t x0, uint32_t y0, uint32_t x1, uint32_t y1,
                            uint32_t start, uint32_t end, uint32_t thread, uint32_t panel);
 
-/* Closes the innermost layer, whose attribute has the panel that it was pushed with. segments: the list that its clip's range lies in;
- * empty without a clip. */
+/* Closes the innermost layer, whose attribute has the panel that it was pushed with. segments: the list that its clip's range lies
+ * in, in tiles of the scene; empty without a clip. */
 uint32_t coarse_pop_layer(uint32_t *state, size_t state_len,
                           uint32_t *rows, size_t rows_len,
                           uint32_t *render, size_t render_len,
@@ -204,8 +217,9 @@ uint32_t coarse_pop_layer(uint32_t *state, size_t state_len,
                           uint32_t *layer_attrs, size_t layer_attrs_len,
                           const uint32_t *segments, size_t segments_len);
 
-/* Draws a filter layer's picture into a box. has_pixmap: 1 with a picture, whose handle follows, any below 2^31 and 0 too; or 0 without,
- * and the handle is not read: then nothing is drawn. paint_count: how many paints the paint list has. panel: the layer's. */
+/* Draws a filter layer's picture into a box: x0 to y1, in pixels of the scene. source_x, source_y: from where in the picture, in its
+ * pixels. has_pixmap: 1 with a picture, whose handle follows, any below 2^31 and 0 too; or 0 without, and the handle is not read:
+ * then nothing is drawn. paint_count: how many paints the paint list has. panel: the layer's. */
 uint32_t coarse_filter_fill(uint32_t *state, size_t state_len,
                             uint32_t *rows, size_t rows_len,
                             uint32_t *render, size_t render_len,
@@ -221,8 +235,8 @@ uint32_t coarse_begin_painting(uint32_t *state, size_t state_len,
                                uint32_t *depth, size_t depth_len,
                                uint32_t *painting, size_t painting_len);
 
-/* The next stored command of a row: its pieces at the start of the list, COARSE_PIECE words each. result_len is 2: 1 if no command was
- * left, else 0; how many pieces. */
+/* The next stored command of a row of the screen: its pieces at the start of the list, COARSE_PIECE words each, in tiles of that
+ * row. result_len is 2: 1 if no command was left, else 0; how many pieces. */
 uint32_t coarse_paint_step(const uint32_t *state, size_t state_len, size_t row,
                            const uint32_t *rows, size_t rows_len,
                            const uint32_t *render, size_t render_len,
@@ -234,8 +248,9 @@ uint32_t coarse_paint_step(const uint32_t *state, size_t state_len, size_t row,
                            uint32_t *list, size_t list_len,
                            size_t *result, size_t result_len);
 
-/* A row's steps from where it stands to its end, or up to the first whose pieces have no room left in the list: then call again with
- * more room. The pieces stand one after the other. result_len is 2: 1 if the row has come to its end, else 0; how many pieces. */
+/* The steps of a row of the screen, from where it stands to its end, or up to the first whose pieces have no room left in the list:
+ * then call again with more room. The pieces, in tiles of that row, stand one after the other. result_len is 2: 1 if the row has
+ * come to its end, else 0; how many pieces. */
 uint32_t coarse_paint_row(const uint32_t *state, size_t state_len, size_t row,
                           const uint32_t *rows, size_t rows_len,
                           const uint32_t *render, size_t render_len,
@@ -247,35 +262,41 @@ uint32_t coarse_paint_row(const uint32_t *state, size_t state_len, size_t row,
                           uint32_t *list, size_t list_len,
                           size_t *result, size_t result_len);
 
-/* The runs of the tiles first to end whose buckets are unset, or hold at most the id: two words a run. count_len is 1. */
+/* The runs of the tiles first to end of a row of the screen whose buckets are unset, in tiles: two words a run. first and end may
+ * lie past the screen, up to 8,192; a run ends with the row's last bucket at the latest. count_len is 1. */
 uint32_t coarse_unset_runs(const uint32_t *state, size_t state_len, size_t row,
                            const uint32_t *depth, size_t depth_len, uint32_t first, uint32_t end,
                            uint32_t *list, size_t list_len, size_t *count, size_t count_len);
 
+/* The runs of those tiles whose buckets hold at most the id, in tiles too. */
 uint32_t coarse_visible_runs(const uint32_t *state, size_t state_len, size_t row,
                              const uint32_t *depth, size_t depth_len, uint32_t first, uint32_t end, uint32_t id,
                              uint32_t *list, size_t list_len, size_t *count, size_t count_len);
 
-/* A run as a struct: from a first tile to an end, which is not among them. */
+/* A run as a struct: from a first tile or bucket of the screen's row to an end, which is not among them. */
 typedef struct { uint32_t first, end; } coarse_span;
 
-/* The runs of coarse_visible_runs, with its answers, in a list of list_len spans; the spans after them stay. count_len is 1. */
+/* The runs of coarse_visible_runs, with its answers, in a list of list_len spans of tiles of the screen's row; the spans after them
+ * stay. count_len is 1. */
 uint32_t coarse_visible_spans(const uint32_t *state, size_t state_len, size_t row,
                               const uint32_t *depth, size_t depth_len, uint32_t first, uint32_t end, uint32_t id,
                               coarse_span *list, size_t list_len, size_t *count, size_t count_len);
 
-/* Lists the unset runs of the buckets first to end, and stores the id there. Done, it ends painting. count_len is 1. */
+/* Lists the unset runs of the buckets first to end of a row of the screen, in buckets, and stores the id there. Done, it ends
+ * painting. count_len is 1. */
 uint32_t coarse_unset_runs_and_write(uint32_t *state, size_t state_len, size_t row,
                                      uint32_t *depth, size_t depth_len, uint32_t first, uint32_t end, uint32_t id,
                                      uint32_t *list, size_t list_len, size_t *count, size_t count_len);
 
-/* 1 if a draw of the id over the tiles first to end need not look at the row's depth words, else 0. yes_len is 1. */
+/* 1 if a draw of the id over the tiles first to end of a row of the screen need not look at the row's depth words, else 0. yes_len
+ * is 1. */
 uint32_t coarse_can_skip(const uint32_t *state, size_t state_len, size_t row,
                          const uint32_t *rows, size_t rows_len, uint32_t first, uint32_t end, uint32_t id,
                          uint32_t *yes, size_t yes_len);
 
-/* The parts of an opaque span of tiles over buckets of so many pixels, left to right, three words each: 1 for a regular piece or 2 for
- * a depth fill, first, end (tiles of a piece, buckets of a depth fill). parts_len is 9; zeros follow. A width that is none is answer 2. */
+/* The parts of an opaque span, the tiles first to end of a row of the screen, over buckets of so many pixels, left to right, three
+ * words each: 1 for a regular piece or 2 for a depth fill, first, end (tiles of a piece, buckets of a depth fill). parts_len is 9;
+ * zeros follow. A width that is none is answer 2. */
 uint32_t coarse_split_opaque_span(uint32_t first, uint32_t end, uint32_t pixels, uint32_t *parts, size_t parts_len);
 
 #ifdef __cplusplus

@@ -1,6 +1,10 @@
 /* A screen that owns its tables, over the calls of coarse.h: one allocation holds them all, so that no two overlap and every length
  * is right. Calls have the original's names. Each returns an answer of coarse.h, or COARSE_NO_MEMORY where memory ran out, and then
- * nothing has changed. One thread at a time may use a bucketer. */
+ * nothing has changed. A call that is not done leaves what its pointers are to receive. One thread at a time may use a bucketer.
+ *
+ * As coarse.h says it, what is drawn is of the scene: boxes in pixels, segments in tiles, counted from the scene's corner. What is
+ * painted or asked about is of the screen: rows, tiles and depth buckets, counted from the viewport's corner. No box, range or run has
+ * its end in it. */
 #ifndef COARSE_BUCKETER_H
 #define COARSE_BUCKETER_H
 
@@ -11,13 +15,13 @@
 /* No answer of the library: memory could not be had. */
 #define COARSE_NO_MEMORY 256u
 
-/* A box in pixels. */
+/* A box in pixels of the scene. */
 typedef struct { uint32_t x0, y0, x1, y1; } coarse_rect;
 
 /* opaque: 1 or 0. The handle is the host's own. */
 typedef struct { uint32_t opaque, handle; int32_t shift_x, shift_y; } coarse_paint;
 
-/* kind 0: solid, alpha 0; kind 1: alpha is the index of the first tile. */
+/* Neighbouring tiles of a row of the scene. kind 0: solid, alpha 0; kind 1: alpha is the index of the first tile, which has 16. */
 typedef struct { uint32_t kind, row, first, end, alpha; } coarse_segment;
 
 typedef struct { uint32_t mix, compose; } coarse_blend;
@@ -32,18 +36,20 @@ typedef struct { coarse_rect box; uint32_t start, end, thread; } coarse_clip;
 /* A layer's properties. clip: null for none. panel: whose layer it is; left out, 0. */
 typedef struct { coarse_blend blend; float opacity; uint32_t mask; const coarse_clip *clip; uint32_t panel; } coarse_layer_props;
 
-/* Where a filter layer's picture is drawn, and from where in it. */
+/* Where a filter layer's picture is drawn, and from where in it, in its pixels. */
 typedef struct { coarse_rect dest; uint32_t source_x, source_y; } coarse_placement;
 
-/* tag: 1 paint solid, 2 paint alpha, 3 layer solid, 4 layer alpha. panel: its attribute's. */
+/* tag: 1 paint solid, 2 paint alpha, 3 layer solid, 4 layer alpha. first, end: tiles of the screen. panel: its attribute's. */
 typedef struct { uint32_t tag, attribute, first, end, alpha, nesting, panel; } coarse_piece;
 
+/* Tiles of the screen, or buckets from coarse_bucketer_unset_runs_and_write. */
 typedef coarse_span coarse_run;
 
 /* reason: a case of coarse_reason_case. number: with COARSE_HIDDEN the attribute that hides, with COARSE_SHOWN the place, else 0. panel:
  * the asked attribute's, with COARSE_UNKNOWN_ATTRIBUTE 0. hider_panel: with COARSE_HIDDEN that of the attribute that hides, else 0. */
 typedef struct { uint32_t reason, number, panel, hider_panel; } coarse_reason;
 
+/* origin_x, origin_y: the viewport's x0 and y0, in pixels of the scene. */
 typedef struct { uint32_t paint; coarse_blend blend; uint32_t mask, draw_id, thread, origin_x, origin_y, panel; } coarse_paint_attrs;
 typedef struct { coarse_blend blend; float opacity; uint32_t mask, draw_id, thread, panel; } coarse_layer_attrs;
 
@@ -86,11 +92,12 @@ static inline uint32_t coarse_bucketer_tables(coarse_bucketer *b, const size_t s
     return COARSE_DONE;
 }
 
+/* The lengths of the ten tables for a viewport, in pixels of the scene. */
 static inline uint32_t coarse_bucketer_sizes(coarse_rect v, coarse_setup setup, size_t sizes[10]) {
     return coarse_sizes(v.x0, v.y0, v.x1, v.y1, setup, sizes, 10);
 }
 
-/* Rule 1: a fresh screen of another viewport, in the same setup. */
+/* Rule 1: a fresh screen of another viewport, in pixels of the scene, in the same setup. */
 static inline uint32_t coarse_bucketer_reset(coarse_bucketer *b, coarse_rect v) {
     size_t sizes[10];
     void *old = b->block;
@@ -111,8 +118,8 @@ static inline uint32_t coarse_bucketer_reset(coarse_bucketer *b, coarse_rect v) 
                         b->filter_paints, b->sizes[9]);
 }
 
-/* A screen in a setup, as (coarse_setup){64, 64, COARSE_EXACT, COARSE_128}: its mode reads every viewport, of a reset and of a recording,
- * and its width is that of every screen. Refused, there is nothing to free. */
+/* A screen of a viewport, in pixels of the scene, in a setup, as (coarse_setup){64, 64, COARSE_EXACT, COARSE_128}: its mode reads
+ * every viewport, of a reset and of a recording, and its width is that of every screen. Refused, there is nothing to free. */
 static inline uint32_t coarse_bucketer_new(coarse_bucketer *b, coarse_rect viewport, coarse_setup setup) {
     memset(b, 0, sizeof *b);
     b->setup = setup;
@@ -152,7 +159,8 @@ static inline uint32_t coarse_bucketer_keep(coarse_bucketer *b, const coarse_buc
     return answer;
 }
 
-/* Rule 2: the words of a recording file, on a fresh screen of its own viewport. */
+/* Rule 2: the words of a recording file, on a fresh screen of its own viewport. Its viewport and boxes are in pixels, its segments
+ * in tiles, all of the scene. */
 static inline uint32_t coarse_bucketer_bucket_commands(coarse_bucketer *b, const uint32_t *file, size_t words) {
     coarse_bucketer next;
     uint32_t answer = coarse_bucketer_for(b, file, words, &next);
@@ -165,8 +173,8 @@ static inline uint32_t coarse_bucketer_bucket_commands(coarse_bucketer *b, const
     return coarse_bucketer_keep(b, &next, answer);
 }
 
-/* Buckets a recording's words, and says why an attribute (a layer's where `layer` is not 0, else a draw's) is shown at a tile of its
- * screen or not. The screen is left as coarse_bucketer_bucket_commands leaves it, with 12 too. */
+/* Buckets a recording's words, and says why an attribute (a layer's where `layer` is not 0, else a draw's) is shown at a row and
+ * tile of its screen or not. The screen is left as coarse_bucketer_bucket_commands leaves it, with 12 too. */
 static inline uint32_t coarse_bucketer_why(coarse_bucketer *b, const uint32_t *file, size_t words, uint32_t row, uint32_t tile, int layer,
                                            uint32_t attribute, coarse_reason *reason) {
     coarse_bucketer next;
@@ -180,7 +188,7 @@ static inline uint32_t coarse_bucketer_why(coarse_bucketer *b, const uint32_t *f
     return coarse_bucketer_keep(b, &next, answer);
 }
 
-/* Rules 3 to 7. */
+/* Rules 3 to 7. The segments are in tiles of the scene. */
 static inline uint32_t coarse_bucketer_generate_fill(coarse_bucketer *b, const coarse_paint *paints, size_t paint_count,
                                                      const coarse_segment *segments, size_t segment_count, const coarse_draw *draw) {
     return coarse_fill(b->state, COARSE_STATE, b->rows, b->sizes[3], b->render, b->sizes[0], b->fills, b->sizes[1], b->paint_attrs,
@@ -189,7 +197,7 @@ static inline uint32_t coarse_bucketer_generate_fill(coarse_bucketer *b, const c
                        draw->blend.compose, draw->mask, draw->panel);
 }
 
-/* Rule 8. The opacity is kept bit for bit. */
+/* Rule 8. The clip's box is in pixels of the scene. The opacity is kept bit for bit. */
 static inline uint32_t coarse_bucketer_push_layer(coarse_bucketer *b, const coarse_layer_props *props) {
     static const coarse_clip none = {{0, 0, 0, 0}, 0, 0, 0};
     const coarse_clip *clip = props->clip ? props->clip : &none;
@@ -201,14 +209,15 @@ static inline uint32_t coarse_bucketer_push_layer(coarse_bucketer *b, const coar
                              clip->thread, props->panel);
 }
 
-/* Rules 9 and 10. The list has the segments of the layer's clip; without a clip it may be null and 0. */
+/* Rules 9 and 10. The list has the segments of the layer's clip, in tiles of the scene; without a clip it may be null and 0. */
 static inline uint32_t coarse_bucketer_pop_layer(coarse_bucketer *b, const coarse_segment *segments, size_t segment_count) {
     return coarse_pop_layer(b->state, COARSE_STATE, b->rows, b->sizes[3], b->render, b->sizes[0], b->fills, b->sizes[1], b->layers,
                             b->sizes[5], b->opacities, b->sizes[6], b->layer_attrs, b->sizes[8], (const uint32_t *)segments,
                             segment_count * COARSE_SEGMENT);
 }
 
-/* Rule 11. pixmap: the picture's handle, or null for none. paint_count: how many paints the paint list has. panel: the layer's. */
+/* Rule 11. The box is in pixels of the scene. pixmap: the picture's handle, or null for none. paint_count: how many paints the paint
+ * list has. panel: the layer's. */
 static inline uint32_t coarse_bucketer_generate_filter_layer_fill(coarse_bucketer *b, const uint32_t *pixmap,
                                                                   const coarse_placement *placement, uint32_t paint_count,
                                                                   uint32_t panel) {
@@ -224,19 +233,21 @@ static inline uint32_t coarse_bucketer_begin_painting(coarse_bucketer *b) {
     return coarse_begin_painting(b->state, COARSE_STATE, b->depth, b->sizes[2], b->painting, b->sizes[4]);
 }
 
-/* The viewport that the screen holds, as the mode has read it. */
+/* The viewport that the screen holds, in pixels of the scene, as the mode has read it. */
 static inline coarse_rect coarse_bucketer_viewport(const coarse_bucketer *b) {
     coarse_rect v = {b->state[0], b->state[1], b->state[2], b->state[3]};
     return v;
 }
 
-/* Rows of tiles, and depth buckets in a row. */
+/* How many rows of tiles the screen has. */
 static inline size_t coarse_bucketer_rows(const coarse_bucketer *b) { return (b->state[3] - b->state[1]) / 4; }
+
 /* How many pixels wide a bucket of the screen is. */
 static inline uint32_t coarse_bucketer_bucket_width(const coarse_bucketer *b) {
     return b->state[16] == 1 ? COARSE_64 : b->state[16] == 2 ? COARSE_256 : COARSE_128;
 }
 
+/* How many depth buckets a row has. */
 static inline size_t coarse_bucketer_buckets(const coarse_bucketer *b) {
     uint32_t width = coarse_bucketer_bucket_width(b);
     return (b->state[2] - b->state[0] + (width - 1)) / width;
@@ -255,7 +266,8 @@ static inline uint32_t coarse_bucketer_piece_room(coarse_bucketer *b, size_t n) 
     return COARSE_DONE;
 }
 
-/* The next stored command of a row: whether none was left, and its pieces, which stand until the next painting call. */
+/* The next stored command of a row of the screen: whether none was left, and its pieces, in tiles of that row, which stand until the
+ * next painting call, done or not. */
 static inline uint32_t coarse_bucketer_paint_step(coarse_bucketer *b, size_t row, int *finished, const coarse_piece **pieces,
                                                   size_t *count) {
     size_t result[2] = {0, 0};
@@ -272,23 +284,33 @@ static inline uint32_t coarse_bucketer_paint_step(coarse_bucketer *b, size_t row
     return COARSE_DONE;
 }
 
-/* All pieces of a row, from where it stands to its end; they stand until the next painting call. */
+/* All pieces of a row of the screen, in tiles of that row, from where it stands to its end; they stand until the next painting call,
+ * done or not. The row is painted in passes, and the list grows between them. Where a pass has no memory or is refused, the row is
+ * put back to where it stood. */
 static inline uint32_t coarse_bucketer_paint_row(coarse_bucketer *b, size_t row, const coarse_piece **pieces, size_t *count) {
-    size_t result[2] = {0, 0}, done = 0, step = coarse_bucketer_buckets(b) + 1;
-    while (result[0] == 0) {
-        uint32_t answer = coarse_bucketer_piece_room(b, done + step);
+    size_t rows = b->sizes[4] / COARSE_PAINTING, buckets = rows ? b->sizes[2] / rows : 0, done = 0, result[2] = {0, 0};
+    uint32_t depth[COARSE_MOST_BUCKETS] = {0}, painting[COARSE_PAINTING] = {0}, answer = COARSE_DONE;
+    if (row < rows) {
+        memcpy(depth, b->depth + row * buckets, buckets * sizeof depth[0]);
+        memcpy(painting, b->painting + row * COARSE_PAINTING, sizeof painting);
+    }
+    while (answer == COARSE_DONE && result[0] == 0) {
+        done += result[1];
+        answer = coarse_bucketer_piece_room(b, done + buckets + 1);
         if (answer == COARSE_DONE)
             answer = coarse_paint_row(b->state, COARSE_STATE, row, b->rows, b->sizes[3], b->render, b->sizes[0], b->fills,
                                       b->sizes[1], b->depth, b->sizes[2], b->painting, b->sizes[4], b->paint_attrs, b->sizes[7],
                                       b->layer_attrs, b->sizes[8], (uint32_t *)(b->pieces + done),
                                       (b->piece_room - done) * COARSE_PIECE, result, 2);
-        if (answer != COARSE_DONE)
-            return answer;
-        done += result[1];
     }
-    *pieces = b->pieces;
-    *count = done;
-    return COARSE_DONE;
+    if (answer == COARSE_DONE) {
+        *pieces = b->pieces;
+        *count = done + result[1];
+    } else if (row < rows) {
+        memcpy(b->depth + row * buckets, depth, buckets * sizeof depth[0]);
+        memcpy(b->painting + row * COARSE_PAINTING, painting, sizeof painting);
+    }
+    return answer;
 }
 
 /* Room for the runs of a row. */
@@ -305,46 +327,49 @@ static inline uint32_t coarse_bucketer_run_room(coarse_bucketer *b) {
     return COARSE_DONE;
 }
 
-/* The tiles first to end whose buckets hold 0, as runs, which stand until the next call for runs. */
+/* The tiles first to end of a row of the screen whose buckets hold 0, as runs of tiles, which stand until the next call for runs. */
 static inline uint32_t coarse_bucketer_unset_runs(coarse_bucketer *b, size_t row, uint32_t first, uint32_t end,
                                                   const coarse_run **runs, size_t *count) {
     uint32_t answer = coarse_bucketer_run_room(b);
     if (answer == COARSE_DONE)
         answer = coarse_unset_runs(b->state, COARSE_STATE, row, b->depth, b->sizes[2], first, end, (uint32_t *)b->runs,
                                    b->run_room * COARSE_RUN, count, 1);
-    *runs = b->runs;
+    if (answer == COARSE_DONE)
+        *runs = b->runs;
     return answer;
 }
 
-/* The tiles first to end whose buckets hold at most the id. */
+/* The tiles first to end of a row of the screen whose buckets hold at most the id, as runs of tiles. */
 static inline uint32_t coarse_bucketer_visible_runs(coarse_bucketer *b, size_t row, uint32_t first, uint32_t end, uint32_t id,
                                                     const coarse_run **runs, size_t *count) {
     uint32_t answer = coarse_bucketer_run_room(b);
     if (answer == COARSE_DONE)
         answer = coarse_visible_runs(b->state, COARSE_STATE, row, b->depth, b->sizes[2], first, end, id, (uint32_t *)b->runs,
                                      b->run_room * COARSE_RUN, count, 1);
-    *runs = b->runs;
+    if (answer == COARSE_DONE)
+        *runs = b->runs;
     return answer;
 }
 
-/* The same runs at the start of a list of the caller's own, which has room for so many; the others stay. */
+/* The same runs of tiles at the start of a list of the caller's own, which has room for so many; the others stay. */
 static inline uint32_t coarse_bucketer_visible_spans(const coarse_bucketer *b, size_t row, uint32_t first, uint32_t end, uint32_t id,
                                                      coarse_span *list, size_t room, size_t *count) {
     return coarse_visible_spans(b->state, COARSE_STATE, row, b->depth, b->sizes[2], first, end, id, list, room, count, 1);
 }
 
-/* The unset runs of the buckets first to end; the id is stored there, and painting ends. */
+/* The unset runs of the buckets first to end of a row of the screen, as runs of buckets; the id is stored there, and painting ends. */
 static inline uint32_t coarse_bucketer_unset_runs_and_write(coarse_bucketer *b, size_t row, uint32_t first, uint32_t end, uint32_t id,
                                                             const coarse_run **runs, size_t *count) {
     uint32_t answer = coarse_bucketer_run_room(b);
     if (answer == COARSE_DONE)
         answer = coarse_unset_runs_and_write(b->state, COARSE_STATE, row, b->depth, b->sizes[2], first, end, id, (uint32_t *)b->runs,
                                              b->run_room * COARSE_RUN, count, 1);
-    *runs = b->runs;
+    if (answer == COARSE_DONE)
+        *runs = b->runs;
     return answer;
 }
 
-/* Whether a draw over the tiles first to end need not look at the row's depth words. */
+/* Whether a draw over the tiles first to end of a row of the screen need not look at the row's depth words. */
 static inline uint32_t coarse_bucketer_can_skip(const coarse_bucketer *b, size_t row, uint32_t first, uint32_t end, uint32_t id,
                                                 int *yes) {
     uint32_t word = 0, answer = coarse_can_skip(b->state, COARSE_STATE, row, b->rows, b->sizes[3], first, end, id, &word, 1);

@@ -1,7 +1,25 @@
 /* The border as C meets it: null pointers with length 0, the order of answers, and the bucketer that owns its tables.
  * Prints each thing that does not hold; the status is how many. */
-#include "../include/coarse_bucketer.h"
+#include <stdint.h>
 #include <stdio.h>
+#include <stdlib.h>
+
+/* Memory that can run out: so many more blocks are to be had, in place of the C library's for the bucketer alone. */
+static size_t blocks = SIZE_MAX;
+
+static void *scarce_calloc(size_t count, size_t size) {
+    return blocks == 0 ? NULL : (blocks--, calloc(count, size));
+}
+
+static void *scarce_realloc(void *block, size_t size) {
+    return blocks == 0 ? NULL : (blocks--, realloc(block, size));
+}
+
+#define calloc scarce_calloc
+#define realloc scarce_realloc
+#include "../include/coarse_bucketer.h"
+#undef calloc
+#undef realloc
 
 static int wrong;
 
@@ -405,6 +423,165 @@ static void owned_tables(void) {
     coarse_bucketer_free(&b);
 }
 
+/* A row of 20 pieces on 2 buckets, which are more than a list holds at first: a depth fill over bucket 0, the fill below it, which shows in bucket 1
+ * alone, and 18 fills above it. So many of its steps are painted already. */
+static void row_of_20(coarse_bucketer *b, int steps) {
+    static const coarse_segment list[] = {{0, 0, 0, 32, 0}, {1, 0, 0, 64, 0}};
+    coarse_draw over = {.start = 0, .end = 1, .paint = 0, .blend = COARSE_DEFAULT_BLEND};
+    coarse_draw plain = {.start = 1, .end = 2, .paint = 1, .blend = COARSE_DEFAULT_BLEND};
+    const coarse_piece *pieces;
+    size_t count;
+    int i, finished;
+    expect("a screen", COARSE_DONE, coarse_bucketer_new(b, (coarse_rect){0, 0, 256, 4}, (coarse_setup){32, 8, COARSE_EXACT, COARSE_128}));
+    for (i = 0; i < 20; i++)
+        expect("a fill", COARSE_DONE, coarse_bucketer_generate_fill(b, paints, 2, list, 2, i == 1 ? &over : &plain));
+    expect("painting", COARSE_DONE, coarse_bucketer_begin_painting(b));
+    for (i = 0; i < steps; i++)
+        expect("a step", COARSE_DONE, coarse_bucketer_paint_step(b, 0, &finished, &pieces, &count));
+}
+
+/* The rest of that row, once so many of its steps are painted. */
+static void rest_of_20(coarse_bucketer *b, size_t steps) {
+    const coarse_piece *pieces = NULL;
+    size_t i, count = 0;
+    expect("the row", COARSE_DONE, coarse_bucketer_paint_row(b, 0, &pieces, &count));
+    expect("all of it", 20 - (uint32_t)steps, (uint32_t)count);
+    for (i = steps; i < 20 && i - steps < count; i++) {
+        const coarse_piece *piece = pieces + (i - steps);
+        expect("the depth fill first, then the others", i == 0 ? 1 : i == 1 ? 0 : (uint32_t)i, piece->attribute);
+        expect("from where nothing hides it", i == 1 ? 32 : 0, piece->first);
+        expect("to its end", i == 0 ? 32 : 64, piece->end);
+    }
+}
+
+/* Memory that runs out at any block, and a step that is refused after others: the row is as it was, and what is asked for stays too. */
+static void kept_rows(void) {
+    coarse_bucketer b;
+    const coarse_piece none = {0, 0, 0, 0, 0, 0, 0}, *pieces = &none;
+    size_t count = 99;
+    uint32_t before, *panel;
+    int steps, had = 0;
+    for (steps = 0; steps < 3; steps++) {
+        uint32_t answer = COARSE_NO_MEMORY;
+        for (had = 0; answer != COARSE_DONE && had < 9; had++) {
+            row_of_20(&b, steps);
+            before = sum(&b);
+            pieces = &none, count = 99;
+            blocks = (size_t)had;
+            answer = coarse_bucketer_paint_row(&b, 0, &pieces, &count);
+            blocks = SIZE_MAX;
+            if (answer != COARSE_DONE) {
+                expect("no memory for the row", COARSE_NO_MEMORY, answer);
+                expect("it is as it was", before, sum(&b));
+                expect("no pieces", 1, pieces == &none && count == 99);
+                rest_of_20(&b, (size_t)steps);
+            }
+            coarse_bucketer_free(&b);
+        }
+        expect("memory ran out on the way", 1, answer == COARSE_DONE && had > 1);
+
+        row_of_20(&b, steps);
+        panel = b.paint_attrs + 19 * COARSE_PAINT_ATTR + 8;
+        *panel = 256;
+        before = sum(&b);
+        pieces = &none, count = 99;
+        expect("the last step is refused", COARSE_BAD_RECORD, coarse_bucketer_paint_row(&b, 0, &pieces, &count));
+        expect("the row is as it was", before, sum(&b));
+        expect("no piece of it", 1, pieces == &none && count == 99);
+        *panel = 0;
+        rest_of_20(&b, (size_t)steps);
+        coarse_bucketer_free(&b);
+    }
+
+    row_of_20(&b, 0);
+    before = sum(&b);
+    expect("no row 1", COARSE_BAD_RUN, coarse_bucketer_paint_row(&b, 1, &pieces, &count));
+    expect("nor the last of all numbers", COARSE_BAD_RUN, coarse_bucketer_paint_row(&b, SIZE_MAX, &pieces, &count));
+    expect("nothing has changed", before, sum(&b));
+    blocks = 0;
+    expect("no memory for other tables", COARSE_NO_MEMORY, coarse_bucketer_reset(&b, (coarse_rect){0, 0, 256, 8}));
+    expect("nor for a recording's", COARSE_NO_MEMORY, coarse_bucketer_bucket_commands(&b, one_draw, 32));
+    expect("the screen is as it was", before, sum(&b));
+    blocks = SIZE_MAX;
+    rest_of_20(&b, 0);
+    coarse_bucketer_free(&b);
+}
+
+/* A call for runs that is refused, or has no memory for them, leaves what it was to give. */
+static void kept_runs(void) {
+    coarse_bucketer b;
+    const coarse_run none = {0, 0}, *runs = &none;
+    size_t i, count = 99;
+    for (i = 0; i < 2; i++) {
+        uint32_t want = i == 0 ? COARSE_NO_MEMORY : COARSE_BAD_RUN;
+        expect("a screen", COARSE_DONE, coarse_bucketer_new(&b, (coarse_rect){0, 0, 256, 4}, small));
+        blocks = i == 0 ? 0 : SIZE_MAX;
+        expect("no unset runs", want, coarse_bucketer_unset_runs(&b, 0, 5, 4, &runs, &count));
+        expect("no visible runs", want, coarse_bucketer_visible_runs(&b, 0, 5, 4, 1, &runs, &count));
+        expect("none to write", want, coarse_bucketer_unset_runs_and_write(&b, 0, 0, 2, 0, &runs, &count));
+        blocks = SIZE_MAX;
+        expect("the runs stay", 1, runs == &none);
+        expect("and their count", 99, (uint32_t)count);
+        coarse_bucketer_free(&b);
+    }
+}
+
+/* A viewport from tile 5 of row 2 on: what is handed in counts from the scene's corner, what comes out from the viewport's. */
+static void coordinates(void) {
+    static const coarse_segment list[] = {{0, 3, 7, 15, 0}, {1, 2, 0, 20, 0}, {1, 3, 8, 60, 160}};
+    static const struct { uint32_t row, tag, first, end, alpha; } want[] = {
+        {0, 2, 0, 15, 80}, {0, 1, 1, 3, 0}, {1, 2, 3, 55, 160}, {1, 2, 3, 10, 160}, {1, 3, 2, 10, 0}};
+    coarse_bucketer b;
+    coarse_clip clip = {{28, 12, 60, 16}, 0, 1, 0};
+    coarse_layer_props layer = {.blend = COARSE_DEFAULT_BLEND, .opacity = 1.0f, .clip = &clip};
+    coarse_draw draw = {.start = 1, .end = 3, .paint = 1, .blend = COARSE_DEFAULT_BLEND};
+    coarse_placement placement = {{24, 9, 32, 11}, 4, 1};
+    const coarse_piece *pieces;
+    const coarse_run *runs;
+    size_t count = 0, row, i, at = 0;
+    uint32_t picture = 3;
+    coarse_reason reason = {7, 7, 7, 7};
+    expect("a screen", COARSE_DONE, coarse_bucketer_new(&b, (coarse_rect){20, 8, 276, 16}, small));
+    expect("of 2 rows", 2, (uint32_t)coarse_bucketer_rows(&b));
+    expect("a fill", COARSE_DONE, coarse_bucketer_generate_fill(&b, paints, 2, list, 3, &draw));
+    expect("a clip", COARSE_DONE, coarse_bucketer_push_layer(&b, &layer));
+    draw.start = 2;
+    expect("the same fill in it", COARSE_DONE, coarse_bucketer_generate_fill(&b, paints, 2, list, 3, &draw));
+    expect("closed", COARSE_DONE, coarse_bucketer_pop_layer(&b, list, 3));
+    expect("a picture", COARSE_DONE, coarse_bucketer_generate_filter_layer_fill(&b, &picture, &placement, 2, 0));
+    expect("its shift", (uint32_t)-20, (uint32_t)b.filter_paints[2]);
+    expect("down too", (uint32_t)-8, (uint32_t)b.filter_paints[3]);
+    expect("a fill's origin", 20, coarse_bucketer_paint_attrs(&b, 0).origin_x);
+    expect("and down", 8, coarse_bucketer_paint_attrs(&b, 0).origin_y);
+    expect("painting", COARSE_DONE, coarse_bucketer_begin_painting(&b));
+    for (row = 0; row < 2; row++) {
+        expect("a row", COARSE_DONE, coarse_bucketer_paint_row(&b, row, &pieces, &count));
+        for (i = 0; i < count && at < sizeof want / sizeof want[0]; i++, at++) {
+            expect("the piece's row", want[at].row, (uint32_t)row);
+            expect("its tag", want[at].tag, pieces[i].tag);
+            expect("its first tile", want[at].first, pieces[i].first);
+            expect("its end", want[at].end, pieces[i].end);
+            expect("its alphas", want[at].alpha, pieces[i].alpha);
+        }
+    }
+    expect("every piece", sizeof want / sizeof want[0], (uint32_t)at);
+    expect("no row 2", COARSE_BAD_RUN, coarse_bucketer_paint_row(&b, 2, &pieces, &count));
+    expect("bucket 1", COARSE_DONE, coarse_bucketer_unset_runs_and_write(&b, 1, 1, 2, 5, &runs, &count));
+    expect("is a run of buckets", 1, count == 1 ? runs[0].first : 0);
+    expect("what is unset", COARSE_DONE, coarse_bucketer_unset_runs(&b, 1, 3, 55, &runs, &count));
+    expect("are tiles from 3", 3, count == 1 ? runs[0].first : 0);
+    expect("to the bucket's first", 32, count == 1 ? runs[0].end : 0);
+
+    /* One draw over the tiles 8 to 60 of row 3, in a recording of that viewport. */
+    const uint32_t file[] = {1, 20, 8, 276, 16, 1, 1, 1, 0, 0, 1, 0, 3, 8, 60, 0, 1, 0, 0, 1, 0, 0, 3, 0, 0, 1, 0, 1, 0, 1, 0, 1};
+    expect("row 1, tile 3", COARSE_DONE, coarse_bucketer_why(&b, file, 32, 1, 3, 0, 0, &reason));
+    expect("is its first", COARSE_SHOWN, reason.reason);
+    expect("row 1, tile 55", COARSE_DONE, coarse_bucketer_why(&b, file, 32, 1, 55, 0, 0, &reason));
+    expect("is past its end", COARSE_NO_SEGMENT, reason.reason);
+    expect("row 3", COARSE_BAD_RUN, coarse_bucketer_why(&b, file, 32, 3, 8, 0, 0, &reason));
+    coarse_bucketer_free(&b);
+}
+
 /* The tables have the lengths that the header names. */
 static void named_sizes(void) {
     size_t sizes[10] = {0};
@@ -507,6 +684,9 @@ int main(void) {
     no_mode();
     widths();
     no_width();
+    kept_rows();
+    kept_runs();
+    coordinates();
     named_sizes();
     panels();
     return wrong;

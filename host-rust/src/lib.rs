@@ -3,6 +3,10 @@
 //!
 //! A panel is the number, 0 to [`LAST_PANEL`], of the program module that drew a fill or a layer. It goes with it to its attribute, its
 //! pieces and its reasons. Above is [`Answer::BadRecord`]; left out it is 0, as in every recording.
+//!
+//! Places are counted from 0, rightward and downward; a tile is 4 x 4 pixels. What is drawn is of the scene: boxes in pixels and segments
+//! in tiles, counted from the scene's corner. What is painted or asked about is of the screen: rows, tiles and depth buckets, counted from
+//! the viewport's corner. No box, range or run has its end in it.
 
 mod sys;
 
@@ -97,7 +101,7 @@ impl fmt::Display for Answer {
 
 impl std::error::Error for Answer {}
 
-/// A box in pixels.
+/// A box in pixels of the scene.
 #[derive(Debug, Clone, Copy, PartialEq, Eq, Default)]
 pub struct Rect {
     pub x0: u32,
@@ -170,7 +174,7 @@ impl Setup {
     }
 }
 
-/// From a first tile or bucket to an end, which is not among them.
+/// From a first tile or bucket of the screen to an end, which is not among them.
 #[derive(Debug, Clone, Copy, PartialEq, Eq, Default)]
 #[repr(C)]
 pub struct Run {
@@ -199,7 +203,7 @@ impl Paint {
     }
 }
 
-/// Neighbouring tiles of one row. Kind 0 is solid, 1 has an alpha index.
+/// Neighbouring tiles of one row of the scene. Kind 0 is solid, 1 has an alpha index: the first tile's, which has 16.
 #[derive(Debug, Clone, Copy, PartialEq, Eq)]
 #[repr(C)]
 pub struct Segment {
@@ -293,7 +297,7 @@ impl Default for LayerProps {
     }
 }
 
-/// Where a filter layer's picture is drawn, and from where in it.
+/// Where a filter layer's picture is drawn, and from where in it, in its pixels.
 #[derive(Debug, Clone, Copy, PartialEq, Eq)]
 pub struct FilterLayerPlacement {
     pub dest: Rect,
@@ -301,7 +305,7 @@ pub struct FilterLayerPlacement {
     pub source_y: u32,
 }
 
-/// What a tile range receives in one painting step.
+/// What the tiles first to end of a row of the screen receive in one painting step.
 #[derive(Debug, Clone, Copy, PartialEq, Eq, Default)]
 #[repr(C)]
 pub struct Piece {
@@ -339,6 +343,7 @@ pub struct PaintFillAttrs {
     pub mask: u32,
     pub draw_id: u32,
     pub thread_idx: u32,
+    /// The viewport's x0 and y0, in pixels of the scene.
     pub origin: (u32, u32),
     pub panel: u32,
 }
@@ -354,7 +359,7 @@ pub struct LayerFillAttrs {
     pub panel: u32,
 }
 
-/// A paint that a filter fill added after the paint list.
+/// A paint that a filter fill added after the paint list. The shifts are the source's place less the box's corner, in pixels.
 #[derive(Debug, Clone, Copy, PartialEq, Eq)]
 pub struct FilterPaint {
     pub pixmap: u32,
@@ -362,7 +367,7 @@ pub struct FilterPaint {
     pub shift_y: i32,
 }
 
-/// A part of an opaque span: tiles, or buckets for a depth fill.
+/// A part of an opaque span: tiles, or buckets for a depth fill, of the screen.
 #[derive(Debug, Clone, Copy, PartialEq, Eq)]
 pub enum DepthSegment {
     Regular(Run),
@@ -429,7 +434,7 @@ impl Reason {
     }
 }
 
-/// Rule 7: the parts of an opaque span over buckets of a width, left to right.
+/// Rule 7: the parts of an opaque span, the tiles first to end of a row of the screen, over buckets of a width, left to right.
 pub fn split_opaque_span(first: u32, end: u32, width: Width) -> Result<Vec<DepthSegment>, Answer> {
     let mut parts = [0; 9];
     Answer::check(unsafe {
@@ -567,7 +572,7 @@ pub struct CommandBucketer {
 }
 
 impl CommandBucketer {
-    /// A fresh screen. Its mode reads every viewport, of a reset and of a recording.
+    /// A fresh screen of a viewport, in pixels of the scene. Its mode reads every viewport, of a reset and of a recording.
     pub fn new(viewport: Rect, setup: Setup) -> Result<Self, Answer> {
         let tables = Tables::new(sizes(viewport, setup)?);
         let mut bucketer = Self {
@@ -581,11 +586,12 @@ impl CommandBucketer {
         Ok(bucketer)
     }
 
+    /// A fresh screen so many pixels wide and high, whose corner is the scene's.
     pub fn from_wh(width: u32, height: u32, setup: Setup) -> Result<Self, Answer> {
         Self::new(Rect::new(0, 0, width, height), setup)
     }
 
-    /// Rule 1. Tables are made anew only where the viewport asks for other lengths.
+    /// Rule 1: a fresh screen of another viewport, in pixels of the scene. Tables are made anew only where it asks for other lengths.
     pub fn reset(&mut self, viewport: Rect) -> Result<(), Answer> {
         let sizes = sizes(viewport, self.setup)?;
         if self.tables.lens() != sizes {
@@ -635,7 +641,8 @@ impl CommandBucketer {
         self.runs.resize(room, Run::default());
     }
 
-    /// Rule 2: a recording file's words, bucketed from a fresh screen of its own viewport.
+    /// Rule 2: a recording file's words, bucketed from a fresh screen of its own viewport. Its viewport and boxes are in pixels, its
+    /// segments in tiles, all of the scene.
     ///
     /// Refused by 1 to 3 it changes nothing; by another number it leaves a fresh screen of the file's viewport.
     pub fn bucket_commands(&mut self, file: &[u32]) -> Result<(), Answer> {
@@ -644,7 +651,7 @@ impl CommandBucketer {
         })
     }
 
-    /// Buckets a recording, and says why an attribute is shown at a tile of its screen or not.
+    /// Buckets a recording, and says why an attribute is shown at a row and tile of its screen or not.
     ///
     /// The recording's own refusal comes first, then `BadRun` for a row or a tile off the screen. The screen is left as
     /// `bucket_commands` leaves it; refused by `BadRun` it is the recording's.
@@ -687,7 +694,7 @@ impl CommandBucketer {
         }
     }
 
-    /// Rules 3 to 7.
+    /// Rules 3 to 7. The segments are in tiles of the scene.
     pub fn generate_fill(
         &mut self,
         paints: &[Paint],
@@ -725,7 +732,7 @@ impl CommandBucketer {
         })
     }
 
-    /// Rule 8.
+    /// Rule 8. The clip's box is in pixels of the scene.
     pub fn push_layer(&mut self, props: &LayerProps) -> Result<(), Answer> {
         let t = &mut self.tables;
         let none = LayerClip {
@@ -766,7 +773,7 @@ impl CommandBucketer {
         })
     }
 
-    /// Rules 9 and 10. The list has the segments of the layer's clip.
+    /// Rules 9 and 10. The list has the segments of the layer's clip, in tiles of the scene.
     pub fn pop_layer(&mut self, segments: &[Segment]) -> Result<(), Answer> {
         let t = &mut self.tables;
         let (segments, segments_len) = segment_words(segments);
@@ -792,7 +799,8 @@ impl CommandBucketer {
         })
     }
 
-    /// Rule 11. Nothing is drawn without a picture. paint_count is the paint list's length, panel the layer's.
+    /// Rule 11. The box is in pixels of the scene. Nothing is drawn without a picture. paint_count is the paint list's length, panel the
+    /// layer's.
     pub fn generate_filter_layer_fill(
         &mut self,
         pixmap: Option<u32>,
@@ -845,7 +853,7 @@ impl CommandBucketer {
         })
     }
 
-    /// The pieces of the next stored command of a row, or `None` where none is left.
+    /// The pieces of the next stored command of a row of the screen, in tiles of that row, or `None` where none is left.
     pub fn paint_step(&mut self, row: usize) -> Result<Option<&[Piece]>, Answer> {
         let (finished, count) = self.paint_on(sys::coarse_paint_step, row, 0)?;
         Ok(if finished {
@@ -893,7 +901,7 @@ impl CommandBucketer {
         Ok((result[0] == 1, result[1]))
     }
 
-    /// All pieces of a row, from where it stands to its end.
+    /// All pieces of a row of the screen, in tiles of that row, from where it stands to its end.
     pub fn paint_row(&mut self, row: usize) -> Result<&[Piece], Answer> {
         // Each call has room for one step at least, a piece for each run that a row can have, and a row has at most c + d.
         let step = self.runs.len();
@@ -911,7 +919,7 @@ impl CommandBucketer {
         Err(Answer::NoRoom)
     }
 
-    /// The tiles first to end whose buckets hold 0, as runs.
+    /// The tiles first to end of a row of the screen whose buckets hold 0, as runs of tiles.
     pub fn unset_runs(&mut self, row: usize, first: u32, end: u32) -> Result<&[Run], Answer> {
         let t = &self.tables;
         let mut count = [0];
@@ -934,7 +942,7 @@ impl CommandBucketer {
         Ok(self.runs.get(..count[0]).unwrap_or_default())
     }
 
-    /// The tiles first to end whose buckets hold at most the id, as runs.
+    /// The tiles first to end of a row of the screen whose buckets hold at most the id, as runs of tiles.
     pub fn visible_runs(
         &mut self,
         row: usize,
@@ -964,7 +972,7 @@ impl CommandBucketer {
         Ok(self.runs.get(..count[0]).unwrap_or_default())
     }
 
-    /// The runs of `visible_runs` at the start of a list of the caller's own, and how many there are; the others stay.
+    /// The runs of `visible_runs`, in tiles, at the start of a list of the caller's own, and how many there are; the others stay.
     pub fn visible_spans(
         &self,
         row: usize,
@@ -994,7 +1002,8 @@ impl CommandBucketer {
         Ok(count[0])
     }
 
-    /// The unset runs of the buckets first to end; the id is stored there, and painting ends.
+    /// The unset runs of the buckets first to end of a row of the screen, as runs of buckets; the id is stored there, and painting
+    /// ends.
     pub fn unset_runs_and_write(
         &mut self,
         row: usize,
@@ -1024,7 +1033,7 @@ impl CommandBucketer {
         Ok(self.runs.get(..count[0]).unwrap_or_default())
     }
 
-    /// Whether a draw over the tiles first to end need not look at the row's depth words.
+    /// Whether a draw over the tiles first to end of a row of the screen need not look at the row's depth words.
     pub fn can_skip(&self, row: usize, first: u32, end: u32, draw_id: u32) -> Result<bool, Answer> {
         let mut yes = [0];
         let rows = &self.tables.rows;
@@ -1045,7 +1054,7 @@ impl CommandBucketer {
         Ok(yes[0] == 1)
     }
 
-    /// The viewport that the screen holds, as the mode has read it.
+    /// The viewport that the screen holds, in pixels of the scene, as the mode has read it.
     pub fn viewport(&self) -> Rect {
         let [x0, y0, x1, y1, ..] = self.state;
         Rect { x0, y0, x1, y1 }
@@ -1075,12 +1084,12 @@ impl CommandBucketer {
         }
     }
 
-    /// The depth words, row after row.
+    /// The depth words, a word for each bucket, row after row of the screen.
     pub fn depth_words(&self) -> &[u32] {
         &self.tables.depth
     }
 
-    /// How many depth fills a row has; none where there is no such row.
+    /// How many depth fills a row of the screen has; none where there is no such row.
     pub fn depth_fills(&self, row: usize) -> usize {
         self.tables
             .rows

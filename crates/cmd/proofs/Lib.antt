@@ -1,4 +1,3 @@
-pub mod Blends
 pub mod Tests
 pub mod Commands
 pub mod BothWays

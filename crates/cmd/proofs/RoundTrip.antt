@@ -1,48 +1,35 @@
 -- What the contracts of `words` and `read` give together: a good command is read back as it was written, and good words are written as they were read.
 use mathlib.Core.Path.{◌≡◌, refl, sym, ap, ◌∙◌}
 use mathlib.Core.List.{List}
-use mathlib.Core.Option.{Option, none, some}
+use Rattle.std.specs.Prelude.{Option, None, Some, option_map}
 use Prim.Native.Nat.{ℕ, ◌<◌}
 use native.Mathlib.Omega.{arith}
 use lib.ListN.{get_or}
 use Rattle.rules.specs.Spans.{Span}
 use Rattle.rules.specs.Commands as rule
-use Rattle.rules.specs.Commands.{Command, paint-fill, layer-fill, push-buf, pop-buf, command-words, depth-words}
+use Rattle.rules.specs.Commands.{Command, paint-fill, layer-fill, push-buf, pop-buf, command_words, depth-words}
 use Rattle.span.specs.declared.TileSpan.{TileSpan}
-use Rattle.span.specs.declared.Alpha.{Alpha}
-use Rattle.span.specs.declared.Alpha.TheVariants.{Solid, At}
-use Rattle.span.specs.Spans.{alpha}
-use Rattle.cmd.specs.declared.command.Recorded.{Recorded}
-use Rattle.cmd.specs.declared.command.Recorded.TheVariants as recorded
+use Rattle.span.specs.Spans.{tiles}
 use Rattle.cmd.specs.declared.command.Fill.{Fill}
 use Rattle.cmd.specs.declared.command.RenderCmd.{RenderCmd}
 use Rattle.cmd.specs.declared.command.RenderCmd.TheVariants.{PaintFill, LayerFill, PushBuf, PopBuf}
 use Rattle.cmd.specs.declared.command.CmdWords.{CmdWords}
-use Rattle.cmd.specs.declared.command.ReadCmd.{ReadCmd}
-use Rattle.cmd.specs.declared.command.ReadCmd.TheVariants as read
 use Rattle.cmd.specs.declared.depth_fill.DepthFill.{DepthFill}
 use Rattle.cmd.specs.declared.depth_fill.DepthWords.{DepthWords}
-use Rattle.cmd.specs.declared.depth_fill.ReadDepth.{ReadDepth}
-use Rattle.cmd.specs.declared.depth_fill.ReadDepth.TheVariants as read-depth
-use Rattle.cmd.specs.Commands.{command, recorded-of, words_of, read_of, read-words, Narrow, NarrowPush, NarrowCmd}
-use Rattle.cmd.specs.DepthFills.{depth-fill, depth-words-of, read-depth-of, read-depth-words}
+use Rattle.cmd.specs.Commands.{command, words_of, read-words, Narrow, NarrowPush, NarrowCmd}
+use Rattle.cmd.specs.DepthFills.{depth-fill, depth-words-of, read-depth-words}
 use Rattle.cmd.specs.Good.{GoodSpan, GoodPush, GoodCommand, GoodDepthFill}
 use Rattle.cmd.proofs.BothWays.{read-list, reads-back, writes-back, read-depth-list, depth-reads-back, depth-writes-back}
 
 -- the rules' commands as the code's again
-un-alpha : Option ℕ → Alpha
-un-alpha none = Solid
-un-alpha (some a) = At a
-
 un-tiles : Span → TileSpan
 un-tiles s = record { first = s.first; end = s.end }
 
-un-recorded : Option Span → Recorded
-un-recorded none = recorded.Nothing
-un-recorded (some s) = recorded.Tiles (un-tiles s)
+un-recorded : Option Span → Option TileSpan
+un-recorded s = option_map un-tiles s
 
 un-fill : Span → Option ℕ → ℕ → Fill
-un-fill s a i = record { span = un-tiles s; alpha = un-alpha a; attrs_idx = i }
+un-fill s a i = record { span = un-tiles s; alpha = a; attrs_idx = i }
 
 un-command : Command → RenderCmd
 un-command (paint-fill s a i) = PaintFill (un-fill s a i)
@@ -50,20 +37,15 @@ un-command (layer-fill s a i) = LayerFill (un-fill s a i)
 un-command (push-buf s) = PushBuf (un-recorded s)
 un-command pop-buf = PopBuf
 
-alpha-again : (a : Alpha) → un-alpha (alpha a) ≡ a
-unfolding un-alpha
-alpha-again Solid = refl
-alpha-again (At a) = refl
-
-recorded-again : (r : Recorded) → un-recorded (recorded-of r) ≡ r
+recorded-again : (r : Option TileSpan) → un-recorded (option_map tiles r) ≡ r
 unfolding un-recorded un-tiles
-recorded-again recorded.Nothing = refl
-recorded-again (recorded.Tiles s) = refl
+recorded-again None = refl
+recorded-again (Some s) = refl
 
 command-again : (k : RenderCmd) → un-command (command k) ≡ k
 unfolding un-command un-fill un-tiles
-command-again (PaintFill f) = rw (alpha-again f.alpha)
-command-again (LayerFill f) = rw (alpha-again f.alpha)
+command-again (PaintFill f) = refl
+command-again (LayerFill f) = refl
 command-again (PushBuf r) = rw (recorded-again r)
 command-again PopBuf = refl
 
@@ -82,9 +64,9 @@ same-words v w h = ap un-words h
 narrow : (n : ℕ) (s : Span) → n < 65536 → GoodSpan n s → Narrow s
 narrow n s h g = (omega arith, omega arith)
 
-narrow-push : (r : Recorded) → GoodPush (recorded-of r) → NarrowPush r
-narrow-push recorded.Nothing g = tt
-narrow-push (recorded.Tiles s) g = narrow 8192 _ (omega arith) g
+narrow-push : (r : Option TileSpan) → GoodPush (option_map tiles r) → NarrowPush r
+narrow-push None g = tt
+narrow-push (Some s) g = narrow 8192 _ (omega arith) g
 
 pub narrow-cmd : (k : RenderCmd) → GoodCommand (command k) → NarrowCmd k
 narrow-cmd (PaintFill f) g = narrow 8192 _ (omega arith) g.0
@@ -92,20 +74,20 @@ narrow-cmd (LayerFill f) g = narrow 8192 _ (omega arith) g.0
 narrow-cmd (PushBuf r) g = narrow-push r g
 narrow-cmd PopBuf g = tt
 
-was_read : (r : ReadCmd) (k : RenderCmd) → read_of r ≡ some (command k) → r ≡ read.Cmd k
-was_read read.Bad k h = let z : ◌≡◌ {A = ℕ} 0 1 = cc in absurd (omega arith)
-was_read (read.Cmd l) k h =
+was_read : (r : Option RenderCmd) (k : RenderCmd) → option_map command r ≡ Some (command k) → r ≡ Some k
+was_read None k h = let z : ◌≡◌ {A = ℕ} 0 1 = cc in absurd (omega arith)
+was_read (Some l) k h =
     let e : command l ≡ command k = cc in
-    ap read.Cmd (same-command l k e)
+    ap Some (same-command l k e)
 
 -- `read` of what `words` gave is the command
-pub read-written : (k : RenderCmd) (w : CmdWords) (r : ReadCmd)
-    → GoodCommand (command k) → words_of w ≡ command-words (command k) → read_of r ≡ read-words w → r ≡ read.Cmd k
+pub read-written : (k : RenderCmd) (w : CmdWords) (r : Option RenderCmd)
+    → GoodCommand (command k) → words_of w ≡ command_words (command k) → option_map command r ≡ read-words w → r ≡ Some k
 read-written k w r g p q = was_read r k (q ∙ ap read-list p ∙ reads-back (command k) g)
 
 -- `words` of what `read` gave are the words
 pub written_read : (w v : CmdWords) (k : RenderCmd)
-    → read_of (read.Cmd k) ≡ read-words w → words_of v ≡ command-words (command k) → v ≡ w
+    → option_map command (Some k) ≡ read-words w → words_of v ≡ command_words (command k) → v ≡ w
 written_read w v k p q = same-words v w (q ∙ writes-back _ _ _ _ (command k) (sym p))
 
 -- depth fills, likewise
@@ -123,18 +105,18 @@ pub same-depth-words : (v w : DepthWords) → depth-words-of v ≡ depth-words-o
 unfolding un-depth-words
 same-depth-words v w h = ap un-depth-words h
 
-depth-was-read : (r : ReadDepth) (f : DepthFill) → read-depth-of r ≡ some (depth-fill f) → r ≡ read-depth.Fill f
-depth-was-read read-depth.Bad f h = let z : ◌≡◌ {A = ℕ} 0 1 = cc in absurd (omega arith)
-depth-was-read (read-depth.Fill g) f h =
+depth-was-read : (r : Option DepthFill) (f : DepthFill) → option_map depth-fill r ≡ Some (depth-fill f) → r ≡ Some f
+depth-was-read None f h = let z : ◌≡◌ {A = ℕ} 0 1 = cc in absurd (omega arith)
+depth-was-read (Some g) f h =
     let e : depth-fill g ≡ depth-fill f = cc in
-    ap read-depth.Fill (same-depth-fill g f e)
+    ap Some (same-depth-fill g f e)
 
-pub read-written-depth : (n : ℕ) (f : DepthFill) (w : DepthWords) (r : ReadDepth)
+pub read-written-depth : (n : ℕ) (f : DepthFill) (w : DepthWords) (r : Option DepthFill)
     → n < 65536 → GoodDepthFill n (depth-fill f) → depth-words-of w ≡ depth-words (depth-fill f)
-    → read-depth-of r ≡ read-depth-words n w → r ≡ read-depth.Fill f
+    → option_map depth-fill r ≡ read-depth-words n w → r ≡ Some f
 read-written-depth n f w r h g p q =
     depth-was-read r f (q ∙ ap (read-depth-list n) p ∙ depth-reads-back n (depth-fill f) h g)
 
 pub written-read-depth : (n : ℕ) (w v : DepthWords) (f : DepthFill)
-    → read-depth-of (read-depth.Fill f) ≡ read-depth-words n w → depth-words-of v ≡ depth-words (depth-fill f) → v ≡ w
+    → option_map depth-fill (Some f) ≡ read-depth-words n w → depth-words-of v ≡ depth-words (depth-fill f) → v ≡ w
 written-read-depth n w v f p q = same-depth-words v w (q ∙ depth-writes-back n _ _ (depth-fill f) (sym p))

@@ -1,5 +1,5 @@
 -- Commands and depth fills that words can stand for: spans in order and within their limit, alpha indices that can be moved over their span.
-use Rattle.std.proofs.Math.Option.{Option, none, some}
+use Rattle.std.specs.Prelude.{Option, None, Some}
 use Rattle.std.specs.Prelude.{ℕ, ◌+◌, ◌-◌, ◌*◌, ◌≤◌, ◌<◌}
 use Rattle.sizes.specs.Sizes.{tile-end, tile-alphas}
 use Rattle.rules.specs.Spans.{Span}
@@ -10,12 +10,12 @@ pub record GoodSpan (limit : ℕ) (s : Span) : Type 0 where
   pub in-limit : s.end ≤ limit
 
 abbrev pub GoodAlpha : Span → Option ℕ → Type 0
-GoodAlpha s none = Unit
-GoodAlpha s (some a) = a + tile-alphas * (s.end - s.first) < 4294967296
+GoodAlpha s None = Unit
+GoodAlpha s (Some a) = a + tile-alphas * (s.end - s.first) < 4294967296
 
 abbrev pub GoodPush : Option Span → Type 0
-GoodPush none = Unit
-GoodPush (some s) = GoodSpan tile-end s
+GoodPush None = Unit
+GoodPush (Some s) = GoodSpan tile-end s
 
 abbrev pub GoodCommand : Command → Type 0
 GoodCommand (paint-fill s a i) = GoodSpan tile-end s × GoodAlpha s a

@@ -46,11 +46,10 @@ pub fn put_paint_attrs(table: &mut [u32], i: usize, a: PaintFillAttrs)
     requires { (i < most-attrs) × (length table.old ≡ paint-attr-table) }
     ensures { table.new ≡ put-paint table.old i a }
 {
-    let blend = a.blend;
     let at = PAINT_ATTR * i;
     table[at] = a.paint;
-    table[at + 1] = blend.mix;
-    table[at + 2] = blend.compose;
+    table[at + 1] = a.blend.mix;
+    table[at + 2] = a.blend.compose;
     table[at + 3] = a.mask;
     table[at + PAINT_ID] = a.draw_id;
     table[at + 5] = a.thread_idx;
@@ -79,10 +78,9 @@ pub fn put_layer_attrs(table: &mut [u32], opacities: &mut [f32], i: usize, a: La
     requires { (i < most-attrs) × (length table.old ≡ layer-attr-table) × (length opacities.old ≡ opacity-count) }
     ensures { layer-tables table.new opacities.new ≡ put-layer (layer-tables table.old opacities.old) i a }
 {
-    let blend = a.blend;
     let at = LAYER_ATTR * i;
-    table[at] = blend.mix;
-    table[at + 1] = blend.compose;
+    table[at] = a.blend.mix;
+    table[at + 1] = a.blend.compose;
     table[at + 2] = a.mask;
     table[at + LAYER_ID] = a.draw_id;
     table[at + 4] = a.thread_idx;
@@ -110,12 +108,9 @@ pub fn put_filter_paint(table: &mut [i32], i: usize, p: FilterPaint)
     requires { (i < most-filters) × (length table.old ≡ filter-paint-table) × (p.pixmap < handle-end) }
     ensures { table.new ≡ put-filter table.old i p }
 {
-    let pixmap = p.pixmap as i32;
-    let shift_x = p.shift_x;
-    let shift_y = p.shift_y;
     let at = FILTER_PAINT * i;
     table[at] = 0;
-    table[at + 1] = pixmap;
-    table[at + 2] = shift_x;
-    table[at + 3] = shift_y;
+    table[at + 1] = p.pixmap as i32;
+    table[at + 2] = p.shift_x;
+    table[at + 3] = p.shift_y;
 }

@@ -9,41 +9,32 @@ pub struct Blend {
     pub compose: u32,
 }
 
-impl Blend {
-    pub fn default() -> Blend
-        ensures { blend_of result ≡ default-blend }
-    {
+impl Default for Blend {
+    ghost is_default = { λ blend. blend_of blend ≡ default-blend };
+
+    fn default() -> Blend {
         Blend { mix: 0, compose: 3 }
     }
+}
 
+impl Blend {
     pub fn is_default(self) -> bool
         ensures { result ≡ is-default (blend_of self) }
     {
-        if self.mix == 0 {
-            self.compose == 3
-        } else {
-            false
-        }
+        self.mix == 0 && self.compose == 3
     }
 
     pub fn is_good(self) -> bool
         ensures { result ≡ good-blend (blend_of self) }
     {
-        if self.mix <= 15 {
-            self.compose <= 13
-        } else {
-            false
-        }
+        self.mix <= 15 && self.compose <= 13
     }
 
     // A destructive blend changes pixels that its layer does not cover.
+    #[tactic(auto, unfolding(rules::specs::Blends::destructive))]
     pub fn is_destructive(self) -> bool
         ensures { result ≡ destructive self.compose }
     {
-        let compose = self.compose;
-        match compose {
-            0 | 1 | 5..=7 | 10 => true,
-            _ => false,
-        }
+        matches!(self.compose, 0 | 1 | 5..=7 | 10)
     }
 }

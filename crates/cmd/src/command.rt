@@ -1,26 +1,19 @@
 // Render commands, and the four words that stand for one.
-ghost use Rattle.std.specs.Prelude.{◌≡◌, ◌&&◌, ◌<◌, ◌≤◌, eqb};
+ghost use Rattle.std.specs.Prelude.{◌≡◌, ◌&&◌, ◌<◌, ◌≤◌, eqb, option_map};
 ghost use Rattle.sizes.specs.Sizes.{tile-end};
 ghost use Rattle.rules.specs.Spans.{span};
-ghost use Rattle.rules.specs.Commands.{span-word, fill-words, push-words, command-words};
+ghost use Rattle.rules.specs.Commands.{span-word, fill-words, push-words, command_words};
 ghost use Rattle.cmd.specs.Reading.{word-span, good-span-word, good-alpha};
-ghost use Rattle.span.specs.Spans.{tiles, alpha};
-ghost use Rattle.cmd.specs.Commands.{recorded-of, command, words_of, read_of, read-words, fill-of, Narrow, NarrowPush, NarrowCmd};
+ghost use Rattle.span.specs.Spans.{tiles};
+ghost use Rattle.cmd.specs.Commands.{command, words_of, read-words, fill-of, Narrow, NarrowPush, NarrowCmd};
 
 use sizes::{TILE_ALPHAS, TILE_END};
-use span::{Alpha, TileSpan};
-
-// A buffer's span: the union of the fills at its own level, or nothing.
-#[derive(Clone, Copy)]
-pub enum Recorded {
-    Nothing,
-    Tiles(TileSpan),
-}
+use span::TileSpan;
 
 #[derive(Clone, Copy)]
 pub struct Fill {
     pub span: TileSpan,
-    pub alpha: Alpha,
+    pub alpha: Option<u32>,
     pub attrs_idx: u32,
 }
 
@@ -28,7 +21,8 @@ pub struct Fill {
 pub enum RenderCmd {
     PaintFill(Fill),
     LayerFill(Fill),
-    PushBuf(Recorded),
+    // With the union of the fills at the buffer's own level, if there are any.
+    PushBuf(Option<TileSpan>),
     PopBuf,
 }
 
@@ -39,13 +33,6 @@ pub struct CmdWords {
     pub span: u32,
     pub alpha: u32,
     pub attrs_idx: u32,
-}
-
-// What four words stand for.
-#[derive(Clone, Copy)]
-pub enum ReadCmd {
-    Bad,
-    Cmd(RenderCmd),
 }
 
 // Two numbers in one word.
@@ -60,70 +47,64 @@ pub fn span_word(first: u32, end: u32) -> u32
 pub fn good_span_word(limit: u32, word: u32) -> bool
     ensures { result ≡ good-span-word limit word }
 {
-    if word / 65536 <= word % 65536 {
-        word % 65536 <= limit
-    } else {
-        false
-    }
+    word / 65536 <= word % 65536 && word % 65536 <= limit
 }
 
 impl Fill {
     // The words of a fill, `tag` being that of a solid one; with alpha it is one more.
     fn words(self, tag: u32) -> CmdWords
         requires { Narrow (tiles self.span) × (tag ≤ 3) }
-        ensures { words_of result ≡ fill-words tag (tiles self.span) (alpha self.alpha) self.attrs_idx }
+        ensures { words_of result ≡ fill-words tag (tiles self.span) self.alpha self.attrs_idx }
     {
-        let tiles = self.span;
-        let alpha = self.alpha;
-        let word = span_word(tiles.first, tiles.end);
-        match alpha {
-            Alpha::Solid => CmdWords {
+        let span = span_word(self.span.first, self.span.end);
+        match self.alpha {
+            None => CmdWords {
                 tag,
-                span: word,
+                span,
                 alpha: 0,
                 attrs_idx: self.attrs_idx,
             },
-            Alpha::At(index) => CmdWords {
+            Some(alpha) => CmdWords {
                 tag: tag + 1,
-                span: word,
-                alpha: index,
+                span,
+                alpha,
                 attrs_idx: self.attrs_idx,
             },
         }
     }
 }
 
-impl Recorded {
-    fn words(self) -> CmdWords
-        requires { NarrowPush self }
-        ensures { words_of result ≡ push-words (recorded-of self) }
-    {
-        match self {
-            Recorded::Nothing => CmdWords {
-                tag: 5,
-                span: 0,
-                alpha: 0,
-                attrs_idx: 0,
-            },
-            Recorded::Tiles(tiles) => CmdWords {
-                tag: 6,
-                span: span_word(tiles.first, tiles.end),
-                alpha: 0,
-                attrs_idx: 0,
-            },
-        }
+// The words of a buffer's push.
+fn push_words(recorded: Option<TileSpan>) -> CmdWords
+    requires { NarrowPush recorded }
+    ensures { words_of result ≡ push-words (option_map tiles recorded) }
+{
+    match recorded {
+        None => CmdWords {
+            tag: 5,
+            span: 0,
+            alpha: 0,
+            attrs_idx: 0,
+        },
+        Some(tiles) => CmdWords {
+            tag: 6,
+            span: span_word(tiles.first, tiles.end),
+            alpha: 0,
+            attrs_idx: 0,
+        },
     }
 }
 
 impl RenderCmd {
+    #[tactic(auto, unfolding(rules::specs::Commands::command_words))]
     pub fn words(self) -> CmdWords
         requires { NarrowCmd self }
-        ensures { words_of result ≡ command-words (command self) }
+        ensures { words_of result ≡ command_words (command self) }
     {
         match self {
             RenderCmd::PaintFill(fill) => fill.words(1),
             RenderCmd::LayerFill(fill) => fill.words(3),
-            RenderCmd::PushBuf(recorded) => recorded.words(),
+            RenderCmd::PushBuf(recorded) => push_words(recorded),
             RenderCmd::PopBuf => CmdWords {
                 tag: 7,
                 span: 0,
@@ -139,120 +120,70 @@ impl CmdWords {
     fn is_solid(self) -> bool
         ensures { result ≡ (good-span-word tile-end self.span && eqb self.alpha 0) }
     {
-        if good_span_word(TILE_END, self.span) {
-            self.alpha == 0
-        } else {
-            false
-        }
+        good_span_word(TILE_END, self.span) && self.alpha == 0
     }
 
     // Such a span, and an alpha index that can be moved over all of it.
     fn is_alpha(self) -> bool
         ensures { result ≡ (good-span-word tile-end self.span && good-alpha self.alpha self.span) }
     {
-        if good_span_word(TILE_END, self.span) {
-            let width = self.span % 65536 - self.span / 65536;
-            self.alpha <= 4294967295 - TILE_ALPHAS * width
-        } else {
-            false
-        }
+        good_span_word(TILE_END, self.span)
+            && self
+                .alpha
+                .checked_add(TILE_ALPHAS * (self.span % 65536 - self.span / 65536))
+                .is_some()
     }
 
     // Nothing but the tag.
     fn is_bare(self) -> bool
         ensures { result ≡ (eqb self.span 0 && eqb self.alpha 0 && eqb self.attrs_idx 0) }
     {
-        if self.span == 0 {
-            if self.alpha == 0 {
-                self.attrs_idx == 0
-            } else {
-                false
-            }
-        } else {
-            false
-        }
+        self.span == 0 && self.alpha == 0 && self.attrs_idx == 0
     }
 
-    fn fill(self, alpha: Alpha) -> Fill
+    fn fill(self, alpha: Option<u32>) -> Fill
         ensures { result ≡ fill-of self alpha }
     {
-        let tiles = TileSpan {
-            first: self.span / 65536,
-            end: self.span % 65536,
-        };
         Fill {
-            span: tiles,
+            span: self.tiles(),
             alpha,
             attrs_idx: self.attrs_idx,
         }
     }
 
-    // The command that the words stand for.
-    pub fn read(self) -> ReadCmd
-        ensures { read_of result ≡ read-words self }
+    fn tiles(self) -> TileSpan
+        ensures { tiles result ≡ word-span self.span }
     {
-        let tag = self.tag;
-        match tag {
-            1 => {
-                if self.is_solid() {
-                    let fill = self.fill(Alpha::Solid);
-                    ReadCmd::Cmd(RenderCmd::PaintFill(fill))
-                } else {
-                    ReadCmd::Bad
-                }
-            }
-            2 => {
-                if self.is_alpha() {
-                    let fill = self.fill(Alpha::At(self.alpha));
-                    ReadCmd::Cmd(RenderCmd::PaintFill(fill))
-                } else {
-                    ReadCmd::Bad
-                }
-            }
-            3 => {
-                if self.is_solid() {
-                    let fill = self.fill(Alpha::Solid);
-                    ReadCmd::Cmd(RenderCmd::LayerFill(fill))
-                } else {
-                    ReadCmd::Bad
-                }
-            }
-            4 => {
-                if self.is_alpha() {
-                    let fill = self.fill(Alpha::At(self.alpha));
-                    ReadCmd::Cmd(RenderCmd::LayerFill(fill))
-                } else {
-                    ReadCmd::Bad
-                }
-            }
-            5 => {
-                if self.is_bare() {
-                    ReadCmd::Cmd(RenderCmd::PushBuf(Recorded::Nothing))
-                } else {
-                    ReadCmd::Bad
-                }
-            }
-            6 => {
-                if self.is_solid() {
-                    if self.attrs_idx == 0 {
-                        let fill = self.fill(Alpha::Solid);
-                        let tiles = fill.span;
-                        ReadCmd::Cmd(RenderCmd::PushBuf(Recorded::Tiles(tiles)))
-                    } else {
-                        ReadCmd::Bad
-                    }
-                } else {
-                    ReadCmd::Bad
-                }
-            }
-            7 => {
-                if self.is_bare() {
-                    ReadCmd::Cmd(RenderCmd::PopBuf)
-                } else {
-                    ReadCmd::Bad
-                }
-            }
-            _ => ReadCmd::Bad,
+        TileSpan {
+            first: self.span / 65536,
+            end: self.span % 65536,
+        }
+    }
+
+    // The command that the words stand for.
+    #[tactic(auto, unfolding(crate::specs::Reading::command_of))]
+    pub fn read(self) -> Option<RenderCmd>
+        ensures { option_map command result ≡ read-words self }
+    {
+        match self.tag {
+            1 => self
+                .is_solid()
+                .then_some(RenderCmd::PaintFill(self.fill(None))),
+            2 => self
+                .is_alpha()
+                .then_some(RenderCmd::PaintFill(self.fill(Some(self.alpha)))),
+            3 => self
+                .is_solid()
+                .then_some(RenderCmd::LayerFill(self.fill(None))),
+            4 => self
+                .is_alpha()
+                .then_some(RenderCmd::LayerFill(self.fill(Some(self.alpha)))),
+            5 => self.is_bare().then_some(RenderCmd::PushBuf(None)),
+            6 => (self.is_solid() && self.attrs_idx == 0).then_some(RenderCmd::PushBuf(Some(
+                self.tiles(),
+            ))),
+            7 => self.is_bare().then_some(RenderCmd::PopBuf),
+            _ => None,
         }
     }
 }

@@ -1,9 +1,9 @@
 // Depth fills: whole depth buckets of one paint, and the two words that stand for one.
-ghost use Rattle.std.specs.Prelude.{◌≡◌};
+ghost use Rattle.std.specs.Prelude.{◌≡◌, option_map};
 ghost use Rattle.rules.specs.Commands.{depth-words};
 ghost use Rattle.span.specs.Spans.{buckets};
 ghost use Rattle.cmd.specs.Commands.{Narrow};
-ghost use Rattle.cmd.specs.DepthFills.{depth-fill, depth-words-of, read-depth-of, read-depth-words};
+ghost use Rattle.cmd.specs.DepthFills.{depth-fill, depth-words-of, read-depth-words};
 
 use crate::command::{good_span_word, span_word};
 use span::BucketRange;
@@ -21,21 +21,13 @@ pub struct DepthWords {
     pub attrs_idx: u32,
 }
 
-// What two words stand for.
-#[derive(Clone, Copy)]
-pub enum ReadDepth {
-    Bad,
-    Fill(DepthFill),
-}
-
 impl DepthFill {
     pub fn words(self) -> DepthWords
         requires { Narrow (buckets self.buckets) }
         ensures { depth-words-of result ≡ depth-words (depth-fill self) }
     {
-        let range = self.buckets;
         DepthWords {
-            span: span_word(range.first, range.end),
+            span: span_word(self.buckets.first, self.buckets.end),
             attrs_idx: self.attrs_idx,
         }
     }
@@ -43,21 +35,16 @@ impl DepthFill {
 
 impl DepthWords {
     // The depth fill that the words stand for, in a row of some buckets.
-    pub fn read(self, count: u32) -> ReadDepth
-        ensures { read-depth-of result ≡ read-depth-words count self }
+    #[tactic(auto, unfolding(crate::specs::Reading::depth_fill_of))]
+    pub fn read(self, count: u32) -> Option<DepthFill>
+        ensures { option_map depth-fill result ≡ read-depth-words count self }
     {
-        if good_span_word(count, self.span) {
-            let range = BucketRange {
+        good_span_word(count, self.span).then_some(DepthFill {
+            buckets: BucketRange {
                 first: self.span / 65536,
                 end: self.span % 65536,
-            };
-            let fill = DepthFill {
-                buckets: range,
-                attrs_idx: self.attrs_idx,
-            };
-            ReadDepth::Fill(fill)
-        } else {
-            ReadDepth::Bad
-        }
+            },
+            attrs_idx: self.attrs_idx,
+        })
     }
 }

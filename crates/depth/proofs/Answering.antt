@@ -10,7 +10,7 @@ use lib.Dec.{leb, ltb, eqb}
 use borrow.Author.Tests.{le-leb, lt-leb, le-ltb, ltb-false, ne_eqb, eq-eqb}
 use Rattle.rules.specs.Answers.{Answer, answer}
 use Rattle.rules.specs.Spans.{Span, span, common, bad-range}
-use Rattle.rules.specs.Depth.{runs-in, runs, tiles-of, is-visible, listed, unset-runs, visible-runs, unset-answer, visible-answer, write-runs, write-answer, write-after, written}
+use Rattle.rules.specs.Depth.{runs-in, runs, tiles-of, is-visible, listed, unset-runs, visible-runs, unset_answer, visible_answer, write-runs, write_answer, write-after, written}
 use Rattle.depth.specs.Listing.{RunsOut, numbers, listing, done, cut-runs, open-runs, met-end, OutWrite, writing}
 use Rattle.depth.proofs.Skipping.{or-true}
 use Rattle.depth.proofs.Searching.{runs-few, runs-shorter, runs-end, unset-visible}
@@ -87,30 +87,30 @@ module _ (w : ℕ) (bs : List ℕ) (id : ℕ) (s : Span) (l : List ℕ) where
       go true = rw (runs-shorter (is-visible id) bs (s.first / w) ((s.end + (w - 1)) / w))
       go false = rw (runs-end (is-visible id) bs 0 (s.first / w) (omega arith))
 
-  pub tiles-backward : s.end < s.first → refused 12 l ≡ listing (visible-answer w bs id s (length l / 2)) l
-  unfolding visible-answer
+  pub tiles-backward : s.end < s.first → refused 12 l ≡ listing (visible_answer w bs id s (length l / 2)) l
+  unfolding visible_answer
   tiles-backward h = listed-bad (length l / 2) (visible-runs w bs id s) l _ (backward 8192 s h)
 
-  pub tiles-past : 8192 < s.end → refused 12 l ≡ listing (visible-answer w bs id s (length l / 2)) l
-  unfolding visible-answer
+  pub tiles-past : 8192 < s.end → refused 12 l ≡ listing (visible_answer w bs id s (length l / 2)) l
+  unfolding visible_answer
   tiles-past h = listed-bad (length l / 2) (visible-runs w bs id s) l _ (past 8192 s h)
 
   module _ (h : s.first ≤ s.end) (g : s.end ≤ 8192) (lo hi : ℕ) (d : lo ≡ s.first / w) (e : hi ≡ met-end w s (length bs)) where
     many : length (runs-in (is-visible id) bs (span lo hi)) ≡ length (visible-runs w bs id s)
     many = rw (d, e) (sym (length-map (runs-in (is-visible id) bs (span (s.first / w) (met-end w s (length bs)))) _) ∙ ap (λ (a : Answer (List Span)). length a.value) cut_all)
 
-    pub tiles-short : true ≡ ltb (length l / 2) (length (runs-in (is-visible id) bs (span lo hi))) → refused 14 l ≡ listing (visible-answer w bs id s (length l / 2)) l
-    unfolding visible-answer
+    pub tiles-short : true ≡ ltb (length l / 2) (length (runs-in (is-visible id) bs (span lo hi))) → refused 14 l ≡ listing (visible_answer w bs id s (length l / 2)) l
+    unfolding visible_answer
     tiles-short q = listed-short (length l / 2) (visible-runs w bs id s) l _ (good 8192 s h g) (rw (← many) (sym q))
 
     pub tiles-done : (n : ℕ) (l' : List ℕ) (k : ℕ) → k ≡ w → false ≡ ltb (length l / 2) (length (runs-in (is-visible id) bs (span lo hi)))
-        → done n l' ≡ listing (cut-runs s k id bs lo hi) l → done n l' ≡ listing (visible-answer w bs id s (length l / 2)) l
-    unfolding visible-answer
+        → done n l' ≡ listing (cut-runs s k id bs lo hi) l → done n l' ≡ listing (visible_answer w bs id s (length l / 2)) l
+    unfolding visible_answer
     tiles-done n l' k f q m =
         m ∙ rw (f, d, e) (ap (λ (a : Answer (List Span)). listing a l) (cut_all ∙ listed-done (length l / 2) (visible-runs w bs id s) _ (good 8192 s h g) (rw (← many) (sym q))))
 
-pub unset-same : (w : ℕ) (bs : List ℕ) (s : Span) (n : ℕ) → visible-answer w bs 0 s n ≡ unset-answer w bs s n
-unfolding visible-answer unset-answer visible-runs unset-runs
+pub unset-same : (w : ℕ) (bs : List ℕ) (s : Span) (n : ℕ) → visible_answer w bs 0 s n ≡ unset_answer w bs s n
+unfolding visible_answer unset_answer visible-runs unset-runs
 unset-same w bs s n = rw unset-visible
 
 -- a range of buckets
@@ -119,7 +119,7 @@ module _ (bs : List ℕ) (id : ℕ) (r : Span) (l : List ℕ) where
   refused-write n = record { listed = refused n l; depth = bs }
 
   bad-write : (bad-range (length bs) r || eqb id 0) ≡ true → refused-write 12 ≡ writing bs id r l
-  unfolding write-answer write-after listing numbers
+  unfolding write_answer write-after listing numbers
   bad-write e = rw e
 
   pub write-backward : r.end < r.first → refused-write 12 ≡ writing bs id r l
@@ -136,11 +136,11 @@ module _ (bs : List ℕ) (id : ℕ) (r : Span) (l : List ℕ) where
     fine = rw (good (length bs) r h g, ne_eqb id 0 k)
 
     pub write-short : true ≡ ltb (length l / 2) (length (runs-in (is-visible 0) bs r)) → refused-write 14 ≡ writing bs id r l
-    unfolding write-answer write-after write-runs listing numbers
+    unfolding write_answer write-after write-runs listing numbers
     write-short q = rw (fine, unset-visible, ← q)
 
     pub write_done : (n : ℕ) (l' bs' : List ℕ) → false ≡ ltb (length l / 2) (length (runs-in (is-visible 0) bs r))
         → done n l' ≡ listing (open-runs bs r.first r.end) l → bs' ≡ written bs id r
         → record { listed = done n l'; depth = bs' } ≡ writing bs id r l
-    unfolding write-answer write-after write-runs
+    unfolding write_answer write-after write-runs
     write_done n l' bs' q d m = rw (fine, unset-visible, ← q, d, m)

@@ -55,23 +55,31 @@ module _ (p : ℕ → Bool) (bs : List ℕ) (lo hi : ℕ) (f : Span → Span) (l
       pub fill-room : (j : ℕ) → Ended p bs hi i j → n * 2 + 1 < length l
       fill-room j e = omega (arith, s.count, s.kept, ap length e.run)
 
-      pub fill_end : hi ≤ i → done n l ≡ listing (answer 0 (map f (runs-in p bs (span lo hi)))) l₀
+      -- no run is left
+      pub fill_all : runs-in p bs (span i hi) ≡ [] → done n l ≡ listing (answer 0 (map f (runs-in p bs (span lo hi)))) l₀
       unfolding listing numbers
-      fill_end h =
-          let none = runs-end p bs hi i h in
+      fill_all none =
           let ns : List ℕ = numbers (map f (runs-in p bs (span lo hi))) in
           let long : length ns ≡ length (runs-in p bs (span lo hi)) * 2 = length-numbers (map f (runs-in p bs (span lo hi))) ∙ rw length-map in
           let all : n ≡ length (runs-in p bs (span lo hi)) = omega (arith, s.count, ap length none) in
           let put : l ≡ over ns l₀ = (rw none at s.rest) ∙ sets-eq ns l₀ 0 (omega arith) ∙ rw zero-add in
           rw (all, put, length-map)
 
-    pub fill_more : (j a b : ℕ) → Ended p bs hi i j → a ≡ (f (span i j)).first → b ≡ (f (span i j)).end
+      pub fill_end : hi ≤ i → done n l ≡ listing (answer 0 (map f (runs-in p bs (span lo hi)))) l₀
+      fill_end h = fill_all (runs-end p bs hi i h)
+
+    -- the next run is r, and j is past it
+    pub fill_next : (r : Span) (j a b : ℕ) → i < j → runs-in p bs (span i hi) ≡ r ∷ runs-in p bs (span j hi) → a ≡ (f r).first → b ≡ (f r).end
         → Filled j (n + 1) (set (set l (n * 2) a) (n * 2 + 1) b)
     unfolding numbers
-    fill_more j a b e ea eb =
+    fill_next r j a b h e ea eb =
         record {
-          few = omega (arith, s.few, e.past);
+          few = omega (arith, s.few);
           kept = simp length-set s.kept;
-          count = omega (arith, s.count, ap length e.run);
-          rest = sets-two n a b (numbers (map f (runs-in p bs (span j hi)))) l ∙ rw (ea, eb) (rw e.run at s.rest);
+          count = omega (arith, s.count, ap length e);
+          rest = sets-two n a b (numbers (map f (runs-in p bs (span j hi)))) l ∙ rw (ea, eb) (rw e at s.rest);
         }
+
+    pub fill_more : (j a b : ℕ) → Ended p bs hi i j → a ≡ (f (span i j)).first → b ≡ (f (span i j)).end
+        → Filled j (n + 1) (set (set l (n * 2) a) (n * 2 + 1) b)
+    fill_more j a b e = fill_next (span i j) j a b (omega (arith, e.past)) e.run

@@ -5,3 +5,4 @@ pub mod Once
 pub mod Searching
 pub mod Skipping
 pub mod Splitting
+pub mod Stepping

@@ -9,25 +9,25 @@ use borrow.Author.Tests.{le-leb, lt-leb}
 use Rattle.rules.specs.Lists.{keep}
 use Rattle.rules.specs.Answers.{answer}
 use Rattle.rules.specs.Spans.{Span, span}
-use Rattle.rules.specs.Split.{Part, regular, buckets, split, split-answer}
-use Rattle.depth.specs.declared.split.Edge.{Edge}
-use Rattle.depth.specs.declared.split.Edge.TheVariants as edge
+use Rattle.rules.specs.Split.{Part, regular, buckets, split, split_answer}
+use Rattle.std.specs.Prelude.{Option, None, Some}
+use Rattle.span.specs.declared.TileSpan.{TileSpan}
 use Rattle.depth.specs.Answers.{beside, piece_of}
 
-kept : (t : Bool) (a b : ℕ) (ps : List Part) → beside (cond t (edge.Tiles (record { first = a; end = b })) edge.Absent) ps ≡ keep t (regular (span a b)) ps
+kept : (t : Bool) (a b : ℕ) (ps : List Part) → beside (cond t (Some (record { first = a; end = b })) None) ps ≡ keep t (regular (span a b)) ps
 kept true a b ps = refl
 kept false a b ps = refl
 
 -- the whole buckets of a span are those from a to b
 module _ (w : ℕ) (some : 0 < w) (s : Span) (h₁ : s.first ≤ s.end) (h₂ : s.end ≤ 8192) (a b : ℕ) (e₁ : a ≡ (s.first + (w - 1)) / w) (e₂ : b ≡ s.end / w) where
-  pub in_one : b ≤ a → answer 0 (regular s ∷ []) ≡ split-answer w s
-  unfolding split split-answer
+  pub in_one : b ≤ a → answer 0 (regular s ∷ []) ≡ split_answer w s
+  unfolding split split_answer
   in_one h = rw (← e₁, ← e₂, le-leb _ _ h₁, le-leb _ _ h₂, le-leb (b * w) (a * w) (mul-le-mul_right w h))
 
   -- a depth fill with its edges
-  pub in_three : (p q : Edge) → a < b → p ≡ piece_of s.first (a * w) → q ≡ piece_of (b * w) s.end
-      → answer 0 (beside p (buckets (span a b) ∷ beside q [])) ≡ split-answer w s
-  unfolding split split-answer
+  pub in_three : (p q : Option TileSpan) → a < b → p ≡ piece_of s.first (a * w) → q ≡ piece_of (b * w) s.end
+      → answer 0 (beside p (buckets (span a b) ∷ beside q [])) ≡ split_answer w s
+  unfolding split split_answer
   in_three p q h e₃ e₄ =
       rw (
         ← e₁,

@@ -1,9 +1,10 @@
 -- What a call over runs leaves in the words that are lent to it.
-use Rattle.std.specs.Prelude.{ℕ, ◌+◌, ◌-◌, ◌/◌, min, cond, List, [], ◌∷◌, ◌++◌, map, length, drop, ltb}
+use Rattle.std.specs.Prelude.{Result, Ok, Err, ℕ, ◌+◌, ◌-◌, ◌/◌, min, cond, List, [], ◌∷◌, ◌++◌, map, length, drop, ltb}
+use Rattle.sizes.specs.declared.answers.Refusal.{Refusal}
+use Rattle.sizes.specs.Refusals.{number_of}
 use Rattle.rules.specs.Answers.{Answer, answer, Done}
 use Rattle.rules.specs.Spans.{Span, span, common}
-use Rattle.rules.specs.Depth.{is-visible, runs-in, tiles-of, write-answer, write-after}
-use Rattle.depth.specs.declared.runs.Runs.{Runs}
+use Rattle.rules.specs.Depth.{is-visible, runs-in, tiles-of, write_answer, write-after}
 
 -- an answer, how many runs are listed, and the list's words
 pub record RunsOut : Type 0 where
@@ -11,8 +12,9 @@ pub record RunsOut : Type 0 where
   pub count : ℕ
   pub list : List ℕ
 
-abbrev pub out : Runs → List ℕ → RunsOut
-out r l = record { number = r.number; count = r.count; list = l }
+abbrev pub out : Result ℕ Refusal → List ℕ → RunsOut
+out (Ok n) l = record { number = Done; count = n; list = l }
+out (Err r) l = record { number = number_of r; count = 0; list = l }
 
 abbrev pub done : ℕ → List ℕ → RunsOut
 done n l = record { number = Done; count = n; list = l }
@@ -47,9 +49,9 @@ pub record OutWrite : Type 0 where
   pub listed : RunsOut
   pub depth : List ℕ
 
-abbrev pub out-write : Runs → List ℕ → List ℕ → OutWrite
+abbrev pub out-write : Result ℕ Refusal → List ℕ → List ℕ → OutWrite
 out-write r l bs = record { listed = out r l; depth = bs }
 
 -- what the writing form leaves
 abbrev pub writing : List ℕ → ℕ → Span → List ℕ → OutWrite
-writing bs id r l = record { listed = listing (write-answer bs id r (length l / 2)) l; depth = write-after bs id r (length l / 2) }
+writing bs id r l = record { listed = listing (write_answer bs id r (length l / 2)) l; depth = write-after bs id r (length l / 2) }

@@ -2,9 +2,10 @@
 #![tactic(auto)]
 
 pub mod runs;
+pub mod search;
 pub mod split;
 pub mod state;
 
-pub use runs::{Runs, unset_runs, unset_runs_and_write, visible_runs};
-pub use split::{Edge, Split, split_opaque_span};
-pub use state::{Bounds, DepthState, Skip};
+pub use runs::{unset_runs, unset_runs_and_write, visible_runs};
+pub use split::{Split, split_opaque_span};
+pub use state::DepthState;

@@ -6,10 +6,12 @@ use native.Mathlib.Nat.{not-suc-le-zero, le_of_suc-le-suc}
 use native.Mathlib.Omega.{arith}
 use lib.ListN.{length, get_or, take, drop, length-map, length-append}
 use lib.Seq.{set_at, take-suc, take-length, length-take-le, drop-cons}
+use Rattle.std.specs.Prelude.{Ok, Err}
+use Rattle.sizes.specs.declared.answers.Refusal.{Refusal}
+use Rattle.sizes.specs.Refusals.{number_of}
 use Rattle.rules.specs.Answers as rules
 use Rattle.rules.specs.Spans.{Span, span}
 use Rattle.span.specs.declared.TileSpan.{TileSpan}
-use Rattle.depth.specs.declared.runs.Runs.{Runs}
 use Rattle.depth.specs.Listing as words
 use Rattle.depth.specs.Listing.{numbers, over}
 use Rattle.depth.proofs.Filling.{length-numbers}
@@ -54,19 +56,32 @@ pub as-listed : (rs : List Span) (ws : List ℕ) (l : List TileSpan) → length 
 as-listed rs ws l h = written rs _ l (length rs) (omega arith) h ∙ rw (take-length rs)
 
 -- What a caller of the form over tile numbers gives on, with a list of spans b.
-module _ (r : Runs) (m ws : List ℕ) (x : rules.Answer (List Span)) (e : words.out r m ≡ words.listing x ws) where
-  pub listed-fits : r.count * 2 ≤ length m
+module _ (n : ℕ) (m ws : List ℕ) (x : rules.Answer (List Span)) (e : words.out (Ok n) m ≡ words.listing x ws) where
+  pub listed-fits : n * 2 ≤ length m
   unfolding words.listing
   listed-fits =
-      let c : r.count ≡ length x.value = ap (λ (o : words.RunsOut). o.count) e in
+      let c : n ≡ length x.value = ap (λ (o : words.RunsOut). o.count) e in
       let l : m ≡ over (numbers x.value) ws = ap (λ (o : words.RunsOut). o.list) e in
       omega (arith, c, ap length l, length-append (numbers x.value) (drop (length (numbers x.value)) ws), length-numbers x.value)
 
-  pub seen : (b : List TileSpan) → r.count ≤ length b → out r (with-spans m r.count b) ≡ listing x b
+  pub seen : (b : List TileSpan) → n ≤ length b → out (Ok n) (with-spans m n b) ≡ listing x b
   unfolding words.listing listing
   seen b h =
-      let d : r.number ≡ x.number = ap (λ (o : words.RunsOut). o.number) e in
-      let c : r.count ≡ length x.value = ap (λ (o : words.RunsOut). o.count) e in
+      let d : 0 ≡ x.number = ap (λ (o : words.RunsOut). o.number) e in
+      let c : n ≡ length x.value = ap (λ (o : words.RunsOut). o.count) e in
       let l : m ≡ over (numbers x.value) ws = ap (λ (o : words.RunsOut). o.list) e in
       let g : length x.value ≤ length b = omega (arith, c) in
       rw (l, c, d) (ap (λ (v : List TileSpan). record { number = x.number; count = length x.value; spans = v }) (as-listed x.value ws b g))
+
+-- .. where it is refused: no run is listed, so that the list stays
+pub refused : (r : Refusal) (m ws : List ℕ) (x : rules.Answer (List Span)) → words.out (Err r) m ≡ words.listing x ws → (b : List TileSpan) → out (Err r) b ≡ listing x b
+unfolding words.listing listing
+refused r m ws x e b =
+    let d : number_of r ≡ x.number = ap (λ (o : words.RunsOut). o.number) e in
+    let c : 0 ≡ length x.value = ap (λ (o : words.RunsOut). o.count) e in
+    none-listed x.value c d
+  where
+    none-listed : (rs : List Span) → 0 ≡ length rs → number_of r ≡ x.number
+        → out (Err r) b ≡ record { number = x.number; count = length rs; spans = map as-span rs ++ drop (length rs) b }
+    none-listed [] c d = rw d
+    none-listed (s ∷ rs) c d = absurd (omega (arith, c))

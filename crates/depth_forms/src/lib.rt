@@ -1,4 +1,4 @@
-// Forms over references to structs that document 01 names, each beside its covered form in `depth`.
+// Forms over references to structs (docs/RULES.md), each beside its covered form in `depth`.
 #![tactic(auto)]
 
 pub mod listed;

@@ -1,62 +1,57 @@
 // A row's runs as spans in a lent list of any length: found over tile numbers in words of the call's own, written as spans.
-ghost use Rattle.std.specs.Prelude.{◌≡◌, length, replicate};
-ghost use Rattle.sizes.specs.Sizes.{bucket-end};
+ghost use Rattle.std.specs.Prelude.{◌≡◌, length};
 ghost use Rattle.sizes.specs.Widths.{bucket-tiles};
-ghost use Rattle.rules.specs.Depth.{visible-answer};
+ghost use Rattle.rules.specs.Depth.{visible_answer};
 ghost use Rattle.span.specs.Spans.{tiles};
 ghost use Rattle.depth.specs.Listing as words;
-ghost use Rattle.depth_forms.specs.Listing.{out, listing, counted};
+ghost use Rattle.depth_forms.specs.Listing.{out, listing, own_words, found_out};
 
 use crate::runs::write_runs;
-use depth::{Runs, visible_runs};
+use depth::visible_runs;
 use sizes::BUCKET_END;
-use sizes::answers::NO_ROOM;
+use sizes::answers::Refusal;
 use sizes::width::Width;
 use span::TileSpan;
 
-// What the call gives, how many runs it lists, and their tile numbers.
+// How many runs are found, and their tile numbers.
 #[derive(Clone, Copy)]
 struct Found {
-    runs: Runs,
     count: usize,
     words: [u32; BUCKET_END],
 }
 
 // The runs that a list of so many spans has room for. Tiles end at 8,192, in at most BUCKET_END buckets, and two runs have a bucket between
 // them: the words hold them all.
-fn found_runs(depth: &[u32], span: TileSpan, draw_id: u32, room: usize, width: Width) -> Found
-    ensures { (words.out result.runs result.words ≡ words.listing (visible-answer (bucket-tiles width) depth.now draw_id (tiles span) room) (replicate bucket-end 0)) × (result.count ≡ counted result.runs) }
+fn found_runs(
+    depth: &[u32],
+    span: TileSpan,
+    draw_id: u32,
+    room: usize,
+    width: Width,
+) -> Result<Found, Refusal>
+    ensures { found_out result ≡ words.listing (visible_answer (bucket-tiles width) depth.now draw_id (tiles span) room) own_words }
 {
     let mut words = [0u32; BUCKET_END];
-    let runs = visible_runs(depth, span, draw_id, &mut words, width);
-    let count = runs.count;
+    let count = visible_runs(depth, span, draw_id, &mut words, width)?;
     if room < count {
-        let short = Runs {
-            number: NO_ROOM,
-            count: 0,
-        };
-        return Found {
-            runs: short,
-            count: 0,
-            words: [0u32; BUCKET_END],
-        };
+        return Err(Refusal::NoRoom);
     }
-    Found { runs, count, words }
+    Ok(Found { count, words })
 }
 
 // The runs of a span's tiles whose buckets hold at most the id, as spans at the list's start; the entries after them stay. 14 where the
-// list is shorter than the runs. At id 0 they are the unset runs.
+// list is shorter than the runs. At id 0 they are the unset runs. It gives their number.
 pub fn list_visible_spans(
     depth: &[u32],
     span: TileSpan,
     draw_id: u32,
     list: &mut [TileSpan],
     width: Width,
-) -> Runs
-    ensures { out result list.new ≡ listing (visible-answer (bucket-tiles width) depth.now draw_id (tiles span) (length list.old)) list.old }
+) -> Result<usize, Refusal>
+    ensures { out result list.new ≡ listing (visible_answer (bucket-tiles width) depth.now draw_id (tiles span) (length list.old)) list.old }
 {
-    let found = found_runs(depth, span, draw_id, list.len(), width);
+    let found = found_runs(depth, span, draw_id, list.len(), width)?;
     let words = found.words;
     write_runs(list, &words, found.count);
-    found.runs
+    Ok(found.count)
 }

@@ -5,14 +5,14 @@ use mathlib.Core.Bool.{Bool, true, false, cond}
 use lib.Dec.{eqb}
 use borrow.Author.Tests.{eqb-true, eqb-false}
 use Rattle.rules.specs.Answers.{Answer, answer, settle, Done}
-use Rattle.rules.specs.Boxes.{good-viewport}
+use Rattle.rules.specs.Boxes.{good_viewport}
 use Rattle.rules.specs.Plans.{Frame}
 use Rattle.rules.specs.Setups.{Setup, frame}
 use Rattle.rules.specs.Recording.{Recording}
 use Rattle.rules.specs.Walk.{◌then◌, go_on, walk-all}
 use Rattle.screen.specs.Screens.{fresh-screen}
-use Rattle.screen.specs.Judging.{judged-reset}
-use Rattle.screen.specs.Tables.{ScreenLent, lent, lengths, zeroed, reset-to}
+use Rattle.screen.specs.Judging.{judged_reset}
+use Rattle.screen.specs.Tables.{ScreenLent, lent, lengths, zeroed, reset_to}
 use Rattle.screen.proofs.Passed.{reset-says}
 use Rattle.file_judge.specs.Judging.{judged}
 use Rattle.file_steps.specs.Steps.{call_at}
@@ -44,17 +44,17 @@ module _ (r : Recording) (q : Setup) (l : ScreenLent) (z : (recorded-in r q l).n
   f = frame q r.viewport
 
   abbrev pub start : Answer ScreenLent
-  start = reset-to f l
+  start = reset_to f l
 
   halves : (start.number ≡ Done) × ((played r start.value).number ≡ Done)
   unfolding recorded-in
-  halves = both-done (reset-to f) (played r) l z
+  halves = both-done (reset_to f) (played r) l z
 
-  pub reset-judged : judged-reset f (lengths l.tables) ≡ Done
-  unfolding reset-to
-  reset-judged = settled (judged-reset f (lengths l.tables)) l (lent (fresh-screen f) (zeroed l.tables)) halves.0
+  pub reset-judged : judged_reset f (lengths l.tables) ≡ Done
+  unfolding reset_to
+  reset-judged = settled (judged_reset f (lengths l.tables)) l (lent (fresh-screen f) (zeroed l.tables)) halves.0
 
-  pub good-frame : good-viewport f.viewport ≡ true
+  pub good-frame : good_viewport f.viewport ≡ true
   good-frame = (reset-says f (lengths l.tables) reset-judged).0
 
   judged-walked : ((judging r start.value).number ≡ Done) × ((walk-all ScreenLent call_at r start.value).number ≡ Done)

@@ -1,11 +1,11 @@
 -- A recording call at a screen and all its words: the file's form, the reset, the records, the walk (rule 2).
 use Rattle.std.specs.Prelude.{ℕ, cond, List, eqb}
-use Rattle.std.proofs.Math.Option.{Option, none, some}
+use Rattle.std.specs.Prelude.{Option, None, Some}
 use Rattle.rules.specs.Answers.{Answer, answer, Done, BadForm}
 use Rattle.rules.specs.Setups.{Setup, frame}
 use Rattle.rules.specs.Recording.{Recording, shape, sections, recording}
 use Rattle.rules.specs.Walk.{◌then◌, walk-all}
-use Rattle.screen.specs.Tables.{ScreenLent, reset-to}
+use Rattle.screen.specs.Tables.{ScreenLent, reset_to}
 use Rattle.file_judge.specs.Judging.{judged}
 use Rattle.file_steps.specs.Steps.{call_at}
 
@@ -23,11 +23,11 @@ played r fresh = or-fresh fresh ((judging r then walk-all ScreenLent call_at r) 
 
 -- the frame of the file's viewport; a refused reset changes nothing
 unfoldable pub recorded-in : Recording → Setup → ScreenLent → Answer ScreenLent
-recorded-in r q = reset-to (frame q r.viewport) then played r
+recorded-in r q = reset_to (frame q r.viewport) then played r
 
 abbrev pub of-sections : Option (List (List (List ℕ))) → Setup → ScreenLent → Answer ScreenLent
-of-sections none q l = answer BadForm l
-of-sections (some ss) q l = recorded-in (recording ss) q l
+of-sections None q l = answer BadForm l
+of-sections (Some ss) q l = recorded-in (recording ss) q l
 
 -- a file's words, and what the screen is asked to be; 3 before all
 unfoldable pub recorded : List ℕ → Setup → ScreenLent → Answer ScreenLent

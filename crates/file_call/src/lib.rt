@@ -1,149 +1,62 @@
-// The recording call: a file judged, and walked as building steps (rule 2). `bucket_recording` is a public call; the others are parts of it.
+// The recording call: a file judged, and walked as building steps (rule 2). `bucket_recording` is a public call; the other is a part of it.
 #![tactic(auto)]
 
 ghost use Rattle.std.specs.Prelude.{◌≡◌};
+ghost use Rattle.sizes.specs.Refusals.{answer_number};
 ghost use Rattle.rules.specs.Answers.{answer};
 ghost use Rattle.rules.specs.Walk.{◌then◌, walk-all};
-ghost use Rattle.row.specs.Words.{words};
 ghost use Rattle.screen.specs.Screens.{setup-of};
-ghost use Rattle.screen.specs.Tables.{Tables, ScreenLent, tables, lent};
-ghost use Rattle.file_form.specs.Layouts.{Fits};
-ghost use Rattle.file_form.specs.Places as file;
-ghost use Rattle.file_steps.specs.Steps.{call_at, work, work-into};
+ghost use Rattle.screen.specs.Tables.{ScreenLent};
+ghost use Rattle.screen.specs.Lent.{whole, SameLent};
+ghost use Rattle.file_steps.specs.Steps.{call_at};
+ghost use Rattle.file_steps.specs.Recordings.{recorded_in, FitsIn};
 ghost use Rattle.file_call.specs.Recorded.{judging, recorded};
 
-use file_form::{Form, Layout, read_form};
+use file_form::read_form;
 use file_judge::{box_at, judge_records};
 use file_nodes::walk_nodes;
-use screen::{Built, Screen, Setup, reset};
-use sizes::answers::{BAD_FORM, DONE};
-use sizes::{MOST_LAYERS, wide};
+use file_steps::Recording;
+use screen::{Lent, Screen, Setup, reset};
+use sizes::MOST_LAYERS;
+use sizes::answers::Refusal;
 
 // A recording of good form, its viewport reset: the records are judged, then walked from the root, 16 layers deep.
-fn play(
-    screen: Screen,
-    w: &[u32],
-    l: Layout,
-    rows: &mut [u32],
-    render: &mut [u32],
-    fills: &mut [u32],
-    layers: &mut [u32],
-    opacities: &mut [f32],
-    paint_attrs: &mut [u32],
-    layer_attrs: &mut [u32],
-    filter_paints: &mut [i32],
-) -> Built
-    requires { Fits w.now l }
-    ensures { (t : Tables) → answer result.number (work-into t (work result.screen (words rows.new render.new fills.new) layers.new opacities.new paint_attrs.new layer_attrs.new filter_paints.new))
-        ≡ (judging (file.recorded l w.now) then walk-all ScreenLent call_at (file.recorded l w.now))
-        (work-into t (work screen (words rows.old render.old fills.old) layers.old opacities.old paint_attrs.old layer_attrs.old filter_paints.old)) }
+fn play(screen: &mut Screen, file: &Recording<'_>, lent: &mut Lent<'_>) -> Result<(), Refusal>
+    requires { FitsIn file.now }
+    ensures same { SameLent lent.old lent.new }
+    ensures played { answer (answer_number result) (whole screen.new lent.new)
+        ≡ (judging (recorded_in file.now) then walk-all ScreenLent call_at (recorded_in file.now)) (whole screen.old lent.old) }
 {
-    let n = judge_records(w, l);
-    if n != DONE {
-        return Built { number: n, screen };
-    }
-    let root = l.root;
-    let at = root.at;
-    let first = wide(w[at]);
-    let end = wide(w[at + 1]);
-    walk_nodes(
-        MOST_LAYERS,
-        screen,
-        w,
-        l,
-        first,
-        end,
-        rows,
-        render,
-        fills,
-        layers,
-        opacities,
-        paint_attrs,
-        layer_attrs,
-        filter_paints,
-    )
+    judge_records(file.words, file.layout)?;
+    let at = file.layout.root.at;
+    let first = file.words[at] as usize;
+    let end = file.words[at + 1] as usize;
+    walk_nodes(MOST_LAYERS, screen, file, first, end, lent)
 }
 
 // A recording file: 3 for its form; 2, 1 or 4 for its viewport, what the screen is asked to be and the lengths lent, with nothing changed; then 4 and 5 for its records
 // or the first refused step of its walk, with the screen freshly reset and every word 0; else done.
 pub fn bucket_recording(
-    screen: Screen,
+    screen: &mut Screen,
     file: &[u32],
     setup: Setup,
-    render: &mut [u32],
-    fills: &mut [u32],
-    depth: &mut [u32],
-    rows: &mut [u32],
-    painting: &mut [u32],
-    layers: &mut [u32],
-    opacities: &mut [f32],
-    paint_attrs: &mut [u32],
-    layer_attrs: &mut [u32],
-    filter_paints: &mut [i32],
-) -> Built
-    ensures { answer result.number (lent result.screen (tables render.new fills.new depth.new rows.new painting.new layers.new opacities.new paint_attrs.new layer_attrs.new filter_paints.new))
-        ≡ recorded file.now (setup-of setup) (lent screen (tables render.old fills.old depth.old rows.old painting.old layers.old opacities.old paint_attrs.old layer_attrs.old filter_paints.old)) }
+    lent: &mut Lent<'_>,
+) -> Result<(), Refusal>
+    ensures same { SameLent lent.old lent.new }
+    ensures recorded { answer (answer_number result) (whole screen.new lent.new)
+        ≡ recorded file.now (setup-of setup) (whole screen.old lent.old) }
 {
-    let Form::Good(l) = read_form(file) else {
-        return Built {
-            number: BAD_FORM,
-            screen,
-        };
+    let layout = read_form(file)?;
+    let fresh = reset(box_at(file, 1), setup, lent)?;
+    *screen = fresh;
+    let recording = Recording {
+        words: file,
+        layout,
     };
-    let viewport = box_at(file, 1);
-    let started = reset(
-        screen,
-        viewport,
-        setup,
-        render,
-        fills,
-        depth,
-        rows,
-        painting,
-        layers,
-        opacities,
-        paint_attrs,
-        layer_attrs,
-        filter_paints,
-    );
-    if started.number != DONE {
-        return started;
+    if let Err(refusal) = play(screen, &recording, lent) {
+        *screen = fresh;
+        lent.clear();
+        return Err(refusal);
     }
-    let begun = started.screen;
-    let played = play(
-        begun,
-        file,
-        l,
-        rows,
-        render,
-        fills,
-        layers,
-        opacities,
-        paint_attrs,
-        layer_attrs,
-        filter_paints,
-    );
-    if played.number == DONE {
-        return played;
-    }
-    let again = reset(
-        begun,
-        viewport,
-        setup,
-        render,
-        fills,
-        depth,
-        rows,
-        painting,
-        layers,
-        opacities,
-        paint_attrs,
-        layer_attrs,
-        filter_paints,
-    );
-    let blank = again.screen;
-    Built {
-        number: played.number,
-        screen: blank,
-    }
+    Ok(())
 }

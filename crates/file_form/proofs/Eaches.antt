@@ -1,13 +1,14 @@
 -- Laws of records of a fixed size.
-use Prim.Native.Nat.{ℕ, zero, suc, ◌+◌, ◌-◌, ◌*◌, ◌≤◌, ◌<◌}
+use Prim.Native.Nat.{ℕ, zero, suc, ◌+◌, ◌*◌, ◌≤◌, ◌<◌}
 use native.Mathlib.Nat.{add-zero, mul-zero, mul-suc, add_assoc, add_comm}
 use native.Mathlib.Numerals.{add-one}
 use native.Mathlib.Omega.{arith}
-use mathlib.Core.Path.{◌≡◌, refl, sym, ap, ◌∙◌}
-use mathlib.Core.Bool.{Bool, true, false}
+use mathlib.Core.Path.{◌≡◌, refl, ap, ◌∙◌}
+use mathlib.Core.Bool.{Bool, true}
 use mathlib.Core.List.{List, [], ◌∷◌, ◌++◌, map}
 use lib.ListN.{length, get_or, take, drop}
 use lib.Seq.{drop-drop}
+use Rattle.std.specs.List.{list_all, range_with_len}
 use Rattle.rules.specs.Lists.{every}
 use Rattle.rules.specs.Recording.{records}
 use Rattle.rules.proofs.All.{both}
@@ -52,26 +53,6 @@ module _ {A : Type 0} (f : List ℕ → ℕ → A) (k : ℕ) (ws : List ℕ) whe
     pub each_part : (n : ℕ) → k * n ≤ m → each f k (take m (drop a ws)) 0 n ≡ each f k ws a n
     each_part n h = rw (add-zero a) at (by_part n 0 (omega arith))
 
-  by-none : (p m : ℕ) → m ≡ 0 → each f k ws p m ≡ []
-  unfolding each
-  by-none p m e = rw e
-
-  by_one : (p m j : ℕ) → m ≡ suc j → each f k ws p m ≡ f ws p ∷ each f k ws (p + k) j
-  unfolding each
-  by_one p m j e = rw e
-
-  pub each-end : (p n i : ℕ) → n ≤ i → each f k ws (p + k * i) (n - i) ≡ []
-  each-end p n i h = by-none (p + k * i) (n - i) (omega arith)
-
-  pub each_first : (p n i : ℕ) → i < n
-      → each f k ws (p + k * i) (n - i) ≡ f ws (p + k * i) ∷ each f k ws (p + k * (i + 1)) (n - (i + 1))
-  each_first p n i h =
-      let e : p + k * i + k ≡ p + k * (i + 1) = omega arith in
-      rw (← e) (by_one (p + k * i) (n - i) (n - (i + 1)) (omega arith))
-
-  pub each_start : (p n : ℕ) → each f k ws (p + k * 0) (n - 0) ≡ each f k ws p n
-  each_start p n = let e : n - 0 ≡ n = omega arith in rw (mul-zero, add-zero, e)
-
   module _ (test : A → Bool) where
     -- what a test says of every record, it says of record i
     pub every-at : (p n i : ℕ) → i < n → every test (each f k ws p n) ≡ true → test (f ws (p + k * i)) ≡ true
@@ -82,20 +63,13 @@ module _ {A : Type 0} (f : List ℕ → ℕ → A) (k : ℕ) (ws : List ℕ) whe
         let e : p + k + k * i ≡ p + k * suc i = rw (mul-suc k i) (omega arith) in
         rw e at (every-at (p + k) n i (omega arith) (both (test (f ws p)) (every test (each f k ws (p + k) n)) q).1)
 
-    module _ (p n : ℕ) where
-      -- the rest of a run of tests over the records says what the whole run says
-      abbrev pub Rest : ℕ → Type 0
-      Rest i = every test (each f k ws (p + k * i) (n - i)) ≡ every test (each f k ws p n)
+    by_places : (p a n : ℕ) → list_all (λ (i : ℕ). test (f ws (p + k * i))) (range_with_len a n) ≡ every test (each f k ws (p + k * a) n)
+    unfolding each
+    by_places p a zero = refl
+    by_places p a (suc n) =
+        let e : p + k * (a + 1) ≡ p + k * a + k = omega arith in
+        rw (by_places p (a + 1) n, e)
 
-      pub begun : Rest 0
-      begun = ap (every test) (each_start p n)
-
-      pub ended : (i : ℕ) → n ≤ i → Rest i → true ≡ every test (each f k ws p n)
-      ended i h r = sym (ap (every test) (each-end p n i h)) ∙ r
-
-      module _ (i : ℕ) (h : i < n) (r : Rest i) where
-        pub refused : test (f ws (p + k * i)) ≡ false → false ≡ every test (each f k ws p n)
-        refused q = sym (rw (each_first p n i h, q)) ∙ r
-
-        pub turned : test (f ws (p + k * i)) ≡ true → Rest (i + 1)
-        turned q = sym (rw (each_first p n i h, q)) ∙ r
+    -- a test of every place is a test of every record
+    pub each_place : (p n : ℕ) → list_all (λ (i : ℕ). test (f ws (p + k * i))) (range_with_len 0 n) ≡ every test (each f k ws p n)
+    each_place p n = rw (mul-zero, add-zero) at (by_places p 0 n)

@@ -15,8 +15,8 @@ use Rattle.rules.specs.Inputs.{Paint, Draw}
 use Rattle.file_form.specs.declared.Section.{Section}
 use Rattle.file_form.specs.declared.Layout.{Layout}
 use Rattle.file_form.specs.Each.{each}
-use Rattle.file_form.specs.Layouts.{Fits, cut, sections-at}
-use Rattle.file_form.specs.Places.{paint-from, segment-from, draw-from, clip-from, filter-from, layer-from, node-from, recorded}
+use Rattle.file_form.specs.Layouts.{Fits, cut, sections_at}
+use Rattle.file_form.specs.Places.{paint_from, segment_from, draw_from, clip_from, filter_from, layer_from, node_from, recorded}
 use Rattle.file_form.proofs.Eaches.{each-length, each_at, each-record, each_part}
 
 -- word i of a record of k words that stands at place p
@@ -24,24 +24,24 @@ cell : (k p : ℕ) (ws : List ℕ) (i : ℕ) → ltb i k ≡ true → get_or (ta
 cell k p ws i h = get_or-take k (drop p ws) i 0 (ltb-true i k h) ∙ get_or-drop p ws i 0
 
 module _ (ws : List ℕ) (p : ℕ) where
-  paint-cut : paint-rec (take 4 (drop p ws)) ≡ paint-from ws p
-  unfolding paint-from
+  paint-cut : paint-rec (take 4 (drop p ws)) ≡ paint_from ws p
+  unfolding paint_from
   paint-cut = simp (cell, add-zero)
 
-  segment-cut : segment-rec (take 5 (drop p ws)) ≡ segment-from ws p
-  unfolding segment-from
+  segment-cut : segment-rec (take 5 (drop p ws)) ≡ segment_from ws p
+  unfolding segment_from
   segment-cut = simp (cell, add-zero)
 
-  draw-cut : draw-rec (take 7 (drop p ws)) ≡ draw-from ws p
-  unfolding draw-from
+  draw-cut : draw-rec (take 7 (drop p ws)) ≡ draw_from ws p
+  unfolding draw_from
   draw-cut = simp (get_or-drop, cell, add-zero)
 
-  layer-cut : layer-rec (take 22 (drop p ws)) ≡ layer-from ws p
-  unfolding layer-from clip-from filter-from
+  layer-cut : layer-rec (take 22 (drop p ws)) ≡ layer_from ws p
+  unfolding layer_from clip_from filter_from
   layer-cut = simp (get_or-drop, cell, add-zero)
 
-  node-cut : node-rec (take 3 (drop p ws)) ≡ node-from ws p
-  unfolding node-from
+  node-cut : node-rec (take 3 (drop p ws)) ≡ node_from ws p
+  unfolding node_from
   node-cut = simp (cell, add-zero)
 
 -- the one record of a section of one record
@@ -49,15 +49,15 @@ only-cut : (k p n : ℕ) (ws : List ℕ) → n ≡ 1 → get_or (records k n (dr
 only-cut k p n ws e = rw e
 
 module _ (l : Layout) (ws : List ℕ) (f : Fits ws l) where
-  pub reads : recording (sections-at l ws) ≡ recorded l ws
-  unfolding recording sections-at recorded
+  pub reads : recording (sections_at l ws) ≡ recorded l ws
+  unfolding recording sections_at recorded
   reads =
       rw (
-        each-record paint-from 4 ws paint-rec (paint-cut ws) l.paints.at l.paints.count,
-        each-record segment-from 5 ws segment-rec (segment-cut ws) l.segments.at l.segments.count,
-        each-record draw-from 7 ws draw-rec (draw-cut ws) l.draws.at l.draws.count,
-        each-record layer-from 22 ws layer-rec (layer-cut ws) l.layers.at l.layers.count,
-        each-record node-from 3 ws node-rec (node-cut ws) l.nodes.at l.nodes.count,
+        each-record paint_from 4 ws paint-rec (paint-cut ws) l.paints.at l.paints.count,
+        each-record segment_from 5 ws segment-rec (segment-cut ws) l.segments.at l.segments.count,
+        each-record draw_from 7 ws draw-rec (draw-cut ws) l.draws.at l.draws.count,
+        each-record layer_from 22 ws layer-rec (layer-cut ws) l.layers.at l.layers.count,
+        each-record node_from 3 ws node-rec (node-cut ws) l.nodes.at l.nodes.count,
         only-cut 2 l.root.at l.root.count ws f.one-root,
       )
       (simp (cell, add-zero))
@@ -81,29 +81,29 @@ cut_word k ws s j i h g =
 -- the recording of a layout, section by section
 module _ (l : Layout) (ws : List ℕ) (f : Fits ws l) where
   abbrev held : Recording
-  held = recording (sections-at l ws)
+  held = recording (sections_at l ws)
 
   pub viewport-is : held.viewport ≡ box (get_or ws 1 0) (get_or ws 2 0) (get_or ws 3 0) (get_or ws 4 0)
   unfolding recorded
   viewport-is = ap (λ (r : Recording). r.viewport) (reads l ws f)
 
-  pub paints-are : held.paints ≡ each paint-from 4 ws l.paints.at l.paints.count
+  pub paints-are : held.paints ≡ each paint_from 4 ws l.paints.at l.paints.count
   unfolding recorded
   paints-are = ap (λ (r : Recording). r.paints) (reads l ws f)
 
-  pub segments-are : held.segments ≡ each segment-from 5 ws l.segments.at l.segments.count
+  pub segments-are : held.segments ≡ each segment_from 5 ws l.segments.at l.segments.count
   unfolding recorded
   segments-are = ap (λ (r : Recording). r.segments) (reads l ws f)
 
-  pub draws-are : held.draws ≡ each draw-from 7 ws l.draws.at l.draws.count
+  pub draws-are : held.draws ≡ each draw_from 7 ws l.draws.at l.draws.count
   unfolding recorded
   draws-are = ap (λ (r : Recording). r.draws) (reads l ws f)
 
-  pub layers-are : held.layers ≡ each layer-from 22 ws l.layers.at l.layers.count
+  pub layers-are : held.layers ≡ each layer_from 22 ws l.layers.at l.layers.count
   unfolding recorded
   layers-are = ap (λ (r : Recording). r.layers) (reads l ws f)
 
-  pub nodes-are : held.nodes ≡ each node-from 3 ws l.nodes.at l.nodes.count
+  pub nodes-are : held.nodes ≡ each node_from 3 ws l.nodes.at l.nodes.count
   unfolding recorded
   nodes-are = ap (λ (r : Recording). r.nodes) (reads l ws f)
 
@@ -117,36 +117,36 @@ module _ (l : Layout) (ws : List ℕ) (f : Fits ws l) where
 
   -- how many there are
   pub paint-count : length held.paints ≡ l.paints.count
-  paint-count = rw paints-are (each-length paint-from 4 ws l.paints.at l.paints.count)
+  paint-count = rw paints-are (each-length paint_from 4 ws l.paints.at l.paints.count)
 
   pub segment-count : length held.segments ≡ l.segments.count
-  segment-count = rw segments-are (each-length segment-from 5 ws l.segments.at l.segments.count)
+  segment-count = rw segments-are (each-length segment_from 5 ws l.segments.at l.segments.count)
 
   pub draw-count : length held.draws ≡ l.draws.count
-  draw-count = rw draws-are (each-length draw-from 7 ws l.draws.at l.draws.count)
+  draw-count = rw draws-are (each-length draw_from 7 ws l.draws.at l.draws.count)
 
   pub layer-count : length held.layers ≡ l.layers.count
-  layer-count = rw layers-are (each-length layer-from 22 ws l.layers.at l.layers.count)
+  layer-count = rw layers-are (each-length layer_from 22 ws l.layers.at l.layers.count)
 
   pub node-count : length held.nodes ≡ l.nodes.count
-  node-count = rw nodes-are (each-length node-from 3 ws l.nodes.at l.nodes.count)
+  node-count = rw nodes-are (each-length node_from 3 ws l.nodes.at l.nodes.count)
 
   -- where the i-th of them stands
-  pub draw-at : (i : ℕ) (d : Draw) → i < l.draws.count → get_or held.draws i d ≡ draw-from ws (l.draws.at + 7 * i)
-  draw-at i d h = rw draws-are (each_at draw-from 7 ws l.draws.at l.draws.count i d h)
+  pub draw-at : (i : ℕ) (d : Draw) → i < l.draws.count → get_or held.draws i d ≡ draw_from ws (l.draws.at + 7 * i)
+  draw-at i d h = rw draws-are (each_at draw_from 7 ws l.draws.at l.draws.count i d h)
 
-  pub layer-at : (i : ℕ) (d : LayerRec) → i < l.layers.count → get_or held.layers i d ≡ layer-from ws (l.layers.at + 22 * i)
-  layer-at i d h = rw layers-are (each_at layer-from 22 ws l.layers.at l.layers.count i d h)
+  pub layer-at : (i : ℕ) (d : LayerRec) → i < l.layers.count → get_or held.layers i d ≡ layer_from ws (l.layers.at + 22 * i)
+  layer-at i d h = rw layers-are (each_at layer_from 22 ws l.layers.at l.layers.count i d h)
 
-  pub node_at : (i : ℕ) (d : Node) → i < l.nodes.count → get_or held.nodes i d ≡ node-from ws (l.nodes.at + 3 * i)
-  node_at i d h = rw nodes-are (each_at node-from 3 ws l.nodes.at l.nodes.count i d h)
+  pub node_at : (i : ℕ) (d : Node) → i < l.nodes.count → get_or held.nodes i d ≡ node_from ws (l.nodes.at + 3 * i)
+  node_at i d h = rw nodes-are (each_at node_from 3 ws l.nodes.at l.nodes.count i d h)
 
-  pub paint-at : (i : ℕ) (d : Paint) → i < l.paints.count → get_or held.paints i d ≡ paint-from ws (l.paints.at + 4 * i)
-  paint-at i d h = rw paints-are (each_at paint-from 4 ws l.paints.at l.paints.count i d h)
+  pub paint-at : (i : ℕ) (d : Paint) → i < l.paints.count → get_or held.paints i d ≡ paint_from ws (l.paints.at + 4 * i)
+  paint-at i d h = rw paints-are (each_at paint_from 4 ws l.paints.at l.paints.count i d h)
 
 -- a paint reads only its own words
-near-paint : (ws : List ℕ) (a m i : ℕ) → i + 4 ≤ m → paint-from (take m (drop a ws)) i ≡ paint-from ws (a + i)
-unfolding paint-from
+near-paint : (ws : List ℕ) (a m i : ℕ) → i + 4 ≤ m → paint_from (take m (drop a ws)) i ≡ paint_from ws (a + i)
+unfolding paint_from
 near-paint ws a m i h =
     rw (get_or-take m (drop a ws) i 0 (omega arith), get_or-drop a ws i 0, get_or-take m (drop a ws) (i + 1) 0 (omega arith), get_or-drop a ws (i + 1) 0, add_assoc a i 1)
 
@@ -158,7 +158,7 @@ module _ (l : Layout) (ws : List ℕ) (f : Fits ws l) where
   pub paints-width : length lent-paints ≡ 4 * l.paints.count
   paints-width = let h = f.paints.ends in simp (length-take, length-drop) (omega arith)
 
-  pub paints-part : each paint-from 4 lent-paints 0 l.paints.count ≡ (recording (sections-at l ws)).paints
+  pub paints-part : each paint_from 4 lent-paints 0 l.paints.count ≡ (recording (sections_at l ws)).paints
   paints-part =
-      each_part paint-from 4 ws l.paints.at (l.paints.at + 4 * l.paints.count - l.paints.at) (near-paint ws l.paints.at _) l.paints.count (omega arith)
+      each_part paint_from 4 ws l.paints.at (l.paints.at + 4 * l.paints.count - l.paints.at) (near-paint ws l.paints.at _) l.paints.count (omega arith)
       ∙ sym (paints-are l ws f)

@@ -1,18 +1,16 @@
 -- Where the sections of a recording file stand, and the records cut out there.
-use Rattle.std.specs.Prelude.{ℕ, zero, suc, ◌+◌, ◌-◌, ◌*◌, ◌≤◌, ◌≡◌, Bool, true, false, ◌&&◌, List, [], ◌∷◌, length, get_or, drop, leb, ltb}
-use Rattle.std.proofs.Math.Option.{Option, none, some}
+use Rattle.std.specs.Prelude.{ℕ, ◌+◌, ◌-◌, ◌*◌, ◌≤◌, ◌≡◌, Bool, true, false, ◌&&◌, List, [], ◌∷◌, length, get_or, drop, leb, ltb}
+use Rattle.std.specs.Prelude.{Option, None, Some, Result, Ok, Err}
 use Rattle.sizes.specs.Sizes.{most-records}
+use Rattle.sizes.specs.declared.answers.Refusal.{Refusal}
+use Rattle.sizes.specs.declared.answers.Refusal.TheVariants.{BadForm}
 use Rattle.rules.specs.Recording.{shape, good-count, records, sections}
 use Rattle.file_form.specs.declared.Section.{Section}
 use Rattle.file_form.specs.declared.Layout.{Layout}
-use Rattle.file_form.specs.declared.Form.{Form}
-use Rattle.file_form.specs.declared.Form.TheVariants as form
-use Rattle.file_form.specs.declared.Found.{Found}
-use Rattle.file_form.specs.declared.Found.TheVariants as found
 
 -- the section whose count stands at place p
-abbrev pub section-from : List ℕ → ℕ → Section
-section-from ws p = record { at = p + 1; count = get_or ws p 0 }
+abbrev pub section_from : List ℕ → ℕ → Section
+section_from ws p = record { at = p + 1; count = get_or ws p 0 }
 
 -- the place past a section of k words a record
 abbrev pub past : ℕ → Section → ℕ
@@ -22,17 +20,17 @@ past k s = s.at + s.count * k
 unfoldable pub stands : ℕ → Bool → List ℕ → ℕ → Bool
 stands k fixed ws p = ltb p (length ws) && (good-count fixed (get_or ws p 0) && leb (get_or ws p 0 * k) (length ws - (p + 1)))
 
-abbrev pub found-if : Bool → Section → ℕ → Found
-found-if true s n = found.At s n
-found-if false s n = found.Bad
+abbrev pub found_if : Bool → Section → ℕ → Result (Section × ℕ) Refusal
+found_if true s n = Ok (s, n)
+found_if false s n = Err BadForm
 
-abbrev pub section-at : ℕ → Bool → List ℕ → ℕ → Found
-section-at k fixed ws p = found-if (stands k fixed ws p) (section-from ws p) (past k (section-from ws p))
+abbrev pub section_at : ℕ → Bool → List ℕ → ℕ → Result (Section × ℕ) Refusal
+section_at k fixed ws p = found_if (stands k fixed ws p) (section_from ws p) (past k (section_from ws p))
 
 -- sections of a shape, one after the other from place p on
 abbrev pub laid : List (ℕ × Bool) → List ℕ → ℕ → List Section
 laid [] ws p = []
-laid (s ∷ ss) ws p = section-from ws p ∷ laid ss ws (past s.0 (section-from ws p))
+laid (s ∷ ss) ws p = section_from ws p ∷ laid ss ws (past s.0 (section_from ws p))
 
 -- section i of a list of them
 abbrev pub nth : List Section → ℕ → Section
@@ -44,12 +42,12 @@ layout_of xs = record { paints = nth xs 1; segments = nth xs 2; draws = nth xs 3
 unfoldable pub layout : List ℕ → Layout
 layout ws = layout_of (laid shape ws 0)
 
-abbrev pub formed : Option (List (List (List ℕ))) → Layout → Form
-formed none l = form.Bad
-formed (some ss) l = form.Good l
+abbrev pub formed : Option (List (List (List ℕ))) → Layout → Result Layout Refusal
+formed None l = Err BadForm
+formed (Some ss) l = Ok l
 
 -- bad exactly where the rules find no sections
-unfoldable pub form_of : List ℕ → Form
+unfoldable pub form_of : List ℕ → Result Layout Refusal
 form_of ws = formed (sections shape ws) (layout ws)
 
 -- the records of a section, cut out of the words
@@ -60,8 +58,8 @@ cut k ws s = records k s.count (drop s.at ws)
 abbrev pub viewport : Section
 viewport = record { at = 1; count = 1 }
 
-unfoldable pub sections-at : Layout → List ℕ → List (List (List ℕ))
-sections-at l ws =
+unfoldable pub sections_at : Layout → List ℕ → List (List (List ℕ))
+sections_at l ws =
     cut 4 ws viewport
     ∷ cut 4 ws l.paints
     ∷ cut 5 ws l.segments

@@ -1,7 +1,6 @@
 -- The rules' records, read off a file's words at a place.
 use Rattle.std.specs.Prelude.{ℕ, ◌+◌, List, get_or}
-use Rattle.rules.specs.Boxes.{Box, box}
-use Rattle.rules.specs.Blends.{Blend}
+use Rattle.rules.specs.Boxes.{box}
 use Rattle.rules.specs.Segments.{Segment}
 use Rattle.rules.specs.Inputs.{Paint, Draw, Clip, Filter}
 use Rattle.rules.specs.Recording.{LayerRec, Node, Recording, pixmap-of, no-panel}
@@ -13,14 +12,14 @@ module _ (ws : List ℕ) (p : ℕ) where
   abbrev pub word : ℕ → ℕ
   word i = get_or ws (p + i) 0
 
-  unfoldable pub paint-from : Paint
-  paint-from = record { opaque = get_or ws p 0; handle = word 1 }
+  unfoldable pub paint_from : Paint
+  paint_from = record { opaque = get_or ws p 0; handle = word 1 }
 
-  unfoldable pub segment-from : Segment
-  segment-from = record { kind = get_or ws p 0; row = word 1; first = word 2; end = word 3; alpha = word 4 }
+  unfoldable pub segment_from : Segment
+  segment_from = record { kind = get_or ws p 0; row = word 1; first = word 2; end = word 3; alpha = word 4 }
 
-  unfoldable pub draw-from : Draw
-  draw-from =
+  unfoldable pub draw_from : Draw
+  draw_from =
       record {
         thread = get_or ws p 0;
         start = word 1;
@@ -31,15 +30,15 @@ module _ (ws : List ℕ) (p : ℕ) where
         panel = no-panel;
       }
 
-  unfoldable pub clip-from : Clip
-  clip-from = record { bounds = box (word 8) (word 9) (word 10) (word 11); start = word 12; end = word 13; thread = word 14 }
+  unfoldable pub clip_from : Clip
+  clip_from = record { bounds = box (word 8) (word 9) (word 10) (word 11); start = word 12; end = word 13; thread = word 14 }
 
-  unfoldable pub filter-from : Filter
-  filter-from =
+  unfoldable pub filter_from : Filter
+  filter_from =
       record { pixmap = pixmap-of (word 15); dest = box (word 16) (word 17) (word 18) (word 19); source-x = word 20; source-y = word 21 }
 
-  unfoldable pub layer-from : LayerRec
-  layer-from =
+  unfoldable pub layer_from : LayerRec
+  layer_from =
       record {
         kind = get_or ws p 0;
         start = word 1;
@@ -48,24 +47,24 @@ module _ (ws : List ℕ) (p : ℕ) where
         opacity = word 5;
         mask = word 6;
         flag = word 7;
-        clip = clip-from;
-        filter = filter-from;
+        clip = clip_from;
+        filter = filter_from;
         panel = no-panel;
       }
 
-  unfoldable pub node-from : Node
-  node-from = record { start = get_or ws p 0; end = word 1; layer = word 2 }
+  unfoldable pub node_from : Node
+  node_from = record { start = get_or ws p 0; end = word 1; layer = word 2 }
 
 -- the recording whose sections stand as the layout says
 unfoldable pub recorded : Layout → List ℕ → Recording
 recorded l ws =
     record {
       viewport = box (get_or ws 1 0) (get_or ws 2 0) (get_or ws 3 0) (get_or ws 4 0);
-      paints = each paint-from 4 ws l.paints.at l.paints.count;
-      segments = each segment-from 5 ws l.segments.at l.segments.count;
-      draws = each draw-from 7 ws l.draws.at l.draws.count;
-      layers = each layer-from 22 ws l.layers.at l.layers.count;
-      nodes = each node-from 3 ws l.nodes.at l.nodes.count;
+      paints = each paint_from 4 ws l.paints.at l.paints.count;
+      segments = each segment_from 5 ws l.segments.at l.segments.count;
+      draws = each draw_from 7 ws l.draws.at l.draws.count;
+      layers = each layer_from 22 ws l.layers.at l.layers.count;
+      nodes = each node_from 3 ws l.nodes.at l.nodes.count;
       start = get_or ws l.root.at 0;
       end = get_or ws (l.root.at + 1) 0;
     }

@@ -3,12 +3,12 @@ use Rattle.std.specs.Prelude.{ℕ, ◌+◌, ◌/◌, List, ◌++◌, length, get
 use Rattle.rules.specs.Lines.{word_of}
 use Rattle.file_form.specs.Each.{each}
 
-unfoldable pub word-from : List ℕ → ℕ → ℕ
-word-from bs p = word_of (get_or bs p 0) (get_or bs (p + 1) 0) (get_or bs (p + 2) 0) (get_or bs (p + 3) 0)
+unfoldable pub word_from : List ℕ → ℕ → ℕ
+word_from bs p = word_of (get_or bs p 0) (get_or bs (p + 1) 0) (get_or bs (p + 2) 0) (get_or bs (p + 3) 0)
 
 -- the whole words of the bytes; up to three bytes that are left over make none
 abbrev pub words-in : List ℕ → List ℕ
-words-in bs = each word-from 4 bs 0 (length bs / 4)
+words-in bs = each word_from 4 bs 0 (length bs / 4)
 
 pub record Filled : Type 0 where
   pub count : ℕ

@@ -1,26 +1,27 @@
 -- The rules' tests of a recording, by the counts of its sections.
-use Prim.Native.Nat.{ℕ, zero, suc, ◌+◌, ◌*◌, ◌≤◌, ◌<◌}
+use Prim.Native.Nat.{ℕ, zero, suc, ◌<◌}
 use native.Mathlib.Omega.{arith}
-use mathlib.Core.Path.{◌≡◌, refl, sym, ap, ◌∙◌}
-use mathlib.Core.Bool.{Bool, true, false, ◌&&◌, not, cond}
+use mathlib.Core.Path.{◌≡◌, refl, ◌∙◌}
+use mathlib.Core.Bool.{Bool, true, false, ◌&&◌}
 use mathlib.Core.List.{List, [], ◌∷◌}
 use lib.ListN.{length, get_or}
-use lib.Dec.{leb, ltb, eqb}
+use lib.Dec.{ltb}
 use borrow.Author.Tests.{ltb-true}
 use Rattle.rules.specs.Lists.{every}
-use Rattle.rules.specs.Segments.{Segment, good-segment}
+use Rattle.rules.specs.Segments.{Segment}
 use Rattle.rules.specs.Blends.{good-blend}
 use Rattle.rules.specs.Spans.{good-range}
 use Rattle.rules.specs.Inputs.{Paint, good-paint, Draw, good-draw, draw-paint, good-thread, good-handle, good-panel}
-use Rattle.rules.specs.Recording.{Recording, recording, good-records, good-order, good-layer-rec, good-node}
+use Rattle.rules.specs.Recording.{Recording, recording, good-records, good-layer-rec, good-node}
 use Rattle.file_form.specs.declared.Layout.{Layout}
 use Rattle.file_form.specs.Each.{each}
-use Rattle.file_form.specs.Layouts.{Fits, sections-at}
-use Rattle.file_form.specs.Places.{paint-from, segment-from, draw-from, layer-from, node-from, recorded}
+use Rattle.file_form.specs.Layouts.{Fits, sections_at}
+use Rattle.file_form.specs.Places.{paint_from, segment_from, draw_from, layer_from, node_from, recorded}
 use Rattle.rules.proofs.All.{both}
 use Rattle.file_form.proofs.Eaches.{each-length}
 use Rattle.file_form.proofs.Reading.{reads}
-use Rattle.file_judge.specs.Judging.{draw-fields, clip-fields, clip-part, filter-part, layer-fields, node-fields, draw-range, clip-range, draw-ordered, clip-ordered, judged}
+use Rattle.file_judge.specs.Counted.{paints-good, draws-good, layers-good, nodes-good, root-good, counted}
+use Rattle.file_judge.specs.Judging.{draw_fields, clip_fields, clip_part, filter_part, layer_fields, node_fields}
 
 -- what a test says of every element, it says of each
 pub every-getD : {A : Type 0} (test : A → Bool) (xs : List A) (i : ℕ) (d : A) → i < length xs → every test xs ≡ true → test (get_or xs i d) ≡ true
@@ -37,105 +38,54 @@ module _ (ps : List Paint) (ss : List Segment) (q : every good-paint ps ≡ true
   by_place d false e true y z u = refl
   by_place d false e false y z u = refl
 
-  own-paint : (d : Draw) → good-draw ps ss d ≡ draw-fields (length ps) (length ss) d
-  unfolding draw-fields
+  own-paint : (d : Draw) → good-draw ps ss d ≡ draw_fields (length ps) (length ss) d
+  unfolding draw_fields
   own-paint d = by_place d _ refl (good-thread d.thread && good-range d.start d.end (length ss)) (good-blend d.blend) (good-handle d.mask) (good-panel d.panel)
 
-  pub own-paints : (ds : List Draw) → every (good-draw ps ss) ds ≡ every (draw-fields (length ps) (length ss)) ds
+  pub own-paints : (ds : List Draw) → every (good-draw ps ss) ds ≡ every (draw_fields (length ps) (length ss)) ds
   own-paints [] = refl
   own-paints (d ∷ ds) = rw (own-paint d, own-paints ds)
 
 -- a layer and a node are judged by the counts alone
 module _ (r : Recording) where
-  by-layers : every (good-layer-rec r) r.layers ≡ every (layer-fields (length r.nodes) (length r.segments)) r.layers
-  unfolding layer-fields clip-part clip-fields filter-part
+  by-layers : every (good-layer-rec r) r.layers ≡ every (layer_fields (length r.nodes) (length r.segments)) r.layers
+  unfolding layer_fields clip_part clip_fields filter_part
   by-layers = refl
 
-  by-nodes : every (good-node r) r.nodes ≡ every (node-fields (length r.draws) (length r.layers)) r.nodes
-  unfolding node-fields
+  by-nodes : every (good-node r) r.nodes ≡ every (node_fields (length r.draws) (length r.layers)) r.nodes
+  unfolding node_fields
   by-nodes = refl
 
--- the tests of a file's records, section by section
+-- .. which are the tests by the counts of the layout
 module _ (l : Layout) (ws : List ℕ) where
-  abbrev pub paints-good : Bool
-  paints-good = every good-paint (each paint-from 4 ws l.paints.at l.paints.count)
-
-  abbrev pub segments-good : Bool
-  segments-good = every good-segment (each segment-from 5 ws l.segments.at l.segments.count)
-
-  abbrev pub draws-good : Bool
-  draws-good = every (draw-fields l.paints.count l.segments.count) (each draw-from 7 ws l.draws.at l.draws.count)
-
-  abbrev pub layers-good : Bool
-  layers-good = every (layer-fields l.nodes.count l.segments.count) (each layer-from 22 ws l.layers.at l.layers.count)
-
-  abbrev pub nodes-good : Bool
-  nodes-good = every (node-fields l.draws.count l.layers.count) (each node-from 3 ws l.nodes.at l.nodes.count)
-
-  abbrev pub root-good : Bool
-  root-good = good-range (get_or ws l.root.at 0) (get_or ws (l.root.at + 1) 0) l.nodes.count
-
-  unfoldable pub counted : Bool
-  counted = paints-good && segments-good && draws-good && layers-good && nodes-good && root-good
-
-  draws-same : every good-paint (each paint-from 4 ws l.paints.at l.paints.count) ≡ true
-      → every (good-draw (recorded l ws).paints (recorded l ws).segments) (recorded l ws).draws ≡ draws-good
+  draws-same : every good-paint (each paint_from 4 ws l.paints.at l.paints.count) ≡ true
+      → every (good-draw (recorded l ws).paints (recorded l ws).segments) (recorded l ws).draws ≡ draws-good l ws
   unfolding recorded
   draws-same q =
       own-paints (recorded l ws).paints (recorded l ws).segments q (recorded l ws).draws
-      ∙ rw (each-length paint-from 4 ws l.paints.at l.paints.count, each-length segment-from 5 ws l.segments.at l.segments.count)
+      ∙ rw (each-length paint_from 4 ws l.paints.at l.paints.count, each-length segment_from 5 ws l.segments.at l.segments.count)
 
-  layers-same : every (good-layer-rec (recorded l ws)) (recorded l ws).layers ≡ layers-good
+  layers-same : every (good-layer-rec (recorded l ws)) (recorded l ws).layers ≡ layers-good l ws
   unfolding recorded
   layers-same =
       by-layers (recorded l ws)
-      ∙ rw (each-length node-from 3 ws l.nodes.at l.nodes.count, each-length segment-from 5 ws l.segments.at l.segments.count)
+      ∙ rw (each-length node_from 3 ws l.nodes.at l.nodes.count, each-length segment_from 5 ws l.segments.at l.segments.count)
 
-  nodes-same : every (good-node (recorded l ws)) (recorded l ws).nodes ≡ nodes-good
+  nodes-same : every (good-node (recorded l ws)) (recorded l ws).nodes ≡ nodes-good l ws
   unfolding recorded
   nodes-same =
       by-nodes (recorded l ws)
-      ∙ rw (each-length draw-from 7 ws l.draws.at l.draws.count, each-length layer-from 22 ws l.layers.at l.layers.count)
+      ∙ rw (each-length draw_from 7 ws l.draws.at l.draws.count, each-length layer_from 22 ws l.layers.at l.layers.count)
 
-  root-same : good-range (recorded l ws).start (recorded l ws).end (length (recorded l ws).nodes) ≡ root-good
+  root-same : good-range (recorded l ws).start (recorded l ws).end (length (recorded l ws).nodes) ≡ root-good l ws
   unfolding recorded
-  root-same = rw (each-length node-from 3 ws l.nodes.at l.nodes.count)
+  root-same = rw (each-length node_from 3 ws l.nodes.at l.nodes.count)
 
-  by-paints : (t : Bool) → paints-good ≡ t → good-records (recorded l ws) ≡ counted
+  by-paints : (t : Bool) → paints-good l ws ≡ t → good-records (recorded l ws) ≡ counted l ws
   unfolding counted good-records recorded
   by-paints true q = rw (q, draws-same q, layers-same, nodes-same, root-same)
   by-paints false q = rw q
 
   -- the draws' own paints are judged with all the others
-  pub all-counted : Fits ws l → good-records (recording (sections-at l ws)) ≡ counted
+  pub all-counted : Fits ws l → good-records (recording (sections_at l ws)) ≡ counted l ws
   all-counted f = rw (reads l ws f) (by-paints _ refl)
-
--- the answers of a judge that stops at the first bad section
-module _ {l : Layout} {ws : List ℕ} (f : Fits ws l) where
-  pub bad-paints : paints-good l ws ≡ false → false ≡ good-records (recording (sections-at l ws))
-  unfolding counted
-  bad-paints p = rw (all-counted l ws f, p)
-
-  module _ (p : paints-good l ws ≡ true) where
-    pub bad-segments : segments-good l ws ≡ false → false ≡ good-records (recording (sections-at l ws))
-    unfolding counted
-    bad-segments s = rw (all-counted l ws f, p, s)
-
-    module _ (s : segments-good l ws ≡ true) where
-      pub bad-draws : draws-good l ws ≡ false → false ≡ good-records (recording (sections-at l ws))
-      unfolding counted
-      bad-draws d = rw (all-counted l ws f, p, s, d)
-
-      module _ (d : draws-good l ws ≡ true) where
-        pub bad-layers : layers-good l ws ≡ false → false ≡ good-records (recording (sections-at l ws))
-        unfolding counted
-        bad-layers y = rw (all-counted l ws f, p, s, d, y)
-
-        module _ (y : layers-good l ws ≡ true) where
-          pub bad-nodes : nodes-good l ws ≡ false → false ≡ good-records (recording (sections-at l ws))
-          unfolding counted
-          bad-nodes n = rw (all-counted l ws f, p, s, d, y, n)
-
-          pub up-to-root : nodes-good l ws ≡ true → root-good l ws ≡ good-records (recording (sections-at l ws))
-          unfolding counted
-          up-to-root n = rw (all-counted l ws f, p, s, d, y, n)

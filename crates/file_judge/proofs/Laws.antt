@@ -1,20 +1,20 @@
 -- Laws for callers: what answer 0 says of every record, and the segment section as a list of its own.
-use Prim.Native.Nat.{ℕ, ◌+◌, ◌-◌, ◌*◌, ◌/◌, ◌≤◌, ◌<◌}
+use Prim.Native.Nat.{ℕ, ◌/◌, ◌≤◌, ◌<◌}
 use native.Mathlib.Omega.{arith}
-use mathlib.Core.Path.{◌≡◌, refl, sym, ap, ◌∙◌}
+use mathlib.Core.Path.{◌≡◌, refl, sym, ◌∙◌}
 use mathlib.Core.Bool.{Bool, true, false, ◌&&◌, not, cond}
-use mathlib.Core.List.{List, [], ◌∷◌}
+use mathlib.Core.List.{List}
 use lib.ListN.{length, get_or}
 use lib.Dec.{leb}
 use borrow.Author.Tests.{leb-true}
 use Rattle.rules.specs.Lists.{every}
-use Rattle.rules.specs.Segments.{Segment, good-segment, ordered}
+use Rattle.rules.specs.Segments.{good-segment, ordered}
 use Rattle.rules.specs.Spans.{good-range}
-use Rattle.rules.specs.Inputs.{Paint, good-paint, Draw, good-draw, draw-segments}
+use Rattle.rules.specs.Inputs.{good-paint, Draw, good-draw, draw-segments}
 use Rattle.rules.specs.Recording.{Recording, LayerRec, Node, recording, good-records, good-order, good-layer-rec, good-node, good-clip-order}
 use Rattle.segments.specs.Segs.{segs-of}
 use Rattle.file_form.specs.declared.Layout.{Layout}
-use Rattle.file_form.specs.Layouts.{Fits, sections-at}
+use Rattle.file_form.specs.Layouts.{Fits, sections_at}
 use Rattle.rules.proofs.All.{both}
 use Rattle.file_form.proofs.Reading.{segments-are}
 use Rattle.file_judge.specs.Judging.{judged}
@@ -104,5 +104,5 @@ module _ (l : Layout) (ws : List ℕ) (f : Fits ws l) where
   pub segments-count : length (lent ws l.segments.at l.segments.count) / 5 ≡ l.segments.count
   segments-count = lent-count ws l.segments.at l.segments.count f.segments.ends
 
-  pub segments-part : segs-of (lent ws l.segments.at l.segments.count) ≡ (recording (sections-at l ws)).segments
+  pub segments-part : segs-of (lent ws l.segments.at l.segments.count) ≡ (recording (sections_at l ws)).segments
   segments-part = lent-segments ws l.segments.at l.segments.count f.segments.ends ∙ sym (segments-are l ws f)

@@ -13,7 +13,7 @@ use Rattle.rules.specs.Plans.{a-push, a-pop}
 use Rattle.rules.specs.Walk.{◌then◌, when, props-of, walk-filter, walk-nodes, walk-layer}
 use Rattle.screen.specs.Tables.{ScreenLent}
 use Rattle.file_form.specs.declared.Layout.{Layout}
-use Rattle.file_form.specs.Places.{recorded, layer-from}
+use Rattle.file_form.specs.Places.{recorded, layer_from}
 use Rattle.file_steps.specs.Steps.{call_at}
 use Rattle.file_steps.proofs.Runs.{stopped, onward, then-none, none_then}
 use Rattle.file_nodes.proofs.Places.{layer-there}
@@ -88,6 +88,6 @@ module _ (l : Layout) (ws : List ℕ) (d k : ℕ) (s : ScreenLent) where
   names-none z = rw (eq-eqb k 0 z)
 
   pub names-one : (j : ℕ) → j ≡ k - 1 → (k ≡ 0 → ⊥) → k ≤ l.layers.count
-      → named ≡ walk-layer ScreenLent call_at (recorded l ws) d (layer-from ws (l.layers.at + 22 * j)) s
+      → named ≡ walk-layer ScreenLent call_at (recorded l ws) d (layer_from ws (l.layers.at + 22 * j)) s
   unfolding when
   names-one j e z h = rw (ne_eqb k 0 z, ← e, layer-there l ws j (omega arith))

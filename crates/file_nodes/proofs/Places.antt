@@ -12,7 +12,7 @@ use Rattle.rules.specs.Inputs.{good-handle, good-filter, good-panel}
 use Rattle.rules.specs.Blends.{good-blend}
 use Rattle.rules.specs.Recording.{Recording, LayerRec, Node, good-layer-rec, good-clip-rec, zero-clip, zero-filter, layer-rec}
 use Rattle.file_form.specs.declared.Layout.{Layout}
-use Rattle.file_form.specs.Places.{recorded, layer-from, node-from}
+use Rattle.file_form.specs.Places.{recorded, layer_from, node_from}
 use Rattle.rules.proofs.All.{both}
 use Rattle.file_form.proofs.Eaches.{each-length, each_at}
 use Rattle.file_judge.proofs.Laws.{node-range-at, good-layer-at}
@@ -49,49 +49,49 @@ walkable r y e =
 module _ (l : Layout) (ws : List ℕ) where
   pub node-count : length (recorded l ws).nodes ≡ l.nodes.count
   unfolding recorded
-  node-count = each-length node-from 3 ws l.nodes.at l.nodes.count
+  node-count = each-length node_from 3 ws l.nodes.at l.nodes.count
 
   pub layer-count : length (recorded l ws).layers ≡ l.layers.count
   unfolding recorded
-  layer-count = each-length layer-from 22 ws l.layers.at l.layers.count
+  layer-count = each-length layer_from 22 ws l.layers.at l.layers.count
 
   draw-count : length (recorded l ws).draws ≡ l.draws.count
   unfolding recorded
   draw-count = each-length _ 7 ws l.draws.at l.draws.count
 
-  pub node-there : (i : ℕ) → i < l.nodes.count → get_or (recorded l ws).nodes i some-node ≡ node-from ws (l.nodes.at + 3 * i)
+  pub node-there : (i : ℕ) → i < l.nodes.count → get_or (recorded l ws).nodes i some-node ≡ node_from ws (l.nodes.at + 3 * i)
   unfolding recorded
-  node-there i h = each_at node-from 3 ws l.nodes.at l.nodes.count i some-node h
+  node-there i h = each_at node_from 3 ws l.nodes.at l.nodes.count i some-node h
 
-  pub layer-there : (i : ℕ) → i < l.layers.count → get_or (recorded l ws).layers i (layer-rec []) ≡ layer-from ws (l.layers.at + 22 * i)
+  pub layer-there : (i : ℕ) → i < l.layers.count → get_or (recorded l ws).layers i (layer-rec []) ≡ layer_from ws (l.layers.at + 22 * i)
   unfolding recorded
-  layer-there i h = each_at layer-from 22 ws l.layers.at l.layers.count i (layer-rec []) h
+  layer-there i h = each_at layer_from 22 ws l.layers.at l.layers.count i (layer-rec []) h
 
   module _ (g : WalkReady ws l) where
     -- a node's draws, and the layer that it names
     module _ (i : ℕ) (h : i < l.nodes.count) where
-      in-range : ((node-from ws (l.nodes.at + 3 * i)).start ≤ (node-from ws (l.nodes.at + 3 * i)).end)
-          × (((node-from ws (l.nodes.at + 3 * i)).end ≤ l.draws.count) × ((node-from ws (l.nodes.at + 3 * i)).layer ≤ l.layers.count))
+      in-range : ((node_from ws (l.nodes.at + 3 * i)).start ≤ (node_from ws (l.nodes.at + 3 * i)).end)
+          × (((node_from ws (l.nodes.at + 3 * i)).end ≤ l.draws.count) × ((node_from ws (l.nodes.at + 3 * i)).layer ≤ l.layers.count))
       in-range = rw (node-there i h, draw-count, layer-count) at (node-range-at (recorded l ws) g.good i some-node (rw node-count h))
 
       pub node-range : (get_or ws (l.nodes.at + 3 * i) 0 ≤ get_or ws (l.nodes.at + 3 * i + 1) 0)
           × ((get_or ws (l.nodes.at + 3 * i + 1) 0 ≤ l.draws.count) × (get_or ws (l.nodes.at + 3 * i + 2) 0 ≤ l.layers.count))
-      unfolding node-from
+      unfolding node_from
       node-range = in-range
 
       pub node-room : l.nodes.at + 3 * i + 3 ≤ length ws
       node-room = let e = g.fits.nodes.ends in omega arith
 
     module _ (i : ℕ) (h : i < l.layers.count) where
-      fit : Walkable (recorded l ws) (layer-from ws (l.layers.at + 22 * i))
+      fit : Walkable (recorded l ws) (layer_from ws (l.layers.at + 22 * i))
       fit = rw (layer-there i h) at (walkable (recorded l ws) (get_or (recorded l ws).layers i (layer-rec [])) (good-layer-at (recorded l ws) g.good i (layer-rec []) (rw layer-count h)))
 
       pub layer-kind : get_or ws (l.layers.at + 22 * i) 0 ≤ 1
-      unfolding layer-from
+      unfolding layer_from
       layer-kind = fit.kind
 
       pub layer-range : (get_or ws (l.layers.at + 22 * i + 1) 0 ≤ get_or ws (l.layers.at + 22 * i + 2) 0) × (get_or ws (l.layers.at + 22 * i + 2) 0 ≤ l.nodes.count)
-      unfolding layer-from
+      unfolding layer_from
       layer-range = (fit.order, rw node-count at fit.ends)
 
       pub layer-room : l.layers.at + 22 * i + 22 ≤ length ws

@@ -4,8 +4,12 @@ use Rattle.rules.specs.Recording.{good-records}
 use Rattle.file_form.specs.declared.Layout.{Layout}
 use Rattle.file_form.specs.Layouts.{Fits}
 use Rattle.file_form.specs.Places.{recorded}
+use Rattle.file_steps.specs.declared.Recording.{Recording}
 
 -- the form is good, and so is every record
 pub record WalkReady (ws : List ℕ) (l : Layout) : Type 0 where
   pub fits : Fits ws l
   pub good : good-records (recorded l ws) ≡ true
+
+abbrev pub ReadyIn : Recording → Type 0
+ReadyIn r = WalkReady r.words.now r.layout

@@ -4,7 +4,7 @@ use native.Mathlib.Nat.{mul-div_cancel_left, mul-one, one-mul}
 use native.Mathlib.Omega.{arith}
 use mathlib.Core.Path.{◌≡◌, refl, sym, subst, ◌∙◌}
 use mathlib.Core.Bool.{Bool, true, false, ◌||◌, not, beq}
-use mathlib.Core.Option.{Option, none, some}
+use Rattle.std.specs.Prelude.{Option, None, Some}
 use lib.Dec.{T, eqb}
 use lib.Count.{count_trailing_zeros}
 use lib.Pow.{pow_pos}
@@ -16,7 +16,7 @@ use Rattle.rules.proofs.All.{both}
 use Rattle.rules.specs.Inputs as rule
 use Rattle.rules.specs.Inputs.{needs-buffer}
 use Rattle.rules.specs.Lists.{is_none}
-use Rattle.file_read.specs.Reading.{float-1, clip-in, present, props-in, buffered}
+use Rattle.file_read.specs.Reading.{float_1, clip_in, present, props_in, buffered}
 
 pub zero_by_zero : div binary32 (of_bits binary32 0) (of_bits binary32 0) ≡ nan
 unfolding div of_bits of_fields odd span climb
@@ -33,16 +33,13 @@ module _ (n : ℕ) where
   pub no_nan : n % 2147483648 ≤ 2139095040 → nan_bits binary32 n ≡ false
   no_nan h = rw (nan_bits_above binary32 n, le-ltb 2139095040 (n % 2147483648) h)
 
-  pub a-nan : 2139095040 < n % 2147483648 → nan_bits binary32 n ≡ true
-  a-nan h = rw (nan_bits_above binary32 n, lt-ltb 2139095040 (n % 2147483648) h)
+  pub a_nan : 2139095040 < n % 2147483648 → nan_bits binary32 n ≡ true
+  a_nan h = rw (nan_bits_above binary32 n, lt-ltb 2139095040 (n % 2147483648) h)
 
-  pub from_bits : n % 2147483648 ≤ 2139095040 → T (not (nan_bits binary32 n))
-  from_bits h = rw (no_nan h) tt
+  pub by_division : nan_bits binary32 n ≡ true → nan ≡ of_bits binary32 n
+  by_division h = sym (only_nan (of_bits binary32 n) (sym (nan_bits_is binary32 n) ∙ h))
 
-  pub by-division : 2139095040 < n % 2147483648 → nan ≡ of_bits binary32 n
-  by-division h = sym (only_nan (of_bits binary32 n) (sym (nan_bits_is binary32 n) ∙ a-nan h))
-
-is_one : float-1 ≡ fin false 1 (pos 0)
+is_one : float_1 ≡ fin false 1 (pos 0)
 unfolding of_bits of_fields odd span climb count_trailing_zeros
 is_one = refl
 
@@ -105,14 +102,14 @@ module _ (n : ℕ) (small : n < 4294967296) where
       rw (eq-eqb n 1065353216 e)
   by-test false h = rw (ne_eqb n 1065353216 (λ e. other e h))
 
-  pub one_only : ne (of_bits binary32 n) float-1 ≡ not (eqb n 1065353216)
+  pub one_only : ne (of_bits binary32 n) float_1 ≡ not (eqb n 1065353216)
   unfolding ne
   one_only = rw is_one (by-test _ refl)
 
-without : (c : Option rule.Clip) → present (clip-in c) ≡ not (is_none c)
-without none = refl
-without (some c) = refl
+without : (c : Option rule.Clip) → present (clip_in c) ≡ not (is_none c)
+without None = refl
+without (Some c) = refl
 
 -- rule 2, by the file's bits
-pub buffered-by-bits : (p : rule.Props) → p.opacity < 4294967296 → buffered (props-in p) ≡ needs-buffer p
+pub buffered-by-bits : (p : rule.Props) → p.opacity < 4294967296 → buffered (props_in p) ≡ needs-buffer p
 buffered-by-bits p h = rw (one_only p.opacity h, without p.clip)

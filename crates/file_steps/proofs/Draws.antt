@@ -1,49 +1,43 @@
 -- A run of draws, one more draw at a time.
 use Prim.Native.Nat.{ℕ, ◌+◌, ◌*◌, ◌≤◌, ◌<◌}
 use native.Mathlib.Omega.{arith}
-use mathlib.Core.Path.{◌≡◌, sym, ◌∙◌}
+use mathlib.Core.Path.{◌≡◌, sym}
 use mathlib.Core.List.{List, []}
 use lib.ListN.{length, get_or}
-use Rattle.rules.specs.Lists.{join, slice}
-use Rattle.rules.specs.Answers.{answer}
+use Rattle.rules.specs.Lists.{slice}
+use Rattle.rules.specs.Answers.{Answer, answer}
 use Rattle.rules.specs.Recording.{draw-rec}
 use Rattle.rules.specs.Inputs as rule
-use Rattle.rules.proofs.Words.{paint-words, segment-words}
 use Rattle.rules.specs.Walk.{each}
-use Rattle.screen.specs.Tables.{Tables}
+use Rattle.screen.specs.Tables.{ScreenLent}
 use Rattle.file_form.specs.declared.Layout.{Layout}
 use Rattle.file_form.specs.Layouts.{Fits}
-use Rattle.file_form.specs.Places.{recorded, draw-from}
-use Rattle.step_fill.specs.Fills as fills
-use Rattle.step_fill.specs.Fills.{filled}
-use Rattle.file_read.specs.Reading.{draw-in}
-use Rattle.file_steps.specs.Steps.{draw-step, fill-into}
+use Rattle.file_form.specs.Places.{recorded, draw_from}
+use Rattle.file_steps.specs.Steps.{draw_step}
 use Rattle.file_steps.proofs.Runs.{ended, refused, turned}
-use Rattle.file_steps.proofs.Calls.{fill_step}
 use Rattle.file_steps.proofs.Lists.{draws-count, draw-there}
 
 abbrev some-draw : rule.Draw
 some-draw = draw-rec []
 
--- what is left of the draws from i on, after y, says what all of them say, after x
-pub record Left (l : Layout) (ws : List ℕ) (a b : ℕ) (x : fills.FillLent) (i : ℕ) (y : fills.FillLent) : Type 0 where
-  pub same : (t : Tables) → each (draw-step (recorded l ws)) (slice i b (recorded l ws).draws) (fill-into t y)
-      ≡ each (draw-step (recorded l ws)) (slice a b (recorded l ws).draws) (fill-into t x)
+-- the draws from i to b at a state
+abbrev pub filled_from : Layout → List ℕ → ℕ → ℕ → ScreenLent → Answer ScreenLent
+filled_from l ws i b x = each (draw_step (recorded l ws)) (slice i b (recorded l ws).draws) x
 
-module _ {l : Layout} {ws : List ℕ} {a b i : ℕ} {x y : fills.FillLent} (left : Left l ws a b x i y) where
-  pub all-drawn : b ≤ i → (t : Tables) → answer 0 (fill-into t y) ≡ each (draw-step (recorded l ws)) (slice a b (recorded l ws).draws) (fill-into t x)
-  all-drawn h t = sym (ended (draw-step (recorded l ws)) (recorded l ws).draws i b (fill-into t y) h) ∙ left.same t
+module _ (l : Layout) (ws : List ℕ) (i b : ℕ) (y : ScreenLent) where
+  pub all_filled : b ≤ i → answer 0 y ≡ filled_from l ws i b y
+  all_filled h = sym (ended (draw_step (recorded l ws)) (recorded l ws).draws i b y h)
 
-  module _ (f : Fits ws l) (h : i < b) (k : b ≤ l.draws.count) (n : ℕ) (z : fills.FillLent)
-      (e : answer n z ≡ filled y (join paint-words (recorded l ws).paints) (join segment-words (recorded l ws).segments) (draw-in (draw-from ws (l.draws.at + 7 * i)))) where
+  module _ (f : Fits ws l) (h : i < b) (k : b ≤ l.draws.count) (n : ℕ) (z : ScreenLent)
+      (e : answer n z ≡ draw_step (recorded l ws) (draw_from ws (l.draws.at + 7 * i)) y) where
     room : b ≤ length (recorded l ws).draws
     room = rw (draws-count l ws f) k
 
-    here : (t : Tables) → answer n (fill-into t z) ≡ draw-step (recorded l ws) (get_or (recorded l ws).draws i some-draw) (fill-into t y)
-    here t = rw (draw-there l ws f i some-draw (omega arith)) (fill_step t (recorded l ws) (draw-from ws (l.draws.at + 7 * i)) n y z e)
+    here : answer n z ≡ draw_step (recorded l ws) (get_or (recorded l ws).draws i some-draw) y
+    here = rw (draw-there l ws f i some-draw (omega arith)) e
 
-    pub draw-refused : (n ≡ 0 → ⊥) → (t : Tables) → answer n (fill-into t z) ≡ each (draw-step (recorded l ws)) (slice a b (recorded l ws).draws) (fill-into t x)
-    draw-refused q t = refused (draw-step (recorded l ws)) (recorded l ws).draws i b (fill-into t y) some-draw h room n (fill-into t z) (here t) q ∙ left.same t
+    pub draw_refused : (n ≡ 0 → ⊥) → answer n z ≡ filled_from l ws i b y
+    draw_refused q = refused (draw_step (recorded l ws)) (recorded l ws).draws i b y some-draw h room n z here q
 
-    pub draw-turned : n ≡ 0 → Left l ws a b x (i + 1) z
-    draw-turned q = record { same = λ t. sym (turned (draw-step (recorded l ws)) (recorded l ws).draws i b (fill-into t y) some-draw h room n (fill-into t z) (here t) q) ∙ left.same t }
+    pub draw_turned : n ≡ 0 → filled_from l ws (i + 1) b z ≡ filled_from l ws i b y
+    draw_turned q = sym (turned (draw_step (recorded l ws)) (recorded l ws).draws i b y some-draw h room n z here q)

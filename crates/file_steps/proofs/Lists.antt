@@ -1,10 +1,10 @@
 -- The words that say paints and segments, and the parts of a file's words that are lent for them.
-use Prim.Native.Nat.{ℕ, zero, suc, ◌+◌, ◌*◌, ◌/◌, ◌<◌}
+use Prim.Native.Nat.{ℕ, zero, suc, ◌+◌, ◌-◌, ◌*◌, ◌/◌, ◌<◌}
 use native.Mathlib.Nat.{add_assoc, mul-zero}
 use native.Mathlib.Omega.{arith}
 use mathlib.Core.Path.{◌≡◌, refl, sym, ap, ◌∙◌}
 use mathlib.Core.List.{List, [], ◌∷◌}
-use lib.ListN.{length, get_or, length-take, length-drop}
+use lib.ListN.{length, get_or, take, drop, length-take, length-drop}
 use lib.Seq.{get_or-drop}
 use Rattle.rules.specs.Lists.{join}
 use Rattle.rules.specs.Inputs.{Paint, Draw}
@@ -14,12 +14,18 @@ use Rattle.segments.specs.Segs.{seg-at, segs, segs-of}
 use Rattle.file_form.specs.declared.Layout.{Layout}
 use Rattle.file_form.specs.Each.{each}
 use Rattle.file_form.specs.Layouts.{Fits}
-use Rattle.file_form.specs.Places.{paint-from, segment-from, draw-from, recorded}
+use Rattle.file_form.specs.Places.{paint_from, segment_from, draw_from, recorded}
 use Rattle.file_form.proofs.Eaches.{each-length, each_at}
 use Rattle.file_form.proofs.Reading.{reads, lent-paints, paints-width, paints-part}
-use Rattle.file_judge.proofs.Listed.{lent}
 use Rattle.file_judge.proofs.Laws.{segments-part}
-use Rattle.step_fill.specs.Fills.{paint-at, paints, paints-of}
+use Rattle.screen.specs.declared.Screen.{Screen}
+use Rattle.step_fill.specs.declared.Draw as step
+use Rattle.step_fill.specs.Fills as fills
+use Rattle.step_fill.specs.Fills.{paint-at, paints, paints-of, filled}
+use Rattle.step_pop.specs.Pop as pop
+use Rattle.step_pop.specs.Pop.{popped}
+use Rattle.file_steps.specs.Recordings.{records_of}
+use Rattle.file_steps.proofs.Calls.{same-fill, same-pop}
 
 -- four words a paint
 pub paints-words-length : (ps : List Paint) → length (join paint-words ps) ≡ 4 * length ps
@@ -83,45 +89,59 @@ segments-said ss =
     rw e (segs-back ss)
 
 -- a fill's paints are read as the file's
-by-each : (ws : List ℕ) (k i : ℕ) → paints ws i k ≡ each paint-from 4 ws (4 * i) k
-unfolding paints each paint-from
+by-each : (ws : List ℕ) (k i : ℕ) → paints ws i k ≡ each paint_from 4 ws (4 * i) k
+unfolding paints each paint_from
 by-each ws zero i = refl
 by-each ws (suc k) i =
     let p : 4 * (i + 1) ≡ 4 * i + 4 = omega arith in
     rw (by-each ws k (i + 1), p)
 
+-- words cut out from a place to another
+pub cut_is : (a n : ℕ) (ws : List ℕ) → take (a + n - a) (drop a ws) ≡ take n (drop a ws)
+cut_is a n ws = let e : a + n - a ≡ n = omega arith in rw e
+
 -- the parts that the code lends say the recording's paints and segments
 module _ (l : Layout) (ws : List ℕ) (f : Fits ws l) where
-  pub paints-lent : paints-of (lent-paints l ws f) ≡ paints-of (join paint-words (recorded l ws).paints)
+  pub paints-lent : paints-of (records_of 4 l.paints ws) ≡ paints-of (join paint-words (recorded l ws).paints)
   paints-lent =
-      let n : length (lent-paints l ws f) / 4 ≡ l.paints.count = rw (paints-width l ws f) (omega arith) in
+      rw (← cut_is l.paints.at (4 * l.paints.count) ws)
+      (let n : length (lent-paints l ws f) / 4 ≡ l.paints.count = rw (paints-width l ws f) (omega arith) in
       rw (paints-said (recorded l ws).paints, ← reads l ws f, n, by-each (lent-paints l ws f) l.paints.count 0, mul-zero 4)
-      (paints-part l ws f)
+      (paints-part l ws f))
 
-  pub paints-lent-length : length (lent-paints l ws f) ≡ length (join paint-words (recorded l ws).paints)
+  pub paints-lent-length : length (records_of 4 l.paints ws) ≡ length (join paint-words (recorded l ws).paints)
   unfolding recorded
   paints-lent-length =
-      paints-width l ws f
-      ∙ sym (paints-words-length (recorded l ws).paints ∙ ap (λ (n : ℕ). 4 * n) (each-length paint-from 4 ws l.paints.at l.paints.count))
+      rw (← cut_is l.paints.at (4 * l.paints.count) ws)
+      (paints-width l ws f
+      ∙ sym (paints-words-length (recorded l ws).paints ∙ ap (λ (n : ℕ). 4 * n) (each-length paint_from 4 ws l.paints.at l.paints.count)))
 
-  pub segments-lent : segs-of (lent ws l.segments.at l.segments.count) ≡ segs-of (join segment-words (recorded l ws).segments)
-  segments-lent = rw (segments-said (recorded l ws).segments, ← reads l ws f) (segments-part l ws f)
+  pub segments-lent : segs-of (records_of 5 l.segments ws) ≡ segs-of (join segment-words (recorded l ws).segments)
+  segments-lent = rw (← cut_is l.segments.at (5 * l.segments.count) ws, segments-said (recorded l ws).segments, ← reads l ws f) (segments-part l ws f)
 
-  pub segments-lent-length : length (lent ws l.segments.at l.segments.count) ≡ length (join segment-words (recorded l ws).segments)
+  pub segments-lent-length : length (records_of 5 l.segments ws) ≡ length (join segment-words (recorded l ws).segments)
   unfolding recorded
   segments-lent-length =
       let h = f.segments.ends in
-      let w : length (lent ws l.segments.at l.segments.count) ≡ 5 * l.segments.count = simp (length-take, length-drop) (omega arith) in
-      w ∙ sym (segments-words-length (recorded l ws).segments ∙ ap (λ (n : ℕ). 5 * n) (each-length segment-from 5 ws l.segments.at l.segments.count))
+      let w : length (records_of 5 l.segments ws) ≡ 5 * l.segments.count = simp (length-take, length-drop) (omega arith) in
+      w ∙ sym (segments-words-length (recorded l ws).segments ∙ ap (λ (n : ℕ). 5 * n) (each-length segment_from 5 ws l.segments.at l.segments.count))
+
+  -- a fill and a pop that are lent them
+  pub same_filled : (x : fills.FillLent) {ps ss : List ℕ} {d e : step.Draw} → ps ≡ records_of 4 l.paints ws → ss ≡ records_of 5 l.segments ws → d ≡ e
+      → filled x ps ss d ≡ filled x (join paint-words (recorded l ws).paints) (join segment-words (recorded l ws).segments) e
+  same_filled x {ps} {ss} {d} {e} p q h = rw (p, q, h) (same-fill x _ _ _ _ e paints-lent paints-lent-length segments-lent segments-lent-length)
+
+  pub same_popped : (s : Screen) (x : pop.PopLent) {ss : List ℕ} → ss ≡ records_of 5 l.segments ws → popped s x ss ≡ popped s x (join segment-words (recorded l ws).segments)
+  same_popped s x q = rw q (same-pop s x _ _ segments-lent segments-lent-length)
 
   pub paints-count : length (recorded l ws).paints ≡ l.paints.count
   unfolding recorded
-  paints-count = each-length paint-from 4 ws l.paints.at l.paints.count
+  paints-count = each-length paint_from 4 ws l.paints.at l.paints.count
 
   pub draws-count : length (recorded l ws).draws ≡ l.draws.count
   unfolding recorded
-  draws-count = each-length draw-from 7 ws l.draws.at l.draws.count
+  draws-count = each-length draw_from 7 ws l.draws.at l.draws.count
 
-  pub draw-there : (i : ℕ) (d : Draw) → i < l.draws.count → get_or (recorded l ws).draws i d ≡ draw-from ws (l.draws.at + 7 * i)
+  pub draw-there : (i : ℕ) (d : Draw) → i < l.draws.count → get_or (recorded l ws).draws i d ≡ draw_from ws (l.draws.at + 7 * i)
   unfolding recorded
-  draw-there i d h = each_at draw-from 7 ws l.draws.at l.draws.count i d h
+  draw-there i d h = each_at draw_from 7 ws l.draws.at l.draws.count i d h

@@ -1,5 +1,4 @@
 -- A building step at a screen and all its words: the calls' own definitions, each on its part of what is lent.
-use Rattle.std.specs.Prelude.{ℕ, List, Float, ℤ}
 use Rattle.rules.specs.Lists.{join}
 use Rattle.rules.specs.Answers.{Answer, answer}
 use Rattle.rules.specs.Inputs as rule
@@ -7,7 +6,6 @@ use Rattle.rules.specs.Recording.{Recording}
 use Rattle.rules.proofs.Words.{paint-words, segment-words}
 use Rattle.rules.specs.Plans.{Step, a-fill, a-push, a-pop, a-filter}
 use Rattle.row.specs.Words.{Words, words}
-use Rattle.screen.specs.declared.Screen.{Screen}
 use Rattle.rect.specs.Rects.{rect-of}
 use Rattle.screen.specs.Tables.{Tables, tables, ScreenLent, lent}
 use Rattle.step_fill.specs.Fills as fills
@@ -19,10 +17,10 @@ use Rattle.step_pop.specs.Pop.{popped}
 use Rattle.step_filter.specs.declared.Placement.{Placement}
 use Rattle.step_filter.specs.Filter as filter
 use Rattle.step_filter.specs.Filter.{given, filtered}
-use Rattle.file_read.specs.Reading.{draw-in, props-in}
+use Rattle.file_read.specs.Reading.{draw_in, props_in}
 
-abbrev pub placement-in : rule.Filter → Placement
-placement-in f = record { dest = rect-of f.dest; source_x = f.source-x; source_y = f.source-y }
+abbrev pub placement_in : rule.Filter → Placement
+placement_in f = record { dest = rect-of f.dest; source_x = f.source-x; source_y = f.source-y }
 
 -- the words of all the rows
 abbrev pub rows_words : Tables → Words
@@ -67,30 +65,11 @@ with_value f a = answer a.number (f a.value)
 
 -- a step: lists of paints and segments are lent as the words that say them
 unfoldable pub call_at : Step → ScreenLent → Answer ScreenLent
-call_at (a-fill ps ss d) l = with_value (fill-into l.tables) (filled (fill-part l) (join paint-words ps) (join segment-words ss) (draw-in d))
-call_at (a-push p) l = with_value (push-into l.tables) (pushed (props-in p) (push-part l))
+call_at (a-fill ps ss d) l = with_value (fill-into l.tables) (filled (fill-part l) (join paint-words ps) (join segment-words ss) (draw_in d))
+call_at (a-push p) l = with_value (push-into l.tables) (pushed (props_in p) (push-part l))
 call_at (a-pop ss) l = pop-into l.tables (popped l.screen (pop-part l) (join segment-words ss))
-call_at (a-filter n f q) l = with_value (filter-into l.tables) (filtered (given (placement-in f) f.pixmap n q) (filter-part l))
+call_at (a-filter n f q) l = with_value (filter-into l.tables) (filtered (given (placement_in f) f.pixmap n q) (filter-part l))
 
 -- the fill of a recording's draw
-abbrev pub draw-step : Recording → rule.Draw → ScreenLent → Answer ScreenLent
-draw-step r d = call_at (a-fill r.paints r.segments d)
-
--- a screen and the words that steps write: all but the depth words and the painter's
-pub record Work : Type 0 where
-  pub screen : Screen
-  pub words : Words
-  pub layers : List ℕ
-  pub opacities : List Float
-  pub paint-attrs : List ℕ
-  pub layer-attrs : List ℕ
-  pub filter-paints : List ℤ
-
-abbrev pub work : Screen → Words → List ℕ → List Float → List ℕ → List ℕ → List ℤ → Work
-work s w la op pas las fps =
-    record { screen = s; words = w; layers = la; opacities = op; paint-attrs = pas; layer-attrs = las; filter-paints = fps }
-
-abbrev pub work-into : Tables → Work → ScreenLent
-work-into t w =
-    lent w.screen
-    (tables w.words.render w.words.fills t.depth w.words.state t.painting w.layers w.opacities w.paint-attrs w.layer-attrs w.filter-paints)
+abbrev pub draw_step : Recording → rule.Draw → ScreenLent → Answer ScreenLent
+draw_step r d = call_at (a-fill r.paints r.segments d)

@@ -3,258 +3,202 @@
 #![tactic(auto)]
 
 ghost use Rattle.std.specs.Prelude.{◌≡◌, ◌+◌, ◌*◌, ◌≤◌, ◌<◌, length};
+ghost use Rattle.sizes.specs.Refusals.{answer_number};
 ghost use Rattle.rules.specs.Answers.{answer};
-ghost use Rattle.rules.specs.Lists.{join, slice};
-ghost use Rattle.rules.proofs.Words.{paint-words, segment-words};
+ghost use Rattle.rules.specs.Lists.{slice};
 ghost use Rattle.rules.specs.Recording.{pixmap-of};
+ghost use Rattle.rules.specs.Inputs.{Props};
+ghost use Rattle.rules.specs.Plans.{a-push, a-pop, a-filter};
 ghost use Rattle.rules.specs.Walk.{each, walk-filter};
-ghost use Rattle.row.specs.Words.{words};
-ghost use Rattle.screen.specs.Tables.{Tables, ScreenLent};
-ghost use Rattle.file_form.specs.Layouts.{Fits};
-ghost use Rattle.file_form.specs.Places.{recorded, draw-from, filter-from, layer-from};
-ghost use Rattle.step_fill.specs.Fills as filling;
-ghost use Rattle.step_fill.specs.Fills.{filled};
-ghost use Rattle.step_pop.specs.Pop as pop;
-ghost use Rattle.step_pop.specs.Pop.{popped};
-ghost use Rattle.step_filter.specs.Filter as filter;
-ghost use Rattle.step_filter.specs.Filter.{picture-of, given, filtered};
-ghost use Rattle.file_read.specs.Reading.{draw-in};
-ghost use Rattle.file_steps.specs.Steps.{placement-in, call_at, draw-step, fill-into, work, work-into};
+ghost use Rattle.screen.specs.Tables.{ScreenLent};
+ghost use Rattle.screen.specs.Lent.{whole, SameLent};
+ghost use Rattle.file_form.specs.Places.{draw_from, filter_from, layer_from};
+ghost use Rattle.step_filter.specs.Filter.{given, given_of};
+ghost use Rattle.file_read.specs.Reading.{props_in};
+ghost use Rattle.file_steps.specs.Steps.{placement_in, call_at, draw_step};
+ghost use Rattle.file_steps.specs.Recordings.{recorded_in, FitsIn, records_of};
 
-use file_form::Layout;
+use file_form::{Layout, Section};
 use file_judge::box_at;
 use file_read::{draw_at, needs_buffer, props_at};
-use screen::{Built, Screen};
-use sizes::answers::DONE;
+use row_screen::Rows;
+use screen::{Lent, Screen};
+use screen_layers::{LayerProps, Layers};
+use sizes::answers::Refusal;
 use step_fill::fill;
-use step_filter::{Pixmap, Placement, filter_fill};
-use step_pop_call::pop_layer;
+use step_filter::{FilterFill, Placement, filter_fill};
+use step_pop::pop_layer;
 use step_push::push_layer;
 
-// The picture that a file's word says: its handle + 1, or 0 for none.
-pub fn pixmap_of(word: u32) -> Pixmap
-    ensures { picture-of result ≡ pixmap-of word }
-{
-    if word == 0 {
-        return Pixmap::Absent;
-    }
-    Pixmap::Present(word - 1)
+// A recording file's words, and where its sections stand in them.
+#[derive(Clone, Copy)]
+pub struct Recording<'a> {
+    pub words: &'a [u32],
+    pub layout: Layout,
 }
 
-// The placement of the filter layer at a place.
-fn placement_at(w: &[u32], at: usize) -> Placement
-    requires { at + 22 ≤ length w.now }
-    ensures { result ≡ placement-in (filter-from w.now at) }
+// A section's records, of `size` words each.
+fn records(words: &[u32], section: Section, size: usize) -> &[u32]
+    requires { (section.at + size * section.count ≤ length words.now) × (size * section.count ≤ 4294967295) }
+    ensures { result.now ≡ records_of size section words.now }
 {
-    let dest = box_at(w, at + 16);
-    Placement {
-        dest,
-        source_x: w[at + 20],
-        source_y: w[at + 21],
+    &words[section.at..section.at + size * section.count]
+}
+
+// The picture that a file's word says: its handle + 1, or 0 for none.
+pub fn pixmap_of(word: u32) -> Option<u32>
+    ensures { result ≡ pixmap-of word }
+{
+    word.checked_sub(1)
+}
+
+// What the filter layer at a place draws, in a recording of so many paints. A file has no panel numbers: its layers have panel 0.
+fn filter_at(w: &[u32], at: usize, paints: usize) -> FilterFill
+    requires { (at + 22 ≤ length w.now) × (paints ≤ 4294967295) }
+    ensures { given_of result ≡ given (placement_in (filter_from w.now at)) (filter_from w.now at).pixmap paints 0 }
+{
+    FilterFill {
+        placement: Placement {
+            dest: box_at(w, at + 16),
+            source_x: w[at + 20],
+            source_y: w[at + 21],
+        },
+        pixmap: pixmap_of(w[at + 15]),
+        paint_count: paints as u32,
+        panel: 0,
     }
 }
 
 // The fill of draw i.
 fn fill_draw(
-    screen: Screen,
-    w: &[u32],
-    l: Layout,
+    screen: &mut Screen,
+    file: &Recording<'_>,
     i: usize,
-    rows: &mut [u32],
-    render: &mut [u32],
-    fills: &mut [u32],
-    paint_attrs: &mut [u32],
-) -> Built
-    requires { Fits w.now l × (i < l.draws.count) }
-    ensures { answer result.number (filling.lent result.screen (words rows.new render.new fills.new) paint_attrs.new)
-        ≡ filled (filling.lent screen (words rows.old render.old fills.old) paint_attrs.old)
-        (join paint-words (recorded l w.now).paints) (join segment-words (recorded l w.now).segments) (draw-in (draw-from w.now (l.draws.at + 7 * i))) }
+    lent: &mut Lent<'_>,
+) -> Result<(), Refusal>
+    requires { FitsIn file.now × (i < file.now.layout.draws.count) }
+    ensures same { SameLent lent.old lent.new }
+    ensures filled { answer (answer_number result) (whole screen.new lent.new)
+        ≡ draw_step (recorded_in file.now) (draw_from file.now.words.now (file.now.layout.draws.at + 7 * i)) (whole screen.old lent.old) }
 {
-    let paints = l.paints;
-    let segments = l.segments;
-    let draws = l.draws;
-    let a = paints.at;
-    let b = a + 4 * paints.count;
-    let s = segments.at;
-    let e = s + 5 * segments.count;
-    let draw = draw_at(w, draws.at + 7 * i);
+    let mut rows = Rows {
+        state: lent.rows,
+        render: lent.render,
+        fills: lent.fills,
+    };
     fill(
         screen,
-        rows,
-        render,
-        fills,
-        paint_attrs,
-        &w[a..b],
-        &w[s..e],
-        draw,
+        &mut rows,
+        lent.paint_attrs,
+        records(file.words, file.layout.paints, 4),
+        records(file.words, file.layout.segments, 5),
+        draw_at(file.words, file.layout.draws.at + 7 * i),
     )
 }
 
 // The fills of draws a to b, in order, up to the first that is refused.
 pub fn walk_draws(
-    screen: Screen,
-    w: &[u32],
-    l: Layout,
+    screen: &mut Screen,
+    file: &Recording<'_>,
     a: usize,
     b: usize,
-    rows: &mut [u32],
-    render: &mut [u32],
-    fills: &mut [u32],
-    paint_attrs: &mut [u32],
-) -> Built
-    requires { Fits w.now l × ((a ≤ b) × (b ≤ l.draws.count)) }
-    ensures { (t : Tables) → answer result.number (fill-into t (filling.lent result.screen (words rows.new render.new fills.new) paint_attrs.new))
-        ≡ each (draw-step (recorded l w.now)) (slice a b (recorded l w.now).draws)
-        (fill-into t (filling.lent screen (words rows.old render.old fills.old) paint_attrs.old)) }
+    lent: &mut Lent<'_>,
+) -> Result<(), Refusal>
+    requires { FitsIn file.now × (a ≤ b) × (b ≤ file.now.layout.draws.count) }
+    ensures same { SameLent lent.old lent.new }
+    ensures walked { answer (answer_number result) (whole screen.new lent.new)
+        ≡ each (draw_step (recorded_in file.now)) (slice a b (recorded_in file.now).draws) (whole screen.old lent.old) }
 {
-    let mut current = screen;
-    let mut i = a;
-    while i < b {
-        let filled = fill_draw(current, w, l, i, rows, render, fills, paint_attrs);
-        if filled.number != DONE {
-            return filled;
-        }
-        current = filled.screen;
-        i += 1;
+    for i in a..b {
+        fill_draw(screen, file, i, lent)?;
     }
-    Built {
-        number: DONE,
-        screen: current,
-    }
+    Ok(())
+}
+
+// A push of what a layer's words say.
+pub fn push_at(screen: &mut Screen, props: LayerProps, lent: &mut Lent<'_>) -> Result<(), Refusal>
+    ensures same { SameLent lent.old lent.new }
+    ensures pushed { (p : Props) → props ≡ props_in p → answer (answer_number result) (whole screen.new lent.new) ≡ call_at (a-push p) (whole screen.old lent.old) }
+{
+    let mut rows = Rows {
+        state: lent.rows,
+        render: lent.render,
+        fills: lent.fills,
+    };
+    let mut layers = Layers {
+        table: lent.layers,
+        opacities: lent.opacities,
+    };
+    push_layer(screen, &mut rows, &mut layers, props)
 }
 
 // A pop, lent the file's segments.
-pub fn pop_at(
-    screen: Screen,
-    w: &[u32],
-    l: Layout,
-    rows: &mut [u32],
-    render: &mut [u32],
-    fills: &mut [u32],
-    layers: &mut [u32],
-    opacities: &mut [f32],
-    layer_attrs: &mut [u32],
-) -> Built
-    requires { Fits w.now l }
-    ensures { pop.out result.number result.screen (pop.lent (words rows.new render.new fills.new) layers.new opacities.new layer_attrs.new)
-        ≡ popped screen (pop.lent (words rows.old render.old fills.old) layers.old opacities.old layer_attrs.old)
-        (join segment-words (recorded l w.now).segments) }
+pub fn pop_at(screen: &mut Screen, file: &Recording<'_>, lent: &mut Lent<'_>) -> Result<(), Refusal>
+    requires { FitsIn file.now }
+    ensures same { SameLent lent.old lent.new }
+    ensures popped { answer (answer_number result) (whole screen.new lent.new) ≡ call_at (a-pop (recorded_in file.now).segments) (whole screen.old lent.old) }
 {
-    let segments = l.segments;
-    let s = segments.at;
-    let e = s + 5 * segments.count;
+    let mut rows = Rows {
+        state: lent.rows,
+        render: lent.render,
+        fills: lent.fills,
+    };
+    let mut layers = Layers {
+        table: lent.layers,
+        opacities: lent.opacities,
+    };
     pop_layer(
         screen,
-        rows,
-        render,
-        fills,
-        layers,
-        opacities,
-        layer_attrs,
-        &w[s..e],
+        &mut rows,
+        &mut layers,
+        lent.layer_attrs,
+        records(file.words, file.layout.segments, 5),
     )
 }
 
-// The filter fill of the layer at a place, which has the given panel.
-fn filter_at(
-    screen: Screen,
-    w: &[u32],
-    l: Layout,
+// The filter fill of the layer at a place.
+fn fill_filter(
+    screen: &mut Screen,
+    file: &Recording<'_>,
     at: usize,
-    rows: &mut [u32],
-    render: &mut [u32],
-    fills: &mut [u32],
-    paint_attrs: &mut [u32],
-    filter_paints: &mut [i32],
-    panel: u32,
-) -> Built
-    requires { Fits w.now l × (at + 22 ≤ length w.now) }
-    ensures { answer result.number (filter.lent result.screen (words rows.new render.new fills.new) paint_attrs.new filter_paints.new)
-        ≡ filtered (given (placement-in (filter-from w.now at)) (filter-from w.now at).pixmap (length (recorded l w.now).paints) panel)
-        (filter.lent screen (words rows.old render.old fills.old) paint_attrs.old filter_paints.old) }
+    lent: &mut Lent<'_>,
+) -> Result<(), Refusal>
+    requires { FitsIn file.now × (at + 22 ≤ length file.now.words.now) }
+    ensures same { SameLent lent.old lent.new }
+    ensures filtered { answer (answer_number result) (whole screen.new lent.new)
+        ≡ call_at (a-filter (length (recorded_in file.now).paints) (filter_from file.now.words.now at) 0) (whole screen.old lent.old) }
 {
-    let paints = l.paints;
-    let placement = placement_at(w, at);
-    let pixmap = pixmap_of(w[at + 15]);
+    let mut rows = Rows {
+        state: lent.rows,
+        render: lent.render,
+        fills: lent.fills,
+    };
     filter_fill(
         screen,
-        rows,
-        render,
-        fills,
-        paint_attrs,
-        filter_paints,
-        placement,
-        pixmap,
-        paints.count as u32,
-        panel,
+        &mut rows,
+        lent.paint_attrs,
+        lent.filter_paints,
+        filter_at(file.words, at, file.layout.paints.count),
     )
 }
 
 // The filter layer at a place: its nodes are not walked. It is pushed and popped only if it needs a buffer.
 pub fn walk_filter(
-    screen: Screen,
-    w: &[u32],
-    l: Layout,
+    screen: &mut Screen,
+    file: &Recording<'_>,
     at: usize,
-    rows: &mut [u32],
-    render: &mut [u32],
-    fills: &mut [u32],
-    layers: &mut [u32],
-    opacities: &mut [f32],
-    paint_attrs: &mut [u32],
-    layer_attrs: &mut [u32],
-    filter_paints: &mut [i32],
-) -> Built
-    requires { Fits w.now l × (at + 22 ≤ length w.now) }
-    ensures { (t : Tables) → answer result.number (work-into t (work result.screen (words rows.new render.new fills.new) layers.new opacities.new paint_attrs.new layer_attrs.new filter_paints.new))
-        ≡ walk-filter ScreenLent call_at (recorded l w.now) (layer-from w.now at)
-        (work-into t (work screen (words rows.old render.old fills.old) layers.old opacities.old paint_attrs.old layer_attrs.old filter_paints.old)) }
+    lent: &mut Lent<'_>,
+) -> Result<(), Refusal>
+    requires { FitsIn file.now × (at + 22 ≤ length file.now.words.now) }
+    ensures same { SameLent lent.old lent.new }
+    ensures walked { answer (answer_number result) (whole screen.new lent.new)
+        ≡ walk-filter ScreenLent call_at (recorded_in file.now) (layer_from file.now.words.now at) (whole screen.old lent.old) }
 {
-    let props = props_at(w, at);
+    let props = props_at(file.words, at);
     if !needs_buffer(props) {
-        return filter_at(
-            screen,
-            w,
-            l,
-            at,
-            rows,
-            render,
-            fills,
-            paint_attrs,
-            filter_paints,
-            props.panel,
-        );
+        return fill_filter(screen, file, at, lent);
     }
-    let pushed = push_layer(screen, rows, render, fills, layers, opacities, props);
-    if pushed.number != DONE {
-        return pushed;
-    }
-    let within = pushed.screen;
-    let drawn = filter_at(
-        within,
-        w,
-        l,
-        at,
-        rows,
-        render,
-        fills,
-        paint_attrs,
-        filter_paints,
-        props.panel,
-    );
-    if drawn.number != DONE {
-        return drawn;
-    }
-    let over = drawn.screen;
-    pop_at(
-        over,
-        w,
-        l,
-        rows,
-        render,
-        fills,
-        layers,
-        opacities,
-        layer_attrs,
-    )
+    push_at(screen, props, lent)?;
+    fill_filter(screen, file, at, lent)?;
+    pop_at(screen, file, lent)
 }

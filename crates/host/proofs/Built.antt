@@ -2,6 +2,7 @@
 use mathlib.Core.Path.{◌≡◌, ap, ◌∙◌}
 use mathlib.Core.Bool.{true}
 use mathlib.Core.List.{List}
+use Rattle.std.specs.Prelude.{Option, Some}
 use Prim.Native.Nat.{ℕ}
 use lib.Ieee.{Float}
 use lib.IntN.{ℤ}
@@ -12,7 +13,7 @@ use Rattle.rect.specs.declared.Rect.{Rect}
 use Rattle.rect.specs.Rects.{box_of}
 use Rattle.row.specs.Words.{Words}
 use Rattle.screen.specs.declared.Screen.{Screen}
-use Rattle.screen.specs.Tables.{Tables, lent, reset-to}
+use Rattle.screen.specs.Tables.{Tables, lent, reset_to}
 use Rattle.file_call.specs.Recorded.{recorded}
 use Rattle.step_fill.specs.declared.Draw.{Draw}
 use Rattle.step_fill.specs.Fills as fills
@@ -25,54 +26,52 @@ use Rattle.step_pop.specs.Pop.{popped}
 use Rattle.step_filter.specs.Filter as filter
 use Rattle.step_filter.specs.Filter.{FilterGiven, filtered}
 use Rattle.paint_screen.specs.Beginning.{canvas, beginning}
-use Rattle.host_screen.specs.declared.Held.{Held}
-use Rattle.host_screen.specs.declared.Held.TheVariants as held
-use Rattle.host_screen.specs.State.{screen-words, screen-of, at_held}
-use Rattle.host.specs.Building.{tables-left, reset-in, recording-in, fill-left, fill-call, push-left, push-call, pop-left, pop-call, filter-left, filter-call}
-use Rattle.host.specs.Painting.{begin-left, begin-call}
+use Rattle.host_screen.specs.State.{screen-words, screen_of, at_held}
+use Rattle.host.specs.Building.{tables-left, reset_in, recording_in, fill-left, fill_call, push-left, push_call, pop-left, pop_call, filter-left, filter_call}
+use Rattle.host.specs.Painting.{begin-left, begin_call}
 
 -- st stands for s; afterwards the call has the screen s', and the words st' are its
-module _ (st st' : List ℕ) (s s' : Screen) (r n : ℕ) (h : held.Good s ≡ screen-of true st) (rn : r ≡ n) (sw : st' ≡ screen-words s') where
-  pub reset-built : (v : Rect) (q : Setup) (t t' : Tables) → answer n (lent s' t') ≡ reset-to (frame q (box_of v)) (lent s t) → answer r (st', t') ≡ reset-in v q st t
-  unfolding reset-in
-  reset-built v q t t' e =
-      rw (rn, sw) (ap tables-left e ∙ ap (λ (x : Held). at_held x st (st, t) (λ (s : Screen). tables-left (reset-to (frame q (box_of v)) (lent s t)))) h)
+module _ (st st' : List ℕ) (s s' : Screen) (r n : ℕ) (h : Some s ≡ screen_of true st) (rn : r ≡ n) (sw : st' ≡ screen-words s') where
+  pub reset_built : (v : Rect) (q : Setup) (t t' : Tables) → answer n (lent s' t') ≡ reset_to (frame q (box_of v)) (lent s t) → answer r (st', t') ≡ reset_in v q st t
+  unfolding reset_in
+  reset_built v q t t' e =
+      rw (rn, sw) (ap tables-left e ∙ ap (λ (x : Option Screen). at_held x st (st, t) (λ (s : Screen). tables-left (reset_to (frame q (box_of v)) (lent s t)))) h)
 
-  pub recording-built : (file : List ℕ) (q : Setup) (t t' : Tables) → answer n (lent s' t') ≡ recorded file q (lent s t) → answer r (st', t') ≡ recording-in file q st t
-  unfolding recording-in
-  recording-built file q t t' e =
-      rw (rn, sw) (ap tables-left e ∙ ap (λ (x : Held). at_held x st (st, t) (λ (s : Screen). tables-left (recorded file q (lent s t)))) h)
+  pub recording_built : (file : List ℕ) (q : Setup) (t t' : Tables) → answer n (lent s' t') ≡ recorded file q (lent s t) → answer r (st', t') ≡ recording_in file q st t
+  unfolding recording_in
+  recording_built file q t t' e =
+      rw (rn, sw) (ap tables-left e ∙ ap (λ (x : Option Screen). at_held x st (st, t) (λ (s : Screen). tables-left (recorded file q (lent s t)))) h)
 
-  pub fill-built : (ps ss : List ℕ) (d : Draw) (w w' : Words) (pas pas' : List ℕ) → answer n (fills.lent s' w' pas') ≡ filled (fills.lent s w pas) ps ss d
-      → answer r (st', w', pas') ≡ fill-call ps ss d st w pas
-  unfolding fill-call
-  fill-built ps ss d w w' pas pas' e =
-      rw (rn, sw) (ap fill-left e ∙ ap (λ (x : Held). at_held x st (st, w, pas) (λ (s : Screen). fill-left (filled (fills.lent s w pas) ps ss d))) h)
+  pub fill_built : (ps ss : List ℕ) (d : Draw) (w w' : Words) (pas pas' : List ℕ) → answer n (fills.lent s' w' pas') ≡ filled (fills.lent s w pas) ps ss d
+      → answer r (st', w', pas') ≡ fill_call ps ss d st w pas
+  unfolding fill_call
+  fill_built ps ss d w w' pas pas' e =
+      rw (rn, sw) (ap fill-left e ∙ ap (λ (x : Option Screen). at_held x st (st, w, pas) (λ (s : Screen). fill-left (filled (fills.lent s w pas) ps ss d))) h)
 
-  pub pop-built : (ss : List ℕ) (l l' : pop.PopLent) → pop.out n s' l' ≡ popped s l ss → answer r (st', l') ≡ pop-call ss st l
-  unfolding pop-call
-  pop-built ss l l' e =
-      rw (rn, sw) (ap pop-left e ∙ ap (λ (x : Held). at_held x st (st, l) (λ (s : Screen). pop-left (popped s l ss))) h)
+  pub pop_built : (ss : List ℕ) (l l' : pop.PopLent) → pop.out n s' l' ≡ popped s l ss → answer r (st', l') ≡ pop_call ss st l
+  unfolding pop_call
+  pop_built ss l l' e =
+      rw (rn, sw) (ap pop-left e ∙ ap (λ (x : Option Screen). at_held x st (st, l) (λ (s : Screen). pop-left (popped s l ss))) h)
 
-  pub begin-built : (d d' p p' : List ℕ) → answer n (canvas s' d' p') ≡ beginning (canvas s d p) → answer r (st', d', p') ≡ begin-call st d p
-  unfolding begin-call
-  begin-built d d' p p' e =
-      rw (rn, sw) (ap begin-left e ∙ ap (λ (x : Held). at_held x st (st, d, p) (λ (s : Screen). begin-left (beginning (canvas s d p)))) h)
+  pub begin_built : (d d' p p' : List ℕ) → answer n (canvas s' d' p') ≡ beginning (canvas s d p) → answer r (st', d', p') ≡ begin_call st d p
+  unfolding begin_call
+  begin_built d d' p p' e =
+      rw (rn, sw) (ap begin-left e ∙ ap (λ (x : Option Screen). at_held x st (st, d, p) (λ (s : Screen). begin-left (beginning (canvas s d p)))) h)
 
 -- .. of a push, which the clip flag lets through
-pub push-built : (st st' : List ℕ) (s s' : Screen) (r n flag : ℕ) → held.Good s ≡ screen-of (leb flag 1) st → r ≡ n → st' ≡ screen-words s'
+pub push_built : (st st' : List ℕ) (s s' : Screen) (r n flag : ℕ) → Some s ≡ screen_of (leb flag 1) st → r ≡ n → st' ≡ screen-words s'
     → (p : LayerProps) (w w' : Words) (ls ls' : List ℕ) (os os' : List Float)
-    → answer n (push.lent s' w' ls' os') ≡ pushed p (push.lent s w ls os) → answer r (st', w', ls', os') ≡ push-call flag p st w ls os
-unfolding push-call
-push-built st st' s s' r n flag h rn sw p w w' ls ls' os os' e =
-    rw (rn, sw) (ap push-left e ∙ ap (λ (x : Held). at_held x st (st, w, ls, os) (λ (s : Screen). push-left (pushed p (push.lent s w ls os)))) h)
+    → answer n (push.lent s' w' ls' os') ≡ pushed p (push.lent s w ls os) → answer r (st', w', ls', os') ≡ push_call flag p st w ls os
+unfolding push_call
+push_built st st' s s' r n flag h rn sw p w w' ls ls' os os' e =
+    rw (rn, sw) (ap push-left e ∙ ap (λ (x : Option Screen). at_held x st (st, w, ls, os) (λ (s : Screen). push-left (pushed p (push.lent s w ls os)))) h)
 
 -- .. of a filter fill, which the picture's flag lets through
-pub filter-built : (st st' : List ℕ) (s s' : Screen) (r n flag : ℕ) → held.Good s ≡ screen-of (leb flag 1) st → r ≡ n → st' ≡ screen-words s'
+pub filter_built : (st st' : List ℕ) (s s' : Screen) (r n flag : ℕ) → Some s ≡ screen_of (leb flag 1) st → r ≡ n → st' ≡ screen-words s'
     → (g : FilterGiven) (w w' : Words) (pas pas' : List ℕ) (fps fps' : List ℤ)
-    → answer n (filter.lent s' w' pas' fps') ≡ filtered g (filter.lent s w pas fps) → answer r (st', w', pas', fps') ≡ filter-call flag g st w pas fps
-unfolding filter-call
-filter-built st st' s s' r n flag h rn sw g w w' pas pas' fps fps' e =
+    → answer n (filter.lent s' w' pas' fps') ≡ filtered g (filter.lent s w pas fps) → answer r (st', w', pas', fps') ≡ filter_call flag g st w pas fps
+unfolding filter_call
+filter_built st st' s s' r n flag h rn sw g w w' pas pas' fps fps' e =
     rw (rn, sw)
     (ap filter-left e
-    ∙ ap (λ (x : Held). at_held x st (st, w, pas, fps) (λ (s : Screen). filter-left (filtered g (filter.lent s w pas fps)))) h)
+    ∙ ap (λ (x : Option Screen). at_held x st (st, w, pas, fps) (λ (s : Screen). filter-left (filtered g (filter.lent s w pas fps)))) h)

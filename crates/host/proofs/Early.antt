@@ -2,7 +2,7 @@
 use mathlib.Core.Path.{◌≡◌, refl, sym, ap, ◌∙◌}
 use mathlib.Core.Bool.{Bool, true, false, ◌&&◌, ◌||◌, not, cond}
 use mathlib.Core.List.{List, [], ◌∷◌}
-use mathlib.Core.Option.{Option, none, some}
+use Rattle.std.specs.Prelude.{Option, None, Some}
 use Prim.Native.Nat.{ℕ, suc, ◌/◌}
 use native.Mathlib.Omega.{arith}
 use lib.ListN.{length}
@@ -12,7 +12,7 @@ use Rattle.sizes.specs.Sizes.{piece-size, open-layer-table, opacity-count, paint
 use Rattle.sizes.specs.Widths.{bucket-tiles}
 use Rattle.rules.specs.Answers.{Answer, answer, first_of, Done, BadRecord, BadOrder, BadRun, NoRoom}
 use Rattle.rules.specs.Spans.{Span, bad-range}
-use Rattle.rules.specs.Depth.{listed, unset-runs, visible-runs, write-runs, unset-answer, visible-answer, write-answer, can-skip-answer}
+use Rattle.rules.specs.Depth.{listed, unset-runs, visible-runs, write-runs, unset_answer, visible_answer, write_answer, can_skip_answer}
 use Rattle.rules.specs.Rows.{fresh-row}
 use Rattle.rules.specs.Plans.{Frame, a-fill, a-push, a-pop, a-filter, Plan, plan}
 use Rattle.rules.specs.Steps.{done, reset}
@@ -24,17 +24,17 @@ use Rattle.rules.proofs.All.{nil, cons}
 use Rattle.rules.proofs.laws.Answers.{settle-number}
 use Rattle.rules_picture.proofs.Cases.{by}
 use Rattle.rules_picture.proofs.Walked.{Late, late-done, first-late, plan-late, refusal-late, all-walks}
-use Rattle.rules.specs.Boxes.{good-viewport, rows_of}
+use Rattle.rules.specs.Boxes.{good_viewport, rows_of}
 use Rattle.rules.specs.Walk.{good-arenas}
 use Rattle.rules.specs.Setups.{Setup, frame}
 use Rattle.rect.specs.Rects.{box_of}
 use Rattle.row.specs.Words.{Words, word-ops}
-use Rattle.row_judge.specs.Building.{step-number}
+use Rattle.row_judge.specs.Building.{step_number}
 use Rattle.screen.specs.declared.Screen.{Screen}
 use Rattle.screen.specs.declared.Lengths.{Lengths}
 use Rattle.screen.specs.Judging as judging
-use Rattle.screen.specs.Judging.{judged, good-tables, judged-reset}
-use Rattle.screen.specs.Tables.{lengths, ScreenLent, reset-to}
+use Rattle.screen.specs.Judging.{judged, good-tables, judged_reset}
+use Rattle.screen.specs.Tables.{lengths, ScreenLent, reset_to}
 use Rattle.step_fill.specs.declared.Draw.{Draw}
 use Rattle.step_fill.specs.Fills as fills
 use Rattle.step_fill.specs.Fills.{filled}
@@ -52,32 +52,32 @@ use Rattle.file_call.specs.Recorded.{or-fresh, played, recorded-in, of-sections,
 use Rattle.refine_steps.proofs.Refined.{reset-refines}
 use Rattle.refine_steps.proofs.Walks.{walk-refines}
 use Rattle.paint_command.specs.Painting as paint
-use Rattle.paint_screen.specs.Judging.{wide, begin-number, runs_number, skip-number}
+use Rattle.paint_screen.specs.Judging.{wide, begin_number, runs_number, skip_number}
 use Rattle.paint_screen.specs.Beginning.{Canvas, beginning}
 use Rattle.paint_screen.specs.Stepping.{Attributes, part, own, number, row_step, stepped}
 use Rattle.paint_screen.specs.Rows.{Wrote, or-runs, write-in-place, record-skip, unset-of, visible-of, write-of, skip-of-row}
 use Rattle.paint_whole.specs.Running.{goes_on, one_more, run, standing, call_step, row-painted}
 use Rattle.depth.specs.Listing.{listing, writing}
 use Rattle.paint_runs.specs.Summaries.{good-summary}
-use Rattle.host_screen.specs.State.{before-4}
-use Rattle.host.specs.Border.{arenas-number, in-sections, file-number}
+use Rattle.host_screen.specs.State.{before_4}
+use Rattle.host.specs.Border.{arenas_number, in-sections, file_number}
 use Rattle.host.proofs.Kept.{on-done, gone-on}
 
 -- a number that is 0 or past 3 gives way to the border's 4
-late-4 : (n : ℕ) → Late n → before-4 n ≡ BadRecord
-unfolding before-4
+late-4 : (n : ℕ) → Late n → before_4 n ≡ BadRecord
+unfolding before_4
 late-4 n h = by (eqb n Done) (λ y. rw (eqb-true n Done y)) (λ z. rw (le-ltb n BadRecord (h z)) (both-off (ltb 0 n)))
   where
     both-off : (b : Bool) → cond (b && false) n BadRecord ≡ BadRecord
     both-off true = refl
     both-off false = refl
 
-zero-4 : (n : ℕ) → n ≡ Done → before-4 n ≡ BadRecord
-unfolding before-4
+zero-4 : (n : ℕ) → n ≡ Done → before_4 n ≡ BadRecord
+unfolding before_4
 zero-4 n e = rw e
 
 -- the number k, then whatever comes after it
-pub after : (k m : ℕ) → Late m → before-4 k ≡ before-4 (cond (eqb k Done) m k)
+pub after : (k m : ℕ) → Late m → before_4 k ≡ before_4 (cond (eqb k Done) m k)
 after k m h = by (eqb k Done) (λ y. rw y (zero-4 k (eqb-true k Done y) ∙ sym (late-4 m h))) (λ z. rw z)
 
 late-or : (b : Bool) (m : ℕ) → Late m → Late (cond b m BadRecord)
@@ -85,44 +85,44 @@ late-or true m h = h
 late-or false m h = λ e. omega arith
 
 -- Building steps. k: what the screen and the lengths say
-step-early : (k : ℕ) (good : Bool) (p : Plan) (s : rule.Screen Words) → Late p.refused → before-4 k ≡ before-4 (step-number k good p s)
-unfolding step-number
+step-early : (k : ℕ) (good : Bool) (p : Plan) (s : rule.Screen Words) → Late p.refused → before_4 k ≡ before_4 (step_number k good p s)
+unfolding step_number
 step-early k good p s h = after k _ (late-or good _ (refusal-late word-ops p (done Words word-ops p s) h))
 
-lists-early : (k : ℕ) (b : Bool) → before-4 k ≡ before-4 (cond (eqb k Done) (cond b Done BadRecord) k)
+lists-early : (k : ℕ) (b : Bool) → before_4 k ≡ before_4 (cond (eqb k Done) (cond b Done BadRecord) k)
 lists-early k b = after k _ (late-or b Done late-done)
 
 pub fill-early : (l : fills.FillLent) (ps ss : List ℕ) (d : Draw)
-    → before-4 (judged l.screen (length l.words.state) (length l.words.render) (length l.words.fills)) ≡ before-4 (filled l ps ss d).number
-unfolding fills.fill-number fills.first-number plan
+    → before_4 (judged l.screen (length l.words.state) (length l.words.render) (length l.words.fills)) ≡ before_4 (filled l ps ss d).number
+unfolding fills.fill_number fills.first_number plan
 fill-early l ps ss d =
     lists-early (judged l.screen (length l.words.state) (length l.words.render) (length l.words.fills))
     (fills.good-lists (length l.paint-attrs) (length ps) (length ss))
     ∙ step-early (fills.first-of-lent l ps ss) _ _ _ (plan-late (a-fill _ _ _) [] _)
-    ∙ ap before-4 (sym (settle-number (fills.fill-number l ps ss d) _ _))
+    ∙ ap before_4 (sym (settle-number (fills.fill_number l ps ss d) _ _))
 
 pub push-early : (p : LayerProps) (l : push.PushLent)
-    → before-4 (judged l.screen (length l.words.state) (length l.words.render) (length l.words.fills)) ≡ before-4 (pushed p l).number
+    → before_4 (judged l.screen (length l.words.state) (length l.words.render) (length l.words.fills)) ≡ before_4 (pushed p l).number
 unfolding pushed push.push-number plan
 push-early p l =
     lists-early (judged l.screen (length l.words.state) (length l.words.render) (length l.words.fills))
     (eqb (length l.layers) open-layer-table && eqb (length l.opacities) opacity-count && good-pattern p.opacity p.nan)
     ∙ step-early (push.first-number p l) _ _ _ (plan-late (a-push _) [] _)
-    ∙ ap before-4 (sym (settle-number (push.push-number p l) _ _))
+    ∙ ap before_4 (sym (settle-number (push.push-number p l) _ _))
 
 pub filter-early : (g : filter.FilterGiven) (l : filter.FilterLent)
-    → before-4 (judged l.screen (length l.words.state) (length l.words.render) (length l.words.fills)) ≡ before-4 (filtered g l).number
+    → before_4 (judged l.screen (length l.words.state) (length l.words.render) (length l.words.fills)) ≡ before_4 (filtered g l).number
 unfolding filtered filter.filter-number plan
 filter-early g l =
     lists-early (judged l.screen (length l.words.state) (length l.words.render) (length l.words.fills))
     (eqb (length l.paint-attrs) paint-attr-table && eqb (length l.filter-paints) filter-paint-table)
     ∙ step-early (filter.first-number l) _ _ _ (plan-late (a-filter _ _ _) [] _)
-    ∙ ap before-4 (sym (settle-number (filter.filter-number g l) _ _))
+    ∙ ap before_4 (sym (settle-number (filter.filter-number g l) _ _))
 
-first-early : (k : ℕ) (x y : Bool) → before-4 k ≡ before-4 (first_of ((not (eqb k Done), k) ∷ (x, BadRecord) ∷ (y, BadRecord) ∷ []))
+first-early : (k : ℕ) (x y : Bool) → before_4 k ≡ before_4 (first_of ((not (eqb k Done), k) ∷ (x, BadRecord) ∷ (y, BadRecord) ∷ []))
 first-early k x y =
     after k _ (first-late ((x, BadRecord) ∷ (y, BadRecord) ∷ []) (cons (omega arith) (cons (omega arith) nil)))
-    ∙ ap before-4 (turned (eqb k Done) (first_of ((x, BadRecord) ∷ (y, BadRecord) ∷ [])))
+    ∙ ap before_4 (turned (eqb k Done) (first_of ((x, BadRecord) ∷ (y, BadRecord) ∷ [])))
   where
     turned : (b : Bool) (m : ℕ) → cond b m k ≡ cond (not b) k m
     turned true m = refl
@@ -133,34 +133,34 @@ unfolding popped
 pop-number s l ws = by (eqb (pop.number s l ws) Done) (λ y. rw y (eqb-true (pop.number s l ws) Done y)) (λ z. rw z)
 
 pub pop-early : (s : Screen) (l : pop.PopLent) (ws : List ℕ)
-    → before-4 (judged s (length l.words.state) (length l.words.render) (length l.words.fills)) ≡ before-4 (popped s l ws).number
+    → before_4 (judged s (length l.words.state) (length l.words.render) (length l.words.fills)) ≡ before_4 (popped s l ws).number
 unfolding pop.number-after pop.first plan
 pop-early s l ws =
     first-early (judged s (length l.words.state) (length l.words.render) (length l.words.fills))
-    (not (pop.good-lengths (length l.layers) (length l.opacities) (length l.attrs) (length ws)))
+    (not (pop.good_lengths (length l.layers) (length l.opacities) (length l.attrs) (length ws)))
     (not (pop.good-open (box_of s.viewport) l.layers s.layers))
     ∙ step-early (pop.first s l ws) _ _ _ (plan-late (a-pop _) _ (pop.state-in s l.layers))
-    ∙ ap before-4 (pop-number s l ws)
+    ∙ ap before_4 (pop-number s l ws)
 
 -- Painting.
-pub begin-early : (k : Canvas) → before-4 (begin-number k.screen (length k.depth) (length k.painting)) ≡ before-4 (beginning k).number
+pub begin-early : (k : Canvas) → before_4 (begin_number k.screen (length k.depth) (length k.painting)) ≡ before_4 (beginning k).number
 unfolding beginning
-begin-early k = ap before-4 (sym (settle-number (begin-number k.screen (length k.depth) (length k.painting)) _ _))
+begin-early k = ap before_4 (sym (settle-number (begin_number k.screen (length k.depth) (length k.painting)) _ _))
 
 row-late : (o : Option rules.Painted) (d p l : List ℕ) → Late (paint.settled o d p l).answer.number
 unfolding paint.settled
-row-late none d p l = λ e. omega arith
-row-late (some o) d p l = by (ltb (length l / piece-size) (length o.pieces)) (λ y. rw y (λ e. omega arith)) (λ z. rw z late-done)
+row-late None d p l = λ e. omega arith
+row-late (Some o) d p l = by (ltb (length l / piece-size) (length o.pieces)) (λ y. rw y (λ e. omega arith)) (λ z. rw z late-done)
 
 out-number : (b : Bool) (n : ℕ) (o p : paint.StepOut) → p.answer.number ≡ n → cond b o.answer.number n ≡ (cond b o p).answer.number
 out-number true n o p e = refl
 out-number false n o p e = sym e
 
-pub step-is-early : (s : Screen) (r : ℕ) (a : Attributes) (l : paint.RowLent) → before-4 (number s r a l) ≡ before-4 (stepped s r a l).answer.number
+pub step-is-early : (s : Screen) (r : ℕ) (a : Attributes) (l : paint.RowLent) → before_4 (number s r a l) ≡ before_4 (stepped s r a l).answer.number
 unfolding stepped row_step paint.painted-row
 step-is-early s r a l =
     after (number s r a l) (row_step s r a l).answer.number (row-late (paint.next-step (bucket-tiles s.width) (paint.attrs-at a.paints s.paint_attrs a.layers s.layer_attrs) (own s r l)) _ _ l.list)
-    ∙ ap before-4 (out-number (eqb (number s r a l) Done) (number s r a l) (row_step s r a l) (paint.out (paint.refused (number s r a l)) l.depth l.painting l.list) refl)
+    ∙ ap before_4 (out-number (eqb (number s r a l) Done) (number s r a l) (row_step s r a l) (paint.out (paint.refused (number s r a l)) l.depth l.painting l.list) refl)
 
 -- a row's call has its first step's number
 module _ (step : List ℕ → List ℕ → List ℕ → paint.StepOut) (d p l : List ℕ) where
@@ -181,8 +181,8 @@ row_number s r a l =
     let step = call_step s r a l.state l.render l.fills in
     first-number step l.depth l.painting l.list ∙ run-number step l.depth l.painting l.list 2048
 
-pub row-is-early : (s : Screen) (r : ℕ) (a : Attributes) (l : paint.RowLent) → before-4 (number s r a l) ≡ before-4 (row-painted s r a l).answer.number
-row-is-early s r a l = step-is-early s r a l ∙ ap before-4 (row_number s r a l)
+pub row-is-early : (s : Screen) (r : ℕ) (a : Attributes) (l : paint.RowLent) → before_4 (number s r a l) ≡ before_4 (row-painted s r a l).answer.number
+row-is-early s r a l = step-is-early s r a l ∙ ap before_4 (row_number s r a l)
 
 -- Runs.
 listed-late : (bad : Bool) (n : ℕ) (rs : List Span) → Late (listed bad n rs).number
@@ -194,63 +194,63 @@ answer-number : {A : Type 0} (b : Bool) (n : ℕ) (x y : Answer A) → y.number 
 answer-number true n x y e = refl
 answer-number false n x y e = sym e
 
-runs-early : (k : ℕ) (a : Answer (List Span)) → Late a.number → before-4 k ≡ before-4 (or-runs k a).number
-runs-early k a h = after k a.number h ∙ ap before-4 (answer-number (eqb k Done) k a (answer k []) refl)
+runs-early : (k : ℕ) (a : Answer (List Span)) → Late a.number → before_4 k ≡ before_4 (or-runs k a).number
+runs-early k a h = after k a.number h ∙ ap before_4 (answer-number (eqb k Done) k a (answer k []) refl)
 
 module _ (s : Screen) (r : ℕ) (d : List ℕ) (t : Span) where
   -- the row's own depth words
   abbrev mine : List ℕ
   mine = part (wide s) r d
 
-  pub unset-early : (l : List ℕ) → before-4 (runs_number s r (length d)) ≡ before-4 (unset-of s r d t l).number
-  unfolding unset-of unset-answer listing
+  pub unset-early : (l : List ℕ) → before_4 (runs_number s r (length d)) ≡ before_4 (unset-of s r d t l).number
+  unfolding unset-of unset_answer listing
   unset-early l =
-      runs-early (runs_number s r (length d)) (unset-answer (bucket-tiles s.width) mine t (length l / 2)) (listed-late (bad-range 8192 t) (length l / 2) (unset-runs (bucket-tiles s.width) mine t))
+      runs-early (runs_number s r (length d)) (unset_answer (bucket-tiles s.width) mine t (length l / 2)) (listed-late (bad-range 8192 t) (length l / 2) (unset-runs (bucket-tiles s.width) mine t))
 
-  pub visible-early : (id : ℕ) (l : List ℕ) → before-4 (runs_number s r (length d)) ≡ before-4 (visible-of s r d t id l).number
-  unfolding visible-of visible-answer listing
+  pub visible-early : (id : ℕ) (l : List ℕ) → before_4 (runs_number s r (length d)) ≡ before_4 (visible-of s r d t id l).number
+  unfolding visible-of visible_answer listing
   visible-early id l =
-      runs-early (runs_number s r (length d)) (visible-answer (bucket-tiles s.width) mine id t (length l / 2)) (listed-late (bad-range 8192 t) (length l / 2) (visible-runs (bucket-tiles s.width) mine id t))
+      runs-early (runs_number s r (length d)) (visible_answer (bucket-tiles s.width) mine id t (length l / 2)) (listed-late (bad-range 8192 t) (length l / 2) (visible-runs (bucket-tiles s.width) mine id t))
 
   wrote-number : (b : Bool) (n : ℕ) (x y : Wrote) → y.listed.number ≡ n → cond b x.listed.number n ≡ (cond b x y).listed.number
   wrote-number true n x y e = refl
   wrote-number false n x y e = sym e
 
-  pub write-early : (id : ℕ) (l : List ℕ) → before-4 (runs_number s r (length d)) ≡ before-4 (write-of s r d id t l).listed.number
-  unfolding write-of write-answer listing
+  pub write-early : (id : ℕ) (l : List ℕ) → before_4 (runs_number s r (length d)) ≡ before_4 (write-of s r d id t l).listed.number
+  unfolding write-of write_answer listing
   write-early id l =
       let n = runs_number s r (length d) in
-      after n (write-answer mine id t (length l / 2)).number (listed-late (bad-range (length mine) t || eqb id 0) (length l / 2) (write-runs mine t))
-      ∙ ap before-4
+      after n (write_answer mine id t (length l / 2)).number (listed-late (bad-range (length mine) t || eqb id 0) (length l / 2) (write-runs mine t))
+      ∙ ap before_4
       (wrote-number (eqb n Done) n (write-in-place s r d (writing mine id t l)) (record { listed = listing (answer n []) l; screen = s; depth = d }) refl)
 
 skip-late : (ws : List ℕ) (t : Span) (id : ℕ) → Late (record-skip ws t id).number
-unfolding can-skip-answer
+unfolding can_skip_answer
 skip-late ws t id = by (good-summary ws)
     (λ y. rw y (by (bad-range 8192 t) (λ b. rw b (λ e. omega arith)) (λ n. rw n late-done)))
     (λ z. rw z (λ e. omega arith))
 
-pub skip-early : (s : Screen) (r : ℕ) (rows : List ℕ) (t : Span) (id : ℕ) → before-4 (skip-number s r (length rows)) ≡ before-4 (skip-of-row s r rows t id).number
+pub skip-early : (s : Screen) (r : ℕ) (rows : List ℕ) (t : Span) (id : ℕ) → before_4 (skip_number s r (length rows)) ≡ before_4 (skip-of-row s r rows t id).number
 unfolding skip-of-row
 skip-early s r rows t id =
-    let n = skip-number s r (length rows) in
+    let n = skip_number s r (length rows) in
     let a = record-skip (part 54 r rows) t id in
-    after n a.number (skip-late (part 54 r rows) t id) ∙ ap before-4 (answer-number (eqb n Done) n a (answer n false) refl)
+    after n a.number (skip-late (part 54 r rows) t id) ∙ ap before_4 (answer-number (eqb n Done) n a (answer n false) refl)
 
 -- Reset, and a recording, whose walk is the rules'. After the arenas only a table's length is left to refuse a reset.
-arenas-early : (f : Frame) (l : Lengths) → before-4 (arenas-number f (judging.arenas l)) ≡ before-4 (judged-reset f l)
-unfolding arenas-number judged-reset before-4
-arenas-early f l = go (good-viewport f.viewport) (good-arenas f (judging.arenas l)) (good-tables (rows_of f.viewport) l)
+arenas-early : (f : Frame) (l : Lengths) → before_4 (arenas_number f (judging.arenas l)) ≡ before_4 (judged_reset f l)
+unfolding arenas_number judged_reset before_4
+arenas-early f l = go (good_viewport f.viewport) (good-arenas f (judging.arenas l)) (good-tables (rows_of f.viewport) l)
   where
-    go : (x y z : Bool) → before-4 (first_of ((not x, 2) ∷ (not y, 1) ∷ [])) ≡ before-4 (first_of ((not x, 2) ∷ (not y, 1) ∷ (not z, 4) ∷ []))
+    go : (x y z : Bool) → before_4 (first_of ((not x, 2) ∷ (not y, 1) ∷ [])) ≡ before_4 (first_of ((not x, 2) ∷ (not y, 1) ∷ (not z, 4) ∷ []))
     go false y z = refl
     go true false z = refl
     go true true true = refl
     go true true false = refl
 
-pub reset-early : (f : Frame) (l : ScreenLent) → before-4 (arenas-number f (judging.arenas (lengths l.tables))) ≡ before-4 (reset-to f l).number
-unfolding reset-to
-reset-early f l = arenas-early f (lengths l.tables) ∙ ap before-4 (sym (settle-number (judged-reset f (lengths l.tables)) _ _))
+pub reset-early : (f : Frame) (l : ScreenLent) → before_4 (arenas_number f (judging.arenas (lengths l.tables))) ≡ before_4 (reset_to f l).number
+unfolding reset_to
+reset-early f l = arenas-early f (lengths l.tables) ∙ ap before_4 (sym (settle-number (judged_reset f (lengths l.tables)) _ _))
 
 records-late : (r : Recording) → Late (records.judged r)
 records-late r = first-late ((not (good-records r), BadRecord) ∷ (not (good-order r), BadOrder) ∷ []) (cons (omega arith) (cons (omega arith) nil))
@@ -260,38 +260,38 @@ module _ (r : Recording) (q : Setup) (l : ScreenLent) where
   f = frame q r.viewport
 
   abbrev early : ℕ
-  early = judged-reset f (lengths l.tables)
+  early = judged_reset f (lengths l.tables)
 
-  walk-late : early ≡ Done → Late (walk-all ScreenLent call_at r (reset-to f l).value).number
+  walk-late : early ≡ Done → Late (walk-all ScreenLent call_at r (reset_to f l).value).number
   unfolding reset
   walk-late e =
       let start = reset fresh-row f in
       let a = (all-walks r).at (record { screen = start; log = [] }) refl in
-      rw ((walk-refines r start (reset-to f l).value (reset-refines f l e).value).number, ← a.number) a.late
+      rw ((walk-refines r start (reset_to f l).value (reset-refines f l e).value).number, ← a.number) a.late
 
-  played-late : early ≡ Done → Late (played r (reset-to f l).value).number
+  played-late : early ≡ Done → Late (played r (reset_to f l).value).number
   unfolding played ◌then◌
   played-late e = by (eqb (records.judged r) Done)
-      (λ y. rw y (kept (walk-all ScreenLent call_at r (reset-to f l).value) (walk-late e)))
+      (λ y. rw y (kept (walk-all ScreenLent call_at r (reset_to f l).value) (walk-late e)))
       (λ z. rw (z, z) (records-late r))
     where
-      kept : (a : Answer ScreenLent) → Late a.number → Late (or-fresh (reset-to f l).value a).number
+      kept : (a : Answer ScreenLent) → Late a.number → Late (or-fresh (reset_to f l).value a).number
       kept a h = by (eqb a.number Done) (λ y. rw y h) (λ z. rw z h)
 
-  reset-number : (reset-to f l).number ≡ early
-  unfolding reset-to
+  reset-number : (reset_to f l).number ≡ early
+  unfolding reset_to
   reset-number = settle-number early _ _
 
-  in-early : before-4 early ≡ before-4 (recorded-in r q l).number
+  in-early : before_4 early ≡ before_4 (recorded-in r q l).number
   unfolding recorded-in ◌then◌
-  in-early = by (eqb (reset-to f l).number Done)
-      (λ y. let e = sym reset-number ∙ eqb-true (reset-to f l).number Done y in rw y (zero-4 early e ∙ sym (late-4 _ (played-late e))))
-      (λ z. rw z (ap before-4 (sym reset-number)))
+  in-early = by (eqb (reset_to f l).number Done)
+      (λ y. let e = sym reset-number ∙ eqb-true (reset_to f l).number Done y in rw y (zero-4 early e ∙ sym (late-4 _ (played-late e))))
+      (λ z. rw z (ap before_4 (sym reset-number)))
 
-pub recorded-is-early : (ws : List ℕ) (q : Setup) (l : ScreenLent) → before-4 (file-number ws q (judging.arenas (lengths l.tables))) ≡ before-4 (recorded ws q l).number
-unfolding recorded file-number
+pub recorded-is-early : (ws : List ℕ) (q : Setup) (l : ScreenLent) → before_4 (file_number ws q (judging.arenas (lengths l.tables))) ≡ before_4 (recorded ws q l).number
+unfolding recorded file_number
 recorded-is-early ws q l = go (sections shape ws)
   where
-    go : (o : Option (List (List (List ℕ)))) → before-4 (in-sections o q (judging.arenas (lengths l.tables))) ≡ before-4 (of-sections o q l).number
-    go none = refl
-    go (some ss) = arenas-early (frame q (recording ss).viewport) (lengths l.tables) ∙ in-early (recording ss) q l
+    go : (o : Option (List (List (List ℕ)))) → before_4 (in-sections o q (judging.arenas (lengths l.tables))) ≡ before_4 (of-sections o q l).number
+    go None = refl
+    go (Some ss) = arenas-early (frame q (recording ss).viewport) (lengths l.tables) ∙ in-early (recording ss) q l

@@ -2,7 +2,8 @@
 use mathlib.Core.Path.{◌≡◌, refl, ap}
 use mathlib.Core.Bool.{Bool, true, false, cond, not, ◌||◌}
 use mathlib.Core.List.{List, [], ◌∷◌}
-use mathlib.Core.Option.{Option, none, some}
+use Rattle.std.specs.Prelude.{Option, None, Some, Result, Ok, Err}
+use Rattle.sizes.specs.declared.answers.Refusal.{Refusal}
 use Prim.Native.Nat.{ℕ, zero, suc, ◌+◌, ◌*◌, ◌/◌}
 use native.Mathlib.Omega.{arith}
 use lib.ListN.{length}
@@ -14,9 +15,9 @@ use Rattle.sizes.specs.declared.width.Width.{Width}
 use Rattle.sizes.specs.Widths.{bucket-tiles, width_of}
 use Rattle.rules.specs.Answers.{Answer, answer, first_of, Done, BadRun, NoRoom}
 use Rattle.rules.specs.Spans.{Span, bad-range}
-use Rattle.rules.specs.Split.{split-answer}
+use Rattle.rules.specs.Split.{split_answer}
 use Rattle.rules.specs.Painting as rules
-use Rattle.rules.specs.Depth.{listed, unset-runs, visible-runs, write-runs, unset-answer, visible-answer, write-answer, write-after, written}
+use Rattle.rules.specs.Depth.{listed, unset-runs, visible-runs, write-runs, unset_answer, visible_answer, write_answer, write-after, written}
 use Rattle.rules.proofs.All.{and_left}
 use Rattle.screen.specs.declared.Screen.{Screen}
 use Rattle.depth.specs.Listing.{numbers, listing}
@@ -25,12 +26,10 @@ use Rattle.paint_screen.specs.Judging.{wide, runs_number}
 use Rattle.paint_screen.specs.Stepping.{Attributes, part, own, in_place, number, row_step, stepped}
 use Rattle.paint_whole.specs.Running.{goes_on, ended, one_more, run, most, standing, call_step, row-painted}
 use Rattle.paint_screen.specs.Rows.{Wrote, or-runs, unset-of, visible-of, write-of, write-in-place, skip-of-row}
-use Rattle.host_screen.specs.declared.Held.{Held}
-use Rattle.host_screen.specs.declared.Held.TheVariants as held
-use Rattle.host_screen.specs.State.{screen-of, at_held, on}
+use Rattle.host_screen.specs.State.{screen_of, at_held, on}
 use Rattle.host_screen.proofs.Words.{written_back}
 use Rattle.host_results.specs.Results.{skip-left, split-left}
-use Rattle.host.specs.Painting.{with-room, step_left, step_call, row-call, runs-left, unset-call, visible-call, write-left, write-call, skip-call, split_at, split-call}
+use Rattle.host.specs.Painting.{with-room, step_left, step_call, row_call, runs-left, unset_call, visible_call, write-left, write_call, skip_call, split_at, split_call}
 use Rattle.host.proofs.Refused.{Refused, settled}
 
 -- result words of another length, or a call that keeps t where it is refused
@@ -42,13 +41,13 @@ roomed n ws t a k q = by (eqb (length ws) n) q
     by false q = refl
 
 -- a call at the screen that the words stand for
-at-screen : {T : Type 0} (good : Bool) (st : List ℕ) (t : T) (f : Screen → Answer T) → ((s : Screen) → held.Good s ≡ screen-of good st → Refused (f s) → (f s).value ≡ t)
+at-screen : {T : Type 0} (good : Bool) (st : List ℕ) (t : T) (f : Screen → Answer T) → ((s : Screen) → Some s ≡ screen_of good st → Refused (f s) → (f s).value ≡ t)
     → Refused (on good st t f) → (on good st t f).value ≡ t
-at-screen good st t f k q = by (screen-of good st) refl q
+at-screen good st t f k q = by (screen_of good st) refl q
   where
-    by : (h : Held) → h ≡ screen-of good st → Refused (at_held h st t f) → (at_held h st t f).value ≡ t
-    by held.Nothing e q = refl
-    by (held.Good s) e q = k s e q
+    by : (h : Option Screen) → h ≡ screen_of good st → Refused (at_held h st t f) → (at_held h st t f).value ≡ t
+    by None e q = refl
+    by (Some s) e q = k s e q
 
 -- Runs. A refusal lists none.
 abbrev Bare : Answer (List Span) → Type 0
@@ -68,70 +67,70 @@ runs-kept : (a : Answer (List Span)) (l n : List ℕ) → Bare a → Refused (ru
 unfolding listing numbers
 runs-kept a l n k q = rw (k q, ne_eqb _ _ q)
 
-pub unset-refused : (r : ℕ) (t : Span) (st d l n : List ℕ) → Refused (unset-call r t st d l n) → (unset-call r t st d l n).value ≡ (l, n)
-unfolding unset-call unset-of unset-answer
+pub unset-refused : (r : ℕ) (t : Span) (st d l n : List ℕ) → Refused (unset_call r t st d l n) → (unset_call r t st d l n).value ≡ (l, n)
+unfolding unset_call unset-of unset_answer
 unset-refused r t st d l n =
     at-screen (eqb (length n) 1) st (l, n) (λ (s : Screen). runs-left n (unset-of s r d t l))
-    (λ (s : Screen) (e : held.Good s ≡ screen-of (eqb (length n) 1) st).
-    (runs-kept (or-runs (runs_number s r (length d)) (unset-answer (bucket-tiles s.width) (part (wide s) r d) t (length l / 2))) l n
-    (bare-or (runs_number s r (length d)) (unset-answer (bucket-tiles s.width) (part (wide s) r d) t (length l / 2)) (bare-listed (bad-range 8192 t) (length l / 2) (unset-runs (bucket-tiles s.width) (part (wide s) r d) t)))))
+    (λ (s : Screen) (e : Some s ≡ screen_of (eqb (length n) 1) st).
+    (runs-kept (or-runs (runs_number s r (length d)) (unset_answer (bucket-tiles s.width) (part (wide s) r d) t (length l / 2))) l n
+    (bare-or (runs_number s r (length d)) (unset_answer (bucket-tiles s.width) (part (wide s) r d) t (length l / 2)) (bare-listed (bad-range 8192 t) (length l / 2) (unset-runs (bucket-tiles s.width) (part (wide s) r d) t)))))
 
-pub visible-refused : (r : ℕ) (t : Span) (id : ℕ) (st d l n : List ℕ) → Refused (visible-call r t id st d l n) → (visible-call r t id st d l n).value ≡ (l, n)
-unfolding visible-call visible-of visible-answer
+pub visible-refused : (r : ℕ) (t : Span) (id : ℕ) (st d l n : List ℕ) → Refused (visible_call r t id st d l n) → (visible_call r t id st d l n).value ≡ (l, n)
+unfolding visible_call visible-of visible_answer
 visible-refused r t id st d l n =
     at-screen (eqb (length n) 1) st (l, n) (λ (s : Screen). runs-left n (visible-of s r d t id l))
-    (λ (s : Screen) (e : held.Good s ≡ screen-of (eqb (length n) 1) st).
-    (runs-kept (or-runs (runs_number s r (length d)) (visible-answer (bucket-tiles s.width) (part (wide s) r d) id t (length l / 2))) l n
-    (bare-or (runs_number s r (length d)) (visible-answer (bucket-tiles s.width) (part (wide s) r d) id t (length l / 2)) (bare-listed (bad-range 8192 t) (length l / 2) (visible-runs (bucket-tiles s.width) (part (wide s) r d) id t)))))
+    (λ (s : Screen) (e : Some s ≡ screen_of (eqb (length n) 1) st).
+    (runs-kept (or-runs (runs_number s r (length d)) (visible_answer (bucket-tiles s.width) (part (wide s) r d) id t (length l / 2))) l n
+    (bare-or (runs_number s r (length d)) (visible_answer (bucket-tiles s.width) (part (wide s) r d) id t (length l / 2)) (bare-listed (bad-range 8192 t) (length l / 2) (visible-runs (bucket-tiles s.width) (part (wide s) r d) id t)))))
 
-pub skip-refused : (r : ℕ) (t : Span) (id : ℕ) (st rows old : List ℕ) → Refused (skip-call r t id st rows old) → (skip-call r t id st rows old).value ≡ old
-unfolding skip-call
+pub skip-refused : (r : ℕ) (t : Span) (id : ℕ) (st rows old : List ℕ) → Refused (skip_call r t id st rows old) → (skip_call r t id st rows old).value ≡ old
+unfolding skip_call
 skip-refused r t id st rows old =
     at-screen (eqb (length old) 1) st old (λ (s : Screen). skip-left old (skip-of-row s r rows t id))
-    (λ (s : Screen) (e : held.Good s ≡ screen-of (eqb (length old) 1) st). λ q. rw (ne_eqb _ _ q))
+    (λ (s : Screen) (e : Some s ≡ screen_of (eqb (length old) 1) st). λ q. rw (ne_eqb _ _ q))
 
-pub split-refused : (pixels : ℕ) (s : Span) (parts : List ℕ) → Refused (split-call pixels s parts) → (split-call pixels s parts).value ≡ parts
-unfolding split-call
+pub split-refused : (pixels : ℕ) (s : Span) (parts : List ℕ) → Refused (split_call pixels s parts) → (split_call pixels s parts).value ≡ parts
+unfolding split_call
 split-refused pixels s parts = go (width_of pixels)
   where
-    go : (o : Option Width) → Refused (split_at o s parts) → (split_at o s parts).value ≡ parts
-    go none q = refl
-    go (some w) q = roomed 9 parts parts (split-left parts (split-answer (bucket-tiles w) s)) (λ q. rw (ne_eqb _ _ q)) q
+    go : (o : Result Width Refusal) → Refused (split_at o s parts) → (split_at o s parts).value ≡ parts
+    go (Err r) q = refl
+    go (Ok w) q = roomed 9 parts parts (split-left parts (split_answer (bucket-tiles w) s)) (λ q. rw (ne_eqb _ _ q)) q
 
 -- Writing. A refusal puts the row's own part back, and leaves the screen.
 abbrev after_write : Screen → ℕ → List ℕ → List ℕ → Answer (List Span) → List ℕ → Wrote
 after_write s r d w a l = write-in-place s r d (record { listed = listing a l; depth = cond (eqb a.number Done) w (part (wide s) r d) })
 
-write_kept : (good : Bool) (s : Screen) (r : ℕ) (d w l n st : List ℕ) (a : Answer (List Span)) → held.Good s ≡ screen-of good st → Bare a → Refused (write-left n (after_write s r d w a l))
+write_kept : (good : Bool) (s : Screen) (r : ℕ) (d w l n st : List ℕ) (a : Answer (List Span)) → Some s ≡ screen_of good st → Bare a → Refused (write-left n (after_write s r d w a l))
     → (write-left n (after_write s r d w a l)).value ≡ (st, d, l, n)
 unfolding listing numbers
 write_kept good s r d w l n st a e k q = rw (k q, ne_eqb _ _ q, put_same (r * wide s) (wide s) d, written_back good st s e)
 
-module _ (good : Bool) (s : Screen) (r : ℕ) (t : Span) (id : ℕ) (st d l n : List ℕ) (e : held.Good s ≡ screen-of good st) where
+module _ (good : Bool) (s : Screen) (r : ℕ) (t : Span) (id : ℕ) (st d l n : List ℕ) (e : Some s ≡ screen_of good st) where
   at_row : Refused (write-left n (write-of s r d id t l)) → (write-left n (write-of s r d id t l)).value ≡ (st, d, l, n)
-  unfolding write-of write-answer write-after listing numbers
+  unfolding write-of write_answer write-after listing numbers
   at_row q = by (eqb (runs_number s r (length d)) Done) refl q
     where
       by : (b : Bool) → eqb (runs_number s r (length d)) Done ≡ b
-          → Refused (write-left n (cond b (after_write s r d (written (part (wide s) r d) id t) (write-answer (part (wide s) r d) id t (length l / 2)) l) (record { listed = listing (answer (runs_number s r (length d)) []) l; screen = s; depth = d })))
-          → (write-left n (cond b (after_write s r d (written (part (wide s) r d) id t) (write-answer (part (wide s) r d) id t (length l / 2)) l) (record { listed = listing (answer (runs_number s r (length d)) []) l; screen = s; depth = d }))).value ≡ (st, d, l, n)
+          → Refused (write-left n (cond b (after_write s r d (written (part (wide s) r d) id t) (write_answer (part (wide s) r d) id t (length l / 2)) l) (record { listed = listing (answer (runs_number s r (length d)) []) l; screen = s; depth = d })))
+          → (write-left n (cond b (after_write s r d (written (part (wide s) r d) id t) (write_answer (part (wide s) r d) id t (length l / 2)) l) (record { listed = listing (answer (runs_number s r (length d)) []) l; screen = s; depth = d }))).value ≡ (st, d, l, n)
       by true f q =
-          write_kept good s r d (written (part (wide s) r d) id t) l n st (write-answer (part (wide s) r d) id t (length l / 2)) e
+          write_kept good s r d (written (part (wide s) r d) id t) l n st (write_answer (part (wide s) r d) id t (length l / 2)) e
           (bare-listed (bad-range (length (part (wide s) r d)) t || eqb id 0) (length l / 2) (write-runs (part (wide s) r d) t)) q
       by false f q = rw (f, written_back good st s e)
 
-pub write-refused : (r : ℕ) (t : Span) (id : ℕ) (st d l n : List ℕ) → Refused (write-call r t id st d l n) → (write-call r t id st d l n).value ≡ (st, d, l, n)
-unfolding write-call
+pub write-refused : (r : ℕ) (t : Span) (id : ℕ) (st d l n : List ℕ) → Refused (write_call r t id st d l n) → (write_call r t id st d l n).value ≡ (st, d, l, n)
+unfolding write_call
 write-refused r t id st d l n =
     at-screen (eqb (length n) 1) st (st, d, l, n) (λ (s : Screen). write-left n (write-of s r d id t l))
-    (λ (s : Screen) (e : held.Good s ≡ screen-of (eqb (length n) 1) st). at_row (eqb (length n) 1) s r t id st d l n e)
+    (λ (s : Screen) (e : Some s ≡ screen_of (eqb (length n) 1) st). at_row (eqb (length n) 1) s r t id st d l n e)
 
 -- A painting step. What a refused row's step leaves.
 row_kept : (o : Option rules.Painted) (d p l : List ℕ) → ((paint.settled o d p l).answer.number ≡ 0 → ⊥)
     → ((paint.settled o d p l).depth ≡ d) × ((paint.settled o d p l).painting ≡ p) × ((paint.settled o d p l).list ≡ l)
 unfolding paint.settled
-row_kept none d p l q = (refl, refl, refl)
-row_kept (some o) d p l q = by (ltb (length l / piece-size) (length o.pieces)) q
+row_kept None d p l q = (refl, refl, refl)
+row_kept (Some o) d p l q = by (ltb (length l / piece-size) (length o.pieces)) q
   where
     by : (b : Bool) → ((cond b (paint.out (paint.refused NoRoom) d p l) (paint.left o l)).answer.number ≡ 0 → ⊥)
         → ((cond b (paint.out (paint.refused NoRoom) d p l) (paint.left o l)).depth ≡ d) × ((cond b (paint.out (paint.refused NoRoom) d p l) (paint.left o l)).painting ≡ p) × ((cond b (paint.out (paint.refused NoRoom) d p l) (paint.left o l)).list ≡ l)
@@ -161,7 +160,7 @@ pub step-refused : (r : ℕ) (a : Attributes) (st : List ℕ) (l : paint.RowLent
 unfolding step_call
 step-refused r a st l res =
     at-screen (eqb (length res) 2) st (l.depth, l.painting, l.list, res) (λ (s : Screen). step_left res (stepped s r a l))
-    (λ (s : Screen) (e : held.Good s ≡ screen-of (eqb (length res) 2) st). step-at-row s r a l res)
+    (λ (s : Screen) (e : Some s ≡ screen_of (eqb (length res) 2) st). step-at-row s r a l res)
 
 -- A row's steps. After one that is done the call is not refused, ..
 pub gone-on : (o : paint.StepOut) → goes_on o.answer ≡ true → o.answer.number ≡ 0
@@ -218,8 +217,8 @@ module _ (s : Screen) (r : ℕ) (a : Attributes) (l : paint.RowLent) (res : List
   steps-at-row : Refused (step_left res (row-painted s r a l)) → (step_left res (row-painted s r a l)).value ≡ (l.depth, l.painting, l.list, res)
   steps-at-row q = left-kept (row-painted s r a l) l.depth l.painting l.list res (steps-kept q) q
 
-pub row-refused : (r : ℕ) (a : Attributes) (st : List ℕ) (l : paint.RowLent) (res : List ℕ) → Refused (row-call r a st l res) → (row-call r a st l res).value ≡ (l.depth, l.painting, l.list, res)
-unfolding row-call
+pub row-refused : (r : ℕ) (a : Attributes) (st : List ℕ) (l : paint.RowLent) (res : List ℕ) → Refused (row_call r a st l res) → (row_call r a st l res).value ≡ (l.depth, l.painting, l.list, res)
+unfolding row_call
 row-refused r a st l res =
     at-screen (eqb (length res) 2) st (l.depth, l.painting, l.list, res) (λ (s : Screen). step_left res (row-painted s r a l))
-    (λ (s : Screen) (e : held.Good s ≡ screen-of (eqb (length res) 2) st). steps-at-row s r a l res)
+    (λ (s : Screen) (e : Some s ≡ screen_of (eqb (length res) 2) st). steps-at-row s r a l res)

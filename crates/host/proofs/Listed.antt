@@ -3,6 +3,7 @@
 use mathlib.Core.Path.{◌≡◌, refl, sym, ap, ◌∙◌}
 use mathlib.Core.Bool.{Bool, true, false, ◌&&◌, cond}
 use mathlib.Core.List.{List, [], ◌∷◌, ◌++◌, append_assoc}
+use Rattle.std.specs.Prelude.{Option, None, Some}
 use Prim.Native.Nat.{ℕ, zero, suc, ◌*◌, ◌/◌, ◌≤◌, min}
 use native.Mathlib.Nat.{not-suc-le-zero, le_of_suc-le-suc}
 use native.Mathlib.Omega.{arith}
@@ -15,7 +16,7 @@ use Rattle.sizes.specs.Widths.{bucket-tiles}
 use Rattle.rules.proofs.All.{both}
 use Rattle.rules.specs.Answers.{Answer, answer, settle, first_of, BadRecord, BadRun, NoRoom}
 use Rattle.rules.specs.Spans.{Span, bad-range}
-use Rattle.rules.specs.Depth.{visible-runs, visible-answer}
+use Rattle.rules.specs.Depth.{visible-runs, visible_answer}
 use Rattle.span.specs.declared.TileSpan.{TileSpan}
 use Rattle.depth.specs.Listing as words
 use Rattle.depth.specs.Listing.{numbers, over}
@@ -28,12 +29,10 @@ use Rattle.screen.specs.declared.Screen.{Screen}
 use Rattle.paint_screen.specs.Judging.{wide, runs_number}
 use Rattle.paint_screen.specs.Stepping.{part}
 use Rattle.paint_screen.specs.Rows.{or-runs, visible-of}
-use Rattle.host_screen.specs.declared.Held.{Held}
-use Rattle.host_screen.specs.declared.Held.TheVariants as held
-use Rattle.host_screen.specs.State.{screen-at, screen-of, before-4, refused-at, at_held}
-use Rattle.host_screen.proofs.Words.{was-good}
-use Rattle.host.specs.Painting.{runs-left, visible-call}
-use Rattle.host.specs.Spans.{runs_of, spans-left, spans-call, own-words, found_left, found-call}
+use Rattle.host_screen.specs.State.{screen-at, screen_of, before_4, refused_at, at_held}
+use Rattle.host_screen.proofs.Words.{was_good}
+use Rattle.host.specs.Painting.{runs-left, visible_call}
+use Rattle.host.specs.Spans.{runs_of, spans-left, spans_call, own-words, found_left, found_call}
 
 -- a part of some words, with what is after it
 drop-part : (k m : ℕ) (z : List ℕ) → k ≤ m → drop k (take m z) ++ drop m z ≡ drop k z
@@ -47,8 +46,8 @@ over-part : (ns : List ℕ) (m : ℕ) (z : List ℕ) → length ns ≤ m → ove
 over-part ns m z h = append_assoc ns (drop (length ns) (take m z)) (drop m z) ∙ ap (λ (y : List ℕ). ns ++ y) (drop-part (length ns) m z h)
 
 -- the border refuses by a number that is not 0
-refuses : (st : List ℕ) (f : Screen → ℕ) → refused-at st f ≡ 0 → ⊥
-unfolding refused-at before-4
+refuses : (st : List ℕ) (f : Screen → ℕ) → refused_at st f ≡ 0 → ⊥
+unfolding refused_at before_4
 refuses st f = go (eqb (length st) state-size) (ltb 0 n && ltb n BadRecord) refl
   where
     n : ℕ
@@ -60,8 +59,8 @@ refuses st f = go (eqb (length st) state-size) (ltb 0 n && ltb n BadRecord) refl
     go true true q e = omega (arith, ltb-true 0 n (both (ltb 0 n) (ltb n BadRecord) q).0)
 
 -- a refusal lists nothing
-refused_none : (w : ℕ) (bs : List ℕ) (id : ℕ) (t : Span) (n : ℕ) → ((visible-answer w bs id t n).number ≡ 0 → ⊥) → (visible-answer w bs id t n).value ≡ []
-unfolding visible-answer
+refused_none : (w : ℕ) (bs : List ℕ) (id : ℕ) (t : Span) (n : ℕ) → ((visible_answer w bs id t n).number ≡ 0 → ⊥) → (visible_answer w bs id t n).value ≡ []
+unfolding visible_answer
 refused_none w bs id t n = go (bad-range 8192 t) (ltb n (length rs))
   where
     rs : List Span
@@ -82,14 +81,14 @@ module _ (s : Screen) (r : ℕ) (d : List ℕ) (t : Span) (id : ℕ) where
   no_more : (n : ℕ) → length (runs_of s r d t id n).value ≤ n
   no_more n = go (eqb (runs_number s r (length d)) 0)
     where
-      go : (b : Bool) → length (cond b (visible-answer tiles-each bs id t n) (answer (runs_number s r (length d)) [])).value ≤ n
+      go : (b : Bool) → length (cond b (visible_answer tiles-each bs id t n) (answer (runs_number s r (length d)) [])).value ≤ n
       go true = in-room tiles-each bs id t n
       go false = omega arith
 
   none-refused : (n : ℕ) → ((runs_of s r d t id n).number ≡ 0 → ⊥) → (runs_of s r d t id n).value ≡ []
   none-refused n = go (eqb (runs_number s r (length d)) 0)
     where
-      go : (b : Bool) → let a = cond b (visible-answer tiles-each bs id t n) (answer (runs_number s r (length d)) []) in (a.number ≡ 0 → ⊥) → a.value ≡ []
+      go : (b : Bool) → let a = cond b (visible_answer tiles-each bs id t n) (answer (runs_number s r (length d)) []) in (a.number ≡ 0 → ⊥) → a.value ≡ []
       go true h = refused_none tiles-each bs id t n h
       go false h = refl
 
@@ -101,28 +100,28 @@ module _ (s : Screen) (r : ℕ) (d : List ℕ) (t : Span) (id : ℕ) where
 
 -- what is found: the words' answer n, the m words that are lent and as they are left, and the results
 module _ (r : ℕ) (t : Span) (id : ℕ) (st d : List ℕ) (room : ℕ) (c : List ℕ) (n m : ℕ) (ws c' : List ℕ) (k : m ≡ 2 * min room (bucket-end / 2))
-    (e : answer n (ws, c') ≡ visible-call r t id st d (take m own-words) c) where
+    (e : answer n (ws, c') ≡ visible_call r t id st d (take m own-words) c) where
   abbrev lent : List ℕ
   lent = take m own-words
 
   same-lent : (s : Screen) → runs_of s r d t id (length lent / 2) ≡ runs_of s r d t id room
   same-lent s = same_runs s r d t id room m lent k (length-take-le m own-words (omega (arith, k)))
 
-  abbrev Here : Held → Type 0
+  abbrev Here : Option Screen → Type 0
   Here h = answer n (ws, c') ≡ at_held h st (lent, c) (λ (s : Screen). runs-left c (words.listing (runs_of s r d t id (length lent / 2)) lent))
 
-  abbrev There : Held → ℕ → Type 0
+  abbrev There : Option Screen → ℕ → Type 0
   There h count =
       answer n (count, ws ++ drop m own-words, c')
       ≡ at_held h st (0, own-words, c) (λ (s : Screen). found_left c (words.listing (runs_of s r d t id room) own-words))
 
-  from : Here (screen-of (eqb (length c) 1) st)
-  unfolding visible-call visible-of
+  from : Here (screen_of (eqb (length c) 1) st)
+  unfolding visible_call visible-of
   from = e
 
   -- where the words stand for no screen
-  none : Here held.Nothing → There held.Nothing 0
-  unfolding words.listing refused-at
+  none : Here None → There None 0
+  unfolding words.listing refused_at
   none h =
       let w : ws ++ drop m own-words ≡ own-words = ap (λ (a : Answer (List ℕ × List ℕ)). a.value.0 ++ drop m own-words) h ∙ take-append-drop m own-words in
       rw w (ap (λ (a : Answer (List ℕ × List ℕ)). answer a.number (0, own-words, a.value.1)) (rw (same-lent (screen-at st)) at h))
@@ -132,7 +131,7 @@ module _ (r : ℕ) (t : Span) (id : ℕ) (st d : List ℕ) (room : ℕ) (c : Lis
     abbrev x : Answer (List Span)
     x = runs_of s r d t id room
 
-    listed : Here (held.Good s) → answer n (ws, c') ≡ runs-left c (words.listing x lent)
+    listed : Here (Some s) → answer n (ws, c') ≡ runs-left c (words.listing x lent)
     listed h = rw (same-lent s) at h
 
     short : length (numbers x.value) ≤ m
@@ -141,60 +140,60 @@ module _ (r : ℕ) (t : Span) (id : ℕ) (st d : List ℕ) (room : ℕ) (c : Lis
         let l' : length x.value ≤ length lent / 2 = rw (same-lent s) at l in
         omega (arith, length-numbers x.value, l', k, length-take-le m own-words (omega (arith, k)))
 
-    all_words : Here (held.Good s) → ws ++ drop m own-words ≡ over (numbers x.value) own-words
+    all_words : Here (Some s) → ws ++ drop m own-words ≡ over (numbers x.value) own-words
     unfolding words.listing
     all_words h = ap (λ (a : Answer (List ℕ × List ℕ)). a.value.0 ++ drop m own-words) (listed h) ∙ over-part (numbers x.value) m own-words short
 
-    counted : Here (held.Good s) → There (held.Good s) (length x.value)
+    counted : Here (Some s) → There (Some s) (length x.value)
     unfolding words.listing
     counted h = rw (all_words h) (ap (λ (a : Answer (List ℕ × List ℕ)). answer a.number (length x.value, over (numbers x.value) own-words, a.value.1)) (listed h))
 
-    its-number : Here (held.Good s) → n ≡ x.number
+    its-number : Here (Some s) → n ≡ x.number
     unfolding words.listing
     its-number h = ap (λ (a : Answer (List ℕ × List ℕ)). a.number) (listed h)
 
-    its-count : Here (held.Good s) → n ≡ 0 → get_or c' 0 0 ≡ length x.value
+    its-count : Here (Some s) → n ≡ 0 → get_or c' 0 0 ≡ length x.value
     unfolding words.listing
     its-count h z =
         ap (λ (a : Answer (List ℕ × List ℕ)). get_or a.value.1 0 0) (listed h)
         ∙ rw (eq-eqb x.number 0 (sym (its-number h) ∙ z))
 
-  pub found_none : (n ≡ 0 → ⊥) → answer n (0, ws ++ drop m own-words, c') ≡ found-call r t id st d room c
-  unfolding found-call
-  found_none z = go (screen-of (eqb (length c) 1) st) from
+  pub found_none : (n ≡ 0 → ⊥) → answer n (0, ws ++ drop m own-words, c') ≡ found_call r t id st d room c
+  unfolding found_call
+  found_none z = go (screen_of (eqb (length c) 1) st) from
     where
-      go : (h : Held) → Here h → There h 0
-      go held.Nothing h = none h
-      go (held.Good s) h =
+      go : (h : Option Screen) → Here h → There h 0
+      go None h = none h
+      go (Some s) h =
           let v : (runs_of s r d t id room).value ≡ [] = none-refused s r d t id room (λ q. z (its-number s h ∙ q)) in
           rw (ap length v) at (counted s h)
 
   -- a border that refuses does not answer 0
   pub one-result : n ≡ 0 → length c ≡ 1
-  one-result z = go (screen-of (eqb (length c) 1) st) refl from
+  one-result z = go (screen_of (eqb (length c) 1) st) refl from
     where
-      go : (h : Held) → screen-of (eqb (length c) 1) st ≡ h → Here h → length c ≡ 1
-      go held.Nothing q h = absurd (refuses st _ (sym (ap (λ (a : Answer (List ℕ × List ℕ)). a.number) h) ∙ z))
-      go (held.Good s) q h = eqb-true (length c) 1 (was-good _ st s (sym q))
+      go : (h : Option Screen) → screen_of (eqb (length c) 1) st ≡ h → Here h → length c ≡ 1
+      go None q h = absurd (refuses st _ (sym (ap (λ (a : Answer (List ℕ × List ℕ)). a.number) h) ∙ z))
+      go (Some s) q h = eqb-true (length c) 1 (was_good _ st s (sym q))
 
-  pub found_some : n ≡ 0 → answer n (get_or c' 0 0, ws ++ drop m own-words, c') ≡ found-call r t id st d room c
-  unfolding found-call
-  found_some z = go (screen-of (eqb (length c) 1) st) from
+  pub found_some : n ≡ 0 → answer n (get_or c' 0 0, ws ++ drop m own-words, c') ≡ found_call r t id st d room c
+  unfolding found_call
+  found_some z = go (screen_of (eqb (length c) 1) st) from
     where
-      go : (h : Held) → Here h → There h (get_or c' 0 0)
-      go held.Nothing h = absurd (refuses st _ (sym (ap (λ (a : Answer (List ℕ × List ℕ)). a.number) h) ∙ z))
-      go (held.Good s) h = rw (its-count s h z) (counted s h)
+      go : (h : Option Screen) → Here h → There h (get_or c' 0 0)
+      go None h = absurd (refuses st _ (sym (ap (λ (a : Answer (List ℕ × List ℕ)). a.number) h) ∙ z))
+      go (Some s) h = rw (its-count s h z) (counted s h)
 
 -- What is found is written to a list l: k runs, in the words ws.
-module _ (r : ℕ) (t : Span) (id : ℕ) (st d : List ℕ) (l : List TileSpan) (n k : ℕ) (ws c c' : List ℕ) (e : answer n (k, ws, c') ≡ found-call r t id st d (length l) c) where
-  abbrev Found_at : Held → Type 0
+module _ (r : ℕ) (t : Span) (id : ℕ) (st d : List ℕ) (l : List TileSpan) (n k : ℕ) (ws c c' : List ℕ) (e : answer n (k, ws, c') ≡ found_call r t id st d (length l) c) where
+  abbrev Found_at : Option Screen → Type 0
   Found_at h = answer n (k, ws, c') ≡ at_held h st (0, own-words, c) (λ (s : Screen). found_left c (words.listing (runs_of s r d t id (length l)) own-words))
 
-  found : Found_at (screen-of (eqb (length c) 1) st)
-  unfolding found-call
+  found : Found_at (screen_of (eqb (length c) 1) st)
+  unfolding found_call
   found = e
 
-  module _ (s : Screen) (h : Found_at (held.Good s)) where
+  module _ (s : Screen) (h : Found_at (Some s)) where
     abbrev v : List Span
     v = (runs_of s r d t id (length l)).value
 
@@ -217,18 +216,18 @@ module _ (r : ℕ) (t : Span) (id : ℕ) (st d : List ℕ) (l : List TileSpan) (
     written = rw (as-words, as_many) (as-listed v own-words l room)
 
   pub found-fits : (k ≤ length l) × (k * 2 ≤ length ws)
-  found-fits = go (screen-of (eqb (length c) 1) st) found
+  found-fits = go (screen_of (eqb (length c) 1) st) found
     where
-      go : (h : Held) → Found_at h → (k ≤ length l) × (k * 2 ≤ length ws)
-      go held.Nothing h = let z : k ≡ 0 = ap (λ (a : Answer (ℕ × List ℕ × List ℕ)). a.value.0) h in (omega (arith, z), omega (arith, z))
-      go (held.Good s) h = (omega (arith, as_many s h, room s h), enough s h)
+      go : (h : Option Screen) → Found_at h → (k ≤ length l) × (k * 2 ≤ length ws)
+      go None h = let z : k ≡ 0 = ap (λ (a : Answer (ℕ × List ℕ × List ℕ)). a.value.0) h in (omega (arith, z), omega (arith, z))
+      go (Some s) h = (omega (arith, as_many s h, room s h), enough s h)
 
-  pub spans-written : answer n (with-spans ws k l, c') ≡ spans-call r t id st d l c
-  unfolding spans-call words.listing spans.listing with-spans
-  spans-written = go (screen-of (eqb (length c) 1) st) found
+  pub spans-written : answer n (with-spans ws k l, c') ≡ spans_call r t id st d l c
+  unfolding spans_call words.listing spans.listing with-spans
+  spans-written = go (screen_of (eqb (length c) 1) st) found
     where
-      go : (h : Held) → Found_at h → answer n (with-spans ws k l, c') ≡ at_held h st (l, c) (λ (s : Screen). spans-left c (spans.listing (runs_of s r d t id (length l)) l))
-      go held.Nothing h =
+      go : (h : Option Screen) → Found_at h → answer n (with-spans ws k l, c') ≡ at_held h st (l, c) (λ (s : Screen). spans-left c (spans.listing (runs_of s r d t id (length l)) l))
+      go None h =
           let z : k ≡ 0 = ap (λ (a : Answer (ℕ × List ℕ × List ℕ)). a.value.0) h in
           rw z (ap (λ (a : Answer (ℕ × List ℕ × List ℕ)). answer a.number (l, a.value.2)) h)
-      go (held.Good s) h = rw (written s h) (ap (λ (a : Answer (ℕ × List ℕ × List ℕ)). answer a.number ((spans.listing (runs_of s r d t id (length l)) l).spans, a.value.2)) h)
+      go (Some s) h = rw (written s h) (ap (λ (a : Answer (ℕ × List ℕ × List ℕ)). answer a.number ((spans.listing (runs_of s r d t id (length l)) l).spans, a.value.2)) h)

@@ -5,7 +5,7 @@ use native.Mathlib.Omega.{arith}
 use mathlib.Core.Path.{◌≡◌, refl, ◌∙◌}
 use mathlib.Core.Bool.{Bool, true, false, cond, ◌||◌, ◌&&◌, not}
 use mathlib.Core.List.{List, [], ◌∷◌}
-use mathlib.Core.Option.{Option, none, some}
+use Rattle.std.specs.Prelude.{Option, None, Some}
 use lib.Dec.{eqb, leb, ltb}
 use Rattle.sizes.specs.Sizes.{most-layers, most-attrs, most-filters, last-id}
 use Rattle.rules.specs.Lists.{slice, is-empty}
@@ -28,8 +28,8 @@ use Rattle.file_call.specs.Recorded.{recorded-in, of-sections, recorded}
 use Rattle.tile_steps.specs.Telling.{Telling, tell-fill, tell-push, tell-pop, tell-filter, tell-at}
 use Rattle.rules_reason.specs.Answers.{off-screen}
 use Rattle.tile_call.specs.Explained.{no-reason, told_of, explained-of, explained-in, explained}
-use Rattle.host_screen.specs.State.{before-4}
-use Rattle.host.specs.Border.{file-number}
+use Rattle.host_screen.specs.State.{before_4}
+use Rattle.host.specs.Border.{file_number}
 use Rattle.host.proofs.Early.{after, recorded-is-early}
 
 settle-late : {S : Type 0} (n : ℕ) (s t : S) → Late n → Late (settle n s t).number
@@ -124,18 +124,18 @@ module _ (row tile : ℕ) (a : Asked) (l : ScreenLent) where
 
   then-early : (q : Setup) (old : ScreenLent) (ss : List (List (List ℕ)))
       → let b = recorded-in (recording ss) q old in
-      before-4 b.number ≡ before-4 (cond (eqb b.number Done) (explained-in q (some ss) row tile a l) (no-reason b.number b.value)).number
+      before_4 b.number ≡ before_4 (cond (eqb b.number Done) (explained-in q (Some ss) row tile a l) (no-reason b.number b.value)).number
   then-early q old ss = by (eqb (recorded-in (recording ss) q old).number Done)
       (λ y. rw y (rw y at (after (recorded-in (recording ss) q old).number _ (explained-late (frame q (recording ss).viewport) (recording ss)))))
       (λ n. rw n)
 
 pub explained-is-early : (ws : List ℕ) (q : Setup) (row tile : ℕ) (a : Asked) (l : ScreenLent)
-    → before-4 (file-number ws q (judging.arenas (lengths l.tables))) ≡ before-4 (explained ws q row tile a l).number
+    → before_4 (file_number ws q (judging.arenas (lengths l.tables))) ≡ before_4 (explained ws q row tile a l).number
 unfolding explained recorded
 explained-is-early ws q row tile a l = recorded-is-early ws q l ∙ go (sections shape ws)
   where
     go : (o : Option (List (List (List ℕ))))
         → let b = of-sections o q l in
-        before-4 b.number ≡ before-4 (cond (eqb b.number Done) (explained-in q o row tile a b.value) (no-reason b.number b.value)).number
-    go none = refl
-    go (some ss) = then-early row tile a (recorded-in (recording ss) q l).value q l ss
+        before_4 b.number ≡ before_4 (cond (eqb b.number Done) (explained-in q o row tile a b.value) (no-reason b.number b.value)).number
+    go None = refl
+    go (Some ss) = then-early row tile a (recorded-in (recording ss) q l).value q l ss

@@ -1,31 +1,38 @@
 -- What a reset says of its frame and the three arenas (2, 1 or 0), and a recording file before its records are looked at.
 use Rattle.std.specs.Prelude.{ℕ, not, List, [], ◌∷◌}
-use Rattle.std.proofs.Math.Option.{Option, none, some}
+use Rattle.std.specs.Prelude.{Option, None, Some}
+use Rattle.sizes.specs.declared.answers.Refusal.{Refusal}
+use Rattle.sizes.specs.Refusals.{number_of}
 use Rattle.rules.specs.Answers.{first_of, BadArena, BadViewport, BadForm}
-use Rattle.rules.specs.Boxes.{good-viewport}
+use Rattle.rules.specs.Boxes.{good_viewport}
 use Rattle.rules.specs.Plans.{Frame}
 use Rattle.rules.specs.Setups.{Setup, frame}
 use Rattle.rules.specs.Recording.{shape, sections, recording}
 use Rattle.rules.specs.Walk.{Arenas, good-arenas}
+use Rattle.screen.specs.declared.Lent.{Lent}
+use Rattle.screen.specs.Judging.{arenas}
+use Rattle.screen.specs.Lent.{tables_in}
+use Rattle.screen.specs.Tables.{lengths}
 
-abbrev pub arenas : ℕ → ℕ → ℕ → Arenas
-arenas render fills depth = record { render = render; fills = fills; depth = depth }
+-- how much is lent of the arenas
+abbrev pub arenas-in : Lent → Arenas
+arenas-in l = arenas (lengths (tables_in l))
 
-unfoldable pub arenas-number : Frame → Arenas → ℕ
-arenas-number f a =
-    first_of ((not (good-viewport f.viewport), BadViewport) ∷ (not (good-arenas f a), BadArena) ∷ [])
+unfoldable pub arenas_number : Frame → Arenas → ℕ
+arenas_number f a =
+    first_of ((not (good_viewport f.viewport), BadViewport) ∷ (not (good-arenas f a), BadArena) ∷ [])
 
 abbrev pub in-sections : Option (List (List (List ℕ))) → Setup → Arenas → ℕ
-in-sections none q a = BadForm
-in-sections (some ss) q a = arenas-number (frame q (recording ss).viewport) a
+in-sections None q a = BadForm
+in-sections (Some ss) q a = arenas_number (frame q (recording ss).viewport) a
 
-unfoldable pub file-number : List ℕ → Setup → Arenas → ℕ
-file-number ws = in-sections (sections shape ws)
+unfoldable pub file_number : List ℕ → Setup → Arenas → ℕ
+file_number ws = in-sections (sections shape ws)
 
--- a file whose words' setup is refused by n: its form comes first, and there is no viewport to judge
-abbrev pub unasked : Option (List (List (List ℕ))) → ℕ → ℕ
-unasked none n = BadForm
-unasked (some ss) n = n
+-- a file whose words' setup is refused: its form comes first, and there is no viewport to judge
+abbrev pub unasked : Option (List (List (List ℕ))) → Refusal → ℕ
+unasked None r = BadForm
+unasked (Some ss) r = number_of r
 
-unfoldable pub unasked-number : List ℕ → ℕ → ℕ
-unasked-number ws = unasked (sections shape ws)
+unfoldable pub unasked_number : List ℕ → Refusal → ℕ
+unasked_number ws = unasked (sections shape ws)

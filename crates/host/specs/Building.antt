@@ -1,7 +1,8 @@
 -- Reset, the building steps and the recording call on a host's words: the call's own definition at the screen that the words stand for.
 -- Each gives the number, the words of the screen afterwards, and what else was lent.
 use Rattle.std.specs.Prelude.{ℕ, true, cond, List, leb, eqb, Float, ℤ}
-use Rattle.std.proofs.Math.Option.{Option, none, some}
+use Rattle.std.specs.Prelude.{Option, None, Some}
+use Rattle.sizes.specs.Refusals.{number_of}
 use Rattle.rules.specs.Answers.{Answer, answer}
 use Rattle.rules.specs.Boxes.{box}
 use Rattle.rules.specs.Setups.{Setup, frame}
@@ -9,8 +10,7 @@ use Rattle.rules.specs.Inputs as rule
 use Rattle.rect.specs.declared.Rect.{Rect}
 use Rattle.rect.specs.Rects.{box_of}
 use Rattle.row.specs.Words.{Words}
-use Rattle.screen.specs.declared.Screen.{Screen}
-use Rattle.screen.specs.Tables.{Tables, ScreenLent, lent, reset-to}
+use Rattle.screen.specs.Tables.{Tables, ScreenLent, lent, reset_to}
 use Rattle.file_call.specs.Recorded.{recorded}
 use Rattle.step_fill.specs.declared.Draw.{Draw}
 use Rattle.step_fill.specs.Fills as fills
@@ -23,29 +23,29 @@ use Rattle.step_pop.specs.Pop.{popped}
 use Rattle.step_filter.specs.declared.Placement.{Placement}
 use Rattle.step_filter.specs.Filter as filter
 use Rattle.step_filter.specs.Filter.{FilterGiven, filtered}
-use Rattle.file_read.specs.Reading.{props-in}
+use Rattle.file_read.specs.Reading.{props_in}
 use Rattle.host_screen.specs.declared.SetupWords.{SetupWords}
 use Rattle.host_screen.specs.State.{screen-words, on}
-use Rattle.host_screen.specs.Asked.{asked-setup, no-setup, in-setup}
-use Rattle.host.specs.Border.{unasked-number}
+use Rattle.host_screen.specs.Asked.{asked_setup, in-setup}
+use Rattle.host.specs.Border.{unasked_number}
 
 -- all tables
 abbrev pub tables-left : Answer ScreenLent → Answer (List ℕ × Tables)
 tables-left a = answer a.number (screen-words a.value.screen, a.value.tables)
 
 -- a reset in a setup, and as a host's words ask
-unfoldable pub reset-in : Rect → Setup → List ℕ → Tables → Answer (List ℕ × Tables)
-reset-in v q st t = on true st (st, t) (λ s. tables-left (reset-to (frame q (box_of v)) (lent s t)))
+unfoldable pub reset_in : Rect → Setup → List ℕ → Tables → Answer (List ℕ × Tables)
+reset_in v q st t = on true st (st, t) (λ s. tables-left (reset_to (frame q (box_of v)) (lent s t)))
 
-unfoldable pub reset-call : Rect → SetupWords → List ℕ → Tables → Answer (List ℕ × Tables)
-reset-call v w st t = in-setup (asked-setup w) (no-setup w) (st, t) (λ q. reset-in v q st t)
+unfoldable pub reset_call : Rect → SetupWords → List ℕ → Tables → Answer (List ℕ × Tables)
+reset_call v w st t = in-setup (asked_setup w) number_of (st, t) (λ q. reset_in v q st t)
 
 -- a recording, likewise; 3 for the file's form before all
-unfoldable pub recording-in : List ℕ → Setup → List ℕ → Tables → Answer (List ℕ × Tables)
-recording-in file q st t = on true st (st, t) (λ s. tables-left (recorded file q (lent s t)))
+unfoldable pub recording_in : List ℕ → Setup → List ℕ → Tables → Answer (List ℕ × Tables)
+recording_in file q st t = on true st (st, t) (λ s. tables-left (recorded file q (lent s t)))
 
-unfoldable pub recording-call : List ℕ → SetupWords → List ℕ → Tables → Answer (List ℕ × Tables)
-recording-call file w st t = in-setup (asked-setup w) (unasked-number file (no-setup w)) (st, t) (λ q. recording-in file q st t)
+unfoldable pub recording_call : List ℕ → SetupWords → List ℕ → Tables → Answer (List ℕ × Tables)
+recording_call file w st t = in-setup (asked_setup w) (unasked_number file) (st, t) (λ q. recording_in file q st t)
 
 -- the rows and the paint attributes
 abbrev pub draw : ℕ → ℕ → ℕ → ℕ → ℕ → ℕ → ℕ → ℕ → Draw
@@ -63,8 +63,8 @@ draw thread start end paint mix compose mask panel =
 abbrev pub fill-left : Answer fills.FillLent → Answer (List ℕ × Words × List ℕ)
 fill-left a = answer a.number (screen-words a.value.screen, a.value.words, a.value.paint-attrs)
 
-unfoldable pub fill-call : List ℕ → List ℕ → Draw → List ℕ → Words → List ℕ → Answer (List ℕ × Words × List ℕ)
-fill-call ps ss d st w pas = on true st (st, w, pas) (λ s. fill-left (filled (fills.lent s w pas) ps ss d))
+unfoldable pub fill_call : List ℕ → List ℕ → Draw → List ℕ → Words → List ℕ → Answer (List ℕ × Words × List ℕ)
+fill_call ps ss d st w pas = on true st (st, w, pas) (λ s. fill-left (filled (fills.lent s w pas) ps ss d))
 
 -- A layer's properties; the opacity as its bits, a clip where the flag is 1.
 abbrev pub said-props : ℕ → ℕ → ℕ → ℕ → ℕ → rule.Clip → ℕ → rule.Props
@@ -73,12 +73,12 @@ said-props mix compose opacity mask flag clip panel =
       blend = record { mix = mix; compose = compose };
       opacity = opacity;
       mask = mask;
-      clip = cond (eqb flag 1) (some clip) none;
+      clip = cond (eqb flag 1) (Some clip) None;
       panel = panel;
     }
 
 abbrev pub props : ℕ → ℕ → ℕ → ℕ → ℕ → rule.Clip → ℕ → LayerProps
-props mix compose opacity mask flag clip panel = props-in (said-props mix compose opacity mask flag clip panel)
+props mix compose opacity mask flag clip panel = props_in (said-props mix compose opacity mask flag clip panel)
 
 abbrev pub clip : ℕ → ℕ → ℕ → ℕ → ℕ → ℕ → ℕ → rule.Clip
 clip x0 y0 x1 y1 start end thread = record { bounds = box x0 y0 x1 y1; start = start; end = end; thread = thread }
@@ -87,19 +87,19 @@ clip x0 y0 x1 y1 start end thread = record { bounds = box x0 y0 x1 y1; start = s
 abbrev pub push-left : Answer push.PushLent → Answer (List ℕ × Words × List ℕ × List Float)
 push-left a = answer a.number (screen-words a.value.screen, a.value.words, a.value.layers, a.value.opacities)
 
-unfoldable pub push-call : ℕ → LayerProps → List ℕ → Words → List ℕ → List Float → Answer (List ℕ × Words × List ℕ × List Float)
-push-call flag p st w ls os = on (leb flag 1) st (st, w, ls, os) (λ s. push-left (pushed p (push.lent s w ls os)))
+unfoldable pub push_call : ℕ → LayerProps → List ℕ → Words → List ℕ → List Float → Answer (List ℕ × Words × List ℕ × List Float)
+push_call flag p st w ls os = on (leb flag 1) st (st, w, ls, os) (λ s. push-left (pushed p (push.lent s w ls os)))
 
 -- the rows, the open layers, the opacities and the layer attributes
 abbrev pub pop-left : pop.PopOut → Answer (List ℕ × pop.PopLent)
 pop-left o = answer o.number (screen-words o.screen, o.lent)
 
-unfoldable pub pop-call : List ℕ → List ℕ → pop.PopLent → Answer (List ℕ × pop.PopLent)
-pop-call ss st l = on true st (st, l) (λ s. pop-left (popped s l ss))
+unfoldable pub pop_call : List ℕ → List ℕ → pop.PopLent → Answer (List ℕ × pop.PopLent)
+pop_call ss st l = on true st (st, l) (λ s. pop-left (popped s l ss))
 
 -- a picture, by its handle where the flag is 1
 abbrev pub picture : ℕ → ℕ → Option ℕ
-picture flag handle = cond (eqb flag 1) (some handle) none
+picture flag handle = cond (eqb flag 1) (Some handle) None
 
 -- the rows, the paint attributes and the filter paints; a flag that is neither 0 nor 1 is refused
 abbrev pub placement : Rect → ℕ → ℕ → Placement
@@ -108,6 +108,6 @@ placement dest x y = record { dest = dest; source_x = x; source_y = y }
 abbrev pub filter-left : Answer filter.FilterLent → Answer (List ℕ × Words × List ℕ × List ℤ)
 filter-left a = answer a.number (screen-words a.value.screen, a.value.words, a.value.paint-attrs, a.value.filter-paints)
 
-unfoldable pub filter-call : ℕ → FilterGiven → List ℕ → Words → List ℕ → List ℤ → Answer (List ℕ × Words × List ℕ × List ℤ)
-filter-call flag g st w pas fps =
+unfoldable pub filter_call : ℕ → FilterGiven → List ℕ → Words → List ℕ → List ℤ → Answer (List ℕ × Words × List ℕ × List ℤ)
+filter_call flag g st w pas fps =
     on (leb flag 1) st (st, w, pas, fps) (λ s. filter-left (filtered g (filter.lent s w pas fps)))

@@ -1,13 +1,14 @@
 -- Painting, the runs, `can_skip` and the split on a host's words. Results go into lent words of a fixed length; another length is refused,
 -- and a refusal leaves them as they were.
 use Rattle.std.specs.Prelude.{ℕ, true, cond, List, length, eqb}
-use Rattle.std.proofs.Math.Option.{Option, none, some}
+use Rattle.std.specs.Prelude.{Result, Ok, Err}
+use Rattle.sizes.specs.declared.answers.Refusal.{Refusal}
+use Rattle.sizes.specs.Refusals.{number_of}
 use Rattle.sizes.specs.declared.width.Width.{Width}
 use Rattle.sizes.specs.Widths.{bucket-tiles, width_of}
-use Rattle.rules.specs.Answers.{Answer, answer, BadViewport, BadRecord}
+use Rattle.rules.specs.Answers.{Answer, answer, BadRecord}
 use Rattle.rules.specs.Spans.{Span}
-use Rattle.rules.specs.Split.{split-answer}
-use Rattle.screen.specs.declared.Screen.{Screen}
+use Rattle.rules.specs.Split.{split_answer}
 use Rattle.depth.specs.Listing.{RunsOut}
 use Rattle.paint_command.specs.Painting as paint
 use Rattle.paint_screen.specs.Beginning.{Canvas, canvas, beginning}
@@ -25,8 +26,8 @@ with-room n ws t a = cond (eqb (length ws) n) a (answer BadRecord t)
 abbrev pub begin-left : Answer Canvas → Answer (List ℕ × List ℕ × List ℕ)
 begin-left a = answer a.number (screen-words a.value.screen, a.value.depth, a.value.painting)
 
-unfoldable pub begin-call : List ℕ → List ℕ → List ℕ → Answer (List ℕ × List ℕ × List ℕ)
-begin-call st d p = on true st (st, d, p) (λ s. begin-left (beginning (canvas s d p)))
+unfoldable pub begin_call : List ℕ → List ℕ → List ℕ → Answer (List ℕ × List ℕ × List ℕ)
+begin_call st d p = on true st (st, d, p) (λ s. begin-left (beginning (canvas s d p)))
 
 -- a step's result, with the depth words, the painting table and the list
 abbrev pub step_left : List ℕ → paint.StepOut → Answer (List ℕ × List ℕ × List ℕ × List ℕ)
@@ -38,8 +39,8 @@ step_call r a st l res =
     (λ s. step_left res (stepped s r a l))
 
 -- a row's next steps in one call
-unfoldable pub row-call : ℕ → Attributes → List ℕ → paint.RowLent → List ℕ → Answer (List ℕ × List ℕ × List ℕ × List ℕ)
-row-call r a st l res =
+unfoldable pub row_call : ℕ → Attributes → List ℕ → paint.RowLent → List ℕ → Answer (List ℕ × List ℕ × List ℕ × List ℕ)
+row_call r a st l res =
     on (eqb (length res) 2) st (l.depth, l.painting, l.list, res)
     (λ s. step_left res (row-painted s r a l))
 
@@ -47,11 +48,11 @@ row-call r a st l res =
 abbrev pub runs-left : List ℕ → RunsOut → Answer (List ℕ × List ℕ)
 runs-left n o = answer o.number (o.list, (count_left n o).value)
 
-unfoldable pub unset-call : ℕ → Span → List ℕ → List ℕ → List ℕ → List ℕ → Answer (List ℕ × List ℕ)
-unset-call r t st d l n = on (eqb (length n) 1) st (l, n) (λ s. runs-left n (unset-of s r d t l))
+unfoldable pub unset_call : ℕ → Span → List ℕ → List ℕ → List ℕ → List ℕ → Answer (List ℕ × List ℕ)
+unset_call r t st d l n = on (eqb (length n) 1) st (l, n) (λ s. runs-left n (unset-of s r d t l))
 
-unfoldable pub visible-call : ℕ → Span → ℕ → List ℕ → List ℕ → List ℕ → List ℕ → Answer (List ℕ × List ℕ)
-visible-call r t id st d l n = on (eqb (length n) 1) st (l, n) (λ s. runs-left n (visible-of s r d t id l))
+unfoldable pub visible_call : ℕ → Span → ℕ → List ℕ → List ℕ → List ℕ → List ℕ → Answer (List ℕ × List ℕ)
+visible_call r t id st d l n = on (eqb (length n) 1) st (l, n) (λ s. runs-left n (visible-of s r d t id l))
 
 -- .. and the depth words
 abbrev pub write-left : List ℕ → Wrote → Answer (List ℕ × List ℕ × List ℕ × List ℕ)
@@ -59,18 +60,18 @@ write-left n o =
     answer o.listed.number
     (screen-words o.screen, o.depth, o.listed.list, (count_left n o.listed).value)
 
-unfoldable pub write-call : ℕ → Span → ℕ → List ℕ → List ℕ → List ℕ → List ℕ → Answer (List ℕ × List ℕ × List ℕ × List ℕ)
-write-call r t id st d l n =
+unfoldable pub write_call : ℕ → Span → ℕ → List ℕ → List ℕ → List ℕ → List ℕ → Answer (List ℕ × List ℕ × List ℕ × List ℕ)
+write_call r t id st d l n =
     on (eqb (length n) 1) st (st, d, l, n) (λ s. write-left n (write-of s r d id t l))
 
-unfoldable pub skip-call : ℕ → Span → ℕ → List ℕ → List ℕ → List ℕ → Answer (List ℕ)
-skip-call r t id st rows old = on (eqb (length old) 1) st old (λ s. skip-left old (skip-of-row s r rows t id))
+unfoldable pub skip_call : ℕ → Span → ℕ → List ℕ → List ℕ → List ℕ → Answer (List ℕ)
+skip_call r t id st rows old = on (eqb (length old) 1) st old (λ s. skip-left old (skip-of-row s r rows t id))
 
 -- at a width; 2 where that is none
-abbrev pub split_at : Option Width → Span → List ℕ → Answer (List ℕ)
-split_at none s parts = answer BadViewport parts
-split_at (some w) s parts = with-room 9 parts parts (split-left parts (split-answer (bucket-tiles w) s))
+abbrev pub split_at : Result Width Refusal → Span → List ℕ → Answer (List ℕ)
+split_at (Err r) s parts = answer (number_of r) parts
+split_at (Ok w) s parts = with-room 9 parts parts (split-left parts (split_answer (bucket-tiles w) s))
 
 -- at so many pixels a bucket
-unfoldable pub split-call : ℕ → Span → List ℕ → Answer (List ℕ)
-split-call pixels = split_at (width_of pixels)
+unfoldable pub split_call : ℕ → Span → List ℕ → Answer (List ℕ)
+split_call pixels = split_at (width_of pixels)

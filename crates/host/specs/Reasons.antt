@@ -8,8 +8,8 @@ use Rattle.screen.specs.Tables.{Tables, lent}
 use Rattle.tile_call.specs.Explained.{Explained, explained}
 use Rattle.host_screen.specs.declared.SetupWords.{SetupWords}
 use Rattle.host_screen.specs.State.{screen-words, on}
-use Rattle.host_screen.specs.Asked.{asked-setup, no-setup, in-setup}
-use Rattle.host.specs.Border.{unasked-number}
+use Rattle.host_screen.specs.Asked.{asked_setup, in-setup}
+use Rattle.host.specs.Border.{unasked_number}
 
 -- the case, the attribute that hides or the place in the tile's list, the asked attribute's panel, the panel of the attribute that hides
 abbrev pub reason-words : Reason → List ℕ
@@ -38,12 +38,12 @@ why-left result e =
     answer left.number (screen-words e.lent.screen, e.lent.tables, left.value)
 
 -- In a setup. A word that says neither draw nor layer is refused, and so is a result of another length
-unfoldable pub why-in : List ℕ → Setup → ℕ → ℕ → ℕ → ℕ → List ℕ → Tables → List ℕ → Answer (List ℕ × Tables × List ℕ)
-why-in file q row tile layer attribute st t result =
+unfoldable pub why_in : List ℕ → Setup → ℕ → ℕ → ℕ → ℕ → List ℕ → Tables → List ℕ → Answer (List ℕ × Tables × List ℕ)
+why_in file q row tile layer attribute st t result =
     on (leb layer 1 && eqb (length result) reason-size) st (st, t, result)
     (λ (s : Screen). why-left result (explained file q row tile (asked layer attribute) (lent s t)))
 
 -- as a host's words ask
-unfoldable pub why-call : List ℕ → SetupWords → ℕ → ℕ → ℕ → ℕ → List ℕ → Tables → List ℕ → Answer (List ℕ × Tables × List ℕ)
-why-call file w row tile layer attribute st t result =
-    in-setup (asked-setup w) (unasked-number file (no-setup w)) (st, t, result) (λ q. why-in file q row tile layer attribute st t result)
+unfoldable pub why_call : List ℕ → SetupWords → ℕ → ℕ → ℕ → ℕ → List ℕ → Tables → List ℕ → Answer (List ℕ × Tables × List ℕ)
+why_call file w row tile layer attribute st t result =
+    in-setup (asked_setup w) (unasked_number file) (st, t, result) (λ q. why_in file q row tile layer attribute st t result)

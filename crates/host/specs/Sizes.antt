@@ -1,15 +1,16 @@
 -- How many words each table has for the frame that a reset makes.
 use Rattle.std.specs.Prelude.{ℕ, ◌*◌, ◌&&◌, not, List, [], ◌∷◌, length, eqb}
 use Rattle.sizes.specs.Sizes.{row-size, open-layer-table, opacity-count, paint-attr-table, layer-attr-table, filter-paint-table}
+use Rattle.sizes.specs.Refusals.{number_of}
 use Rattle.rules.specs.Answers.{Answer, settle, first_of, BadArena, BadViewport, BadRecord}
-use Rattle.rules.specs.Boxes.{good-viewport, rows_of}
+use Rattle.rules.specs.Boxes.{good_viewport, rows_of}
 use Rattle.rules.specs.Plans.{Frame, buckets-across}
 use Rattle.rules.specs.Setups.{frame}
 use Rattle.rules.specs.Walk.{good-room}
 use Rattle.rect.specs.declared.Rect.{Rect}
 use Rattle.rect.specs.Rects.{box_of}
 use Rattle.host_screen.specs.declared.SetupWords.{SetupWords}
-use Rattle.host_screen.specs.Asked.{asked-setup, no-setup, in-setup}
+use Rattle.host_screen.specs.Asked.{asked_setup, in-setup}
 
 -- layers, opacities, paint attributes, layer attributes, filter paints
 abbrev pub fixed : List ℕ
@@ -28,7 +29,7 @@ size-words f =
 abbrev pub size_number : Frame → ℕ → ℕ
 size_number f n =
     first_of
-    ((not (good-viewport f.viewport), BadViewport)
+    ((not (good_viewport f.viewport), BadViewport)
     ∷ (not (good-room f.c && good-room f.d), BadArena)
     ∷ (not (eqb n 10), BadRecord)
     ∷ [])
@@ -38,5 +39,5 @@ abbrev pub sizes-of : Frame → List ℕ → Answer (List ℕ)
 sizes-of f ss = settle (size_number f (length ss)) ss (size-words f)
 
 -- as a host's words ask
-unfoldable pub size-call : Rect → SetupWords → List ℕ → Answer (List ℕ)
-size-call v w ss = in-setup (asked-setup w) (no-setup w) ss (λ q. sizes-of (frame q (box_of v)) ss)
+unfoldable pub size_call : Rect → SetupWords → List ℕ → Answer (List ℕ)
+size_call v w ss = in-setup (asked_setup w) number_of ss (λ q. sizes-of (frame q (box_of v)) ss)

@@ -4,25 +4,27 @@ ghost use Rattle.rules.specs.Answers.{answer};
 ghost use Rattle.row.specs.Words.{words};
 ghost use Rattle.screen.specs.Tables.{tables};
 ghost use Rattle.step_pop.specs.Pop.{lent};
-ghost use Rattle.step_filter.specs.Filter.{picture-of, given};
+ghost use Rattle.step_filter.specs.Filter.{given};
 ghost use Rattle.host_screen.specs.State.{rect};
-ghost use Rattle.host.specs.Building.{reset-call, recording-call, draw, fill-call, clip, props, push-call, pop-call, placement, picture, filter-call};
+ghost use Rattle.host.specs.Building.{reset_call, recording_call, draw, fill_call, clip, props, push_call, pop_call, placement, picture, filter_call};
 
 use crate::border::{refuse_build, refuse_recording, refuse_reset, refuse_setup};
 use cmd::blend::Blend;
 use file_call::bucket_recording;
 use file_read::props_at;
-use host_screen::{AskedSetup, Held, SetupWords, leave, no_setup, read_setup, screen_of};
+use host_screen::{SetupWords, leave, put_screen, read_setup, screen_of};
 use rect::Rect;
-use screen::reset;
-use screen_layers::LayerProps;
+use row_screen::Rows;
+use screen::{Lent, reset};
+use screen_layers::{LayerProps, Layers};
 use step_fill::{Draw, fill};
-use step_filter::{Pixmap, Placement, filter_fill};
-use step_pop_call::pop_layer;
+use step_filter::{FilterFill, Placement, filter_fill};
+use step_pop::pop_layer;
 use step_push::push_layer;
 
 // Rule 1: a fresh screen of a viewport in a setup. Words that ask for no setup are refused at once, by 2 or 4.
 #[unsafe(no_mangle)]
+#[tactic(auto, using(host_screen::proofs::Words::long, crate::proofs::Asked::reset_unasked))]
 pub extern "C" fn coarse_reset(
     state: &mut [u32],
     x0: u32,
@@ -42,26 +44,14 @@ pub extern "C" fn coarse_reset(
     filter_paints: &mut [i32],
 ) -> u32
     ensures { answer result (state.new, tables render.new fills.new depth.new rows.new painting.new layers.new opacities.new paint_attrs.new layer_attrs.new filter_paints.new)
-        ≡ reset-call (rect x0 y0 x1 y1) setup state.old (tables render.old fills.old depth.old rows.old painting.old layers.old opacities.old paint_attrs.old layer_attrs.old filter_paints.old) }
+        ≡ reset_call (rect x0 y0 x1 y1) setup state.old (tables render.old fills.old depth.old rows.old painting.old layers.old opacities.old paint_attrs.old layer_attrs.old filter_paints.old) }
 {
-    let AskedSetup::Good(asked) = read_setup(setup) else {
-        return no_setup(setup);
+    let asked = match read_setup(setup) {
+        Ok(asked) => asked,
+        Err(refusal) => return refusal.number(),
     };
     let viewport = Rect { x0, y0, x1, y1 };
-    let Held::Good(screen) = screen_of(state, true) else {
-        return refuse_reset(
-            state,
-            viewport,
-            asked,
-            render.len(),
-            fills.len(),
-            depth.len(),
-        );
-    };
-    let built = reset(
-        screen,
-        viewport,
-        asked,
+    let mut lent = Lent {
         render,
         fills,
         depth,
@@ -72,12 +62,22 @@ pub extern "C" fn coarse_reset(
         paint_attrs,
         layer_attrs,
         filter_paints,
-    );
-    leave(state, built)
+    };
+    let Some(screen) = screen_of(state, true) else {
+        return refuse_reset(state, viewport, asked, &lent);
+    };
+    match reset(viewport, asked, &mut lent) {
+        Ok(fresh) => {
+            put_screen(state, fresh);
+            0
+        }
+        Err(refusal) => refusal.number(),
+    }
 }
 
 // Rule 2: the words of a recording file, in a setup. Words that ask for no setup are refused by 2 or 4, after 3 for the file's form.
 #[unsafe(no_mangle)]
+#[tactic(auto, using(host_screen::proofs::Words::long, crate::proofs::Asked::recording_unasked))]
 pub extern "C" fn coarse_bucket_recording(
     state: &mut [u32],
     file: &[u32],
@@ -94,18 +94,13 @@ pub extern "C" fn coarse_bucket_recording(
     filter_paints: &mut [i32],
 ) -> u32
     ensures { answer result (state.new, tables render.new fills.new depth.new rows.new painting.new layers.new opacities.new paint_attrs.new layer_attrs.new filter_paints.new)
-        ≡ recording-call file.now setup state.old (tables render.old fills.old depth.old rows.old painting.old layers.old opacities.old paint_attrs.old layer_attrs.old filter_paints.old) }
+        ≡ recording_call file.now setup state.old (tables render.old fills.old depth.old rows.old painting.old layers.old opacities.old paint_attrs.old layer_attrs.old filter_paints.old) }
 {
-    let AskedSetup::Good(asked) = read_setup(setup) else {
-        return refuse_setup(file, no_setup(setup));
+    let asked = match read_setup(setup) {
+        Ok(asked) => asked,
+        Err(refusal) => return refuse_setup(file, refusal),
     };
-    let Held::Good(screen) = screen_of(state, true) else {
-        return refuse_recording(state, file, asked, render.len(), fills.len(), depth.len());
-    };
-    let built = bucket_recording(
-        screen,
-        file,
-        asked,
+    let mut lent = Lent {
         render,
         fills,
         depth,
@@ -116,12 +111,17 @@ pub extern "C" fn coarse_bucket_recording(
         paint_attrs,
         layer_attrs,
         filter_paints,
-    );
-    leave(state, built)
+    };
+    let Some(mut screen) = screen_of(state, true) else {
+        return refuse_recording(state, file, asked, &lent);
+    };
+    let done = bucket_recording(&mut screen, file, asked, &mut lent);
+    leave(state, screen, done)
 }
 
 // Rules 3 to 7: segments start to end of a list, painted with the paint at a place of a paint list.
 #[unsafe(no_mangle)]
+#[tactic(auto, using(host_screen::proofs::Words::long, crate::proofs::Unheld::fill_unheld))]
 pub extern "C" fn coarse_fill(
     state: &mut [u32],
     rows: &mut [u32],
@@ -140,35 +140,31 @@ pub extern "C" fn coarse_fill(
     panel: u32,
 ) -> u32
     ensures { answer result (state.new, words rows.new render.new fills.new, paint_attrs.new)
-        ≡ fill-call paints.now segments.now (draw thread start «end» paint mix compose mask panel) state.old (words rows.old render.old fills.old) paint_attrs.old }
+        ≡ fill_call paints.now segments.now (draw thread start «end» paint mix compose mask panel) state.old (words rows.old render.old fills.old) paint_attrs.old }
 {
-    let Held::Good(screen) = screen_of(state, true) else {
-        return refuse_build(state, rows.len(), render.len(), fills.len());
+    let mut rows = Rows {
+        state: rows,
+        render,
+        fills,
     };
-    let blend = Blend { mix, compose };
+    let Some(mut screen) = screen_of(state, true) else {
+        return refuse_build(state, &rows);
+    };
     let draw = Draw {
         thread,
         start,
         end,
         paint,
-        blend,
+        blend: Blend { mix, compose },
         mask,
         panel,
     };
-    let built = fill(
-        screen,
-        rows,
-        render,
-        fills,
-        paint_attrs,
-        paints,
-        segments,
-        draw,
-    );
-    leave(state, built)
+    let done = fill(&mut screen, &mut rows, paint_attrs, paints, segments, draw);
+    leave(state, screen, done)
 }
 
 // The properties whose clip is there if the flag is 1.
+#[tactic(auto, unfolding(file_form::specs::Places::layer_from, file_form::specs::Places::clip_from))]
 fn props_of(
     mix: u32,
     compose: u32,
@@ -190,13 +186,15 @@ fn props_of(
         0, 0, 0, mix, compose, opacity, mask, flag, x0, y0, x1, y1, start, end, thread, 0, 0, 0, 0,
         0, 0, 0,
     ];
-    let mut props = props_at(&layer, 0);
-    props.panel = panel;
-    props
+    LayerProps {
+        panel,
+        ..props_at(&layer, 0)
+    }
 }
 
 // Rule 8. The opacity is the bits of an f32; flag 1: the clip has a box, a range of segments and a thread, 0: there is none.
 #[unsafe(no_mangle)]
+#[tactic(auto, using(host_screen::proofs::Words::long, crate::proofs::Unheld::push_unheld))]
 pub extern "C" fn coarse_push_layer(
     state: &mut [u32],
     rows: &mut [u32],
@@ -219,20 +217,30 @@ pub extern "C" fn coarse_push_layer(
     panel: u32,
 ) -> u32
     ensures { answer result (state.new, words rows.new render.new fills.new, layers.new, opacities.new)
-        ≡ push-call flag (props mix compose opacity mask flag (clip x0 y0 x1 y1 start «end» thread) panel) state.old (words rows.old render.old fills.old) layers.old opacities.old }
+        ≡ push_call flag (props mix compose opacity mask flag (clip x0 y0 x1 y1 start «end» thread) panel) state.old (words rows.old render.old fills.old) layers.old opacities.old }
 {
-    let Held::Good(screen) = screen_of(state, flag <= 1) else {
-        return refuse_build(state, rows.len(), render.len(), fills.len());
+    let mut rows = Rows {
+        state: rows,
+        render,
+        fills,
+    };
+    let Some(mut screen) = screen_of(state, flag <= 1) else {
+        return refuse_build(state, &rows);
     };
     let props = props_of(
         mix, compose, opacity, mask, flag, x0, y0, x1, y1, start, end, thread, panel,
     );
-    let built = push_layer(screen, rows, render, fills, layers, opacities, props);
-    leave(state, built)
+    let mut layers = Layers {
+        table: layers,
+        opacities,
+    };
+    let done = push_layer(&mut screen, &mut rows, &mut layers, props);
+    leave(state, screen, done)
 }
 
 // Rules 9 and 10. The segments are those of the layer's clip.
 #[unsafe(no_mangle)]
+#[tactic(auto, using(host_screen::proofs::Words::long, crate::proofs::Unheld::pop_unheld))]
 pub extern "C" fn coarse_pop_layer(
     state: &mut [u32],
     rows: &mut [u32],
@@ -244,37 +252,35 @@ pub extern "C" fn coarse_pop_layer(
     segments: &[u32],
 ) -> u32
     ensures { answer result (state.new, lent (words rows.new render.new fills.new) layers.new opacities.new layer_attrs.new)
-        ≡ pop-call segments.now state.old (lent (words rows.old render.old fills.old) layers.old opacities.old layer_attrs.old) }
+        ≡ pop_call segments.now state.old (lent (words rows.old render.old fills.old) layers.old opacities.old layer_attrs.old) }
 {
-    let Held::Good(screen) = screen_of(state, true) else {
-        return refuse_build(state, rows.len(), render.len(), fills.len());
-    };
-    let built = pop_layer(
-        screen,
-        rows,
+    let mut rows = Rows {
+        state: rows,
         render,
         fills,
-        layers,
+    };
+    let Some(mut screen) = screen_of(state, true) else {
+        return refuse_build(state, &rows);
+    };
+    let mut layers = Layers {
+        table: layers,
         opacities,
-        layer_attrs,
-        segments,
-    );
-    leave(state, built)
+    };
+    let done = pop_layer(&mut screen, &mut rows, &mut layers, layer_attrs, segments);
+    leave(state, screen, done)
 }
 
 // The picture whose handle is there if the flag is 1.
-fn pixmap_of(flag: u32, handle: u32) -> Pixmap
-    ensures { picture-of result ≡ picture flag handle }
+fn pixmap_of(flag: u32, handle: u32) -> Option<u32>
+    ensures { result ≡ picture flag handle }
 {
-    if flag != 1 {
-        return Pixmap::Absent;
-    }
-    Pixmap::Present(handle)
+    (flag == 1).then_some(handle)
 }
 
 // Rule 11: a picture drawn into a box, from a source origin; paint_count is the length of the paint list, panel the layer's. has_pixmap 1: the picture is the one
 // whose handle is pixmap, 0: there is none.
 #[unsafe(no_mangle)]
+#[tactic(auto, using(host_screen::proofs::Words::long, crate::proofs::Unheld::filter_unheld))]
 pub extern "C" fn coarse_filter_fill(
     state: &mut [u32],
     rows: &mut [u32],
@@ -294,29 +300,26 @@ pub extern "C" fn coarse_filter_fill(
     panel: u32,
 ) -> u32
     ensures { answer result (state.new, words rows.new render.new fills.new, paint_attrs.new, filter_paints.new)
-        ≡ filter-call has_pixmap (given (placement (rect x0 y0 x1 y1) source_x source_y) (picture has_pixmap pixmap) paint_count panel) state.old (words rows.old render.old fills.old) paint_attrs.old filter_paints.old }
+        ≡ filter_call has_pixmap (given (placement (rect x0 y0 x1 y1) source_x source_y) (picture has_pixmap pixmap) paint_count panel) state.old (words rows.old render.old fills.old) paint_attrs.old filter_paints.old }
 {
-    let Held::Good(screen) = screen_of(state, has_pixmap <= 1) else {
-        return refuse_build(state, rows.len(), render.len(), fills.len());
-    };
-    let dest = Rect { x0, y0, x1, y1 };
-    let placement = Placement {
-        dest,
-        source_x,
-        source_y,
-    };
-    let picture = pixmap_of(has_pixmap, pixmap);
-    let built = filter_fill(
-        screen,
-        rows,
+    let mut rows = Rows {
+        state: rows,
         render,
         fills,
-        paint_attrs,
-        filter_paints,
-        placement,
-        picture,
+    };
+    let Some(mut screen) = screen_of(state, has_pixmap <= 1) else {
+        return refuse_build(state, &rows);
+    };
+    let layer = FilterFill {
+        placement: Placement {
+            dest: Rect { x0, y0, x1, y1 },
+            source_x,
+            source_y,
+        },
+        pixmap: pixmap_of(has_pixmap, pixmap),
         paint_count,
         panel,
-    );
-    leave(state, built)
+    };
+    let done = filter_fill(&mut screen, &mut rows, paint_attrs, filter_paints, layer);
+    leave(state, screen, done)
 }

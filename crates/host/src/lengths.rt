@@ -1,14 +1,17 @@
 // How many words a host lends.
-ghost use Rattle.std.specs.Prelude.{◌≡◌, ◌∷◌, length};
+ghost use Rattle.std.specs.Prelude.{◌≡◌, ◌∷◌, true, length};
+ghost use Rattle.sizes.specs.Refusals.{answer_number};
 ghost use Rattle.rules.specs.Answers.{answer};
-ghost use Rattle.screen.specs.Screens.{frame};
+ghost use Rattle.rules.specs.Boxes.{good_viewport};
+ghost use Rattle.rect.specs.Rects.{box_of};
+ghost use Rattle.screen.specs.Screens.{frame, frame-of};
 ghost use Rattle.host_screen.specs.State.{rect};
-ghost use Rattle.host.specs.Sizes.{fixed, sizes-of, size-call};
+ghost use Rattle.host.specs.Sizes.{fixed, sizes-of, size_call};
 
-use host_screen::{AskedSetup, SetupWords, no_setup, read_setup};
-use rect::{Rect, Viewport};
-use screen::{Setup, fresh, is_good_room};
-use sizes::answers::{BAD_ARENA, BAD_RECORD, BAD_VIEWPORT, DONE};
+use host_screen::{SetupWords, read_setup};
+use rect::Rect;
+use screen::{Screen, Setup, fresh, is_good_room};
+use sizes::answers::{Refusal, answer_number};
 use sizes::{FILTER_TABLE, LAYER_TABLE, OPACITIES, OPEN_TABLE, PAINT_TABLE, ROW};
 
 // The words of ten tables: five that the screen decides, five that are always the same.
@@ -23,48 +26,50 @@ fn put_sizes(
     requires { length sizes.old ≡ 10 }
     ensures { sizes.new ≡ render ∷ fills ∷ depth ∷ rows ∷ painting ∷ fixed }
 {
-    sizes[0] = render;
-    sizes[1] = fills;
-    sizes[2] = depth;
-    sizes[3] = rows;
-    sizes[4] = painting;
-    sizes[5] = OPEN_TABLE;
-    sizes[6] = OPACITIES;
-    sizes[7] = PAINT_TABLE;
-    sizes[8] = LAYER_TABLE;
-    sizes[9] = FILTER_TABLE;
+    sizes.copy_from_slice(&[
+        render,
+        fills,
+        depth,
+        rows,
+        painting,
+        OPEN_TABLE,
+        OPACITIES,
+        PAINT_TABLE,
+        LAYER_TABLE,
+        FILTER_TABLE,
+    ]);
+}
+
+// 1, then 4, or the ten lengths for a fresh screen.
+fn put_lengths_of(screen: Screen, sizes: &mut [usize]) -> Result<(), Refusal>
+    requires { good_viewport (box_of screen.viewport) ≡ true }
+    ensures { answer (answer_number result) sizes.new ≡ sizes-of (frame-of screen) sizes.old }
+{
+    if !is_good_room(screen.c) || !is_good_room(screen.d) {
+        return Err(Refusal::BadArena);
+    }
+    if sizes.len() != 10 {
+        return Err(Refusal::BadRecord);
+    }
+    let n = screen.rows();
+    let render = n * (4 * screen.c as usize);
+    let fills = n * (2 * screen.d as usize);
+    put_sizes(sizes, render, fills, n * screen.buckets(), n * ROW, n * 2);
+    Ok(())
 }
 
 // 2, then 1, then 4, or the ten lengths for the frame that a reset makes.
-fn put_lengths(viewport: Rect, setup: Setup, sizes: &mut [usize]) -> u32
-    ensures { answer result sizes.new ≡ sizes-of (frame setup viewport) sizes.old }
+fn put_lengths(viewport: Rect, setup: Setup, sizes: &mut [usize]) -> Result<(), Refusal>
+    ensures { answer (answer_number result) sizes.new ≡ sizes-of (frame setup viewport) sizes.old }
 {
-    let mode = setup.mode;
-    let Viewport::Good(seen) = viewport.viewport_in(mode) else {
-        return BAD_VIEWPORT;
-    };
-    if !is_good_room(setup.c) {
-        return BAD_ARENA;
-    }
-    if !is_good_room(setup.d) {
-        return BAD_ARENA;
-    }
-    if sizes.len() != 10 {
-        return BAD_RECORD;
-    }
-    let width = setup.width;
-    let screen = fresh(seen, setup.c, setup.d, width);
-    let n = screen.rows();
-    let b = screen.buckets();
-    let render = n * (4 * (setup.c as usize));
-    let fills = n * (2 * (setup.d as usize));
-    put_sizes(sizes, render, fills, n * b, n * ROW, n * 2);
-    DONE
+    let seen = viewport.viewport_in(setup.mode)?;
+    put_lengths_of(fresh(seen, setup.c, setup.d, setup.width), sizes)
 }
 
 // The lengths for a viewport in a setup. sizes: render, fills, depth, rows, painting, layers, opacities, paint_attrs, layer_attrs, filter_paints.
 // Words that ask for no setup are refused at once, by 2 or 4.
 #[unsafe(no_mangle)]
+#[tactic(auto, using(crate::proofs::Asked::sizes_unasked))]
 pub extern "C" fn coarse_sizes(
     x0: u32,
     y0: u32,
@@ -74,11 +79,12 @@ pub extern "C" fn coarse_sizes(
     sizes: &mut [usize],
 ) -> u32
     ensures { answer result sizes.new
-        ≡ size-call (rect x0 y0 x1 y1) setup sizes.old }
+        ≡ size_call (rect x0 y0 x1 y1) setup sizes.old }
 {
-    let AskedSetup::Good(asked) = read_setup(setup) else {
-        return no_setup(setup);
+    let asked = match read_setup(setup) {
+        Ok(asked) => asked,
+        Err(refusal) => return refusal.number(),
     };
     let viewport = Rect { x0, y0, x1, y1 };
-    put_lengths(viewport, asked, sizes)
+    answer_number(put_lengths(viewport, asked, sizes))
 }

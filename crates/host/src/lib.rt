@@ -1,4 +1,4 @@
-// The calls for a host in C or Rust: words, and slices of words or of spans. A slice crosses as a pointer and a length. Each call gives document 01's number.
+// The calls for a host in C or Rust: words, and slices of words or of spans. A slice crosses as a pointer and a length. Each call gives the rules' number.
 // All `coarse_` functions are public calls: they have no `requires`. The others are parts of them.
 #![tactic(auto)]
 

@@ -4,37 +4,41 @@ ghost use Rattle.rules.specs.Answers.{answer};
 ghost use Rattle.rules.specs.Spans.{span};
 ghost use Rattle.paint_command.specs.Painting.{lent};
 ghost use Rattle.paint_screen.specs.Stepping.{attributes};
-ghost use Rattle.host.specs.Painting.{begin-call, step_call, row-call, unset-call, visible-call, write-call, skip-call, split-call};
+ghost use Rattle.host.specs.Painting.{begin_call, step_call, row_call, unset_call, visible_call, write_call, skip_call, split_call};
 
 use crate::border::{refuse_begin, refuse_runs, refuse_skip, refuse_step};
 use depth::split_opaque_span;
 use host_results::{put_runs, put_skip, put_split, put_step};
-use host_screen::{Held, leave, put_screen, screen_of};
-use paint_screen::{begin_painting, can_skip, unset_runs, unset_runs_and_write, visible_runs};
+use host_screen::{leave, put_screen, screen_of};
+use paint_screen::{
+    Stored, begin_painting, can_skip, unset_runs, unset_runs_and_write, visible_runs,
+};
 use paint_whole::{paint_row, paint_step};
-use sizes::answers::{BAD_RECORD, BAD_VIEWPORT};
-use sizes::width::{ReadWidth, read_width};
+use sizes::answers::Refusal;
+use sizes::width::Width;
 use span::{BucketRange, TileSpan};
 
 // Clears the depth words and sets every row to its first step.
 #[unsafe(no_mangle)]
+#[tactic(auto, using(host_screen::proofs::Words::long, crate::proofs::Unheld::begin_unheld))]
 pub extern "C" fn coarse_begin_painting(
     state: &mut [u32],
     depth: &mut [u32],
     painting: &mut [u32],
 ) -> u32
     ensures { answer result (state.new, depth.new, painting.new)
-        ≡ begin-call state.old depth.old painting.old }
+        ≡ begin_call state.old depth.old painting.old }
 {
-    let Held::Good(screen) = screen_of(state, true) else {
+    let Some(mut screen) = screen_of(state, true) else {
         return refuse_begin(state, depth.len(), painting.len());
     };
-    let built = begin_painting(screen, depth, painting);
-    leave(state, built)
+    let done = begin_painting(&mut screen, depth, painting);
+    leave(state, screen, done)
 }
 
 // The next stored command of a row. result: 1 if none was left, else 0; how many pieces are listed.
 #[unsafe(no_mangle)]
+#[tactic(auto, using(host_screen::proofs::Words::was_good, crate::proofs::Unheld::step_unheld))]
 pub extern "C" fn coarse_paint_step(
     state: &[u32],
     row: usize,
@@ -51,37 +55,24 @@ pub extern "C" fn coarse_paint_step(
     ensures { answer result (depth.new, painting.new, list.new, res.new)
         ≡ step_call row (attributes paint_attrs.now layer_attrs.now) state.now (lent rows.now render.now fills.now depth.old painting.old list.old) res.old }
 {
-    let Held::Good(screen) = screen_of(state, res.len() == 2) else {
-        return refuse_step(
-            state,
-            row,
-            rows.len(),
-            render.len(),
-            fills.len(),
-            depth.len(),
-            painting.len(),
-            paint_attrs.len(),
-            layer_attrs.len(),
-        );
-    };
-    let done = paint_step(
-        screen,
-        row,
+    let stored = Stored {
         rows,
         render,
         fills,
-        depth,
-        painting,
         paint_attrs,
         layer_attrs,
-        list,
-    );
+    };
+    let Some(screen) = screen_of(state, res.len() == 2) else {
+        return refuse_step(state, row, &stored, depth.len(), painting.len());
+    };
+    let done = paint_step(screen, row, &stored, depth, painting, list);
     put_step(done, res)
 }
 
 // A row's steps from where it stands to its end, or up to the first whose pieces have no room left. result: 1 if the row has come to its end,
 // else 0; how many pieces are listed.
 #[unsafe(no_mangle)]
+#[tactic(auto, using(host_screen::proofs::Words::was_good, crate::proofs::Unheld::row_unheld))]
 pub extern "C" fn coarse_paint_row(
     state: &[u32],
     row: usize,
@@ -96,38 +87,25 @@ pub extern "C" fn coarse_paint_row(
     res: &mut [usize],
 ) -> u32
     ensures { answer result (depth.new, painting.new, list.new, res.new)
-        ≡ row-call row (attributes paint_attrs.now layer_attrs.now) state.now (lent rows.now render.now fills.now depth.old painting.old list.old) res.old }
+        ≡ row_call row (attributes paint_attrs.now layer_attrs.now) state.now (lent rows.now render.now fills.now depth.old painting.old list.old) res.old }
 {
-    let Held::Good(screen) = screen_of(state, res.len() == 2) else {
-        return refuse_step(
-            state,
-            row,
-            rows.len(),
-            render.len(),
-            fills.len(),
-            depth.len(),
-            painting.len(),
-            paint_attrs.len(),
-            layer_attrs.len(),
-        );
-    };
-    let done = paint_row(
-        screen,
-        row,
+    let stored = Stored {
         rows,
         render,
         fills,
-        depth,
-        painting,
         paint_attrs,
         layer_attrs,
-        list,
-    );
+    };
+    let Some(screen) = screen_of(state, res.len() == 2) else {
+        return refuse_step(state, row, &stored, depth.len(), painting.len());
+    };
+    let done = paint_row(screen, row, &stored, depth, painting, list);
     put_step(done, res)
 }
 
 // The runs of the tiles first to end whose buckets hold 0; count: how many.
 #[unsafe(no_mangle)]
+#[tactic(auto, using(host_screen::proofs::Words::was_good, crate::proofs::Unheld::unset_unheld))]
 pub extern "C" fn coarse_unset_runs(
     state: &[u32],
     row: usize,
@@ -138,9 +116,9 @@ pub extern "C" fn coarse_unset_runs(
     count: &mut [usize],
 ) -> u32
     ensures { answer result (list.new, count.new)
-        ≡ unset-call row (span first «end») state.now depth.now list.old count.old }
+        ≡ unset_call row (span first «end») state.now depth.now list.old count.old }
 {
-    let Held::Good(screen) = screen_of(state, count.len() == 1) else {
+    let Some(screen) = screen_of(state, count.len() == 1) else {
         return refuse_runs(state, row, depth.len());
     };
     let span = TileSpan { first, end };
@@ -150,6 +128,7 @@ pub extern "C" fn coarse_unset_runs(
 
 // The runs of the tiles first to end whose buckets hold at most the id; count: how many.
 #[unsafe(no_mangle)]
+#[tactic(auto, using(host_screen::proofs::Words::was_good, crate::proofs::Unheld::visible_unheld))]
 pub extern "C" fn coarse_visible_runs(
     state: &[u32],
     row: usize,
@@ -161,9 +140,9 @@ pub extern "C" fn coarse_visible_runs(
     count: &mut [usize],
 ) -> u32
     ensures { answer result (list.new, count.new)
-        ≡ visible-call row (span first «end») id state.now depth.now list.old count.old }
+        ≡ visible_call row (span first «end») id state.now depth.now list.old count.old }
 {
-    let Held::Good(screen) = screen_of(state, count.len() == 1) else {
+    let Some(screen) = screen_of(state, count.len() == 1) else {
         return refuse_runs(state, row, depth.len());
     };
     let span = TileSpan { first, end };
@@ -173,6 +152,7 @@ pub extern "C" fn coarse_visible_runs(
 
 // Lists the unset runs of the buckets first to end and stores the id there; count: how many. Done, it ends painting.
 #[unsafe(no_mangle)]
+#[tactic(auto, using(host_screen::proofs::Words::long, host_screen::proofs::Words::was_good, crate::proofs::Unheld::write_unheld))]
 pub extern "C" fn coarse_unset_runs_and_write(
     state: &mut [u32],
     row: usize,
@@ -184,21 +164,20 @@ pub extern "C" fn coarse_unset_runs_and_write(
     count: &mut [usize],
 ) -> u32
     ensures { answer result (state.new, depth.new, list.new, count.new)
-        ≡ write-call row (span first «end») id state.old depth.old list.old count.old }
+        ≡ write_call row (span first «end») id state.old depth.old list.old count.old }
 {
-    let Held::Good(screen) = screen_of(state, count.len() == 1) else {
+    let Some(mut screen) = screen_of(state, count.len() == 1) else {
         return refuse_runs(state, row, depth.len());
     };
     let range = BucketRange { first, end };
-    let written = unset_runs_and_write(screen, row, depth, range, id, list);
-    let runs = written.runs;
-    let next = written.screen;
-    put_screen(state, next);
+    let runs = unset_runs_and_write(&mut screen, row, depth, range, id, list);
+    put_screen(state, screen);
     put_runs(runs, count)
 }
 
 // Whether a draw over the tiles first to end need not look at the row's depth words; yes: 1 or 0.
 #[unsafe(no_mangle)]
+#[tactic(auto, using(host_screen::proofs::Words::was_good, crate::proofs::Unheld::skip_unheld))]
 pub extern "C" fn coarse_can_skip(
     state: &[u32],
     row: usize,
@@ -209,9 +188,9 @@ pub extern "C" fn coarse_can_skip(
     yes: &mut [u32],
 ) -> u32
     ensures { answer result yes.new
-        ≡ skip-call row (span first «end») id state.now rows.now yes.old }
+        ≡ skip_call row (span first «end») id state.now rows.now yes.old }
 {
-    let Held::Good(screen) = screen_of(state, yes.len() == 1) else {
+    let Some(screen) = screen_of(state, yes.len() == 1) else {
         return refuse_skip(state, row, rows.len());
     };
     let span = TileSpan { first, end };
@@ -221,19 +200,21 @@ pub extern "C" fn coarse_can_skip(
 
 // Rule 7: the parts of an opaque span, at so many pixels a bucket. parts: three words a part, left to right, then zeros.
 #[unsafe(no_mangle)]
+#[tactic(auto, unfolding(crate::specs::Painting::split_call))]
 pub extern "C" fn coarse_split_opaque_span(
     first: u32,
     end: u32,
     pixels: u32,
     parts: &mut [u32],
 ) -> u32
-    ensures { answer result parts.new ≡ split-call pixels (span first «end») parts.old }
+    ensures { answer result parts.new ≡ split_call pixels (span first «end») parts.old }
 {
-    let ReadWidth::Good(width) = read_width(pixels) else {
-        return BAD_VIEWPORT;
+    let width = match Width::try_from(pixels) {
+        Ok(width) => width,
+        Err(refusal) => return refusal.number(),
     };
     if parts.len() != 9 {
-        return BAD_RECORD;
+        return Refusal::BadRecord.number();
     }
     let span = TileSpan { first, end };
     put_split(parts, split_opaque_span(span, width))

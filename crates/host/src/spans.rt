@@ -4,12 +4,11 @@ ghost use Rattle.std.specs.Prelude.{◌≡◌, ◌*◌, ◌/◌, min};
 ghost use Rattle.sizes.specs.Sizes.{bucket-end};
 ghost use Rattle.rules.specs.Answers.{answer};
 ghost use Rattle.rules.specs.Spans.{span};
-ghost use Rattle.host.specs.Spans.{found-call, spans-call};
+ghost use Rattle.host.specs.Spans.{found_call, spans_call};
 
 use crate::painting::coarse_visible_runs;
 use depth_forms::write_runs;
 use sizes::BUCKET_END;
-use sizes::answers::DONE;
 use span::TileSpan;
 
 // The number of the answer, how many runs are found, and their tile numbers.
@@ -43,12 +42,12 @@ fn found_spans(
     count: &mut [usize],
 ) -> Found
     ensures { answer result.number (result.count, result.words, count.new)
-        ≡ found-call row (span first «end») id state.now depth.now room count.old }
+        ≡ found_call row (span first «end») id state.now depth.now room count.old }
 {
     let mut words = [0u32; BUCKET_END];
     let n = words_for(room);
     let number = coarse_visible_runs(state, row, depth, first, end, id, &mut words[..n], count);
-    if number != DONE {
+    if number != 0 {
         return Found {
             number,
             count: 0,
@@ -76,7 +75,7 @@ pub extern "C" fn coarse_visible_spans(
     count: &mut [usize],
 ) -> u32
     ensures { answer result (list.new, count.new)
-        ≡ spans-call row (span first «end») id state.now depth.now list.old count.old }
+        ≡ spans_call row (span first «end») id state.now depth.now list.old count.old }
 {
     let found = found_spans(state, row, depth, first, end, id, list.len(), count);
     let words = found.words;

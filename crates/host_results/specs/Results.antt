@@ -3,10 +3,8 @@ use Rattle.std.specs.Prelude.{ℕ, Bool, cond, List, [], ◌∷◌, ◌++◌, dr
 use Rattle.rules.specs.Answers.{Answer, answer}
 use Rattle.rules.specs.Split.{Part, regular, buckets}
 use Rattle.depth.specs.Listing.{RunsOut}
-use Rattle.paint_pieces.specs.declared.Painted.{Painted}
+use Rattle.paint_pieces.specs.Answers.{Painted}
 use Rattle.host_screen.specs.State.{bit}
-use Rattle.host_results.specs.declared.Slot.{Slot}
-use Rattle.host_results.specs.declared.Slots.{Slots}
 
 -- a done call's result words, else those that were there
 abbrev pub result : ℕ → List ℕ → List ℕ → List ℕ
@@ -24,24 +22,15 @@ count_left n o = answer o.number (result o.number (o.count ∷ []) n)
 abbrev pub skip-left : List ℕ → Answer Bool → Answer (List ℕ)
 skip-left old a = answer a.number (result a.number (bit a.value ∷ []) old)
 
--- A part is three words: 1 for a regular piece or 2 for a depth fill, first, end.
-abbrev pub slot : ℕ → ℕ → ℕ → Slot
-slot k a b = record { kind = k; first = a; «end» = b }
+-- A part is three words: 1 for a regular piece or 2 for a depth fill, first, end; zeros for none.
+abbrev pub slot : List Part → List ℕ
+slot [] = 0 ∷ 0 ∷ 0 ∷ []
+slot (regular s ∷ ps) = 1 ∷ s.first ∷ s.end ∷ []
+slot (buckets s ∷ ps) = 2 ∷ s.first ∷ s.end ∷ []
 
-abbrev pub slot_of : List Part → Slot
-slot_of [] = slot 0 0 0
-slot_of (regular s ∷ ps) = slot 1 s.first s.end
-slot_of (buckets s ∷ ps) = slot 2 s.first s.end
-
-abbrev pub one-slot : Slot → List ℕ
-one-slot s = s.kind ∷ s.first ∷ s.«end» ∷ []
-
-abbrev pub slot-words : Slots → List ℕ
-slot-words s = one-slot s.a ++ one-slot s.b ++ one-slot s.c
-
--- the first three parts, zeros for those that are not there
-unfoldable pub three-words : List Part → List ℕ
-three-words ps = one-slot (slot_of ps) ++ one-slot (slot_of (drop 1 ps)) ++ one-slot (slot_of (drop 2 ps))
+-- the first three parts
+unfoldable pub three_words : List Part → List ℕ
+three_words ps = slot ps ++ slot (drop 1 ps) ++ slot (drop 2 ps)
 
 abbrev pub split-left : List ℕ → Answer (List Part) → Answer (List ℕ)
-split-left parts a = answer a.number (result a.number (three-words a.value) parts)
+split-left parts a = answer a.number (result a.number (three_words a.value) parts)

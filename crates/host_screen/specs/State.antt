@@ -1,13 +1,11 @@
 -- A screen's numbers as the words that a host lends.
-use Rattle.std.specs.Prelude.{ℕ, Bool, true, false, ◌&&◌, cond, List, [], ◌∷◌, length, get_or, leb, ltb, eqb}
+use Rattle.std.specs.Prelude.{ℕ, Bool, true, false, ◌&&◌, cond, List, [], ◌∷◌, length, get_or, leb, ltb, eqb, Option, None, Some}
 use Rattle.sizes.specs.Sizes.{state-size}
 use Rattle.sizes.specs.declared.width.Width.{Width}
 use Rattle.sizes.specs.declared.width.Width.TheVariants.{W64, W128, W256}
 use Rattle.rules.specs.Answers.{Answer, answer, BadRecord}
 use Rattle.rect.specs.declared.Rect.{Rect}
 use Rattle.screen.specs.declared.Screen.{Screen}
-use Rattle.host_screen.specs.declared.Held.{Held}
-use Rattle.host_screen.specs.declared.Held.TheVariants as held
 
 abbrev pub bit : Bool → ℕ
 bit true = 1
@@ -68,22 +66,22 @@ abbrev pub good-words : List ℕ → Bool
 good-words ws = eqb (length ws) state-size && leb (get_or ws 15 0) 1 && leb (get_or ws 16 0) 2
 
 -- the screen that the words stand for, if what else the host gives is good
-unfoldable pub screen-of : Bool → List ℕ → Held
-screen-of good ws = cond (good && good-words ws) (held.Good (screen-at ws)) held.Nothing
+unfoldable pub screen_of : Bool → List ℕ → Option Screen
+screen_of good ws = cond (good && good-words ws) (Some (screen-at ws)) None
 
 -- The number of a call whose words are refused by 4 at the border, n being the call's own: 1, 2 and 3 come first.
-unfoldable pub before-4 : ℕ → ℕ
-before-4 n = cond (ltb 0 n && ltb n BadRecord) n BadRecord
+unfoldable pub before_4 : ℕ → ℕ
+before_4 n = cond (ltb 0 n && ltb n BadRecord) n BadRecord
 
 -- .. of the screen at 17 words; words of another length are no screen at all
-unfoldable pub refused-at : List ℕ → (Screen → ℕ) → ℕ
-refused-at ws f = cond (eqb (length ws) state-size) (before-4 (f (screen-at ws))) BadRecord
+unfoldable pub refused_at : List ℕ → (Screen → ℕ) → ℕ
+refused_at ws f = cond (eqb (length ws) state-size) (before_4 (f (screen-at ws))) BadRecord
 
 -- what a call on a screen gives, or a refusal at the border with everything as it was
-abbrev pub at_held : {T : Type 0} → Held → List ℕ → T → (Screen → Answer T) → Answer T
-at_held held.Nothing ws t f = answer (refused-at ws (λ (s : Screen). (f s).number)) t
-at_held (held.Good s) ws t f = f s
+abbrev pub at_held : {T : Type 0} → Option Screen → List ℕ → T → (Screen → Answer T) → Answer T
+at_held None ws t f = answer (refused_at ws (λ (s : Screen). (f s).number)) t
+at_held (Some s) ws t f = f s
 
 -- .. on a host's words; good: whether what else the host gives is good
 abbrev pub on : {T : Type 0} → Bool → List ℕ → T → (Screen → Answer T) → Answer T
-on good ws t f = at_held (screen-of good ws) ws t f
+on good ws t f = at_held (screen_of good ws) ws t f

@@ -4,23 +4,17 @@
 #![tactic(auto)]
 
 ghost use Rattle.std.specs.Prelude.{◌≡◌, length};
+ghost use Rattle.sizes.specs.Refusals.{answer_number};
 ghost use Rattle.sizes.specs.Sizes.{state-size};
 ghost use Rattle.rect.specs.Rects.{mode_of};
-ghost use Rattle.host_screen.specs.State.{bit, width-at, width_word, screen-words, screen-at, screen-of, before-4};
-ghost use Rattle.host_screen.specs.Asked.{mode-at, asked-setup, asked-for, no-setup};
+ghost use Rattle.host_screen.specs.State.{width-at, width_word, screen-words, screen-at, screen_of, before_4};
+ghost use Rattle.host_screen.specs.Asked.{mode-at, asked_setup, asked-for};
 
 use rect::{Mode, Rect};
-use screen::{Built, Screen, Setup};
+use screen::{Screen, Setup};
 use sizes::STATE;
-use sizes::answers::{BAD_RECORD, BAD_VIEWPORT, DONE};
-use sizes::width::{ReadWidth, Width, read_width};
-
-// What a host's words stand for.
-#[derive(Clone, Copy)]
-pub enum Held {
-    Nothing,
-    Good(Screen),
-}
+use sizes::answers::{Refusal, answer_number};
+use sizes::width::Width;
 
 // What a screen is asked to be, as a host gives it: room for C render commands and D depth fills in each row; the mode is 0 exact, 1 snapping;
 // the width of a bucket is 64, 128 or 256 pixels.
@@ -33,50 +27,31 @@ pub struct SetupWords {
     pub width: u32,
 }
 
-// What such words ask for.
-#[derive(Clone, Copy)]
-pub enum AskedSetup {
-    Bad,
-    Good(Setup),
-}
-
 // The mode of a word that is 0 or 1.
 fn mode_at(word: u32) -> Mode
     ensures { mode_of result ≡ mode-at word }
 {
-    if word == 1 {
-        return Mode::Snapping;
+    match word {
+        1 => Mode::Snapping,
+        _ => Mode::Exact,
     }
-    Mode::Exact
 }
 
-// No other words are a width or a mode.
-pub fn read_setup(words: SetupWords) -> AskedSetup
-    ensures { asked-for result ≡ asked-setup words }
+// What such words ask for. No other words are a width, answer 2, or a mode, answer 4.
+#[tactic(auto, unfolding(crate::specs::Asked::asked_setup))]
+pub fn read_setup(words: SetupWords) -> Result<Setup, Refusal>
+    ensures { asked-for result ≡ asked_setup words }
 {
-    let ReadWidth::Good(width) = read_width(words.width) else {
-        return AskedSetup::Bad;
-    };
+    let width = Width::try_from(words.width)?;
     if 1 < words.mode {
-        return AskedSetup::Bad;
+        return Err(Refusal::BadRecord);
     }
-    let mode = mode_at(words.mode);
-    AskedSetup::Good(Setup {
+    Ok(Setup {
         c: words.c,
         d: words.d,
-        mode,
+        mode: mode_at(words.mode),
         width,
     })
-}
-
-// The number that refuses words which ask for no setup: 2 for the width, else 4.
-pub fn no_setup(words: SetupWords) -> u32
-    ensures { result ≡ no-setup words }
-{
-    match read_width(words.width) {
-        ReadWidth::Bad => BAD_VIEWPORT,
-        ReadWidth::Good(_) => BAD_RECORD,
-    }
 }
 
 // The width of a screen's word that is 0, 1 or 2.
@@ -134,41 +109,27 @@ pub fn screen_at(state: &[u32]) -> Screen
 }
 
 // The screen of 17 words, if the last two are good and what else the host gives is.
-pub fn screen_of(state: &[u32], good: bool) -> Held
-    ensures { result ≡ screen-of good state.now }
+#[tactic(auto, unfolding(crate::specs::State::screen_of))]
+pub fn screen_of(state: &[u32], good: bool) -> Option<Screen>
+    ensures { result ≡ screen_of good state.now }
 {
-    if !good {
-        return Held::Nothing;
+    if !good || state.len() != STATE || 1 < state[15] || 2 < state[16] {
+        return None;
     }
-    if state.len() != STATE {
-        return Held::Nothing;
-    }
-    if 1 < state[15] {
-        return Held::Nothing;
-    }
-    if 2 < state[16] {
-        return Held::Nothing;
-    }
-    Held::Good(screen_at(state))
+    Some(screen_at(state))
 }
 
-// The number of a call whose words are refused by 4 at the border, n being the call's own: 1, 2 and 3 come first.
-pub fn before_4(n: u32) -> u32
-    ensures { result ≡ before-4 n }
+// The number of a call whose words are refused by 4 at the border, by what the call's own judge says: 1, 2 and 3 come first.
+#[tactic(auto, unfolding(crate::specs::State::before_4))]
+pub fn before_4(judged: Result<(), Refusal>) -> u32
+    ensures { result ≡ before_4 (answer_number judged) }
 {
-    if n == DONE {
-        return BAD_RECORD;
+    match judged {
+        Err(refusal @ (Refusal::BadArena | Refusal::BadViewport | Refusal::BadForm)) => {
+            refusal.number()
+        }
+        _ => Refusal::BadRecord.number(),
     }
-    if BAD_RECORD <= n {
-        return BAD_RECORD;
-    }
-    n
-}
-
-pub fn flag(yes: bool) -> u32
-    ensures { result ≡ bit yes }
-{
-    if yes { 1 } else { 0 }
 }
 
 // The words of a screen.
@@ -178,32 +139,32 @@ pub fn put_screen(state: &mut [u32], screen: Screen)
 {
     let v = screen.viewport;
     let b = screen.clip_bbox;
-    state[0] = v.x0;
-    state[1] = v.y0;
-    state[2] = v.x1;
-    state[3] = v.y1;
-    state[4] = b.x0;
-    state[5] = b.y0;
-    state[6] = b.x1;
-    state[7] = b.y1;
-    state[8] = screen.c;
-    state[9] = screen.d;
-    state[10] = screen.next_draw_id;
-    state[11] = screen.paint_attrs;
-    state[12] = screen.layer_attrs;
-    state[13] = screen.filter_paints;
-    state[14] = screen.layers;
-    state[15] = flag(screen.painting);
-    let width = screen.width;
-    state[16] = width_word(width);
+    state.copy_from_slice(&[
+        v.x0,
+        v.y0,
+        v.x1,
+        v.y1,
+        b.x0,
+        b.y0,
+        b.x1,
+        b.y1,
+        screen.c,
+        screen.d,
+        screen.next_draw_id,
+        screen.paint_attrs,
+        screen.layer_attrs,
+        screen.filter_paints,
+        screen.layers,
+        u32::from(screen.painting),
+        width_word(screen.width),
+    ]);
 }
 
 // What a call gave: its screen's words, and its number.
-pub fn leave(state: &mut [u32], built: Built) -> u32
+pub fn leave(state: &mut [u32], screen: Screen, done: Result<(), Refusal>) -> u32
     requires { length state.old ≡ state-size }
-    ensures { (result ≡ built.number) × (state.new ≡ screen-words built.screen) }
+    ensures { (result ≡ answer_number done) × (state.new ≡ screen-words screen) }
 {
-    let screen = built.screen;
     put_screen(state, screen);
-    built.number
+    answer_number(done)
 }

@@ -2,7 +2,7 @@
 use mathlib.Core.Path.{◌≡◌, refl, sym, ap, ◌∙◌}
 use mathlib.Core.Bool.{Bool, true, false, cond}
 use mathlib.Core.List.{List, []}
-use mathlib.Core.Option.{Option, none, some}
+use Rattle.std.specs.Prelude.{Option, None, Some}
 use Prim.Native.Nat.{ℕ, ◌≤◌, ◌<◌, ◌+◌, ◌-◌}
 use native.Mathlib.Omega.{arith}
 use lib.ListN.{length, get_or, length-map, get_or-eq_default}
@@ -14,7 +14,6 @@ use Rattle.rules.specs.Commands.{Command, paint-fill, layer-fill, push-buf, pop-
 use Rattle.rules.specs.Depth.{Summary}
 use Rattle.rules.specs.Rows.{Row}
 use Rattle.rules.specs.Attributes.{PaintAttr, LayerAttr, Attrs, no-paint, no-layer}
-use Rattle.rules.specs.Painting as rules
 use Rattle.rules.specs.Painting.{Painter, paint-id, paint-panel, layer-id, layer-panel, no-fill, paint-depth, paint-fill-runs, paint-command, paint-when, paint-step}
 use Rattle.paint_command.specs.Painting.{word, paint-at, layer-at, attrs-at, RowLent, lent, painter-at, good-command, fill-shown, command-shown, depth-step, command-step, depth-fill-at, command-at, bad-row, next-step, painted-row}
 use Rattle.paint_runs.specs.Summaries.{summary-at, Sound, Included}
@@ -58,13 +57,13 @@ module _ (v : ℕ) (a b : Attrs) (s : Same a b) (p : Painter) where
 
   same-depth-step : (o : Option DepthFill) → depth-step v a p o ≡ depth-step v b p o
   unfolding depth-step
-  same-depth-step none = refl
-  same-depth-step (some f) = rw (s.paint-count, s.paint-ids f.attribute, s.paint-panels f.attribute, same-depth f)
+  same-depth-step None = refl
+  same-depth-step (Some f) = rw (s.paint-count, s.paint-ids f.attribute, s.paint-panels f.attribute, same-depth f)
 
   same-command-step : (u : Summary) (o : Option Command) → command-step v a u p o ≡ command-step v b u p o
   unfolding command-step
-  same-command-step u none = refl
-  same-command-step u (some c) = rw (same_good p.nesting c, same-shown u c)
+  same-command-step u None = refl
+  same-command-step u (Some c) = rw (same_good p.nesting c, same-shown u c)
 
   same-paint : (t u : Bool) (r : Row) → paint-when v a t u r p ≡ paint-when v b t u r p
   unfolding paint-when
@@ -153,7 +152,7 @@ module _ (width : Width) (a : Attrs) (r : Row) (s re fi D P l : List ℕ) (g : S
 
   depth-place : word P 0 < length r.fills
       → depth-step v a (painter-at D P) (depth-fill-at (length D) fi (length r.fills - (word P 0 + 1)))
-      ≡ some (paint-depth v a (get_or r.fills (length r.fills - (word P 0 + 1)) no-fill) (painter-at D P))
+      ≡ Some (paint-depth v a (get_or r.fills (length r.fills - (word P 0 + 1)) no-fill) (painter-at D P))
   unfolding depth-step
   depth-place h =
       let k : length r.fills - (word P 0 + 1) < length r.fills = omega arith in
@@ -161,11 +160,11 @@ module _ (width : Width) (a : Attrs) (r : Row) (s re fi D P l : List ℕ) (g : S
 
   command-place : length r.fills ≤ word P 0 → word P 0 - length r.fills < length r.commands
       → command-step v a (summary-at s) (painter-at D P) (command-at re (word P 0 - length r.fills))
-      ≡ some (paint-command v a (get_or r.commands (word P 0 - length r.fills) pop-buf) (painter-at D P))
+      ≡ Some (paint-command v a (get_or r.commands (word P 0 - length r.fills) pop-buf) (painter-at D P))
   unfolding command-step
   command-place m h = rw (g.commands-at _ h, q.good-next m h, by-summary width a (summary-at s) (get_or r.commands (word P 0 - length r.fills) pop-buf) (painter-at D P) o)
 
-  pub next : next-step v a (lent s re fi D P l) ≡ some (paint-step v a r (painter-at D P))
+  pub next : next-step v a (lent s re fi D P l) ≡ Some (paint-step v a r (painter-at D P))
   unfolding next-step paint-step paint-when
   next = rw (good, g.depths, g.renders) (go (ltb (word P 0) (length r.fills)) (ltb (word P 0 - length r.fills) (length r.commands)) refl refl)
     where
@@ -175,8 +174,8 @@ module _ (width : Width) (a : Attrs) (r : Row) (s re fi D P l : List ℕ) (g : S
       go : (t u : Bool) → ltb (word P 0) (length r.fills) ≡ t → ltb (word P 0 - length r.fills) (length r.commands) ≡ u
           → cond t (depth-step v a p (depth-fill-at (length D) fi (length r.fills - (word P 0 + 1))))
           (cond u (command-step v a (summary-at s) p (command-at re (word P 0 - length r.fills)))
-          (some (record { finished = true; pieces = []; painter = p })))
-          ≡ some (paint-when v a t u r p)
+          (Some (record { finished = true; pieces = []; painter = p })))
+          ≡ Some (paint-when v a t u r p)
       go true u e f = depth-place (ltb-true _ _ e)
       go false true e f = command-place (ltb-false _ _ e) (ltb-true _ _ f)
       go false false e f = refl

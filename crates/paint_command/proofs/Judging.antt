@@ -1,81 +1,25 @@
 -- What the tests of a step say of the attributes and their ids. Assumes nothing.
-use mathlib.Core.Path.{◌≡◌, refl, sym, ap, ◌∙◌}
-use mathlib.Core.Bool.{Bool, true, false, ◌&&◌, cond}
+use mathlib.Core.Path.{◌≡◌, refl, ap, ◌∙◌}
+use mathlib.Core.Bool.{Bool, true, false, ◌&&◌}
 use mathlib.Core.List.{List, map}
 use Prim.Native.Nat.{ℕ, zero, suc, ◌≤◌, ◌<◌, ◌+◌}
 use native.Mathlib.Nat.{add-zero, zero-add, not-suc-le-zero, le_of_suc-le-suc}
 use native.Mathlib.Omega.{arith}
 use lib.ListN.{length, get_or, length-map}
 use lib.Dec.{ltb}
-use borrow.Author.Tests.{lt-ltb, le-ltb, le-leb, lt-leb, ltb-true}
-use Rattle.sizes.specs.Sizes.{panel-end}
+use borrow.Author.Tests.{lt-ltb, le-ltb, ltb-true}
 use Rattle.rules.specs.Lists.{count-from}
 use Rattle.rules.specs.Inputs.{good-panel}
 use Rattle.rules.specs.Attributes.{PaintAttr, LayerAttr, Attrs, no-paint, no-layer}
 use Rattle.rules.specs.Painting.{paint-id, paint-panel, layer-id, layer-panel}
-use Rattle.paint_command.specs.Painting.{paint-at, layer-at, attrs-at, good-id, given, paint-given, layer-given, good-paint, good-layer}
-
--- the id is given if it is good, else 0
-pub taken-good : (id : ℕ) → id ≤ 1048576 → id ≡ given true id
-unfolding given
-taken-good zero h = refl
-taken-good (suc id) h = rw (lt-ltb 0 (suc id) (omega arith), le-leb (suc id) 1048576 h)
-
-and-false : (t : Bool) → (t && false) ≡ false
-and-false true = refl
-and-false false = refl
-
-pub taken-large : (id : ℕ) → 1048576 < id → 0 ≡ given true id
-unfolding given
-taken-large id h = rw (lt-leb id 1048576 h, and-false (ltb 0 id))
-
--- the attribute at place i of n, its panel by f and its id by g: it is not there, its panel is none, or it stands
-module _ (f g : ℕ → ℕ) (n i : ℕ) where
-  pub not_there : n ≤ i → 0 ≡ given (ltb i n && good-panel (f i)) (g i)
-  unfolding given
-  not_there h = rw (le-ltb i n h)
-
-  module _ (k q : ℕ) (e : k ≡ i) (p : q ≡ f k) where
-    same-panel : q ≡ f i
-    same-panel = p ∙ ap f e
-
-    pub no-panel : panel-end ≤ q → 0 ≡ given (ltb i n && good-panel (f i)) (g i)
-    unfolding given
-    no-panel h = rw (← same-panel, le-ltb q panel-end h, and-false (ltb i n))
-
-    pub is-there : (x r : ℕ) → i < n → q < panel-end → x ≡ g k → r ≡ given true x → r ≡ given (ltb i n && good-panel (f i)) (g i)
-    is-there x r l h y z = z ∙ rw (← same-panel, lt-ltb i n l, lt-ltb q panel-end h, y, e)
-
-no_zero : (id : ℕ) → good-id id ≡ true → id ≡ 0 → ⊥
-no_zero id h e = let q : good-id 0 ≡ true = rw e at h in let z : ◌≡◌ {A = ℕ} 0 1 = cc in omega arith
-
--- back from what is given: 0 says that it is not good, and what is not 0 is the id
-module _ (t : Bool) (id : ℕ) where
-  pub given-none : given t id ≡ 0 → (t && good-id id) ≡ false
-  unfolding given
-  given-none e = go t (good-id id) refl e
-    where
-      go : (t g : Bool) → good-id id ≡ g → cond (t && g) id 0 ≡ 0 → (t && g) ≡ false
-      go true true q e = absurd (no_zero id q e)
-      go true false q e = refl
-      go false g q e = refl
-
-  pub given-some : (given t id ≡ 0 → ⊥) → ((t && good-id id) ≡ true) × (given t id ≡ id)
-  unfolding given
-  given-some n = go (t && good-id id) n
-    where
-      go : (g : Bool) → (cond g id 0 ≡ 0 → ⊥) → (g ≡ true) × (cond g id 0 ≡ id)
-      go true n = (refl, refl)
-      go false n = absurd (n refl)
-
--- .. and its attribute is there
-pub given_below : (i n : ℕ) (p : Bool) (id : ℕ) → (given (ltb i n && p) id ≡ 0 → ⊥) → i < n
-unfolding given
-given_below i n p id h = go (ltb i n) refl h
-  where
-    go : (t : Bool) → ltb i n ≡ t → (cond (t && p && good-id id) id 0 ≡ 0 → ⊥) → i < n
-    go true e q = ltb-true i n e
-    go false e q = absurd (q refl)
+use Rattle.std.specs.Prelude.{Option, None, Some, Ok, Err, ok_or}
+use Rattle.sizes.specs.declared.answers.Refusal.{Refusal}
+use Rattle.cmd.specs.Reading.{only_if}
+use Rattle.rules.proofs.All.{and_right}
+use Rattle.paint_command.specs.declared.reading.Attributes.{Attributes}
+use Rattle.paint_command.specs.declared.marks.Mark.{Mark}
+use Rattle.paint_command.specs.Painting.{paint-at, layer-at, attrs-at, good-id, good-paint, good-layer}
+use Rattle.paint_command.specs.Reading.{attrs_of, mark, paint_mark, layer_mark}
 
 pub length-count : (a n : ℕ) → length (count-from a n) ≡ n
 length-count a zero = refl
@@ -130,39 +74,58 @@ module _ (ps : List ℕ) (paints : ℕ) (ls : List ℕ) (layers : ℕ) where
       go true h = let l = ltb-true i layers h in rw (layer-id-is i l, layer-panel-is i l)
       go false h = refl
 
--- what an id that is given says of its attribute: it is there and good, with that id and the panel read at its place
-module _ (ps : List ℕ) (paints : ℕ) (ls : List ℕ) (layers : ℕ) (i id : ℕ) (nz : id ≡ 0 → ⊥) where
-  abbrev attrs : Attrs
-  attrs = attrs-at ps paints ls layers
+-- what stands, is the whole of it; what does not, is none of it
+pub if_some : {A : Type 0} (t : Bool) (x y : A) → only_if t x ≡ Some y → (t ≡ true) × (y ≡ x)
+if_some true x y e = (refl, cc)
+if_some false x y e = let z : ◌≡◌ {A = ℕ} 0 1 = cc in absurd (omega arith)
 
-  module _ (g : id ≡ paint-given ps paints i) where
-    abbrev stands : Bool
-    stands = ltb i paints && good-panel (paint-at ps i).panel
+pub if_none : {A : Type 0} (t : Bool) (x : A) → only_if t x ≡ None → t ≡ false
+if_none true x e = let z : ◌≡◌ {A = ℕ} 0 1 = cc in absurd (omega arith)
+if_none false x e = refl
 
-    pub paint-below : i < paints
-    paint-below = given_below i paints (good-panel (paint-at ps i).panel) (paint-at ps i).id (λ z. nz (g ∙ z))
+pub no_zero : (id : ℕ) → good-id id ≡ true → 0 < id
+no_zero zero h = let z : ◌≡◌ {A = ℕ} 0 1 = cc in absurd (omega arith)
+no_zero (suc id) h = omega arith
 
-    pub paint-given-good : good-paint attrs i ≡ true
-    paint-given-good = good-paint-is ps paints ls layers i ∙ (given-some stands (paint-at ps i).id (λ z. nz (g ∙ z))).0
+module _ (a : Attributes) (i : ℕ) where
+  pub paint_missing : a.paints ≤ i → None ≡ paint_mark (attrs_of a) i
+  paint_missing h = rw (good-paint-is a.paint_attrs.now a.paints a.layer_attrs.now a.layers i, le-ltb i a.paints h)
 
-    pub paint-given-id : paint-id attrs i ≡ id
-    paint-given-id = paint-id-is ps paints ls layers i paint-below ∙ sym (g ∙ (given-some stands (paint-at ps i).id (λ z. nz (g ∙ z))).1)
+  pub paint_there : i < a.paints → only_if (good-panel (paint-at a.paint_attrs.now i).panel && good-id (paint-at a.paint_attrs.now i).id) (mark (paint-at a.paint_attrs.now i).id (paint-at a.paint_attrs.now i).panel)
+      ≡ paint_mark (attrs_of a) i
+  paint_there h =
+      rw (
+        good-paint-is a.paint_attrs.now a.paints a.layer_attrs.now a.layers i,
+        lt-ltb i a.paints h,
+        paint-id-is a.paint_attrs.now a.paints a.layer_attrs.now a.layers i h,
+        paint-panel-is a.paint_attrs.now a.paints a.layer_attrs.now a.layers i h,
+      )
 
-    pub paint-given-panel : (k q : ℕ) → k ≡ i → q ≡ (paint-at ps k).panel → paint-panel attrs i ≡ q
-    paint-given-panel k q e p = paint-panel-is ps paints ls layers i paint-below ∙ sym (p ∙ ap (λ (j : ℕ). (paint-at ps j).panel) e)
+  pub layer_missing : a.layers ≤ i → None ≡ layer_mark (attrs_of a) i
+  layer_missing h = rw (good-layer-is a.paint_attrs.now a.paints a.layer_attrs.now a.layers i, le-ltb i a.layers h)
 
-  module _ (g : id ≡ layer-given ls layers i) where
-    abbrev layer-stands : Bool
-    layer-stands = ltb i layers && good-panel (layer-at ls i).panel
+  pub layer_there : i < a.layers → only_if (good-panel (layer-at a.layer_attrs.now i).panel && good-id (layer-at a.layer_attrs.now i).id) (mark (layer-at a.layer_attrs.now i).id (layer-at a.layer_attrs.now i).panel)
+      ≡ layer_mark (attrs_of a) i
+  layer_there h =
+      rw (
+        good-layer-is a.paint_attrs.now a.paints a.layer_attrs.now a.layers i,
+        lt-ltb i a.layers h,
+        layer-id-is a.paint_attrs.now a.paints a.layer_attrs.now a.layers i h,
+        layer-panel-is a.paint_attrs.now a.paints a.layer_attrs.now a.layers i h,
+      )
 
-    pub layer_below : i < layers
-    layer_below = given_below i layers (good-panel (layer-at ls i).panel) (layer-at ls i).id (λ z. nz (g ∙ z))
+-- .. and its id is not 0
+pub paint_some : (a : Attrs) (i : ℕ) (m : Mark) → paint_mark a i ≡ Some m → 0 < m.id
+paint_some a i m e =
+    let o = if_some (good-paint a i) _ m e in
+    let g : good-id (paint-id a i) ≡ true = and_right (ltb i (length a.paints) && good-panel (paint-panel a i)) (good-id (paint-id a i)) o.0 in
+    rw o.1 (no_zero (paint-id a i) g)
 
-    pub layer-given-good : good-layer attrs i ≡ true
-    layer-given-good = good-layer-is ps paints ls layers i ∙ (given-some layer-stands (layer-at ls i).id (λ z. nz (g ∙ z))).0
+-- what `ok_or` says of an option
+pub ok_none : {A : Type 0} (o : Option A) (k r : Refusal) → Err k ≡ ok_or o r → (o ≡ None) × (k ≡ r)
+ok_none None k r e = (refl, cc)
+ok_none (Some x) k r e = let z : ◌≡◌ {A = ℕ} 0 1 = cc in absurd (omega arith)
 
-    pub layer-given-id : layer-id attrs i ≡ id
-    layer-given-id = layer-id-is ps paints ls layers i layer_below ∙ sym (g ∙ (given-some layer-stands (layer-at ls i).id (λ z. nz (g ∙ z))).1)
-
-    pub layer-given-panel : (k q : ℕ) → k ≡ i → q ≡ (layer-at ls k).panel → layer-panel attrs i ≡ q
-    layer-given-panel k q e p = layer-panel-is ps paints ls layers i layer_below ∙ sym (p ∙ ap (λ (j : ℕ). (layer-at ls j).panel) e)
+pub ok_some : {A : Type 0} (o : Option A) (x : A) (r : Refusal) → Ok x ≡ ok_or o r → o ≡ Some x
+ok_some None x r e = let z : ◌≡◌ {A = ℕ} 0 1 = cc in absurd (omega arith)
+ok_some (Some y) x r e = cc

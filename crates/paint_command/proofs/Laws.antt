@@ -3,7 +3,7 @@ use mathlib.Core.Path.{◌≡◌, refl, sym, ap, ◌∙◌}
 use mathlib.Core.Bool.{Bool, true, false, cond}
 use mathlib.Core.List.{List, [], ◌∷◌}
 use mathlib.Core.Logic.{◌⊎◌, inl, inr}
-use mathlib.Core.Option.{Option, none, some}
+use Rattle.std.specs.Prelude.{Option, None, Some}
 use Prim.Native.Nat.{ℕ, suc, ◌≤◌, ◌+◌, ◌-◌, ◌*◌, ◌/◌}
 use native.Mathlib.Omega.{arith}
 use lib.ListN.{length}
@@ -20,11 +20,11 @@ use Rattle.rules.specs.Rows.{Row}
 use Rattle.rules.specs.Attributes.{Attrs}
 use Rattle.rules.specs.Painting as rules
 use Rattle.rules.specs.Painting.{paint-depth, paint-command, paint-step}
-use Rattle.paint_pieces.specs.declared.Painted.{Painted}
+use Rattle.paint_pieces.specs.Answers.{Painted}
 use Rattle.paint_command.specs.Painting.{word, attrs-at, RowLent, lent, StepOut, out, painter-at, good-paint, good-command, fill-shown, command-shown, depth-step, command-step, depth-fill-at, command-at, bad-row, refused, left, next-step, settled, painted-row}
 use Rattle.paint_runs.specs.Summaries.{good-summary, summary-at, Sound}
 use Rattle.paint_command.specs.Standing.{Stands, PainterReady, Holds}
-use Rattle.paint_command.proofs.Steps.{then-finished}
+use Rattle.paint_command.proofs.Steps.{then_finished, good_counts}
 use Rattle.paint_command.proofs.ByRules.{held, same_row, next}
 
 -- the contract's equation allows one result
@@ -39,15 +39,15 @@ module _ (width : Width) (a : Attrs) (ps : List ℕ) (paints : ℕ) (ls : List �
   abbrev v : ℕ
   v = bucket-tiles width
 
-  stands : painted-row v a (lent s re fi D P l) ≡ settled (some (paint-step v a r (painter-at D P))) D P l
+  stands : painted-row v a (lent s re fi D P l) ≡ settled (Some (paint-step v a r (painter-at D P))) D P l
   unfolding painted-row
   stands = rw (next width a r s re fi D P l g q o)
 
-  pub by-rules : painted-row v (attrs-at ps paints ls layers) (lent s re fi D P l) ≡ settled (some (paint-step v a r (painter-at D P))) D P l
+  pub by-rules : painted-row v (attrs-at ps paints ls layers) (lent s re fi D P l) ≡ settled (Some (paint-step v a r (painter-at D P))) D P l
   by-rules = same_row v (attrs-at ps paints ls layers) a (held a ps paints ls layers h) (lent s re fi D P l) ∙ stands
 
   fits : length (paint-step v a r (painter-at D P)).pieces ≤ length l / piece-size
-      → settled (some (paint-step v a r (painter-at D P))) D P l ≡ left (paint-step v a r (painter-at D P)) l
+      → settled (Some (paint-step v a r (painter-at D P))) D P l ≡ left (paint-step v a r (painter-at D P)) l
   unfolding settled
   fits m = rw (le-ltb _ _ m)
 
@@ -65,8 +65,8 @@ Settled o d p l =
 
 settles : (o : Option rules.Painted) (d p l : List ℕ) → Settled (settled o d p l) d p l
 unfolding settled
-settles none d p l = inr (inl refl, (refl, refl, refl))
-settles (some o) d p l = go (ltb (length l / piece-size) (length o.pieces))
+settles None d p l = inr (inl refl, (refl, refl, refl))
+settles (Some o) d p l = go (ltb (length l / piece-size) (length o.pieces))
   where
     go : (t : Bool) → Settled (cond t (out (refused 14) d p l) (left o l)) d p l
     go true = inr (inr refl, (refl, refl, refl))
@@ -81,7 +81,7 @@ pub at-the-end : (v : ℕ) (ps : List ℕ) (paints : ℕ) (ls : List ℕ) (layer
     → 4 * word s 0 ≤ length re → 2 * word s 1 ≤ length fi → word P 1 ≤ 16 → good-summary s ≡ true → word P 0 ≡ word s 1 + word s 0 → length P ≡ 2
     → painted-row v (attrs-at ps paints ls layers) (lent s re fi D P l) ≡ out (record { number = 0; finished = true; pieces = 0 }) D P l
 at-the-end v ps paints ls layers s re fi D P l h1 h2 h3 h0 e two =
-    sym (then-finished v ps paints ls layers D P l s re fi h1 h2 h3 (omega arith) h0 (omega arith) _ refl (omega arith) two)
+    sym (then_finished v (attrs-at ps paints ls layers) D P l s re fi (good_counts s re fi P h1 h2 h3 (omega arith) h0 D l) (omega arith) (omega arith) two)
 
 -- A step leaves as many depth words as there were, and two painting words.
 length-written : (id : ℕ) (r : Span) (i : ℕ) (bs : List ℕ) → length (written_from i id r bs) ≡ length bs
@@ -89,8 +89,8 @@ length-written id r i [] = refl
 length-written id r i (b ∷ bs) = ap suc (length-written id r (suc i) bs)
 
 abbrev Long : ℕ → Option rules.Painted → Type 0
-Long n none = Unit
-Long n (some o) = length o.painter.buckets ≡ n
+Long n None = Unit
+Long n (Some o) = length o.painter.buckets ≡ n
 
 long-if : (n : ℕ) (t : Bool) (o : rules.Painted) → length o.painter.buckets ≡ n → Long n (only_if t o)
 long-if n true o h = h
@@ -99,8 +99,8 @@ long-if n false o h = tt
 module _ (v : ℕ) (a : Attrs) (u : Summary) (p : rules.Painter) where
   long-depth : (o : Option DepthFill) → Long (length p.buckets) (depth-step v a p o)
   unfolding depth-step paint-depth written
-  long-depth none = tt
-  long-depth (some f) = long-if _ (good-paint a f.attribute) _ (length-written (rules.paint-id a f.attribute) f.buckets 0 p.buckets)
+  long-depth None = tt
+  long-depth (Some f) = long-if _ (good-paint a f.attribute) _ (length-written (rules.paint-id a f.attribute) f.buckets 0 p.buckets)
 
   long-shown : (c : Command) → length (command-shown v a u c p).painter.buckets ≡ length p.buckets
   unfolding command-shown fill-shown paint-command
@@ -111,8 +111,8 @@ module _ (v : ℕ) (a : Attrs) (u : Summary) (p : rules.Painter) where
 
   long-command : (o : Option Command) → Long (length p.buckets) (command-step v a u p o)
   unfolding command-step
-  long-command none = tt
-  long-command (some c) = long-if _ (good-command a p.nesting c) _ (long-shown c)
+  long-command None = tt
+  long-command (Some c) = long-if _ (good-command a p.nesting c) _ (long-shown c)
 
 long-next : (v : ℕ) (a : Attrs) (w : RowLent) → Long (length w.depth) (next-step v a w)
 unfolding next-step
@@ -123,10 +123,10 @@ long-next v a w = go (bad-row w) (ltb p.steps (word w.state 1)) (ltb (p.steps - 
 
     go : (t y x : Bool)
         → Long (length w.depth)
-        (cond t none
+        (cond t None
         (cond y (depth-step v a p (depth-fill-at (length w.depth) w.fills (word w.state 1 - (p.steps + 1))))
         (cond x (command-step v a (summary-at w.state) p (command-at w.render (p.steps - word w.state 1)))
-        (some (record { finished = true; pieces = []; painter = p })))))
+        (Some (record { finished = true; pieces = []; painter = p })))))
     go true y x = tt
     go false true x = long-depth v a (summary-at w.state) p _
     go false false true = long-command v a (summary-at w.state) p _
@@ -137,8 +137,8 @@ SameLong o d = (length o.depth ≡ length d) × (length o.painting ≡ 2)
 
 settled-long : (o : Option rules.Painted) (d p l : List ℕ) → length p ≡ 2 → Long (length d) o → SameLong (settled o d p l) d
 unfolding settled
-settled-long none d p l e h = (refl, e)
-settled-long (some o) d p l e h = go (ltb (length l / piece-size) (length o.pieces))
+settled-long None d p l e h = (refl, e)
+settled-long (Some o) d p l e h = go (ltb (length l / piece-size) (length o.pieces))
   where
     go : (t : Bool) → SameLong (cond t (out (refused 14) d p l) (left o l)) d
     go true = (refl, e)

@@ -15,7 +15,10 @@ use Rattle.rules.specs.Lists.{join}
 use Rattle.rules.specs.Spans.{Span, span}
 use Rattle.rules.specs.Depth as rule
 use Rattle.rules.specs.Painting.{Piece}
-use Rattle.depth.specs.declared.runs.Runs.{Runs}
+use Rattle.std.specs.Prelude.{Ok, Err}
+use Rattle.sizes.specs.declared.answers.Refusal.{Refusal}
+use Rattle.sizes.specs.Refusals.{number_of}
+use Rattle.sizes.proofs.Refusals.{not_done}
 use Rattle.depth.specs.Listing.{RunsOut, out, numbers, over, listing}
 use Rattle.depth.proofs.Filling.{length-numbers}
 use Rattle.paint_pieces.specs.declared.Brush.{Brush}
@@ -113,14 +116,14 @@ module _ (rs : List Span) (l ys : List ℕ) where
   told : Bool → RunsOut
   told t = listing (rules.settle (cond t 14 0) [] rs) (lent l)
 
-  short : (r : Runs) → out r ys ≡ told true → (r.number ≡ 14) × (back l ys ≡ l)
+  short : (k : Refusal) → out (Err k) ys ≡ told true → (number_of k ≡ 14) × (back l ys ≡ l)
   unfolding told listing numbers
-  short r e = (ap (λ (o : RunsOut). o.number) e, ap (back l) (ap (λ (o : RunsOut). o.list) e) ∙ take-append-drop (2 * (length l / piece-size)) l)
+  short k e = (ap (λ (o : RunsOut). o.number) e, ap (back l) (ap (λ (o : RunsOut). o.list) e) ∙ take-append-drop (2 * (length l / piece-size)) l)
 
-  full : (r : Runs) → out r ys ≡ told false → ltb (length l / piece-size) (length rs) ≡ false → Listed rs l r.count (back l ys)
+  full : (n : ℕ) → out (Ok n) ys ≡ told false → ltb (length l / piece-size) (length rs) ≡ false → Listed rs l n (back l ys)
   unfolding told listing
-  full r e q =
-      let many : r.count ≡ length rs = ap (λ (o : RunsOut). o.count) e in
+  full n e q =
+      let many : n ≡ length rs = ap (λ (o : RunsOut). o.count) e in
       let room = ltb-false (length l / piece-size) (length rs) q in
       let fits : length (numbers rs) ≤ length (lent l) = rw (length-numbers rs, lent_length l) (omega arith) in
       record {
@@ -131,21 +134,19 @@ module _ (rs : List Span) (l ys : List ℕ) where
             ∙ rw (append_assoc, ← drop-append-le (length (numbers rs)) (lent l) (drop (2 * (length l / piece-size)) l) fits, take-append-drop (2 * (length l / piece-size)) l);
       }
 
-  module _ (r : Runs) (h : out r ys ≡ listing (rule.listed false (length l / piece-size) rs) (lent l)) where
-    pub when-refused : (r.number ≡ 0 → ⊥) → (r.number ≡ 14) × (back l ys ≡ l) × (ltb (length l / piece-size) (length rs) ≡ true)
-    unfolding told listing
-    when-refused q = go (ltb (length l / piece-size) (length rs)) refl h
-      where
-        go : (t : Bool) → ltb (length l / piece-size) (length rs) ≡ t → out r ys ≡ listing (rules.settle (cond t 14 0) [] rs) (lent l)
-            → (r.number ≡ 14) × (back l ys ≡ l) × (t ≡ true)
-        go true p e = let s = short r e in (s.0, s.1, refl)
-        go false p e = absurd (q (ap (λ (o : RunsOut). o.number) e))
+  pub when_refused : (k : Refusal) → out (Err k) ys ≡ listing (rule.listed false (length l / piece-size) rs) (lent l)
+      → (number_of k ≡ 14) × (back l ys ≡ l) × (ltb (length l / piece-size) (length rs) ≡ true)
+  unfolding told listing
+  when_refused k h = go (ltb (length l / piece-size) (length rs)) h
+    where
+      go : (t : Bool) → out (Err k) ys ≡ listing (rules.settle (cond t 14 0) [] rs) (lent l) → (number_of k ≡ 14) × (back l ys ≡ l) × (t ≡ true)
+      go true e = let s = short k e in (s.0, s.1, refl)
+      go false e = absurd (not_done k (ap (λ (o : RunsOut). o.number) e))
 
-    pub when-listed : r.number ≡ 0 → Listed rs l r.count (back l ys)
-    unfolding told
-    when-listed q = go (ltb (length l / piece-size) (length rs)) refl h
-      where
-        go : (t : Bool) → ltb (length l / piece-size) (length rs) ≡ t → out r ys ≡ listing (rules.settle (cond t 14 0) [] rs) (lent l)
-            → Listed rs l r.count (back l ys)
-        go true p e = absurd (omega (arith, q, (short r e).0))
-        go false p e = full r e p
+  pub when_listed : (n : ℕ) → out (Ok n) ys ≡ listing (rule.listed false (length l / piece-size) rs) (lent l) → Listed rs l n (back l ys)
+  unfolding told listing
+  when_listed n h = go (ltb (length l / piece-size) (length rs)) refl h
+    where
+      go : (t : Bool) → ltb (length l / piece-size) (length rs) ≡ t → out (Ok n) ys ≡ listing (rules.settle (cond t 14 0) [] rs) (lent l) → Listed rs l n (back l ys)
+      go true p e = let z : ◌≡◌ {A = ℕ} 0 14 = ap (λ (o : RunsOut). o.number) e in absurd (omega arith)
+      go false p e = full n e p

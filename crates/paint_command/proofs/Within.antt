@@ -11,15 +11,14 @@ use borrow.Author.Tests.{ltb-true}
 use Rattle.rules.specs.Lists.{slice}
 use Rattle.rules.specs.Spans.{Span, span, common}
 use Rattle.rules.specs.Depth.{Summary, join-run, bucket-runs, runs-in, runs, tiles-of, is-unset, is-visible, visible-runs, write-runs}
-use Rattle.span.specs.declared.Alpha.{Alpha}
-use Rattle.span.specs.declared.Alpha.TheVariants.{Solid, At}
+use Rattle.std.specs.Prelude.{Option, None, Some}
 use Rattle.sizes.specs.declared.width.Width.{Width}
 use Rattle.span.specs.Spans.{Moves}
 use Rattle.sizes.specs.Widths.{bucket-tiles}
 use Rattle.rules.proofs.laws.Widths.{meets, starts-before}
 use Rattle.paint_pieces.specs.declared.Brush.{Brush}
 use Rattle.paint_pieces.specs.Pieces.{Fits}
-use Rattle.paint_runs.specs.Summaries.{whole_run, is-clear, shown-runs}
+use Rattle.paint_runs.specs.Summaries.{whole_run, is_clear, shown_runs}
 
 -- what holds of each run
 module _ (P : Span → Type 0) where
@@ -77,7 +76,7 @@ unfolding runs-in
 runs-are-in p bs lo hi h = buckets-in p lo hi (slice lo hi bs) (rw (length-take, length-drop) (omega arith))
 
 -- the pieces of a depth fill are u32's
-pub depth-fits : (v : ℕ) → v ≤ 64 → (bs : List ℕ) (r : Span) (b : Brush) → r.first ≤ r.end → r.end ≤ 65535 → b.first ≡ 0 → b.alpha ≡ Solid → Each (Fits v b) (write-runs bs r)
+pub depth-fits : (v : ℕ) → v ≤ 64 → (bs : List ℕ) (r : Span) (b : Brush) → r.first ≤ r.end → r.end ≤ 65535 → b.first ≡ 0 → b.alpha ≡ None → Each (Fits v b) (write-runs bs r)
 unfolding write-runs
 depth-fits v n bs r b h g e q =
     each_of (In r.first r.end) (Fits v b) fits (runs-in is-unset bs r) (runs-are-in is-unset bs r.first r.end h)
@@ -94,9 +93,9 @@ depth-fits v n bs r b h g e q =
           moves = rw q tt;
         }
 
-moved-less : (a : Alpha) (m n : ℕ) → m ≤ n → Moves a n → Moves a m
-moved-less Solid m n h g = tt
-moved-less (At a) m n h g = omega arith
+moved-less : (a : Option ℕ) (m n : ℕ) → m ≤ n → Moves a n → Moves a m
+moved-less None m n h g = tt
+moved-less (Some a) m n h g = omega arith
 
 -- .. and those of a fill
 module _ (width : Width) (bs : List ℕ) (id : ℕ) (s : Span) (b : Brush) (h : s.first ≤ s.end) (g : s.end ≤ 8192)
@@ -140,9 +139,9 @@ module _ (width : Width) (bs : List ℕ) (id : ℕ) (s : Span) (b : Brush) (h : 
       }
 
   -- also by the summary
-  pub shown-fits : (u : Summary) → Each (Fits 1 b) (shown-runs v u bs id s)
-  unfolding shown-runs
-  shown-fits u = go (is-clear v u (length bs) id s)
+  pub shown-fits : (u : Summary) → Each (Fits 1 b) (shown_runs v u bs id s)
+  unfolding shown_runs
+  shown-fits u = go (is_clear v u (length bs) id s)
     where
       one : (t : Bool) → ltb s.first s.end ≡ t → Each (Fits 1 b) (cond t (s ∷ []) [])
       one true q = (whole-fits (ltb-true _ _ q), tt)

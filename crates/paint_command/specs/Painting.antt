@@ -1,6 +1,6 @@
 -- One painting step of one row, over its own words.
 use Rattle.std.specs.Prelude.{ℕ, ◌+◌, ◌-◌, ◌*◌, ◌/◌, Bool, true, false, ◌&&◌, ◌||◌, not, cond, List, [], ◌∷◌, map, length, leb, ltb}
-use Rattle.std.proofs.Math.Option.{Option, none, some}
+use Rattle.std.specs.Prelude.{Option, None, Some}
 use Rattle.sizes.specs.Sizes.{most-layers, last-id, paint-attr-size, paint-id-at, paint-panel-at, layer-attr-size, layer-id-at, layer-panel-at, piece-size}
 use Rattle.rules.specs.Lists.{count-from}
 use Rattle.rules.specs.Blends.{default-blend}
@@ -9,14 +9,14 @@ use Rattle.rules.specs.Spans.{Span}
 use Rattle.rules.specs.Inputs.{good-panel}
 use Rattle.rules.specs.Depth.{Summary}
 use Rattle.rules.specs.Commands.{Command, paint-fill, layer-fill, push-buf, pop-buf, DepthFill}
-use Rattle.cmd.specs.Reading.{command-of, depth-fill-of, only_if}
+use Rattle.cmd.specs.Reading.{command_of, depth_fill_of, only_if}
 use Rattle.rules.specs.Attributes.{PaintAttr, LayerAttr, Attrs}
 use Rattle.rules.specs.Painting as rules
 use Rattle.rules.specs.Painting.{Painter, paint-id, paint-panel, layer-id, layer-panel, gives, fill-piece, paint-depth, paint-command}
-use Rattle.paint_pieces.specs.declared.Painted.{Painted}
 use Rattle.paint_pieces.specs.Pieces.{laid}
+use Rattle.paint_pieces.specs.Answers.{Painted}
 pub use Rattle.paint_pieces.specs.Answers.{word, refused, listed}
-use Rattle.paint_runs.specs.Summaries.{good-summary, summary-at, shown-runs}
+use Rattle.paint_runs.specs.Summaries.{good-summary, summary-at, shown_runs}
 
 -- The attributes as far as a step reads them: an id and a panel ..
 abbrev pub paint-with : ℕ → ℕ → PaintAttr
@@ -67,17 +67,6 @@ painter-at d p = record { buckets = d; steps = word p 0; nesting = word p 1 }
 abbrev pub good-id : ℕ → Bool
 good-id id = ltb 0 id && leb id last-id
 
--- an id, or 0 if its attribute does not stand or it is not good
-unfoldable pub given : Bool → ℕ → ℕ
-given stands id = cond (stands && good-id id) id 0
-
--- .. of the attribute at place i of a table with n of them: it stands if it is there with a panel
-abbrev pub paint-given : List ℕ → ℕ → ℕ → ℕ
-paint-given ws n i = given (ltb i n && good-panel (paint-at ws i).panel) (paint-at ws i).id
-
-abbrev pub layer-given : List ℕ → ℕ → ℕ → ℕ
-layer-given ws n i = given (ltb i n && good-panel (layer-at ws i).panel) (layer-at ws i).id
-
 module _ (attrs : Attrs) where
   -- an attribute that is there, with a panel and with such an id
   abbrev pub good-paint : ℕ → Bool
@@ -98,7 +87,7 @@ module _ (v : ℕ) (attrs : Attrs) where
   -- a fill gives the runs that are shown, for its attribute's id; q: its panel
   unfoldable pub fill-shown : Summary → Bool → ℕ → ℕ → ℕ → Span → Option ℕ → Painter → rules.Painted
   fill-shown u l id i q s a p =
-      gives (map (fill-piece v attrs l i q s a p.nesting) (shown-runs v u p.buckets id s))
+      gives (map (fill-piece v attrs l i q s a p.nesting) (shown_runs v u p.buckets id s))
       p.buckets
       (p.steps + 1)
       p.nesting
@@ -112,20 +101,20 @@ module _ (v : ℕ) (attrs : Attrs) where
 
   -- The step, by the rules, unless something that it reads is forged: of a depth fill ..
   unfoldable pub depth-step : Painter → Option DepthFill → Option rules.Painted
-  depth-step p none = none
-  depth-step p (some f) = only_if (good-paint attrs f.attribute) (paint-depth v attrs f p)
+  depth-step p None = None
+  depth-step p (Some f) = only_if (good-paint attrs f.attribute) (paint-depth v attrs f p)
 
   -- .. and of a command
   unfoldable pub command-step : Summary → Painter → Option Command → Option rules.Painted
-  command-step u p none = none
-  command-step u p (some c) = only_if (good-command attrs p.nesting c) (command-shown u c p)
+  command-step u p None = None
+  command-step u p (Some c) = only_if (good-command attrs p.nesting c) (command-shown u c p)
 
 -- the depth fill at place k, in a row of n buckets, and the command at place k, if words stand for them
 abbrev pub depth-fill-at : ℕ → List ℕ → ℕ → Option DepthFill
-depth-fill-at n ws k = depth-fill-of n (word ws (2 * k)) (word ws (2 * k + 1))
+depth-fill-at n ws k = depth_fill_of n (word ws (2 * k)) (word ws (2 * k + 1))
 
 abbrev pub command-at : List ℕ → ℕ → Option Command
-command-at ws k = command-of (word ws (4 * k)) (word ws (4 * k + 1)) (word ws (4 * k + 2)) (word ws (4 * k + 3))
+command-at ws k = command_of (word ws (4 * k)) (word ws (4 * k + 1)) (word ws (4 * k + 2)) (word ws (4 * k + 3))
 
 -- counts above the room, a nesting above 16, more steps than there are, a summary out of bounds
 abbrev pub bad-row : RowLent → Bool
@@ -142,10 +131,10 @@ next-step v attrs w =
     let renders = word w.state 0 in
     let depths = word w.state 1 in
     let p = painter-at w.depth w.painting in
-    cond (bad-row w) none
+    cond (bad-row w) None
     (cond (ltb p.steps depths) (depth-step v attrs p (depth-fill-at (length w.depth) w.fills (depths - (p.steps + 1))))
     (cond (ltb (p.steps - depths) renders) (command-step v attrs (summary-at w.state) p (command-at w.render (p.steps - depths)))
-    (some (record { finished = true; pieces = []; painter = p }))))
+    (Some (record { finished = true; pieces = []; painter = p }))))
 
 -- What the step leaves in the words: 4 if there is none, 14 if the list has no room for its pieces. A refusal changes nothing.
 abbrev pub left : rules.Painted → List ℕ → StepOut
@@ -156,8 +145,8 @@ left o l =
     (laid o.pieces l)
 
 unfoldable pub settled : Option rules.Painted → List ℕ → List ℕ → List ℕ → StepOut
-settled none d p l = out (refused BadRecord) d p l
-settled (some o) d p l = cond (ltb (length l / piece-size) (length o.pieces)) (out (refused NoRoom) d p l) (left o l)
+settled None d p l = out (refused BadRecord) d p l
+settled (Some o) d p l = cond (ltb (length l / piece-size) (length o.pieces)) (out (refused NoRoom) d p l) (left o l)
 
 unfoldable pub painted-row : ℕ → Attrs → RowLent → StepOut
 painted-row v attrs w = settled (next-step v attrs w) w.depth w.painting w.list

@@ -1,6 +1,6 @@
 -- A row's words in which nothing is forged: they stand for a row of the rules, and the tables for the rules' attributes.
 use Rattle.std.specs.Prelude.{ℕ, ◌+◌, ◌-◌, ◌*◌, ◌≤◌, ◌<◌, ◌≡◌, true, List, length, get_or}
-use Rattle.std.proofs.Math.Option.{some}
+use Rattle.std.specs.Prelude.{Some}
 use Rattle.sizes.specs.Sizes.{most-layers}
 use Rattle.rules.specs.Commands.{pop-buf}
 use Rattle.rules.specs.Rows.{Row}
@@ -15,8 +15,8 @@ pub record Stands (attrs : Attrs) (n : ℕ) (r : Row) (state render fills : List
   pub depths : word state 1 ≡ length r.fills
   pub few-renders : 4 * length r.commands ≤ length render
   pub few-depths : 2 * length r.fills ≤ length fills
-  pub commands-at : (k : ℕ) → k < length r.commands → command-at render k ≡ some (get_or r.commands k pop-buf)
-  pub fills-at : (k : ℕ) → k < length r.fills → depth-fill-at n fills k ≡ some (get_or r.fills k no-fill)
+  pub commands-at : (k : ℕ) → k < length r.commands → command-at render k ≡ Some (get_or r.commands k pop-buf)
+  pub fills-at : (k : ℕ) → k < length r.fills → depth-fill-at n fills k ≡ Some (get_or r.fills k no-fill)
   pub summary : good-summary state ≡ true
   pub good-fills : (k : ℕ) → k < length r.fills → good-paint attrs (get_or r.fills k no-fill).attribute ≡ true
 

@@ -2,6 +2,10 @@
 #![tactic(auto)]
 
 pub mod fills;
+pub mod marks;
+pub mod reading;
 pub mod row;
 
+pub use marks::Mark;
+pub use reading::{Attributes, Row};
 pub use row::step_row;

@@ -2,48 +2,112 @@
 // callers have judged it.
 #![tactic(auto)]
 
-ghost use Rattle.std.specs.Prelude.{◌≡◌, [], ◌∷◌, map, ℕ, ◌+◌, ◌*◌, ◌-◌, ◌≤◌, ◌<◌, length};
+ghost use Rattle.std.specs.Prelude.{◌≡◌, Ok, [], ◌∷◌, map, ℕ, ◌+◌, ◌*◌, ◌-◌, ◌≤◌, ◌<◌, length};
 ghost use Rattle.sizes.specs.Sizes.{piece-size};
 ghost use Rattle.rules.specs.Spans.{Span, span};
 ghost use Rattle.rules.specs.Depth.{tiles-of};
-ghost use Rattle.span.specs.Spans.{alpha, Moves};
+ghost use Rattle.span.specs.Spans.{Moves};
 ghost use Rattle.cmd.specs.Attrs.{words-at};
-ghost use Rattle.paint_pieces.specs.Pieces.{tag_of, index_of, piece-words, brush-piece, Fits, run_at, runs-at, laid};
-ghost use Rattle.paint_pieces.specs.Answers.{word, refused, listed, advanced};
+ghost use Rattle.paint_pieces.specs.Pieces.{tag_of, words_of, piece-words, brush-piece, Fits, run_at, runs-at, laid};
+ghost use Rattle.paint_pieces.specs.Answers.{word, painted_of, listed, advanced};
 
 use sizes::PIECE;
-use sizes::answers::DONE;
-use span::Alpha;
 
-// number: document 01's answer. finished: no step was left. pieces: how many stand in the list.
+// What a step has painted. finished: no step was left. pieces: how many stand in the list.
 #[derive(Clone, Copy)]
-pub struct Painted {
-    pub number: u32,
+pub struct Stepped {
     pub finished: bool,
     pub pieces: usize,
 }
 
-pub fn refused(number: u32) -> Painted
-    ensures { result ≡ refused number }
+// A step is done: one step more, the nesting after it, and so many pieces in the list.
+#[tactic(auto, using(crate::proofs::Two::two_both))]
+pub fn advance(painting: &mut [u32], nesting: u32, pieces: usize) -> Stepped
+    requires { (length painting.old ≡ 2) × (word painting.old 0 < 4294967295) }
+    ensures { advanced (painted_of (Ok result)) painting.new ≡ advanced (listed pieces) ((word painting.old 0 + 1) ∷ nesting ∷ []) }
 {
-    Painted {
-        number,
+    painting[0] += 1;
+    painting[1] = nesting;
+    Stepped {
         finished: false,
-        pieces: 0,
+        pieces,
     }
 }
 
-// A step is done: one step more, the nesting after it, and so many pieces in the list.
-pub fn advance(painting: &mut [u32], nesting: u32, pieces: usize) -> Painted
-    requires { (length painting.old ≡ 2) × (word painting.old 0 < 4294967295) }
-    ensures { advanced result painting.new ≡ advanced (listed pieces) ((word painting.old 0 + 1) ∷ nesting ∷ []) }
+// A piece as it stands in the list. `alpha` is its alpha index, or 0.
+#[derive(Clone, Copy)]
+pub struct PieceWords {
+    pub tag: u32,
+    pub attrs_idx: u32,
+    pub first: u32,
+    pub end: u32,
+    pub alpha: u32,
+    pub nesting: u32,
+    pub panel: u32,
+}
+
+impl PieceWords {
+    // To place k of the list.
+    pub fn put(self, list: &mut [u32], k: usize)
+        requires { piece-size * k + piece-size ≤ length list.old }
+        ensures { list.new ≡ words-at list.old (piece-size * k) (words_of self) }
+    {
+        let at = PIECE * k;
+        list[at] = self.tag;
+        list[at + 1] = self.attrs_idx;
+        list[at + 2] = self.first;
+        list[at + 3] = self.end;
+        list[at + 4] = self.alpha;
+        list[at + 5] = self.nesting;
+        list[at + 6] = self.panel;
+    }
+}
+
+// A list of pieces that is lent, of which the first `count` are written.
+#[derive(Drop)]
+pub struct Pieces<'a> {
+    pub list: &'a mut [u32],
+    pub count: usize,
+    ghost few: { piece-size * count ≤ length list.now },
+}
+
+impl<'a> Pieces<'a> {
+    pub fn new(list: &'a mut [u32], count: usize) -> Pieces<'a>
+        requires { piece-size * count ≤ length list.old }
+        ensures same { result.list.ghost_name ≡ list.entry.ghost_name }
+        ensures list { result.list.now ≡ list.old }
+        ensures count { result.count ≡ count }
+    {
+        Pieces { list, count }
+    }
+
+    // How many words are left.
+    pub fn left(&self) -> usize
+        ensures { result + piece-size * self.now.count ≡ length self.now.list.now }
+    {
+        self.list.len() - PIECE * self.count
+    }
+
+    pub fn push(&mut self, piece: PieceWords)
+        requires { piece-size * self.old.count + piece-size ≤ length self.old.list.now }
+        ensures same { self.new.list.ghost_name ≡ self.old.list.ghost_name }
+        ensures list { self.new.list.now ≡ words-at self.old.list.now (piece-size * self.old.count) (words_of piece) }
+        ensures count { self.new.count ≡ self.old.count + 1 }
+    {
+        piece.put(self.list, self.count);
+        self.count += 1;
+    }
+}
+
+// Paint or layer, solid or alpha.
+fn tag(layer: bool, alpha: Option<u32>) -> u32
+    ensures { result ≡ tag_of layer alpha }
 {
-    painting[0] = painting[0] + 1;
-    painting[1] = nesting;
-    Painted {
-        number: DONE,
-        finished: false,
-        pieces,
+    match (layer, alpha) {
+        (false, None) => 1,
+        (false, Some(_)) => 2,
+        (true, None) => 3,
+        (true, Some(_)) => 4,
     }
 }
 
@@ -53,66 +117,28 @@ pub struct Brush {
     pub layer: bool,
     pub attrs_idx: u32,
     pub first: u32,
-    pub alpha: Alpha,
+    pub alpha: Option<u32>,
     pub nesting: u32,
     pub panel: u32,
 }
 
-// Paint or layer, solid or alpha.
-fn tag(layer: bool, at: Alpha) -> u32
-    ensures { result ≡ tag_of layer (alpha at) }
-{
-    match at {
-        Alpha::Solid => { if layer { 3 } else { 1 } }
-        Alpha::At(_) => { if layer { 4 } else { 2 } }
+impl Brush {
+    // The piece over the tiles a to b.
+    fn piece(self, a: u32, b: u32) -> PieceWords
+        requires { (self.first ≤ a) × Moves self.alpha (a - self.first) }
+        ensures { words_of result ≡ piece-words (brush-piece self (span a b)) }
+    {
+        let alpha = span::moved(self.alpha, a - self.first);
+        PieceWords {
+            tag: tag(self.layer, alpha),
+            attrs_idx: self.attrs_idx,
+            first: a,
+            end: b,
+            alpha: alpha.unwrap_or(0),
+            nesting: self.nesting,
+            panel: self.panel,
+        }
     }
-}
-
-// The alpha index, or 0.
-fn index(at: Alpha) -> u32
-    ensures { result ≡ index_of (alpha at) }
-{
-    match at {
-        Alpha::Solid => 0,
-        Alpha::At(i) => i,
-    }
-}
-
-// A piece's words at place k of the list.
-pub fn put_words(list: &mut [u32], k: usize, a: u32, b: u32, c: u32, d: u32, e: u32, f: u32, g: u32)
-    requires { piece-size * k + piece-size ≤ length list.old }
-    ensures { list.new ≡ words-at list.old (piece-size * k) (a ∷ b ∷ c ∷ d ∷ e ∷ f ∷ g ∷ []) }
-{
-    let at = PIECE * k;
-    list[at] = a;
-    list[at + 1] = b;
-    list[at + 2] = c;
-    list[at + 3] = d;
-    list[at + 4] = e;
-    list[at + 5] = f;
-    list[at + 6] = g;
-}
-
-// The piece over the tiles a to b goes to place k of the list.
-fn put_piece(list: &mut [u32], k: usize, brush: Brush, a: u32, b: u32)
-    requires { (piece-size * k + piece-size ≤ length list.old) × (brush.first ≤ a) × Moves brush.alpha (a - brush.first) }
-    ensures { list.new ≡ words-at list.old (piece-size * k) (piece-words (brush-piece brush (span a b))) }
-{
-    let start = brush.alpha;
-    let alpha = start.moved(a - brush.first);
-    let kind = tag(brush.layer, alpha);
-    let place = index(alpha);
-    put_words(
-        list,
-        k,
-        kind,
-        brush.attrs_idx,
-        a,
-        b,
-        place,
-        brush.nesting,
-        brush.panel,
-    );
 }
 
 // The n runs at the list's start, in units of `width` tiles, become n pieces, from the last to the first.
@@ -123,9 +149,8 @@ pub fn spread(list: &mut [u32], n: usize, width: u32, brush: Brush)
     let mut left = n;
     while 0 < left {
         let k = left - 1;
-        let a = list[2 * k] * width;
-        let b = list[2 * k + 1] * width;
-        put_piece(list, k, brush, a, b);
+        let piece = brush.piece(list[2 * k] * width, list[2 * k + 1] * width);
+        piece.put(list, k);
         left = k;
     }
 }

@@ -3,7 +3,7 @@ use mathlib.Core.Path.{◌≡◌, refl, sym, ap, ◌∙◌}
 use mathlib.Core.Bool.{Bool, true, false, ◌&&◌, ◌||◌, cond}
 use mathlib.Core.List.{List, [], ◌∷◌, map}
 use mathlib.Core.Logic.{◌⊎◌, inl, inr, ⊎_elim}
-use mathlib.Core.Option.{Option, none, some}
+use Rattle.std.specs.Prelude.{Option, None, Some}
 use Prim.Native.Nat.{ℕ, zero, suc, ◌≤◌, ◌<◌, ◌+◌, ◌-◌, ◌*◌, ◌/◌}
 use native.Mathlib.Nat.{add-zero, add-suc, suc-add, zero-add, mul_comm, suc-mul, mul-le-mul_right}
 use native.Mathlib.Omega.{arith}
@@ -15,9 +15,9 @@ use Rattle.sizes.specs.declared.width.Width.{Width}
 use Rattle.sizes.specs.Widths.{bucket-tiles}
 use Rattle.rules.specs.Lists.{slice}
 use Rattle.rules.specs.Spans.{Span, span, covers, hull, common}
-use Rattle.rules.specs.Depth.{Summary, included, apart, can-skip, bucket-runs, runs-in, runs, tiles-of, is-unset, is-visible, visible-runs, written_from, written}
+use Rattle.rules.specs.Depth.{Summary, included, apart, can_skip, bucket-runs, runs-in, runs, tiles-of, is-unset, is-visible, visible-runs, written_from, written}
 use Rattle.rules.proofs.laws.Widths.{each, lowered-most, raised-least, meets, met-in, starts-before}
-use Rattle.paint_runs.specs.Summaries.{whole_run, shown-runs, Inside, Sound, Included}
+use Rattle.paint_runs.specs.Summaries.{whole_run, shown_runs, Inside, Sound, Included}
 
 spans : {a b c d : ℕ} → a ≡ c → b ≡ d → span a b ≡ span c d
 spans p q = rw (p, q)
@@ -84,8 +84,8 @@ module _ (width : Width) (u : Summary) (bs : List ℕ) (o : Sound (bucket-tiles 
   by-largest e k = let h : u.largest ≤ id = leb-true _ _ e in omega (arith, o.low k)
 
   outside : (v : Option Span) (k : ℕ) → apart v s ≡ true → s.first / w ≤ k → k < (s.end + (w - 1)) / w → Inside w v k → ⊥
-  outside none k e l m i = i
-  outside (some v) k e l m i = go (leb v.end s.first) refl e
+  outside None k e l m i = i
+  outside (Some v) k e l m i = go (leb v.end s.first) refl e
     where
       go : (t : Bool) → leb v.end s.first ≡ t → (t || leb s.end v.first) ≡ true → ⊥
       go true p q = let x : v.end ≤ s.first = leb-true _ _ p in omega (arith, i.1, before-end width k s.first l)
@@ -102,8 +102,8 @@ module _ (width : Width) (u : Summary) (bs : List ℕ) (o : Sound (bucket-tiles 
       go false p = let x : get_or bs k 0 ≤ 0 = ltb-false _ _ p in omega arith
 
   -- where `can_skip` says yes, every bucket that the span meets is visible
-  pub passes : can-skip u s id ≡ true → Shown
-  unfolding can-skip
+  pub passes : can_skip u s id ≡ true → Shown
+  unfolding can_skip
   passes e k l m h = go (leb u.largest id) refl e
     where
       go : (t : Bool) → leb u.largest id ≡ t → (t || apart u.union s) ≡ true → get_or bs k 0 ≤ id
@@ -111,11 +111,11 @@ module _ (width : Width) (u : Summary) (bs : List ℕ) (o : Sound (bucket-tiles 
       go false p q = by_apart q k l m h
 
   -- the pieces are the same with the summary and without it
-  pub same_runs : shown-runs w u bs id s ≡ visible-runs w bs id s
-  unfolding shown-runs
-  same_runs = go (can-skip u s id) (leb s.end (w * length bs)) refl refl
+  pub same_runs : shown_runs w u bs id s ≡ visible-runs w bs id s
+  unfolding shown_runs
+  same_runs = go (can_skip u s id) (leb s.end (w * length bs)) refl refl
     where
-      go : (t v : Bool) → can-skip u s id ≡ t → leb s.end (w * length bs) ≡ v
+      go : (t v : Bool) → can_skip u s id ≡ t → leb s.end (w * length bs) ≡ v
           → cond (t && v) (whole_run s) (visible-runs w bs id s) ≡ visible-runs w bs id s
       go true true e f = sym (all_shown (leb-true _ _ f) (passes e))
       go true false e f = refl
@@ -177,13 +177,13 @@ module _ (w : ℕ) (u : Summary) (s : Span) (j : ℕ) where
       ends : (k : ℕ) → k < r.end → w * k + w ≤ r.end * w
       ends k g = rw (mul_comm w k, ← suc-mul k w) (mul-le-mul_right w g)
 
-      in-hull : (v : Option Span) (k : ℕ) → r.first * w ≤ w * k → w * k + w ≤ r.end * w → Inside w (some (hull v s)) k
-      in-hull none k h g = rw e (h, g)
-      in-hull (some v) k h g = rw e (omega arith, omega arith)
+      in-hull : (v : Option Span) (k : ℕ) → r.first * w ≤ w * k → w * k + w ≤ r.end * w → Inside w (Some (hull v s)) k
+      in-hull None k h g = rw e (h, g)
+      in-hull (Some v) k h g = rw e (omega arith, omega arith)
 
   pub includes-still : (r : Span) (id : ℕ) → Included w u r id → Included w (included u s j) r id
   includes-still r id n = record { below = omega (arith, n.below); inside = λ k h g. wider u.union k (n.inside k h g) }
     where
-      wider : (v : Option Span) (k : ℕ) → Inside w v k → Inside w (some (hull v s)) k
-      wider none k i = absurd i
-      wider (some v) k i = (omega (arith, i.0), omega (arith, i.1))
+      wider : (v : Option Span) (k : ℕ) → Inside w v k → Inside w (Some (hull v s)) k
+      wider None k i = absurd i
+      wider (Some v) k i = (omega (arith, i.0), omega (arith, i.1))

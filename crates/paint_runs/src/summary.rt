@@ -4,7 +4,7 @@ ghost use Rattle.sizes.specs.Sizes.{row-size};
 ghost use Rattle.depth.specs.Answers.{summary};
 ghost use Rattle.paint_runs.specs.Summaries.{good-summary, summary-at};
 
-use depth::{Bounds, DepthState};
+use depth::DepthState;
 use sizes::{END, FIRST, LARGEST, LAST_ID, TILE_END};
 use span::TileSpan;
 
@@ -13,13 +13,7 @@ pub fn is_good_summary(state: &[u32]) -> bool
     requires { length state.now ≡ row-size }
     ensures { result ≡ good-summary state.now }
 {
-    if state[END] < state[FIRST] {
-        return false;
-    }
-    if TILE_END < state[END] {
-        return false;
-    }
-    state[LARGEST] <= LAST_ID
+    state[FIRST] <= state[END] && state[END] <= TILE_END && state[LARGEST] <= LAST_ID
 }
 
 // A largest id of 0 says that there is no union.
@@ -32,7 +26,7 @@ pub fn summary_of(state: &[u32]) -> DepthState
         return DepthState::new();
     }
     DepthState {
-        bounds: Bounds::Tiles(TileSpan {
+        bounds: Some(TileSpan {
             first: state[FIRST],
             end: state[END],
         }),

@@ -1,4 +1,4 @@
--- Document 01's worked example painted to its end, its two rows by turns, by computation. Assumes nothing.
+-- The rules' worked example painted to its end, its two rows by turns, by computation. Assumes nothing.
 use mathlib.Core.Path.{◌≡◌, refl}
 use mathlib.Core.Bool.{Bool, true, false}
 use mathlib.Core.List.{List, [], ◌∷◌, ◌++◌}
@@ -6,17 +6,17 @@ use Prim.Native.Nat.{ℕ, ◌+◌, ◌-◌, ◌*◌}
 use lib.ListN.{replicate, take}
 use Rattle.sizes.specs.Sizes.{paint-attr-size, paint-attr-table, layer-attr-size, layer-attr-table, piece-size}
 use Rattle.sizes.specs.declared.width.Width.TheVariants.{W128}
-use Rattle.rules.specs.Boxes.{good-viewport}
-use Rattle.cmd.specs.Reading.{command-of, depth-fill-of}
-use Rattle.rules.specs.Depth.{can-skip, bucket-runs, runs-in, runs, visible-runs, write-runs, written}
+use Rattle.rules.specs.Boxes.{good_viewport}
+use Rattle.cmd.specs.Reading.{command_of, depth_fill_of}
+use Rattle.rules.specs.Depth.{can_skip, bucket-runs, runs-in, runs, visible-runs, write-runs, written}
 use Rattle.rules.specs.Painting.{paint-depth, paint-command}
 use Rattle.rect.specs.declared.Rect.{Rect}
 use Rattle.rect.specs.Rects.{box_of}
 use Rattle.screen.specs.declared.Screen.{Screen}
-use Rattle.screen.specs.Screens.{good-clip, good-screen, screen-in}
-use Rattle.paint_runs.specs.Summaries.{shown-runs}
+use Rattle.screen.specs.Screens.{good_clip, good_screen, screen-in}
+use Rattle.paint_runs.specs.Summaries.{shown_runs}
 use Rattle.paint_command.specs.Painting.{attrs-at, lent, StepOut, out, settled, fill-shown, command-shown, depth-step, command-step, next-step, painted-row}
-use Rattle.paint_screen.specs.Judging.{judged, step-number}
+use Rattle.paint_screen.specs.Judging.{judged, step_number}
 use Rattle.paint_screen.specs.Stepping.{Attributes, attributes, row_step, stepped}
 
 -- a viewport of 256 x 8 pixels: two rows of two buckets of 128 pixels, with room for four commands and one depth fill
@@ -76,10 +76,10 @@ by-turns : turns true (0 ∷ 1 ∷ 0 ∷ 1 ∷ 0 ∷ 1 ∷ 1 ∷ 1 ∷ []) start
     ∷ says 0 false []
     ∷ says 0 true []
     ∷ []
-unfolding whole screen tables records commands turn start told says turns stepped row_step judged step-number good-viewport good-screen good-clip attrs-at painted-row next-step depth-step command-step command-shown fill-shown shown-runs can-skip settled paint-depth paint-command depth-fill-of command-of written write-runs visible-runs runs runs-in bucket-runs
+unfolding whole screen tables records commands turn start told says turns stepped row_step judged step_number good_viewport good_screen good_clip attrs-at painted-row next-step depth-step command-step command-shown fill-shown shown_runs can_skip settled paint-depth paint-command depth_fill_of command_of written write-runs visible-runs runs runs-in bucket-runs
 by-turns = refl
 
 -- no third row; painting not begun
 refusals : turns true (2 ∷ []) start ++ turns false (0 ∷ 2 ∷ []) start ≡ says 12 false [] ∷ says 13 false [] ∷ says 12 false [] ∷ []
-unfolding whole screen tables records commands turn start told says turns stepped row_step judged step-number good-viewport good-screen good-clip attrs-at painted-row next-step depth-step command-step command-shown fill-shown shown-runs can-skip settled paint-depth paint-command depth-fill-of command-of written write-runs visible-runs runs runs-in bucket-runs
+unfolding whole screen tables records commands turn start told says turns stepped row_step judged step_number good_viewport good_screen good_clip attrs-at painted-row next-step depth-step command-step command-shown fill-shown shown_runs can_skip settled paint-depth paint-command depth_fill_of command_of written write-runs visible-runs runs runs-in bucket-runs
 refusals = refl

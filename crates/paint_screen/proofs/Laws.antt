@@ -1,7 +1,7 @@
 -- What callers may use: each contract's equation allows one result, and a step of a row leaves the others as they were. Assumes nothing.
 use mathlib.Core.Path.{◌≡◌, refl, sym, ap, ◌∙◌}
 use mathlib.Core.Bool.{Bool, true, false, ◌&&◌, cond}
-use mathlib.Core.Option.{some}
+use Rattle.std.specs.Prelude.{Some}
 use mathlib.Core.List.{List}
 use Prim.Native.Nat.{ℕ, zero, suc, ◌<◌, ◌*◌}
 use native.Mathlib.Omega.{arith}
@@ -18,44 +18,47 @@ use Rattle.rules.specs.Painting.{paint-step}
 use Rattle.depth.proofs.Once.{out_once}
 use Rattle.row_screen.proofs.Laws.{part-0, part-suc, less, head-0, tail-0, head-suc, tail-suc, part-long}
 use Rattle.screen.specs.declared.Screen.{Screen}
-use Rattle.screen.specs.declared.Built.{Built}
+use Rattle.std.specs.Prelude.{Result}
+use Rattle.sizes.specs.declared.answers.Refusal.{Refusal}
+use Rattle.sizes.specs.Refusals.{answer_number}
+use Rattle.paint_pieces.specs.declared.Stepped.{Stepped}
+use Rattle.paint_pieces.specs.Answers.{painted_of}
+use Rattle.paint_screen.proofs.Once.{number_once, painted_once}
 use Rattle.rules.proofs.All.{and_left, and_right}
 use Rattle.paint_command.specs.Painting.{attrs-at, RowLent, StepOut, out, painter-at, refused, settled, painted-row}
 use Rattle.paint_runs.specs.Summaries.{summary-at, Sound}
 use Rattle.paint_command.specs.Standing.{Stands, PainterReady, Holds}
 use Rattle.paint_command.proofs.Laws.{by-rules, same-lengths}
-use Rattle.paint_screen.specs.declared.step.Stepped.{Stepped}
-use Rattle.paint_screen.specs.declared.rows.Written.{Written}
 use Rattle.paint_screen.specs.Judging.{count, wide}
 use Rattle.paint_screen.specs.Beginning.{Canvas, canvas}
-use Rattle.paint_screen.specs.Stepping.{part, with_part, painted-of, Attributes, own, in_place, number, row_step, stepped}
+use Rattle.paint_screen.specs.Stepping.{part, with_part, Attributes, own, in_place, number, row_step, stepped}
 use Rattle.paint_screen.specs.Rows.{Wrote, wrote}
 use Rattle.paint_screen.proofs.Judged.{step-there}
 
 -- One result.
-pub begin-once : (r q : Built) (d e p o : List ℕ)
-    → answer r.number (canvas r.screen d p) ≡ answer q.number (canvas q.screen e o)
-    → (r ≡ q) × (d ≡ e) × (p ≡ o)
-begin-once r q d e p o h =
-    let n : r.number ≡ q.number = ap (λ (x : rules.Answer Canvas). x.number) h in
-    let s : r.screen ≡ q.screen = ap (λ (x : rules.Answer Canvas). x.value.screen) h in (
-      rw (n, s),
-      ap (λ (x : rules.Answer Canvas). x.value.depth) h,
-      ap (λ (x : rules.Answer Canvas). x.value.painting) h,
-    )
+pub begin-once : (r q : Result Unit Refusal) (s t : Screen) (d e p o : List ℕ)
+    → answer (answer_number r) (canvas s d p) ≡ answer (answer_number q) (canvas t e o)
+    → (r ≡ q) × (s ≡ t) × (d ≡ e) × (p ≡ o)
+begin-once r q s t d e p o h = (
+  number_once r q (ap (λ (x : rules.Answer Canvas). x.number) h),
+  ap (λ (x : rules.Answer Canvas). x.value.screen) h,
+  ap (λ (x : rules.Answer Canvas). x.value.depth) h,
+  ap (λ (x : rules.Answer Canvas). x.value.painting) h,
+)
 
-pub step-once : (r q : Stepped) (d e p o l m : List ℕ) → out (painted-of r) d p l ≡ out (painted-of q) e o m → (r ≡ q) × (d ≡ e) × (p ≡ o) × (l ≡ m)
-step-once r q d e p o l m h =
-    let n : r.number ≡ q.number = ap (λ (x : StepOut). x.answer.number) h in
-    let f : r.finished ≡ q.finished = ap (λ (x : StepOut). x.answer.finished) h in
-    let k : r.pieces ≡ q.pieces = ap (λ (x : StepOut). x.answer.pieces) h in
-    (rw (n, f, k), ap (λ (x : StepOut). x.depth) h, ap (λ (x : StepOut). x.painting) h, ap (λ (x : StepOut). x.list) h)
+pub step-once : (r q : Result Stepped Refusal) (d e p o l m : List ℕ) → out (painted_of r) d p l ≡ out (painted_of q) e o m
+    → (r ≡ q) × (d ≡ e) × (p ≡ o) × (l ≡ m)
+step-once r q d e p o l m h = (
+  painted_once r q (ap (λ (x : StepOut). x.answer) h),
+  ap (λ (x : StepOut). x.depth) h,
+  ap (λ (x : StepOut). x.painting) h,
+  ap (λ (x : StepOut). x.list) h,
+)
 
-pub write-once : (r q : Written) (l m d e : List ℕ) → wrote r l d ≡ wrote q m e → (r ≡ q) × (l ≡ m) × (d ≡ e)
-write-once r q l m d e h =
-    let o = out_once r.runs q.runs l m (ap (λ (x : Wrote). x.listed) h) in
-    let s : r.screen ≡ q.screen = ap (λ (x : Wrote). x.screen) h in
-    (rw (o.0, s), o.1, ap (λ (x : Wrote). x.depth) h)
+pub write-once : (r q : Result ℕ Refusal) (s t : Screen) (l m d e : List ℕ) → wrote r s l d ≡ wrote q t m e → (r ≡ q) × (s ≡ t) × (l ≡ m) × (d ≡ e)
+write-once r q s t l m d e h =
+    let o = out_once r q l m (ap (λ (x : Wrote). x.listed) h) in
+    (o.0, ap (λ (x : Wrote). x.screen) h, o.1, ap (λ (x : Wrote). x.depth) h)
 
 -- A part that is put in its place stands there, ..
 pub part-own : (k n r : ℕ) (xs ys : List ℕ) → r < n → length xs ≡ n * k → length ys ≡ k → part k r (with_part k r xs ys) ≡ ys
@@ -126,7 +129,7 @@ module _ (s : Screen) (r : ℕ) (t : Attributes) (l : RowLent) (k : number s r t
     (q : PainterReady a w (painter-at (own s r l).depth (own s r l).painting)) (o : Sound (bucket-tiles s.width) (summary-at (own s r l).state) (own s r l).depth) where
   pub step-by-rules : stepped s r t l
       ≡ in_place s r l
-      (settled (some (paint-step (bucket-tiles s.width) a w (painter-at (own s r l).depth (own s r l).painting))) (own s r l).depth (own s r l).painting l.list)
+      (settled (Some (paint-step (bucket-tiles s.width) a w (painter-at (own s r l).depth (own s r l).painting))) (own s r l).depth (own s r l).painting l.list)
   unfolding stepped row_step
   step-by-rules =
       rw (eq-eqb _ _ k)

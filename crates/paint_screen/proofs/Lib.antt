@@ -3,3 +3,4 @@ pub mod Parts
 pub mod Runs
 pub mod Laws
 pub mod Example
+pub mod Once

@@ -1,21 +1,24 @@
 -- A row's own part of a screen's words. Assumes nothing.
-use mathlib.Core.Path.{◌≡◌}
-use mathlib.Core.Bool.{true, false, ◌&&◌}
+use mathlib.Core.Path.{◌≡◌, sym}
+use mathlib.Core.Bool.{true, ◌&&◌}
 use mathlib.Core.List.{List}
 use Prim.Native.Nat.{ℕ, ◌≤◌, ◌<◌, ◌+◌, ◌-◌, ◌*◌}
 use native.Mathlib.Omega.{arith}
 use lib.ListN.{length, take, drop, length-drop}
 use lib.Seq.{length-take-le}
 use lib.Dec.{eqb, leb}
-use borrow.Author.Tests.{eq-eqb, ne_eqb, eqb-true, leb-true}
+use borrow.Author.Tests.{ne_eqb, eqb-true, leb-true}
 use borrow.Rule.Slice.PartMut.{put_mid}
 use Rattle.sizes.specs.Sizes.{paint-attr-table, layer-attr-table}
 use Rattle.row_screen.proofs.Laws.{within, small}
 use Rattle.screen.specs.declared.Screen.{Screen}
-use Rattle.screen.specs.Screens.{good-screen}
+use Rattle.screen.specs.Screens.{good_screen}
 use Rattle.rules.proofs.All.{and_left, and_right}
-use Rattle.paint_command.specs.Painting.{RowLent, StepOut, out}
-use Rattle.paint_screen.specs.Judging.{count, wide, runs_number, skip-number}
+use Rattle.sizes.specs.declared.answers.Refusal.{Refusal}
+use Rattle.sizes.specs.Refusals.{number_of}
+use Rattle.sizes.proofs.Refusals.{not_done}
+use Rattle.paint_command.specs.Painting.{RowLent, StepOut, out, refused}
+use Rattle.paint_screen.specs.Judging.{count, wide, runs_number, skip_number}
 use Rattle.paint_screen.specs.Stepping.{part, with_part, Within, Attributes, number, StepReady, row_step, stepped}
 use Rattle.paint_screen.proofs.Judged.{step-there, runs-there, skip-there}
 
@@ -29,9 +32,8 @@ part-is k r xs = rw (as_long (r * k) k)
 pub put_is : (k r : ℕ) (xs ys : List ℕ) → put_mid (r * k) (r * k + k - r * k) xs ys ≡ with_part k r xs ys
 put_is k r xs ys = rw (as_long (r * k) k)
 
-pub part_length : (k r : ℕ) (xs : List ℕ) → Within k r xs → length (take (r * k + k - r * k) (drop (r * k) xs)) ≡ k
-part_length k r xs w =
-    rw (as_long (r * k) k) (length-take-le k (drop (r * k) xs) (rw length-drop (omega (arith, w.ends))))
+pub part_length : (k r : ℕ) (xs : List ℕ) → Within k r xs → length (part k r xs) ≡ k
+part_length k r xs w = length-take-le k (drop (r * k) xs) (rw length-drop (omega (arith, w.ends)))
 
 -- a row that is there, of words that have their length
 lies : (n r k : ℕ) (xs : List ℕ) → r < n → n ≤ 512 → k ≤ 4096 → eqb (length xs) (n * k) ≡ true → Within k r xs
@@ -40,18 +42,18 @@ lies n r k xs h few short e =
     record { ends = rw l (within r n k h); near = small r n k h few short; short = short }
 
 module _ (s : Screen) (r : ℕ) where
-  pub depth-within : (depth : List ℕ) → runs_number s r (length depth) ≡ 0 → Within (wide s) r depth
-  depth-within depth h =
-      let t = runs-there s r (length depth) h in
+  pub depth_within : (depth : List ℕ) → 0 ≡ runs_number s r (length depth) → Within (wide s) r depth
+  depth_within depth h =
+      let t = runs-there s r (length depth) (sym h) in
       lies (count s) r (wide s) depth t.there t.passed.few (omega (arith, t.passed.narrow)) t.passed.arenas
 
-  pub state-within : (rows : List ℕ) → skip-number s r (length rows) ≡ 0 → Within 54 r rows
-  state-within rows h =
-      let t = skip-there s r (length rows) h in
+  pub state_within : (rows : List ℕ) → 0 ≡ skip_number s r (length rows) → Within 54 r rows
+  state_within rows h =
+      let t = skip-there s r (length rows) (sym h) in
       lies (count s) r 54 rows t.there t.passed.few (omega arith) t.passed.tables
 
-few-attrs : (s : Screen) → good-screen s ≡ true → (s.paint_attrs ≤ 1024) × (s.layer_attrs ≤ 1024)
-unfolding good-screen
+few-attrs : (s : Screen) → good_screen s ≡ true → (s.paint_attrs ≤ 1024) × (s.layer_attrs ≤ 1024)
+unfolding good_screen
 few-attrs s h =
     let a = leb 1 s.next_draw_id && leb s.next_draw_id 1048577 in
     let p = leb s.paint_attrs 1024 in
@@ -93,12 +95,11 @@ ready s r a l h =
     }
 
 -- the call, refused or done
-module _ (s : Screen) (r : ℕ) (a : Attributes) (l : RowLent) (n : ℕ) (e : n ≡ number s r a l) where
-  pub step-refused : (n ≡ 0 → ⊥)
-      → out (record { number = n; finished = false; pieces = 0 }) l.depth l.painting l.list ≡ stepped s r a l
+module _ (s : Screen) (r : ℕ) (a : Attributes) (l : RowLent) where
+  pub step_refused : (k : Refusal) → number_of k ≡ number s r a l → out (refused (number_of k)) l.depth l.painting l.list ≡ stepped s r a l
   unfolding stepped
-  step-refused h = rw (← e, ne_eqb n 0 h)
+  step_refused k e = rw (← e, ne_eqb (number_of k) 0 (not_done k))
 
-  pub step-done : (o : StepOut) → n ≡ 0 → o ≡ row_step s r a l → o ≡ stepped s r a l
+  pub step_done : (o : StepOut) → 0 ≡ number s r a l → o ≡ row_step s r a l → o ≡ stepped s r a l
   unfolding stepped
-  step-done o h p = rw (← e, eq-eqb n 0 h) p
+  step_done o h p = rw (← h) p

@@ -4,7 +4,7 @@ use Rattle.rules.specs.Answers.{Answer, settle}
 use Rattle.screen.specs.declared.Screen.{Screen}
 use Rattle.screen.specs.Screens.{frame-of, screen-in}
 use Rattle.screen.specs.Tables.{zeros}
-use Rattle.paint_screen.specs.Judging.{begin-number}
+use Rattle.paint_screen.specs.Judging.{begin_number}
 
 -- a screen with its depth words and where its rows' painting stands
 pub record Canvas : Type 0 where
@@ -23,5 +23,5 @@ begun b s =
 -- what is refused alters nothing
 unfoldable pub beginning : Canvas → Answer Canvas
 beginning k =
-    settle (begin-number k.screen (length k.depth) (length k.painting)) k
+    settle (begin_number k.screen (length k.depth) (length k.painting)) k
     (canvas (begun true k.screen) (zeros 0 k.depth) (zeros 0 k.painting))

@@ -3,11 +3,11 @@ use Rattle.std.specs.Prelude.{ℕ, ◌*◌, Bool, true, ◌&&◌, not, cond, [],
 use Rattle.sizes.specs.Sizes.{row-size, paint-attr-table, layer-attr-table}
 use Rattle.sizes.specs.Widths.{bucket-tiles}
 use Rattle.rules.specs.Answers.{first_of, Done, BadArena, BadViewport, BadRecord, BadRun, Open}
-use Rattle.rules.specs.Boxes.{good-viewport, rows_of, buckets-of}
+use Rattle.rules.specs.Boxes.{good_viewport, rows_of, buckets-of}
 use Rattle.rules.specs.Walk.{good-room}
 use Rattle.rect.specs.Rects.{box_of}
 use Rattle.screen.specs.declared.Screen.{Screen}
-use Rattle.screen.specs.Screens.{good-screen}
+use Rattle.screen.specs.Screens.{good_screen}
 
 -- rows, and buckets in each
 abbrev pub count : Screen → ℕ
@@ -39,9 +39,9 @@ tables-long s rows painting paint-attrs layer-attrs =
 unfoldable pub judged : Screen → Bool → Bool → ℕ
 judged s arenas tables =
     first_of
-    ((not (good-viewport (box_of s.viewport)), BadViewport)
+    ((not (good_viewport (box_of s.viewport)), BadViewport)
     ∷ (not (good-room s.c && good-room s.d && arenas), BadArena)
-    ∷ (not (tables && good-screen s), BadRecord)
+    ∷ (not (tables && good_screen s), BadRecord)
     ∷ [])
 
 -- then 12: there is no row r
@@ -49,8 +49,8 @@ abbrev pub of_row : ℕ → Screen → ℕ → ℕ
 of_row n s r = cond (eqb n Done) (cond (leb (count s) r) BadRun Done) n
 
 -- beginning to paint: 13 with a layer open
-unfoldable pub begin-number : Screen → ℕ → ℕ → ℕ
-begin-number s depth painting =
+unfoldable pub begin_number : Screen → ℕ → ℕ → ℕ
+begin_number s depth painting =
     let n = judged s (depth-long s depth) (painting-long s painting) in
     cond (eqb n Done) (cond (eqb s.layers 0) Done Open) n
 
@@ -59,13 +59,13 @@ abbrev pub paints-on : Screen → Bool
 paints-on s = eqb s.layers 0 && s.painting
 
 -- a painting step: 13 with a layer open, or where painting has not begun
-unfoldable pub step-number : Screen → ℕ → Bool → Bool → ℕ
-step-number s r arenas tables =
+unfoldable pub step_number : Screen → ℕ → Bool → Bool → ℕ
+step_number s r arenas tables =
     let n = of_row (judged s arenas tables) s r in cond (eqb n Done) (cond (paints-on s) Done Open) n
 
 -- runs are lent the depth words, `can_skip` the rows' records
 unfoldable pub runs_number : Screen → ℕ → ℕ → ℕ
 runs_number s r depth = of_row (judged s (depth-long s depth) true) s r
 
-unfoldable pub skip-number : Screen → ℕ → ℕ → ℕ
-skip-number s r rows = of_row (judged s true (rows_long s rows)) s r
+unfoldable pub skip_number : Screen → ℕ → ℕ → ℕ
+skip_number s r rows = of_row (judged s true (rows_long s rows)) s r

@@ -1,15 +1,15 @@
 -- The direct runs and `can_skip` of row r of a screen: its own depth words, its own record.
-use Rattle.std.specs.Prelude.{ℕ, ◌/◌, Bool, false, not, cond, List, [], length, eqb}
+use Rattle.std.specs.Prelude.{Result, ℕ, ◌/◌, Bool, false, cond, List, [], length, eqb}
 use Rattle.sizes.specs.Sizes.{row-size}
 use Rattle.sizes.specs.Widths.{bucket-tiles}
 use Rattle.rules.specs.Answers.{Answer, answer, Done, BadRecord}
 use Rattle.rules.specs.Spans.{Span}
-use Rattle.rules.specs.Depth.{unset-answer, visible-answer, can-skip-answer}
+use Rattle.rules.specs.Depth.{unset_answer, visible_answer, can_skip_answer}
 use Rattle.depth.specs.Listing.{RunsOut, OutWrite, out, listing, writing}
 use Rattle.screen.specs.declared.Screen.{Screen}
 use Rattle.paint_runs.specs.Summaries.{good-summary, summary-at}
-use Rattle.paint_screen.specs.declared.rows.Written.{Written}
-use Rattle.paint_screen.specs.Judging.{wide, runs_number, skip-number}
+use Rattle.sizes.specs.declared.answers.Refusal.{Refusal}
+use Rattle.paint_screen.specs.Judging.{wide, runs_number, skip_number}
 use Rattle.paint_screen.specs.Beginning.{begun}
 use Rattle.paint_screen.specs.Stepping.{part, with_part}
 
@@ -19,11 +19,11 @@ or-runs n a = cond (eqb n Done) a (answer n [])
 
 unfoldable pub unset-of : Screen → ℕ → List ℕ → Span → List ℕ → RunsOut
 unset-of s r depth t l =
-    listing (or-runs (runs_number s r (length depth)) (unset-answer (bucket-tiles s.width) (part (wide s) r depth) t (length l / 2))) l
+    listing (or-runs (runs_number s r (length depth)) (unset_answer (bucket-tiles s.width) (part (wide s) r depth) t (length l / 2))) l
 
 unfoldable pub visible-of : Screen → ℕ → List ℕ → Span → ℕ → List ℕ → RunsOut
 visible-of s r depth t id l =
-    listing (or-runs (runs_number s r (length depth)) (visible-answer (bucket-tiles s.width) (part (wide s) r depth) id t (length l / 2))) l
+    listing (or-runs (runs_number s r (length depth)) (visible_answer (bucket-tiles s.width) (part (wide s) r depth) id t (length l / 2))) l
 
 -- a run with write: what is listed, the screen, the depth words
 pub record Wrote : Type 0 where
@@ -31,8 +31,8 @@ pub record Wrote : Type 0 where
   pub screen : Screen
   pub depth : List ℕ
 
-abbrev pub wrote : Written → List ℕ → List ℕ → Wrote
-wrote r l d = record { listed = out r.runs l; screen = r.screen; depth = d }
+abbrev pub wrote : Result ℕ Refusal → Screen → List ℕ → List ℕ → Wrote
+wrote r s l d = record { listed = out r l; screen = s; depth = d }
 
 -- done, it ends painting
 abbrev pub write-in-place : Screen → ℕ → List ℕ → OutWrite → Wrote
@@ -51,10 +51,10 @@ write-of s r depth id t l =
 
 -- `can_skip` by the row's record: 4 where its summary is not in order
 abbrev pub record-skip : List ℕ → Span → ℕ → Answer Bool
-record-skip state t id = cond (good-summary state) (can-skip-answer (summary-at state) t id) (answer BadRecord false)
+record-skip state t id = cond (good-summary state) (can_skip_answer (summary-at state) t id) (answer BadRecord false)
 
 unfoldable pub skip-of-row : Screen → ℕ → List ℕ → Span → ℕ → Answer Bool
 skip-of-row s r rows t id =
-    let n = skip-number s r (length rows) in
+    let n = skip_number s r (length rows) in
     let a = record-skip (part row-size r rows) t id in
     cond (eqb n Done) a (answer n false)

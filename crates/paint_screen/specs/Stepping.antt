@@ -5,10 +5,8 @@ use Rattle.sizes.specs.Sizes.{most-room, most-attrs, row-size, paint-attr-table,
 use Rattle.sizes.specs.Widths.{bucket-tiles}
 use Rattle.rules.specs.Answers.{Done}
 use Rattle.screen.specs.declared.Screen.{Screen}
-use Rattle.paint_pieces.specs.declared.Painted.{Painted}
 use Rattle.paint_command.specs.Painting.{attrs-at, RowLent, lent, StepOut, out, refused, painted-row}
-use Rattle.paint_screen.specs.declared.step.Stepped.{Stepped}
-use Rattle.paint_screen.specs.Judging.{wide, arenas-long, tables-long, step-number}
+use Rattle.paint_screen.specs.Judging.{wide, arenas-long, tables-long, step_number}
 
 -- row r's own part, k words a row, and the words with another part there
 abbrev pub part : ℕ → ℕ → List ℕ → List ℕ
@@ -22,10 +20,6 @@ pub record Within (k r : ℕ) (xs : List ℕ) : Type 0 where
   pub ends : r * k + k ≤ length xs
   pub near : r * k ≤ 2097152
   pub short : k ≤ 4096
-
--- what a call gives, as painting a row gives it
-abbrev pub painted-of : Stepped → Painted
-painted-of r = record { number = r.number; finished = r.finished; pieces = r.pieces }
 
 -- the attribute tables
 pub record Attributes : Type 0 where
@@ -53,7 +47,7 @@ in_place s r l o = put-parts (wide s) r l o
 
 abbrev pub number : Screen → ℕ → Attributes → RowLent → ℕ
 number s r a l =
-    step-number s r (arenas-long s (length l.render) (length l.fills) (length l.depth))
+    step_number s r (arenas-long s (length l.render) (length l.fills) (length l.depth))
     (tables-long s (length l.state) (length l.painting) (length a.paints) (length a.layers))
 
 -- what a step of row r of such rows needs, with p paints and m layers in the tables; a call that is judged 0 has it

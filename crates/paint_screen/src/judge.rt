@@ -1,9 +1,11 @@
 // What a call's screen, its lengths and its row say, before anything of the row is read.
-ghost use Rattle.std.specs.Prelude.{◌≡◌, true};
-ghost use Rattle.paint_screen.specs.Judging.{depth-long, arenas-long, tables-long, judged, of_row, begin-number, step-number, runs_number, skip-number};
+ghost use Rattle.std.specs.Prelude.{◌≡◌, true, length};
+ghost use Rattle.sizes.specs.Refusals.{answer_number};
+ghost use Rattle.paint_screen.specs.Judging.{depth-long, arenas-long, tables-long, judged, of_row, begin_number, step_number, runs_number, skip_number};
 
+use crate::stored::Stored;
 use screen::{Screen, is_good_room};
-use sizes::answers::{BAD_ARENA, BAD_RECORD, BAD_RUN, BAD_VIEWPORT, DONE, OPEN};
+use sizes::answers::Refusal;
 use sizes::{LAYER_TABLE, PAINT_TABLE, ROW};
 
 // The depth arena is lent exactly.
@@ -14,142 +16,105 @@ fn is_depth(screen: Screen, depth: usize) -> bool
 }
 
 // All three arenas are.
-fn is_arenas(screen: Screen, render: usize, fills: usize, depth: usize) -> bool
-    ensures { result ≡ arenas-long screen render fills depth }
+fn is_arenas(screen: Screen, stored: &Stored<'_>, depth: usize) -> bool
+    ensures { result ≡ arenas-long screen (length stored.now.render.now) (length stored.now.fills.now) depth }
 {
     let n = screen.rows();
-    if render != n * (4 * (screen.c as usize)) {
-        return false;
-    }
-    if fills != n * (2 * (screen.d as usize)) {
-        return false;
-    }
-    is_depth(screen, depth)
+    stored.render.len() == n * (4 * screen.c as usize)
+        && stored.fills.len() == n * (2 * screen.d as usize)
+        && is_depth(screen, depth)
 }
 
 // The tables that a step reads.
-fn is_tables(
-    screen: Screen,
-    rows: usize,
-    painting: usize,
-    paint_attrs: usize,
-    layer_attrs: usize,
-) -> bool
-    ensures { result ≡ tables-long screen rows painting paint_attrs layer_attrs }
+fn is_tables(screen: Screen, stored: &Stored<'_>, painting: usize) -> bool
+    ensures { result ≡ tables-long screen (length stored.now.rows.now) painting (length stored.now.paint_attrs.now) (length stored.now.layer_attrs.now) }
 {
     let n = screen.rows();
-    if rows != n * ROW {
-        return false;
-    }
-    if painting != n * 2 {
-        return false;
-    }
-    if paint_attrs != PAINT_TABLE {
-        return false;
-    }
-    layer_attrs == LAYER_TABLE
+    stored.rows.len() == n * ROW
+        && painting == n * 2
+        && stored.paint_attrs.len() == PAINT_TABLE
+        && stored.layer_attrs.len() == LAYER_TABLE
 }
 
-// 2, then 1, then 4, or 0: the screen's numbers, and whether the arenas and tables that are lent have their lengths.
-fn judge(screen: Screen, arenas: bool, tables: bool) -> u32
-    ensures { result ≡ judged screen arenas tables }
+// 2, then 1, then 4: the screen's numbers, and whether the arenas and tables that are lent have their lengths.
+#[tactic(auto, unfolding(crate::specs::Judging::judged))]
+#[inline(always)]
+fn judge(screen: Screen, arenas: bool, tables: bool) -> Result<(), Refusal>
+    ensures { answer_number result ≡ judged screen arenas tables }
 {
-    let viewport = screen.viewport;
-    if !viewport.is_good_viewport() {
-        return BAD_VIEWPORT;
+    if !screen.viewport.is_good_viewport() {
+        return Err(Refusal::BadViewport);
     }
-    if !is_good_room(screen.c) {
-        return BAD_ARENA;
+    if !is_good_room(screen.c) || !is_good_room(screen.d) || !arenas {
+        return Err(Refusal::BadArena);
     }
-    if !is_good_room(screen.d) {
-        return BAD_ARENA;
+    if !tables || !screen.is_good() {
+        return Err(Refusal::BadRecord);
     }
-    if !arenas {
-        return BAD_ARENA;
-    }
-    if !tables {
-        return BAD_RECORD;
-    }
-    if !screen.is_good() {
-        return BAD_RECORD;
-    }
-    DONE
+    Ok(())
 }
 
-// After the number n, 12 where there is no such row.
-fn judge_row(n: u32, screen: Screen, row: usize) -> u32
-    ensures { result ≡ of_row n screen row }
+// The same, then 12 where there is no such row.
+#[inline(always)]
+fn judge_row(screen: Screen, row: usize, arenas: bool, tables: bool) -> Result<(), Refusal>
+    ensures { answer_number result ≡ of_row (judged screen arenas tables) screen row }
 {
-    if n != DONE {
-        return n;
-    }
+    judge(screen, arenas, tables)?;
     if screen.rows() <= row {
-        return BAD_RUN;
+        return Err(Refusal::BadRun);
     }
-    DONE
+    Ok(())
 }
 
 // 2, 1, 4, then 13 with a layer open.
-pub fn judge_begin(screen: Screen, depth: usize, painting: usize) -> u32
-    ensures { result ≡ begin-number screen depth painting }
+#[tactic(auto, unfolding(crate::specs::Judging::begin_number))]
+pub fn judge_begin(screen: Screen, depth: usize, painting: usize) -> Result<(), Refusal>
+    ensures { answer_number result ≡ begin_number screen depth painting }
 {
-    let n = judge(
+    judge(
         screen,
         is_depth(screen, depth),
         painting == screen.rows() * 2,
-    );
-    if n != DONE {
-        return n;
-    }
+    )?;
     if screen.layers != 0 {
-        return OPEN;
+        return Err(Refusal::Open);
     }
-    DONE
+    Ok(())
 }
 
 // 2, 1, 4, 12, then 13 where painting has not begun.
+#[tactic(auto, unfolding(crate::specs::Judging::step_number))]
+#[inline(always)]
 pub fn judge_step(
     screen: Screen,
     row: usize,
-    rows: usize,
-    render: usize,
-    fills: usize,
+    stored: &Stored<'_>,
     depth: usize,
     painting: usize,
-    paint_attrs: usize,
-    layer_attrs: usize,
-) -> u32
-    ensures { result ≡ step-number screen row (arenas-long screen render fills depth) (tables-long screen rows painting paint_attrs layer_attrs) }
+) -> Result<(), Refusal>
+    ensures { answer_number result ≡ step_number screen row (arenas-long screen (length stored.now.render.now) (length stored.now.fills.now) depth) (tables-long screen (length stored.now.rows.now) painting (length stored.now.paint_attrs.now) (length stored.now.layer_attrs.now)) }
 {
-    let arenas = is_arenas(screen, render, fills, depth);
-    let tables = is_tables(screen, rows, painting, paint_attrs, layer_attrs);
-    let n = judge_row(judge(screen, arenas, tables), screen, row);
-    if n != DONE {
-        return n;
+    let arenas = is_arenas(screen, stored, depth);
+    let tables = is_tables(screen, stored, painting);
+    judge_row(screen, row, arenas, tables)?;
+    if 0 < screen.layers || !screen.painting {
+        return Err(Refusal::Open);
     }
-    if 0 < screen.layers {
-        return OPEN;
-    }
-    if !screen.painting {
-        return OPEN;
-    }
-    DONE
+    Ok(())
 }
 
 // 2, 1, 4, 12 of a call that is lent the depth words.
-pub fn judge_runs(screen: Screen, row: usize, depth: usize) -> u32
-    ensures { result ≡ runs_number screen row depth }
+#[tactic(auto, unfolding(crate::specs::Judging::runs_number))]
+pub fn judge_runs(screen: Screen, row: usize, depth: usize) -> Result<(), Refusal>
+    ensures { answer_number result ≡ runs_number screen row depth }
 {
-    judge_row(judge(screen, is_depth(screen, depth), true), screen, row)
+    judge_row(screen, row, is_depth(screen, depth), true)
 }
 
 // The same of one that is lent the rows' records.
-pub fn judge_skip(screen: Screen, row: usize, rows: usize) -> u32
-    ensures { result ≡ skip-number screen row rows }
+#[tactic(auto, unfolding(crate::specs::Judging::skip_number))]
+pub fn judge_skip(screen: Screen, row: usize, rows: usize) -> Result<(), Refusal>
+    ensures { answer_number result ≡ skip_number screen row rows }
 {
-    judge_row(
-        judge(screen, true, rows == screen.rows() * ROW),
-        screen,
-        row,
-    )
+    judge_row(screen, row, true, rows == screen.rows() * ROW)
 }

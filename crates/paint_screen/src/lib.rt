@@ -5,8 +5,9 @@
 pub mod begin;
 pub mod judge;
 pub mod rows;
-pub mod step;
+pub mod stored;
 
 pub use begin::begin_painting;
-pub use rows::{Written, can_skip, unset_runs, unset_runs_and_write, visible_runs};
-pub use step::Stepped;
+pub use paint_pieces::Stepped;
+pub use rows::{can_skip, unset_runs, unset_runs_and_write, visible_runs};
+pub use stored::Stored;

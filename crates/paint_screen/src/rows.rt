@@ -2,50 +2,35 @@
 ghost use Rattle.std.specs.Prelude.{◌≡◌, length};
 ghost use Rattle.sizes.specs.Sizes.{row-size};
 ghost use Rattle.span.specs.Spans.{tiles, buckets};
-ghost use Rattle.depth.specs.Answers.{skip-of};
+ghost use Rattle.depth.specs.Answers.{skip_of};
 ghost use Rattle.depth.specs.Listing.{out};
 ghost use Rattle.paint_screen.specs.Rows.{unset-of, visible-of, wrote, write-of, record-skip, skip-of-row};
 
-use crate::begin::with_painting;
 use crate::judge::{judge_runs, judge_skip};
-use depth::{Runs, Skip};
 use paint_runs::{is_good_summary, summary_of};
+use row_screen::part;
 use screen::Screen;
 use sizes::ROW;
-use sizes::answers::{BAD_RECORD, DONE};
+use sizes::answers::Refusal;
 use span::{BucketRange, TileSpan};
 
-// The runs that a writing run listed, and the screen afterwards.
-#[derive(Clone, Copy)]
-pub struct Written {
-    pub runs: Runs,
-    pub screen: Screen,
-}
-
 // The runs of a span's tiles whose buckets hold 0.
+#[tactic(auto, using(crate::proofs::Parts::depth_within, crate::proofs::Runs::unset_done))]
 pub fn unset_runs(
     screen: Screen,
     row: usize,
     depth: &[u32],
     span: TileSpan,
     list: &mut [u32],
-) -> Runs
+) -> Result<usize, Refusal>
     ensures { out result list.new ≡ unset-of screen row depth.now (tiles span) list.old }
 {
-    let n = judge_runs(screen, row, depth.len());
-    if n != DONE {
-        return Runs {
-            number: n,
-            count: 0,
-        };
-    }
-    let b = screen.buckets();
-    let at = row * b;
-    let width = screen.width;
-    depth::unset_runs(&depth[at..at + b], span, list, width)
+    judge_runs(screen, row, depth.len())?;
+    depth::unset_runs(part(depth, screen.buckets(), row), span, list, screen.width)
 }
 
 // The runs of a span's tiles whose buckets hold at most the id.
+#[tactic(auto, using(crate::proofs::Parts::depth_within, crate::proofs::Runs::visible_done))]
 pub fn visible_runs(
     screen: Screen,
     row: usize,
@@ -53,79 +38,60 @@ pub fn visible_runs(
     span: TileSpan,
     draw_id: u32,
     list: &mut [u32],
-) -> Runs
+) -> Result<usize, Refusal>
     ensures { out result list.new ≡ visible-of screen row depth.now (tiles span) draw_id list.old }
 {
-    let n = judge_runs(screen, row, depth.len());
-    if n != DONE {
-        return Runs {
-            number: n,
-            count: 0,
-        };
-    }
-    let b = screen.buckets();
-    let at = row * b;
-    let width = screen.width;
-    depth::visible_runs(&depth[at..at + b], span, draw_id, list, width)
+    judge_runs(screen, row, depth.len())?;
+    depth::visible_runs(
+        part(depth, screen.buckets(), row),
+        span,
+        draw_id,
+        list,
+        screen.width,
+    )
 }
 
-// Lists the unset runs of a bucket range as buckets, and stores the id there. Done, it ends painting.
+// Lists the unset runs of a bucket range as buckets, and stores the id there. Done, it ends painting; refused, the screen and every word stay.
 pub fn unset_runs_and_write(
-    screen: Screen,
+    screen: &mut Screen,
     row: usize,
     depth: &mut [u32],
     range: BucketRange,
     draw_id: u32,
     list: &mut [u32],
-) -> Written
-    ensures { wrote result list.new depth.new ≡ write-of screen row depth.old draw_id (buckets range) list.old }
+) -> Result<usize, Refusal>
+    ensures { wrote result screen.new list.new depth.new ≡ write-of screen.old row depth.old draw_id (buckets range) list.old }
 {
-    let n = judge_runs(screen, row, depth.len());
-    if n != DONE {
-        let none = Runs {
-            number: n,
-            count: 0,
-        };
-        return Written { runs: none, screen };
-    }
+    judge_runs(*screen, row, depth.len())?;
     let b = screen.buckets();
     let at = row * b;
-    let runs = depth::unset_runs_and_write(&mut depth[at..at + b], range, draw_id, list);
-    if runs.number != DONE {
-        return Written { runs, screen };
-    }
-    Written {
-        runs,
-        screen: with_painting(screen, false),
-    }
+    let n = depth::unset_runs_and_write(&mut depth[at..at + b], range, draw_id, list)?;
+    screen.painting = false;
+    Ok(n)
 }
 
 // By the row's record.
-fn skip_by(state: &[u32], span: TileSpan, draw_id: u32) -> Skip
+fn skip_by(state: &[u32], span: TileSpan, draw_id: u32) -> Result<bool, Refusal>
     requires { length state.now ≡ row-size }
-    ensures { skip-of result ≡ record-skip state.now (tiles span) draw_id }
+    ensures { skip_of result ≡ record-skip state.now (tiles span) draw_id }
 {
     if !is_good_summary(state) {
-        return Skip {
-            number: BAD_RECORD,
-            yes: false,
-        };
+        return Err(Refusal::BadRecord);
     }
-    let summary = summary_of(state);
-    summary.can_skip(span, draw_id)
+    summary_of(state).can_skip(span, draw_id)
 }
 
 // Whether a draw need not look at the row's depth words: no depth fill of the row is above it, or the span meets none.
-pub fn can_skip(screen: Screen, row: usize, rows: &[u32], span: TileSpan, draw_id: u32) -> Skip
-    ensures { skip-of result ≡ skip-of-row screen row rows.now (tiles span) draw_id }
+#[tactic(auto, using(crate::proofs::Parts::state_within, crate::proofs::Runs::skip_done))]
+pub fn can_skip(
+    screen: Screen,
+    row: usize,
+    rows: &[u32],
+    span: TileSpan,
+    draw_id: u32,
+) -> Result<bool, Refusal>
+    ensures { skip_of result ≡ skip-of-row screen row rows.now (tiles span) draw_id }
 {
-    let n = judge_skip(screen, row, rows.len());
-    if n != DONE {
-        return Skip {
-            number: n,
-            yes: false,
-        };
-    }
-    let at = row * ROW;
-    skip_by(&rows[at..at + ROW], span, draw_id)
+    judge_skip(screen, row, rows.len())?;
+    skip_by(part(rows, ROW, row), span, draw_id)
 }

@@ -1,9 +1,9 @@
 -- Commands that one look settles, one after the other. Assumes nothing.
-use mathlib.Core.Path.{◌≡◌, refl, sym, ap, ◌∙◌}
+use mathlib.Core.Path.{◌≡◌, refl, ◌∙◌}
 use mathlib.Core.List.{List, [], ◌∷◌, append_assoc}
 use Prim.Native.Nat.{ℕ, ◌+◌, ◌-◌, ◌*◌, ◌≤◌, ◌<◌}
 use native.Mathlib.Omega.{arith}
-use lib.ListN.{length, drop, set, take-append-drop, length-drop}
+use lib.ListN.{length, drop, take-append-drop, length-drop}
 use lib.Seq.{drop-drop}
 use borrow.Author.Tests.{lt-ltb, le-ltb}
 use Rattle.sizes.specs.Sizes.{piece-size}
@@ -15,8 +15,7 @@ use Rattle.cmd.proofs.Tables.{length_at}
 use Rattle.paint_runs.specs.Summaries.{summary-at}
 use Rattle.paint_command.specs.Painting.{word, StepOut, out, listed, next-step, painted-row}
 use Rattle.paint_whole.specs.Running.{one_more, run, own-step}
-use Rattle.paint_whole.specs.Kinds.{runs-met, run-words, whole_words, step-to, Said, Calm, Onward, Place, place, stands, Reaches}
-use Rattle.paint_pieces.proofs.Two.{two-both, two-same}
+use Rattle.paint_whole.specs.Kinds.{runs-met, run-words, whole_words, step-to, Said, Calm, Place, place, stands, Reaches}
 use Rattle.paint_whole.proofs.Runs.{more}
 use Rattle.paint_whole.proofs.Putting.{length_runs}
 
@@ -27,7 +26,7 @@ module _ (step : List ℕ → List ℕ → List ℕ → StepOut) (D : List ℕ) 
 
   pub reach-none : (p : Place) → p.nesting ≤ 16 → piece-size * p.pieces ≤ length p.list → Reaches step D d p p
   reach-none p h g =
-      record { after = omega arith; onward = λ f k i. none_more p.at f k (stands D d p); shallow = h; few = g; long = refl }
+      record { after = omega arith; onward = λ f k i. none_more p.at f k (stands D d p); shallow = h; few = g; long = refl; still = λ h. refl }
 
   module _ (a b : Place) (z : Reaches step D d a b) (b' : Place) (up : b'.at ≡ b.at + 1) (e : one_more step (stands D d b) ≡ stands D d b')
       (h : b'.nesting ≤ 16) (g : piece-size * b'.pieces ≤ length b'.list) (i : length b'.list ≡ length b.list) where
@@ -40,11 +39,11 @@ module _ (step : List ℕ → List ℕ → List ℕ → StepOut) (D : List ℕ) 
         ∙ rw (e, n, m)
 
     pub reach-more : Reaches step D d a b'
-    reach-more = record { after = omega (arith, z.after); onward = further; shallow = h; few = g; long = i ∙ z.long }
+    reach-more = record { after = omega (arith, z.after); onward = further; shallow = h; few = g; long = i ∙ z.long; still = λ j. absurd (omega (arith, z.after)) }
 
   -- from a place to a second, and from there to a third
   pub reach-both : (a b c : Place) → Reaches step D d a b → Reaches step D d b c → Reaches step D d a c
-  reach-both a b c z y = record { after = omega (arith, z.after, y.after); onward = further-on; shallow = y.shallow; few = y.few; long = y.long ∙ z.long }
+  reach-both a b c z y = record { after = omega (arith, z.after, y.after); onward = further-on; shallow = y.shallow; few = y.few; long = y.long ∙ z.long; still = λ h. y.still (omega (arith, z.after)) ∙ z.still (omega (arith, y.after)) }
     where
       further-on : (f k : ℕ) → c.at - a.at ≤ f → run step f k (stands D d a) ≡ run step (f - (c.at - a.at)) (k + (c.at - a.at)) (stands D d c)
       further-on f k j =
@@ -152,27 +151,3 @@ module _ (v : ℕ) (a : Attrs) (s re fi D : List ℕ) (c : Calm s re fi) where
       on-partly e l' i =
           let k : length (words-at l (piece-size * n) words) ≡ length l = length_at l (piece-size * n) words (rw words_long (omega arith)) in
           rw i (reach-more steps D d start (place at n m l) z (place (at + 1) (n + length found) m (words-at l (piece-size * n) words)) refl (runs-step e) z.shallow (rw k (omega arith)) k)
-
--- No step done.
-pub none-gone : (step : List ℕ → List ℕ → List ℕ → StepOut) (D P l : List ℕ) (n limit k j : ℕ) → piece-size * n ≤ length l → (k ≡ 0) × (j ≡ n)
-    → Onward step k (out (listed n) D P l) (out (listed j) D P l) × ((k ≤ limit) × (piece-size * j ≤ length l))
-none-gone step D P l n limit k j h e = (λ f i g. onward f i, (omega (arith, e.0), rw e.1 h))
-  where
-    onward : (f i : ℕ) → run step f i (out (listed n) D P l) ≡ run step (f - k) (i + k) (out (listed j) D P l)
-    onward f i =
-        let a : f - k ≡ f = omega (arith, e.0) in
-        let b : i + k ≡ i = omega (arith, e.0) in
-        rw (a, b, e.1)
-
--- The commands from where the painting words stand, and the painting words after them.
-module _ (step : List ℕ → List ℕ → List ℕ → StepOut) (D : List ℕ) (d : ℕ) (P : List ℕ) (two : length P ≡ 2) (g : d ≤ word P 0) (start n : ℕ) (e : start ≡ word P 0 - d) (l : List ℕ)
-    (b : Place) (z : Reaches step D d (place start n (word P 1) l) b) where
-  before : (d + start) ∷ word P 1 ∷ [] ≡ P
-  before = let i : d + start ≡ word P 0 = omega arith in rw i (sym (two-same P two))
-
-  then : (d + b.at) ∷ b.nesting ∷ [] ≡ set (set P 0 (word P 0 + (b.at - start))) 1 b.nesting
-  then = let i : d + b.at ≡ word P 0 + (b.at - start) = omega (arith, z.after) in rw (two-both P (word P 0 + (b.at - start)) b.nesting two, i)
-
-  pub run-gone : Onward step (b.at - start) (out (listed n) D P l)
-      (out (listed b.pieces) D (set (set P 0 (word P 0 + (b.at - start))) 1 b.nesting) b.list)
-  run-gone f k h = ap (λ (p : List ℕ). run step f k (out (listed n) D p l)) (sym before) ∙ z.onward f k h ∙ rw then

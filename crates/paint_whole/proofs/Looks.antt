@@ -1,55 +1,21 @@
 -- What one look shows of a fill. Assumes nothing.
-use mathlib.Core.Path.{◌≡◌, refl, sym, ◌∙◌}
+use mathlib.Core.Path.{◌≡◌, refl, ◌∙◌}
 use mathlib.Core.Bool.{Bool, true, false, cond}
 use mathlib.Core.List.{List, [], ◌∷◌, map}
 use Prim.Native.Nat.{ℕ, ◌+◌, ◌-◌, ◌*◌, ◌/◌, ◌%◌, ◌≤◌, ◌<◌, min, max}
 use native.Mathlib.Omega.{arith}
 use lib.ListN.{length, get_or}
-use lib.Dec.{leb, ltb, eqb}
-use borrow.Author.Tests.{lt-ltb, le-leb, lt-leb, eq-eqb, ne_eqb, eqb-true, ltb-true}
+use lib.Dec.{ltb, eqb}
+use borrow.Author.Tests.{lt-ltb, le-leb, lt-leb, eqb-true, ltb-true}
 use Rattle.rules.specs.Spans.{Span, span, common}
-use Rattle.rules.specs.Depth.{Summary, can-skip, is-visible, runs-in, tiles-of, runs, visible-runs}
+use Rattle.rules.specs.Depth.{Summary, can_skip, is-visible, runs-in, tiles-of, runs, visible-runs}
 use Rattle.sizes.specs.declared.width.Width.{Width}
 use Rattle.sizes.specs.Widths.{bucket-tiles}
 use Rattle.rules.proofs.laws.Widths.{each, raised-least, lowered-most}
 use Rattle.cmd.specs.Reading.{word-span}
-use Rattle.cmd.proofs.Tests.{sum-test}
 use Rattle.depth.proofs.Searching.{runs-end, runs_closed, Reached, reach-first, reach-closed, reach-end}
-use Rattle.paint_runs.specs.Summaries.{shown-runs}
-use Rattle.paint_whole.specs.Kinds.{summary-by, good-index, Fills, low-met, high-met, runs-met, SeenTo, HiddenTo, Looked, FillSaid}
-
--- an alpha index
-module _ (t x n : ℕ) where
-  pub zero-index : x ≡ 0 → n ≤ 8192 → true ≡ good-index t x n
-  zero-index h g = go (eqb (t % 2) 1)
-    where
-      go : (b : Bool) → true ≡ cond b (eqb x 0) (ltb (x + 16 * n) 4294967296)
-      go true = sym (eq-eqb x 0 h)
-      go false = sym (lt-ltb (x + 16 * n) 4294967296 (omega arith))
-
-  pub solid-index : (x ≡ 0 → ⊥) → t % 2 ≡ 1 → false ≡ good-index t x n
-  solid-index g h = rw (h, ne_eqb x 0 g)
-
-  pub alpha-index : (t % 2 ≡ 1 → ⊥) → n ≤ 8192 → leb x (4294967295 - 16 * n) ≡ good-index t x n
-  alpha-index h g = rw (ne_eqb _ _ h) (sum-test x (16 * n) 4294967295 (omega arith))
-
--- the summary's three tests
-module _ (a e n f g id : ℕ) where
-  pub apart-old : n ≤ id → true ≡ can-skip (summary-by a e n) (span f g) id
-  unfolding can-skip
-  apart-old h = rw (le-leb _ _ h)
-
-  module _ (h : id < n) where
-    some-there : eqb n 0 ≡ false
-    some-there = ne_eqb n 0 (λ z. omega arith)
-
-    pub apart-right : e ≤ f → true ≡ can-skip (summary-by a e n) (span f g) id
-    unfolding can-skip
-    apart-right i = rw (lt-leb _ _ h, some-there, le-leb _ _ i)
-
-    pub apart-left : f < e → leb g a ≡ can-skip (summary-by a e n) (span f g) id
-    unfolding can-skip
-    apart-left i = rw (lt-leb _ _ h, some-there, lt-leb _ _ i)
+use Rattle.paint_runs.specs.Summaries.{shown_runs}
+use Rattle.paint_whole.specs.Kinds.{good-index, Fills, low-met, high-met, runs-met, SeenTo, HiddenTo, Looked, FillSaid}
 
 -- buckets looked at one by one
 module _ (D : List ℕ) (id a e : ℕ) where
@@ -132,13 +98,13 @@ module _ (width : Width) (D : List ℕ) (id f g : ℕ) (h : f < g) where
 
 -- what is shown of a fill, by the summary or the depth words
 module _ (v : ℕ) (u : Summary) (D : List ℕ) (id : ℕ) (s : Span) (h : s.first < s.end) (g : s.end ≤ v * length D) where
-  pub clear_whole : true ≡ can-skip u s id → shown-runs v u D id s ≡ s ∷ []
-  unfolding shown-runs
+  pub clear_whole : true ≡ can_skip u s id → shown_runs v u D id s ≡ s ∷ []
+  unfolding shown_runs
   clear_whole e = rw (← e, le-leb _ _ g, lt-ltb _ _ h)
 
-  module _ (e : can-skip u s id ≡ false) (rs : List Span) (q : visible-runs v D id s ≡ rs) where
-    pub searched : shown-runs v u D id s ≡ rs
-    unfolding shown-runs
+  module _ (e : can_skip u s id ≡ false) (rs : List Span) (q : visible-runs v D id s ≡ rs) where
+    pub searched : shown_runs v u D id s ≡ rs
+    unfolding shown_runs
     searched = rw (e, q)
 
 -- the tiles are there if the buckets that they meet are
@@ -166,7 +132,7 @@ module _ (width : Width) (u : Summary) (D : List ℕ) (id t w x : ℕ) (h : w / 
   there : w % 65536 ≤ bucket-tiles width * length D
   there = tiles-there width (w % 65536) (length D) (rw q at f)
 
-  whole-said : shown-runs (bucket-tiles width) u D id (word-span w) ≡ word-span w ∷ [] → FillSaid (bucket-tiles width) u D id t w x 1 0 0
+  whole-said : shown_runs (bucket-tiles width) u D id (word-span w) ≡ word-span w ∷ [] → FillSaid (bucket-tiles width) u D id t w x 1 0 0
   whole-said z =
       record {
         no-push = λ z. omega arith;
@@ -177,12 +143,12 @@ module _ (width : Width) (u : Summary) (D : List ℕ) (id t w x : ℕ) (h : w / 
         partly = λ z. absurd (omega arith);
       }
 
-  pub clear-said : true ≡ can-skip u (word-span w) id → FillSaid (bucket-tiles width) u D id t w x 1 0 0
+  pub clear-said : true ≡ can_skip u (word-span w) id → FillSaid (bucket-tiles width) u D id t w x 1 0 0
   clear-said z = whole-said (clear_whole (bucket-tiles width) u D id (word-span w) h there z)
 
   -- .. and start at a
   module _ (a : ℕ) (p : a ≡ low-met (bucket-tiles width) w) where
-    module _ (n : can-skip u (word-span w) id ≡ false) where
+    module _ (n : can_skip u (word-span w) id ≡ false) where
       abbrev met : List Span
       met = runs-in (is-visible id) D (span a e)
 
@@ -203,7 +169,7 @@ module _ (width : Width) (u : Summary) (D : List ℕ) (id t w x : ℕ) (h : w / 
 
       -- .. of one that is shown in part, where the look stopped
       module _ (stop : ℕ) (m : stop < e) where
-        cut-runs : shown-runs (bucket-tiles width) u D id (word-span w) ≡ map (λ (r : Span). common (word-span w) (tiles-of (bucket-tiles width) r)) (runs-met (bucket-tiles width) D id w)
+        cut-runs : shown_runs (bucket-tiles width) u D id (word-span w) ≡ map (λ (r : Span). common (word-span w) (tiles-of (bucket-tiles width) r)) (runs-met (bucket-tiles width) D id w)
         cut-runs = searched (bucket-tiles width) u D id (word-span w) h there n _ (met_runs width D id (w / 65536) (w % 65536) h)
 
         part-said : (kind : ℕ) → 4 < kind → Looked (bucket-tiles width) D id w (eqb kind 5) stop → FillSaid (bucket-tiles width) u D id t w x kind stop id

@@ -2,7 +2,7 @@
 use mathlib.Core.Path.{◌≡◌, refl, sym, ap, ◌∙◌}
 use mathlib.Core.Bool.{Bool, true, false, cond}
 use mathlib.Core.List.{List, ◌++◌}
-use mathlib.Core.Option.{Option, none, some}
+use Rattle.std.specs.Prelude.{Option, None, Some}
 use Prim.Native.Nat.{ℕ, zero, suc, ◌+◌, ◌-◌, ◌*◌, ◌/◌}
 use native.Mathlib.Nat.{zero-add}
 use native.Mathlib.Omega.{arith}
@@ -17,12 +17,15 @@ use Rattle.rules.specs.Attributes.{Attrs}
 use Rattle.rules.specs.Painting as rules
 use Rattle.row_screen.proofs.Laws.{put-length}
 use Rattle.screen.specs.declared.Screen.{Screen}
-use Rattle.paint_pieces.specs.declared.Painted.{Painted}
+use Rattle.sizes.specs.declared.answers.Refusal.{Refusal}
+use Rattle.sizes.specs.Refusals.{number_of}
+use Rattle.sizes.proofs.Refusals.{not_done}
+use Rattle.paint_pieces.specs.Answers.{Painted}
 use Rattle.paint_command.specs.Painting.{attrs-at, RowLent, lent, StepOut, out, refused, left, settled, painted-row}
 use Rattle.paint_command.proofs.Laws.{same-lengths}
 use Rattle.paint_screen.specs.Judging.{wide}
 use Rattle.paint_screen.specs.Stepping.{part, with_part, Within, Attributes, own-parts, put-parts, own, in_place, number, row_step, stepped}
-use Rattle.paint_screen.proofs.Parts.{part-is, put_is, ready}
+use Rattle.paint_screen.proofs.Parts.{part-is, put_is, part_length, ready}
 use Rattle.paint_whole.specs.Running.{goes_on, ended, one_more, run, most, standing, own-step, own-run, row-run, call_step, row-painted}
 use Rattle.paint_whole.proofs.Runs.{stops, more}
 
@@ -55,6 +58,9 @@ module _ (k r : ℕ) (xs ys : List ℕ) (h : Within k r xs) (e : length ys ≡ k
 
   pub put-long : length (with_part k r xs ys) ≡ length xs
   put-long = put-length (r * k) k xs ys h.ends e
+
+pub cut-length : (k r : ℕ) (xs : List ℕ) → Within k r xs → length (take (r * k + k - r * k) (drop (r * k) xs)) ≡ k
+cut-length k r xs h = rw (part-is k r xs) (part_length k r xs h)
 
 pub part-of-length : (k r : ℕ) (xs : List ℕ) → Within k r xs → length (part k r xs) ≡ k
 part-of-length k r xs h = length-take-le k (drop (r * k) xs) (rw length-drop (omega (arith, h.ends)))
@@ -130,24 +136,22 @@ module _ (s : Screen) (r : ℕ) (a : Attributes) (l : RowLent) (z : number s r a
       (rw (put_same (r * wide s) (wide s) l.depth, put_same (r * 2) 2 l.painting) at e)
 
 -- the call, refused or done
-module _ (s : Screen) (r : ℕ) (a : Attributes) (l : RowLent) (n : ℕ) (e : n ≡ number s r a l) where
-  first-refused : (n ≡ 0 → ⊥) → one_more (call_step s r a l.state l.render l.fills) (standing l.depth l.painting l.list)
-      ≡ out (refused n) l.depth l.painting l.list
-  unfolding one_more stepped
-  first-refused h = rw (← e, ne_eqb n 0 h)
+module _ (s : Screen) (r : ℕ) (a : Attributes) (l : RowLent) where
+  module _ (k : Refusal) (e : number_of k ≡ number s r a l) where
+    first-refused : one_more (call_step s r a l.state l.render l.fills) (standing l.depth l.painting l.list) ≡ out (refused (number_of k)) l.depth l.painting l.list
+    unfolding one_more stepped
+    first-refused = rw (← e, ne_eqb (number_of k) 0 (not_done k))
 
-  pub row-refused : (n ≡ 0 → ⊥)
-      → out (record { number = n; finished = false; pieces = 0 }) l.depth l.painting l.list ≡ row-painted s r a l
-  unfolding row-painted
-  row-refused h =
-      let step = call_step s r a l.state l.render l.fills in
-      let start = standing l.depth l.painting l.list in
-      let f = first-refused h in
-      let i : goes_on (one_more step start).answer ≡ false = rw (f, ne_eqb n 0 h) in
-      sym (stops step most 0 start (omega arith) i ∙ rw f)
+    pub row_refused : out (refused (number_of k)) l.depth l.painting l.list ≡ row-painted s r a l
+    unfolding row-painted
+    row_refused =
+        let step = call_step s r a l.state l.render l.fills in
+        let start = standing l.depth l.painting l.list in
+        let i : goes_on (one_more step start).answer ≡ false = rw (first-refused, ne_eqb (number_of k) 0 (not_done k)) in
+        sym (stops step most 0 start (omega arith) i ∙ rw first-refused)
 
-  pub row_done : (o : StepOut) → n ≡ 0 → o ≡ screen-run most s r a l → o ≡ row-painted s r a l
-  row_done o h p = p ∙ sym (calls-are-run s r a l (sym e ∙ h))
+  pub row_done : (o : StepOut) → 0 ≡ number s r a l → o ≡ screen-run most s r a l → o ≡ row-painted s r a l
+  row_done o h p = p ∙ sym (calls-are-run s r a l (sym h))
 
 -- a run of one step at most is the step
 abbrev again : StepOut → StepOut
@@ -155,8 +159,8 @@ again o = out (record { number = o.answer.number; finished = o.answer.finished; 
 
 settled-again : (x : Option rules.Painted) (d p l : List ℕ) → again (settled x d p l) ≡ settled x d p l
 unfolding settled
-settled-again none d p l = refl
-settled-again (some o) d p l = go (ltb (length l / piece-size) (length o.pieces))
+settled-again None d p l = refl
+settled-again (Some o) d p l = go (ltb (length l / piece-size) (length o.pieces))
   where
     go : (b : Bool) → again (cond b (out (refused 14) d p l) (left o l)) ≡ cond b (out (refused 14) d p l) (left o l)
     go true = refl

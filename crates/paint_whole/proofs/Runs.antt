@@ -2,7 +2,7 @@
 use mathlib.Core.Path.{◌≡◌, refl, sym, ap, ◌∙◌}
 use mathlib.Core.Bool.{Bool, true, false, ◌&&◌}
 use mathlib.Core.List.{List, ◌++◌, append-nil}
-use mathlib.Core.Option.{Option, none, some}
+use Rattle.std.specs.Prelude.{Option, None, Some}
 use Prim.Native.Nat.{ℕ, zero, suc, ◌+◌, ◌-◌, ◌*◌, ◌/◌, ◌≤◌, ◌<◌}
 use native.Mathlib.Omega.{arith}
 use lib.ListN.{length, take, drop, length-drop}
@@ -13,7 +13,7 @@ use borrow.Rule.Slice.PartMut.{put_mid, Post-is}
 use Rattle.sizes.specs.Sizes.{piece-size}
 use Rattle.rules.specs.Attributes.{Attrs}
 use Rattle.rules.specs.Painting as rules
-use Rattle.paint_pieces.specs.declared.Painted.{Painted}
+use Rattle.paint_pieces.specs.Answers.{Painted}
 use Rattle.paint_command.specs.Painting.{RowLent, lent, StepOut, out, listed, settled, painted-row}
 use Rattle.paint_whole.specs.Running.{goes_on, ended, one_more, run, own-step}
 use Rattle.paint_whole.specs.Kinds.{Onward}
@@ -21,10 +21,10 @@ use Rattle.paint_whole.specs.Kinds.{Onward}
 -- a step's pieces have room in its list
 settled-few : (x : Option rules.Painted) (d p l : List ℕ) → piece-size * (settled x d p l).answer.pieces ≤ length l
 unfolding settled
-settled-few none d p l = omega arith
-settled-few (some o) d p l = go (ltb (length l / piece-size) (length o.pieces)) refl
+settled-few None d p l = omega arith
+settled-few (Some o) d p l = go (ltb (length l / piece-size) (length o.pieces)) refl
   where
-    go : (b : Bool) → ltb (length l / piece-size) (length o.pieces) ≡ b → piece-size * (settled (some o) d p l).answer.pieces ≤ length l
+    go : (b : Bool) → ltb (length l / piece-size) (length o.pieces) ≡ b → piece-size * (settled (Some o) d p l).answer.pieces ≤ length l
     go true e = rw e (omega arith)
     go false e = rw e (omega (arith, ltb-false (length l / piece-size) (length o.pieces) e))
 

@@ -1,29 +1,20 @@
 -- Commands that one look settles, and runs of such commands.
-use Rattle.std.specs.Prelude.{ℕ, ◌+◌, ◌-◌, ◌*◌, ◌/◌, ◌%◌, ◌≤◌, ◌<◌, ◌≡◌, Bool, true, false, not, cond, List, [], ◌∷◌, map, length, leb, ltb, eqb}
-use Rattle.std.proofs.Math.Option.{none, some}
+use Rattle.std.specs.Prelude.{ℕ, ◌+◌, ◌-◌, ◌*◌, ◌/◌, ◌%◌, ◌≤◌, ◌<◌, ◌≡◌, Bool, true, false, not, cond, List, [], ◌∷◌, map, length, ltb, eqb}
+use Rattle.std.specs.Prelude.{None, Some}
 use Rattle.sizes.specs.Sizes.{tile-end, tile-alphas, most-layers, piece-size}
 use Rattle.rules.specs.Lists.{join}
 use Rattle.rules.specs.Spans.{Span, span, common}
 use Rattle.rules.specs.Depth.{Summary, is-visible, runs-in, tiles-of}
-use Rattle.cmd.specs.Reading.{word-span, command-of}
+use Rattle.cmd.specs.Reading.{word-span, command_of}
 use Rattle.rules.specs.Attributes.{Attrs}
 use Rattle.depth.specs.Listing.{over}
-use Rattle.paint_runs.specs.Summaries.{good-summary, shown-runs}
-use Rattle.paint_command.specs.Painting.{word, paint-at, layer-at, paint-given, layer-given, StepOut, out, listed, command-step, settled}
+use Rattle.paint_runs.specs.Summaries.{good-summary, shown_runs}
+use Rattle.paint_command.specs.Painting.{word, StepOut, out, listed, command-step, settled}
 use Rattle.paint_whole.specs.Running.{run}
-
--- the id of a fill's attribute, a paint's or a layer's by the tag; 0 if it is not good
-abbrev pub id-given : List ℕ → ℕ → List ℕ → ℕ → ℕ → ℕ → ℕ
-id-given ps paints ls layers t i =
-    cond (leb t 2) (paint-given ps paints i) (layer-given ls layers i)
-
--- .. and its panel
-abbrev pub panel-in : List ℕ → List ℕ → ℕ → ℕ → ℕ
-panel-in ps ls t i = cond (leb t 2) (paint-at ps i).panel (layer-at ls i).panel
 
 -- words 2 to 4 of a row's record as its summary
 abbrev pub summary-by : ℕ → ℕ → ℕ → Summary
-summary-by a e n = record { union = cond (eqb n 0) none (some (span a e)); largest = n }
+summary-by a e n = record { union = cond (eqb n 0) None (Some (span a e)); largest = n }
 
 -- an alpha index that a fill's tag allows over a width: none if it is odd, one that can be moved if it is even
 abbrev pub good-index : ℕ → ℕ → ℕ → Bool
@@ -72,9 +63,9 @@ pub record FillSaid (v : ℕ) (u : Summary) (D : List ℕ) (id t w x kind stop j
   pub no-push : kind ≡ 3 → ⊥
   pub no-pop : kind ≡ 4 → ⊥
   pub good : 0 < kind → Fills t w x
-  pub whole : kind ≡ 1 → shown-runs v u D id (word-span w) ≡ word-span w ∷ []
-  pub hidden : kind ≡ 2 → shown-runs v u D id (word-span w) ≡ []
-  pub partly : 4 < kind → (shown-runs v u D id (word-span w) ≡ map (λ (r : Span). common (word-span w) (tiles-of v r)) (runs-met v D id w)) × Looked v D id w (eqb kind 5) stop × (j ≡ id)
+  pub whole : kind ≡ 1 → shown_runs v u D id (word-span w) ≡ word-span w ∷ []
+  pub hidden : kind ≡ 2 → shown_runs v u D id (word-span w) ≡ []
+  pub partly : 4 < kind → (shown_runs v u D id (word-span w) ≡ map (λ (r : Span). common (word-span w) (tiles-of v r)) (runs-met v D id w)) × Looked v D id w (eqb kind 5) stop × (j ≡ id)
 
 -- an alpha index, so many tiles further; a solid fill has none
 abbrev pub moved-index : ℕ → ℕ → ℕ → ℕ
@@ -94,7 +85,7 @@ whole_words t i w x m p = t ∷ i ∷ (w / 65536) ∷ (w % 65536) ∷ x ∷ m �
 module _ (v : ℕ) (attrs : Attrs) (u : Summary) (D : List ℕ) (m t w x i : ℕ) where
   -- the step of four words at nesting m, after q steps
   abbrev pub step-to : ℕ → List ℕ → List ℕ → StepOut
-  step-to q P l = settled (command-step v attrs u (record { buckets = D; steps = q; nesting = m }) (command-of t w x i)) D P l
+  step-to q P l = settled (command-step v attrs u (record { buckets = D; steps = q; nesting = m }) (command_of t w x i)) D P l
 
   -- a fill that is shown in part: what the look has seen of it, and its pieces
   pub record PartSaid (seen : Bool) (stop id panel : ℕ) : Type 0 where
@@ -143,3 +134,4 @@ pub record Reaches (step : List ℕ → List ℕ → List ℕ → StepOut) (D : 
   pub shallow : b.nesting ≤ most-layers
   pub few : piece-size * b.pieces ≤ length b.list
   pub long : length b.list ≡ length a.list
+  pub still : b.at ≤ a.at → b.pieces ≡ a.pieces

@@ -1,2 +1,4 @@
 pub mod Running
 pub mod Kinds
+pub mod Rows
+pub mod Cuts

@@ -1,12 +1,20 @@
 -- A row painted from where it stands: painting steps one after the other, each on what is left of the list.
-use Rattle.std.specs.Prelude.{ℕ, zero, suc, ◌+◌, ◌*◌, Bool, ◌&&◌, not, cond, List, ◌++◌, take, drop, eqb}
+use Rattle.std.specs.Prelude.{Result, Ok, Err, false, ℕ, zero, suc, ◌+◌, ◌*◌, Bool, ◌&&◌, not, cond, List, ◌++◌, take, drop, eqb}
 use Rattle.sizes.specs.Sizes.{piece-size}
 use Rattle.rules.specs.Answers.{Done}
 use Rattle.rules.specs.Attributes.{Attrs}
 use Rattle.screen.specs.declared.Screen.{Screen}
-use Rattle.paint_pieces.specs.declared.Painted.{Painted}
+use Rattle.sizes.specs.declared.answers.Refusal.{Refusal}
+use Rattle.sizes.specs.Refusals.{number_of}
+use Rattle.paint_pieces.specs.declared.Stepped.{Stepped}
+use Rattle.paint_pieces.specs.Answers.{Painted}
 use Rattle.paint_command.specs.Painting.{RowLent, lent, StepOut, out, listed, painted-row}
 use Rattle.paint_screen.specs.Stepping.{Attributes, own-parts, put-parts, stepped}
+
+-- a step's answer after n pieces, which stay if it is refused
+abbrev pub onto : ℕ → Result Stepped Refusal → Painted
+onto n (Ok s) = record { number = Done; finished = s.finished; pieces = s.pieces }
+onto n (Err r) = record { number = number_of r; finished = false; pieces = n }
 
 -- the row has more steps
 abbrev pub goes_on : Painted → Bool

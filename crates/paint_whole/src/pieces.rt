@@ -1,18 +1,30 @@
-// Pieces in the list. Parts: where a function asks something, its callers have judged it.
-ghost use Rattle.std.specs.Prelude.{◌≡◌, ◌+◌, ◌-◌, ◌*◌, ◌/◌, ◌%◌, ◌≤◌, ◌<◌, length};
+// The pieces of a fill that is shown in part. Parts: where a function asks something, its callers have judged it.
+ghost use Rattle.std.specs.Prelude.{◌≡◌, ◌+◌, ◌-◌, ◌*◌, ◌/◌, ◌≤◌, ◌<◌, length};
 ghost use Rattle.sizes.specs.Sizes.{tile-alphas, piece-size};
 ghost use Rattle.rules.specs.Lists.{join};
 ghost use Rattle.rules.specs.Spans.{span};
-ghost use Rattle.rules.specs.Depth.{is-visible, runs-in};
 ghost use Rattle.sizes.specs.Widths.{bucket-tiles};
 ghost use Rattle.cmd.specs.Attrs.{words-at};
-ghost use Rattle.paint_command.specs.Painting.{word};
-ghost use Rattle.paint_whole.specs.Kinds.{Fills, low-met, high-met, moved-index, run-words, runs-met, Looked};
+ghost use Rattle.paint_pieces.specs.Pieces.{words_of};
+ghost use Rattle.paint_whole.specs.Kinds.{low-met, high-met, moved-index, runs-met};
+ghost use Rattle.paint_whole.specs.Cuts.{FillsCut, LookedCut, cut_words, met, FirstRun};
 
-use paint_pieces::put_words;
+use crate::ends::seen_end;
+use cmd::command::CmdWords;
+use depth::search::{Run, next_run};
+use paint_command::Mark;
+use paint_pieces::{PieceWords, Pieces};
+use sizes::TILE_ALPHAS;
 use sizes::width::Width;
-use sizes::{TILE_ALPHAS, wide};
-use span::{larger, smaller};
+
+// A fill that becomes pieces, a run each: its words, the nesting, what its attribute says, and how wide a bucket is.
+#[derive(Clone, Copy)]
+pub struct Cut {
+    pub words: CmdWords,
+    pub nesting: u32,
+    pub mark: Mark,
+    pub width: Width,
+}
 
 // The alpha index of a fill's tile, so many tiles after its first. A solid fill has none.
 fn moved_index(tag: u32, alpha: u32, tiles: u32) -> u32
@@ -25,127 +37,64 @@ fn moved_index(tag: u32, alpha: u32, tiles: u32) -> u32
     alpha + TILE_ALPHAS * tiles
 }
 
-// The buckets a to b of a fill, cut to its tiles, as a piece at place k of the list.
-fn put_run(
-    list: &mut [u32],
-    k: usize,
-    tag: u32,
-    i: u32,
-    tiles: u32,
-    alpha: u32,
-    level: u32,
-    panel: u32,
-    a: usize,
-    b: usize,
-    width: Width,
-)
-    requires { (piece-size * k + piece-size ≤ length list.old) × Fills tag tiles alpha × (a < high-met (bucket-tiles width) tiles) × (b ≤ high-met (bucket-tiles width) tiles) }
-    ensures { list.new ≡ words-at list.old (piece-size * k) (run-words (bucket-tiles width) tag i tiles alpha level panel (span a b)) }
-{
-    let first = tiles / 65536;
-    let from = larger(first, width.times(a as u32));
-    let to = smaller(tiles % 65536, width.times(b as u32));
-    let index = moved_index(tag, alpha, from - first);
-    put_words(list, k, tag, i, from, to, index, level, panel);
-}
-
-// The runs of a fill from bucket `start` to e, as pieces from place k of the list on; it gives the place after them. Whether bucket `start`
-// shows the fill is known: it is not read. `open` says so of bucket `at`, if that is before e.
-fn put_runs(
-    depth: &[u32],
-    start: usize,
-    shown: bool,
-    e: usize,
-    id: u32,
-    list: &mut [u32],
-    k: usize,
-    tag: u32,
-    i: u32,
-    tiles: u32,
-    alpha: u32,
-    level: u32,
-    panel: u32,
-    width: Width,
-) -> usize
-    requires start_lt_e { (start < e) × (e ≤ length depth.now) × (is-visible id (word depth.now start) ≡ shown) }
-    requires fills { Fills tag tiles alpha × (e ≡ high-met (bucket-tiles width) tiles) × (piece-size * (k + length (runs-in (is-visible id) depth.now (span start e))) ≤ length list.old) }
-    ensures value { result ≡ k + length (runs-in (is-visible id) depth.now (span start e)) }
-    ensures list_after { list.new ≡ words-at list.old (piece-size * k) (join (run-words (bucket-tiles width) tag i tiles alpha level panel) (runs-in (is-visible id) depth.now (span start e))) }
-{
-    let mut at = start;
-    let mut open = shown;
-    let mut n = k;
-    while at < e {
-        if open {
-            let mut next = at + 1;
-            let stop = loop {
-                if e <= next {
-                    break next;
-                }
-                if id < depth[next] {
-                    break next;
-                }
-                next += 1;
-            };
-            put_run(list, n, tag, i, tiles, alpha, level, panel, at, stop, width);
-            n += 1;
-            at = stop;
-            open = false;
-        } else {
-            at += 1;
-            if at < e {
-                open = depth[at] <= id;
-            }
+impl Cut {
+    // The buckets of a run, cut to the fill's tiles.
+    fn piece(self, run: Run) -> PieceWords
+        requires { FillsCut self × (run.first < high-met (bucket-tiles self.width) self.words.span) × (run.«end» ≤ high-met (bucket-tiles self.width) self.words.span) }
+        ensures { words_of result ≡ cut_words self (span run.first run.«end») }
+    {
+        let first = self.words.span / 65536;
+        let from = first.max(self.width.times(run.first as u32));
+        let end = (self.words.span % 65536).min(self.width.times(run.end as u32));
+        PieceWords {
+            tag: self.words.tag,
+            attrs_idx: self.words.attrs_idx,
+            first: from,
+            end,
+            alpha: moved_index(self.words.tag, self.words.alpha, from - first),
+            nesting: self.nesting,
+            panel: self.mark.panel,
         }
     }
-    n
+
+    // The end of the buckets that the fill meets.
+    fn end(self) -> usize
+        ensures { result ≡ high-met (bucket-tiles self.width) self.words.span }
+    {
+        self.width.above(self.words.span % 65536) as usize
+    }
+
+    // The first run, of which the look has seen all or the first bucket: the search goes on from there.
+    fn first_run(self, depth: &[u32], seen: bool, stop: usize) -> Run
+        requires { LookedCut self depth.now seen stop }
+        ensures { FirstRun self depth.now result }
+    {
+        if seen {
+            let first = self.width.below(self.words.span / 65536) as usize;
+            return Run { first, end: stop };
+        }
+        Run {
+            first: stop,
+            end: seen_end(depth, stop, self.end(), self.mark.id),
+        }
+    }
 }
 
-// A fill that some of its buckets show and some hide, as pieces from place k of the list on; it gives the place after them. The look has seen
-// its buckets up to `stop`, which are all `seen` or all hidden, and bucket `stop`, which is not: the search goes on from there.
-pub fn put_fill(
-    depth: &[u32],
-    seen: bool,
-    stop: usize,
-    id: u32,
-    list: &mut [u32],
-    k: usize,
-    tag: u32,
-    i: u32,
-    tiles: u32,
-    alpha: u32,
-    level: u32,
-    panel: u32,
-    width: Width,
-) -> usize
-    requires { Looked (bucket-tiles width) depth.now id tiles seen stop × Fills tag tiles alpha × (piece-size * (k + length (runs-met (bucket-tiles width) depth.now id tiles)) ≤ length list.old) }
-    ensures value { result ≡ k + length (runs-met (bucket-tiles width) depth.now id tiles) }
-    ensures list_after { list.new ≡ words-at list.old (piece-size * k) (join (run-words (bucket-tiles width) tag i tiles alpha level panel) (runs-met (bucket-tiles width) depth.now id tiles)) }
+// A fill that some of its buckets show and some hide. The look has seen its buckets up to `stop`, which are all `seen` or all hidden, and
+// bucket `stop`, which is not.
+pub fn put_fill(depth: &[u32], cut: Cut, seen: bool, stop: usize, pieces: &mut Pieces<'_>)
+    requires { LookedCut cut depth.now seen stop × FillsCut cut × (piece-size * (pieces.old.count + length (met cut depth.now)) ≤ length pieces.old.list.now) }
+    ensures same { pieces.new.list.ghost_name ≡ pieces.old.list.ghost_name }
+    ensures count { pieces.new.count ≡ pieces.old.count + length (met cut depth.now) }
+    ensures list { pieces.new.list.now ≡ words-at pieces.old.list.now (piece-size * pieces.old.count) (join (cut_words cut) (met cut depth.now)) }
 {
-    let e = wide(width.above(tiles % 65536));
-    if seen {
-        let a = wide(width.below(tiles / 65536));
-        put_run(list, k, tag, i, tiles, alpha, level, panel, a, stop, width);
-        return put_runs(
-            depth,
-            stop,
-            false,
-            e,
-            id,
-            list,
-            k + 1,
-            tag,
-            i,
-            tiles,
-            alpha,
-            level,
-            panel,
-            width,
-        );
+    let first = cut.first_run(depth, seen, stop);
+    pieces.push(cut.piece(first));
+    let mut from = first.end + 1;
+    while let Some(run) = next_run(depth, from, cut.end(), cut.mark.id) {
+        pieces.push(cut.piece(run));
+        from = run.end + 1;
     }
-    put_runs(
-        depth, stop, true, e, id, list, k, tag, i, tiles, alpha, level, panel, width,
-    )
 }
 
 // How many runs the buckets that a fill meets can have.
@@ -153,7 +102,7 @@ pub fn most_runs(tiles: u32, width: Width) -> usize
     requires { low-met (bucket-tiles width) tiles ≤ high-met (bucket-tiles width) tiles }
     ensures { result ≡ (high-met (bucket-tiles width) tiles - low-met (bucket-tiles width) tiles + 1) / 2 }
 {
-    let a = wide(width.below(tiles / 65536));
-    let e = wide(width.above(tiles % 65536));
+    let a = width.below(tiles / 65536) as usize;
+    let e = width.above(tiles % 65536) as usize;
     (e - a + 1) / 2
 }

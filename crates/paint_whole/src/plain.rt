@@ -1,71 +1,35 @@
 // Commands that one look at their words and the depth words settles: fills and buffers.
 // Parts: where a function asks something, its callers have judged it.
-ghost use Rattle.std.specs.Prelude.{◌≡◌, true, List, ℕ, ◌+◌, ◌-◌, ◌*◌, ◌/◌, ◌%◌, ◌≤◌, ◌<◌, length};
-ghost use Rattle.sizes.specs.Sizes.{tile-end, most-layers, most-room, most-attrs, row-size, paint-attr-table, layer-attr-table, piece-size};
+ghost use Rattle.std.specs.Prelude.{◌≡◌, IfSome, List, ℕ, ◌+◌, ◌*◌, ◌≤◌, ◌<◌, length};
+ghost use Rattle.sizes.specs.Sizes.{tile-end, most-layers, piece-size};
 ghost use Rattle.rules.specs.Attributes.{Attrs};
 ghost use Rattle.rules.specs.Spans.{span};
-ghost use Rattle.rules.specs.Depth.{Summary, can-skip};
+ghost use Rattle.rules.specs.Depth.{Summary, can_skip};
 ghost use Rattle.sizes.specs.Widths.{bucket-tiles};
-ghost use Rattle.paint_runs.specs.Summaries.{summary-at};
-ghost use Rattle.paint_command.specs.Painting.{word, given, attrs-at, out, listed};
-ghost use Rattle.paint_whole.specs.Running.{most, own-step};
-ghost use Rattle.paint_whole.specs.Kinds.{id-given, panel-in, summary-by, good-index, SeenTo, HiddenTo, FillSaid, Said, Calm, place, Reaches, Onward};
+ghost use Rattle.paint_command.specs.Painting.{word, out, listed};
+ghost use Rattle.paint_command.specs.Reading.{attrs_of};
+ghost use Rattle.paint_whole.specs.Running.{most};
+ghost use Rattle.paint_whole.specs.Rows.{steps_of, mark_in, FillSays, Says, SaysAt};
+ghost use Rattle.paint_whole.specs.Kinds.{summary-by, good-index, Calm, place, Reaches, Onward};
 
-use crate::pieces::{most_runs, put_fill};
-use paint_pieces::put_words;
+use crate::ends::{hidden_end, seen_end};
+use crate::pieces::{Cut, most_runs, put_fill};
+use crate::reading::{FillLook, Hull, Look, Partly};
+use cmd::command::{CmdWords, good_span_word};
+use paint_command::{Mark, Row};
+use paint_pieces::{PieceWords, Pieces};
 use paint_runs::is_good_summary;
 use sizes::width::Width;
-use sizes::{
-    DEPTHS, END, FIRST, LARGEST, LAST_ID, LAYER_ATTR, LAYER_ID, LAYER_PANEL, MOST_LAYERS,
-    PAINT_ATTR, PAINT_ID, PAINT_PANEL, PANEL_END, PIECE, RENDERS, TILE_ALPHAS, TILE_END, wide,
-};
+use sizes::{DEPTHS, END, FIRST, LARGEST, MOST_LAYERS, PIECE, RENDERS, TILE_ALPHAS, TILE_END};
 
-// The id if a draw can have taken it, else 0.
-fn taken(id: u32) -> u32
-    ensures { result ≡ given true id }
-{
-    if id <= LAST_ID { id } else { 0 }
-}
-
-// What is read of a fill's attribute: its id, 0 if the attribute is not there or its id or panel is not good; its panel.
-#[derive(Clone, Copy)]
-struct Mark {
-    id: u32,
-    panel: u32,
-}
-
-fn mark_of(
-    tag: u32,
-    i: u32,
-    paint_attrs: &[u32],
-    paints: u32,
-    layer_attrs: &[u32],
-    layers: u32,
-) -> Mark
-    requires { (length paint_attrs.now ≡ paint-attr-table) × (paints ≤ most-attrs) × (length layer_attrs.now ≡ layer-attr-table) × (layers ≤ most-attrs) }
-    ensures id_value { result.id ≡ id-given paint_attrs.now paints layer_attrs.now layers tag i }
-    ensures panel_value { (result.id ≡ 0 → ⊥) → result.panel ≡ panel-in paint_attrs.now layer_attrs.now tag i }
+// What a fill's attribute says, a paint's or a layer's by the tag.
+fn mark_of(row: &Row<'_>, tag: u32, i: u32) -> Option<Mark>
+    ensures { result ≡ mark_in (attrs_of row.now.attrs) tag i }
 {
     if tag <= 2 {
-        if i < paints {
-            let at = PAINT_ATTR * wide(i);
-            let panel = paint_attrs[at + PAINT_PANEL];
-            if panel < PANEL_END {
-                let id = taken(paint_attrs[at + PAINT_ID]);
-                return Mark { id, panel };
-            }
-        }
-        return Mark { id: 0, panel: 0 };
+        return row.attrs.paint(i);
     }
-    if i < layers {
-        let at = LAYER_ATTR * wide(i);
-        let panel = layer_attrs[at + LAYER_PANEL];
-        if panel < PANEL_END {
-            let id = taken(layer_attrs[at + LAYER_ID]);
-            return Mark { id, panel };
-        }
-    }
-    Mark { id: 0, panel: 0 }
+    row.attrs.layer(i)
 }
 
 // A solid fill has no alpha index, another one that can be moved over the whole width.
@@ -82,453 +46,224 @@ fn is_good_index(tag: u32, alpha: u32, width: u32) -> bool
     alpha <= 4294967295 - TILE_ALPHAS * width
 }
 
-// By the summary alone, nothing hides the tiles.
-fn is_apart(from: u32, to: u32, largest: u32, first: u32, end: u32, id: u32) -> bool
-    ensures { result ≡ can-skip (summary-by from to largest) (span first «end») id }
+impl Hull {
+    // By the summary alone, nothing hides the tiles.
+    #[tactic(auto, unfolding(rules::specs::Depth::can_skip))]
+    fn is_apart(self, first: u32, end: u32, id: u32) -> bool
+        ensures { result ≡ can_skip (summary-by self.from self.to self.largest) (span first «end») id }
+    {
+        self.largest <= id || self.to <= first || end <= self.from
+    }
+}
+
+// What one look shows of a fill's words, with its attribute's id.
+fn sure_fill(depth: &[u32], width: Width, words: CmdWords, id: u32, hull: Hull) -> FillLook
+    ensures { FillSays (bucket-tiles width) (summary-by hull.from hull.to hull.largest) depth.now id words.tag words.span words.alpha result }
 {
-    if largest <= id {
-        return true;
+    let first = words.span / 65536;
+    let end = words.span % 65536;
+    if end <= first || TILE_END < end || !is_good_index(words.tag, words.alpha, end - first) {
+        return FillLook::Unsure;
     }
-    if to <= first {
-        return true;
-    }
-    end <= from
-}
-
-// Where the buckets from a on end that hold at most the id, as bucket a does: at e at the latest. Bucket a has been looked at, and is not
-// read again.
-fn seen_end(depth: &[u32], a: usize, e: usize, id: u32) -> usize
-    requires { (a < e) × (e ≤ length depth.now) × (word depth.now a ≤ id) }
-    ensures { SeenTo depth.now id a e result }
-{
-    let mut i = a + 1;
-    while i < e {
-        if id < depth[i] {
-            return i;
-        }
-        i += 1;
-    }
-    i
-}
-
-// The same of buckets that hold more, as bucket a does.
-fn hidden_end(depth: &[u32], a: usize, e: usize, id: u32) -> usize
-    requires { (a < e) × (e ≤ length depth.now) × (id < word depth.now a) }
-    ensures { HiddenTo depth.now id a e result }
-{
-    let mut i = a + 1;
-    while i < e {
-        if depth[i] <= id {
-            return i;
-        }
-        i += 1;
-    }
-    i
-}
-
-// What one look shows of a fill. kind: 0 nothing; all of it is shown, 1, or nothing, 2; of one with this id that it is shown up to
-// bucket `stop`, which hides it, 5, or hidden up to bucket `stop`, which shows it, 6.
-#[derive(Clone, Copy)]
-struct FillLook {
-    kind: u32,
-    stop: usize,
-    id: u32,
-}
-
-// .. of a command: 3 nesting up, 4 nesting down; a fill's attribute has this panel.
-#[derive(Clone, Copy)]
-struct Look {
-    kind: u32,
-    stop: usize,
-    id: u32,
-    panel: u32,
-}
-
-// What one look shows of a fill's words; 0 where it is not sure.
-fn sure_fill(
-    tag: u32,
-    tiles: u32,
-    alpha: u32,
-    id: u32,
-    from: u32,
-    to: u32,
-    largest: u32,
-    depth: &[u32],
-    width: Width,
-) -> FillLook
-    requires { length depth.now ≤ 65535 }
-    ensures { FillSaid (bucket-tiles width) (summary-by from to largest) depth.now id tag tiles alpha result.kind result.stop result.id }
-{
-    let first = tiles / 65536;
-    let end = tiles % 65536;
-    if end <= first {
-        return FillLook {
-            kind: 0,
-            stop: 0,
-            id: 0,
-        };
-    }
-    if TILE_END < end {
-        return FillLook {
-            kind: 0,
-            stop: 0,
-            id: 0,
-        };
-    }
-    if !is_good_index(tag, alpha, end - first) {
-        return FillLook {
-            kind: 0,
-            stop: 0,
-            id: 0,
-        };
-    }
-    let e = wide(width.above(end));
+    let e = width.above(end) as usize;
     if depth.len() < e {
-        return FillLook {
-            kind: 0,
-            stop: 0,
-            id: 0,
-        };
+        return FillLook::Unsure;
     }
-    if is_apart(from, to, largest, first, end, id) {
-        return FillLook {
-            kind: 1,
-            stop: 0,
-            id: 0,
-        };
+    if hull.is_apart(first, end, id) {
+        return FillLook::Whole;
     }
-    let a = wide(width.below(first));
+    let a = width.below(first) as usize;
     if depth[a] <= id {
         if e <= a + 1 {
-            return FillLook {
-                kind: 1,
-                stop: 0,
-                id: 0,
-            };
+            return FillLook::Whole;
         }
         let stop = seen_end(depth, a, e, id);
         if e <= stop {
-            return FillLook {
-                kind: 1,
-                stop: 0,
-                id: 0,
-            };
+            return FillLook::Whole;
         }
-        return FillLook { kind: 5, stop, id };
+        return FillLook::Partly(true, stop);
     }
     if e <= a + 1 {
-        return FillLook {
-            kind: 2,
-            stop: 0,
-            id: 0,
-        };
+        return FillLook::Hidden;
     }
     let end_hidden = hidden_end(depth, a, e, id);
     if e <= end_hidden {
-        return FillLook {
-            kind: 2,
-            stop: 0,
-            id: 0,
-        };
+        return FillLook::Hidden;
     }
-    FillLook {
-        kind: 6,
-        stop: end_hidden,
-        id,
-    }
+    FillLook::Partly(false, end_hidden)
 }
 
-// What a buffer's words show; 0 where they are not sure.
-fn sure_buffer(tag: u32, tiles: u32, alpha: u32, i: u32, nesting: u32) -> u32
-    ensures { (v : ℕ) (a : Attrs) (u : Summary) (D : List ℕ) → Said v a u D nesting tag tiles alpha i result 0 0 0 }
+// What a buffer's words show.
+fn sure_buffer(words: CmdWords, nesting: u32) -> Look
+    ensures { (v : ℕ) (a : Attrs) (u : Summary) (D : List ℕ) → Says v a u D nesting words.tag words.span words.alpha words.attrs_idx result }
 {
-    if alpha != 0 {
-        return 0;
+    if words.alpha != 0 || words.attrs_idx != 0 {
+        return Look::Unsure;
     }
-    if i != 0 {
-        return 0;
-    }
-    if tag == 6 {
-        if tiles % 65536 < tiles / 65536 {
-            return 0;
+    if words.tag == 6 {
+        if good_span_word(TILE_END, words.span) && nesting < MOST_LAYERS {
+            return Look::Push;
         }
-        if TILE_END < tiles % 65536 {
-            return 0;
-        }
-        if nesting < MOST_LAYERS {
-            return 3;
-        }
-        return 0;
+        return Look::Unsure;
     }
-    if tiles != 0 {
-        return 0;
+    if words.span != 0 {
+        return Look::Unsure;
     }
-    if tag == 5 {
-        if nesting < MOST_LAYERS {
-            return 3;
-        }
-        return 0;
+    if words.tag == 5 && nesting < MOST_LAYERS {
+        return Look::Push;
     }
-    if tag == 7 {
-        if 0 < nesting {
-            return 4;
-        }
+    if words.tag == 7 && 0 < nesting {
+        return Look::Pop;
     }
-    0
+    Look::Unsure
 }
 
-// What one look shows of a command's words; 0 where it is not sure.
-fn sure_kind(
-    tag: u32,
-    tiles: u32,
-    alpha: u32,
-    i: u32,
-    nesting: u32,
-    from: u32,
-    to: u32,
-    largest: u32,
-    depth: &[u32],
-    paint_attrs: &[u32],
-    paints: u32,
-    layer_attrs: &[u32],
-    layers: u32,
-    width: Width,
-) -> Look
-    requires { (length paint_attrs.now ≡ paint-attr-table) × (paints ≤ most-attrs) × (length layer_attrs.now ≡ layer-attr-table) × (layers ≤ most-attrs) × (length depth.now ≤ 65535) }
-    ensures { Said (bucket-tiles width) (attrs-at paint_attrs.now paints layer_attrs.now layers) (summary-by from to largest) depth.now nesting tag tiles alpha i result.kind result.stop result.id result.panel }
+// What one look shows of a command's words.
+fn look_at(row: &Row<'_>, depth: &[u32], words: CmdWords, nesting: u32, hull: Hull) -> Look
+    ensures { Says (bucket-tiles row.now.width) (attrs_of row.now.attrs) (summary-by hull.from hull.to hull.largest) depth.now nesting words.tag words.span words.alpha words.attrs_idx result }
 {
-    if 4 < tag {
-        let kind = sure_buffer(tag, tiles, alpha, i, nesting);
-        return Look {
-            kind,
-            stop: 0,
-            id: 0,
-            panel: 0,
-        };
+    if 4 < words.tag {
+        return sure_buffer(words, nesting);
     }
-    if tag == 0 {
-        return Look {
-            kind: 0,
-            stop: 0,
-            id: 0,
-            panel: 0,
-        };
+    if words.tag == 0 {
+        return Look::Unsure;
     }
-    let mark = mark_of(tag, i, paint_attrs, paints, layer_attrs, layers);
-    let id = mark.id;
-    if id == 0 {
-        return Look {
-            kind: 0,
-            stop: 0,
-            id: 0,
-            panel: 0,
-        };
-    }
-    let look = sure_fill(tag, tiles, alpha, id, from, to, largest, depth, width);
-    Look {
-        kind: look.kind,
-        stop: look.stop,
-        id: look.id,
-        panel: mark.panel,
+    let Some(mark) = mark_of(row, words.tag, words.attrs_idx) else {
+        return Look::Unsure;
+    };
+    match sure_fill(depth, row.width, words, mark.id, hull) {
+        FillLook::Unsure => Look::Unsure,
+        FillLook::Whole => Look::Whole(mark.panel),
+        FillLook::Hidden => Look::Hidden,
+        FillLook::Partly(seen, stop) => Look::Partly(Partly { seen, stop, mark }),
     }
 }
 
-// Where a run of commands ended: the place of the next command, the pieces listed, the nesting, what the look showed of that command.
+// The command at place k.
+fn words_at(render: &[u32], k: usize) -> CmdWords
+    requires { 4 * k + 4 ≤ length render.now }
+    ensures { result ≡ record { tag = word render.now (4 * k); span = word render.now (4 * k + 1); alpha = word render.now (4 * k + 2); attrs_idx = word render.now (4 * k + 3) } }
+{
+    let at = 4 * k;
+    CmdWords {
+        tag: render[at],
+        span: render[at + 1],
+        alpha: render[at + 2],
+        attrs_idx: render[at + 3],
+    }
+}
+
+// Where a run of commands ended: the place of the next command, the nesting, and a fill that is shown in part there.
 #[derive(Clone, Copy)]
 struct Reached {
     at: usize,
-    pieces: usize,
     nesting: u32,
-    look: Look,
+    part: Option<Partly>,
 }
 
 // The commands from `start` on, up to `stop` or the first that is not shown or hidden whole.
 fn run_sure(
-    state: &[u32],
-    render: &[u32],
-    fills: &[u32],
+    row: &Row<'_>,
     depth: &[u32],
-    paint_attrs: &[u32],
-    paints: u32,
-    layer_attrs: &[u32],
-    layers: u32,
-    list: &mut [u32],
+    pieces: &mut Pieces<'_>,
     start: usize,
     stop: usize,
-    pieces: usize,
     nesting: u32,
-    width: Width,
 ) -> Reached
-    requires paint_attrs_len { (length paint_attrs.now ≡ paint-attr-table) × (paints ≤ most-attrs) × (length layer_attrs.now ≡ layer-attr-table) × (layers ≤ most-attrs) × (length depth.now ≤ 65535) }
-    requires state_len { (length state.now ≡ row-size) × Calm state.now render.now fills.now × (length render.now ≤ 4 * most-room) }
-    requires start_le_stop { (start ≤ stop) × (stop ≤ word state.now 0) × (nesting ≤ most-layers) × (piece-size * pieces ≤ length list.old) }
-    ensures reaches { Reaches (own-step (bucket-tiles width) (attrs-at paint_attrs.now paints layer_attrs.now layers) state.now render.now fills.now) depth.now (word state.now 1) (place start pieces nesting list.old) (place result.at result.pieces result.nesting list.new) }
+    requires calm { Calm row.now.state.now row.now.render.now row.now.fills.now }
+    requires start_le_stop { (start ≤ stop) × (stop ≤ word row.now.state.now 0) × (nesting ≤ most-layers) }
+    ensures same { pieces.new.list.ghost_name ≡ pieces.old.list.ghost_name }
+    ensures reaches { Reaches (steps_of row.now) depth.now (word row.now.state.now 1) (place start pieces.old.count nesting pieces.old.list.now) (place result.at pieces.new.count result.nesting pieces.new.list.now) }
     ensures at_le_stop { result.at ≤ stop }
-    ensures at_lt_stop { 4 < result.look.kind → (result.at < stop) × Said (bucket-tiles width) (attrs-at paint_attrs.now paints layer_attrs.now layers) (summary-at state.now) depth.now result.nesting (word render.now (4 * result.at)) (word render.now (4 * result.at + 1)) (word render.now (4 * result.at + 2)) (word render.now (4 * result.at + 3)) result.look.kind result.look.stop result.look.id result.look.panel }
+    ensures at_lt_stop { IfSome result.part (λ q. (result.at < stop) × SaysAt row.now depth.now result.nesting result.at (Look.Partly q)) }
 {
-    let from = state[FIRST];
-    let to = state[END];
-    let largest = state[LARGEST];
+    let hull = Hull {
+        from: row.state[FIRST],
+        to: row.state[END],
+        largest: row.state[LARGEST],
+    };
     let mut at = start;
-    let mut n = pieces;
     let mut level = nesting;
     while at < stop {
-        let k = 4 * at;
-        let tag = render[k];
-        let tiles = render[k + 1];
-        let alpha = render[k + 2];
-        let i = render[k + 3];
-        let look = sure_kind(
-            tag,
-            tiles,
-            alpha,
-            i,
-            level,
-            from,
-            to,
-            largest,
-            depth,
-            paint_attrs,
-            paints,
-            layer_attrs,
-            layers,
-            width,
-        );
-        let kind = look.kind;
-        if kind == 1 {
-            if list.len() < PIECE * n + PIECE {
+        let words = words_at(row.render, at);
+        match look_at(row, depth, words, level, hull) {
+            Look::Whole(panel) => {
+                if pieces.left() < PIECE {
+                    break;
+                }
+                pieces.push(PieceWords {
+                    tag: words.tag,
+                    attrs_idx: words.attrs_idx,
+                    first: words.span / 65536,
+                    end: words.span % 65536,
+                    alpha: words.alpha,
+                    nesting: level,
+                    panel,
+                });
+            }
+            Look::Hidden => {}
+            Look::Push => {
+                level += 1;
+            }
+            Look::Pop => {
+                level -= 1;
+            }
+            Look::Partly(part) => {
                 return Reached {
                     at,
-                    pieces: n,
                     nesting: level,
-                    look: Look {
-                        kind: 0,
-                        stop: 0,
-                        id: 0,
-                        panel: 0,
-                    },
+                    part: Some(part),
                 };
             }
-            put_words(
-                list,
-                n,
-                tag,
-                i,
-                tiles / 65536,
-                tiles % 65536,
-                alpha,
-                level,
-                look.panel,
-            );
-            n += 1;
-            at += 1;
-            continue;
+            Look::Unsure => {
+                break;
+            }
         }
-        if kind == 2 {
-            at += 1;
-            continue;
-        }
-        if kind == 3 {
-            level += 1;
-            at += 1;
-            continue;
-        }
-        if kind == 4 {
-            level -= 1;
-            at += 1;
-            continue;
-        }
-        return Reached {
-            at,
-            pieces: n,
-            nesting: level,
-            look,
-        };
+        at += 1;
     }
     Reached {
         at,
-        pieces: n,
         nesting: level,
-        look: Look {
-            kind: 0,
-            stop: 0,
-            id: 0,
-            panel: 0,
-        },
+        part: None,
     }
 }
 
 // The commands from `start` on, up to `stop` or the first that the looks do not settle. A fill that is shown in part is finished from where
 // its look stopped, if the list has room for any result.
 fn run_commands(
-    state: &[u32],
-    render: &[u32],
-    fills: &[u32],
+    row: &Row<'_>,
     depth: &[u32],
-    paint_attrs: &[u32],
-    paints: u32,
-    layer_attrs: &[u32],
-    layers: u32,
-    list: &mut [u32],
+    pieces: &mut Pieces<'_>,
     start: usize,
     stop: usize,
-    pieces: usize,
     nesting: u32,
-    width: Width,
 ) -> Reached
-    requires paint_attrs_len { (length paint_attrs.now ≡ paint-attr-table) × (paints ≤ most-attrs) × (length layer_attrs.now ≡ layer-attr-table) × (layers ≤ most-attrs) × (length depth.now ≤ 65535) }
-    requires state_len { (length state.now ≡ row-size) × Calm state.now render.now fills.now × (length render.now ≤ 4 * most-room) }
-    requires start_le_stop { (start ≤ stop) × (stop ≤ word state.now 0) × (nesting ≤ most-layers) × (piece-size * pieces ≤ length list.old) }
-    ensures reaches { Reaches (own-step (bucket-tiles width) (attrs-at paint_attrs.now paints layer_attrs.now layers) state.now render.now fills.now) depth.now (word state.now 1) (place start pieces nesting list.old) (place result.at result.pieces result.nesting list.new) }
+    requires calm { Calm row.now.state.now row.now.render.now row.now.fills.now }
+    requires start_le_stop { (start ≤ stop) × (stop ≤ word row.now.state.now 0) × (nesting ≤ most-layers) }
+    ensures same { pieces.new.list.ghost_name ≡ pieces.old.list.ghost_name }
+    ensures reaches { Reaches (steps_of row.now) depth.now (word row.now.state.now 1) (place start pieces.old.count nesting pieces.old.list.now) (place result.at pieces.new.count result.nesting pieces.new.list.now) }
     ensures at_le_stop { result.at ≤ stop }
 {
     let mut at = start;
-    let mut n = pieces;
     let mut level = nesting;
     loop {
-        let reached = run_sure(
-            state,
-            render,
-            fills,
-            depth,
-            paint_attrs,
-            paints,
-            layer_attrs,
-            layers,
-            list,
-            at,
-            stop,
-            n,
-            level,
-            width,
-        );
-        let look = reached.look;
-        if look.kind < 5 {
+        let reached = run_sure(row, depth, pieces, at, stop, level);
+        let Some(part) = reached.part else {
             return reached;
-        }
+        };
         let next = reached.at;
-        let k = 4 * next;
-        let tiles = render[k + 1];
-        let so_far = reached.pieces;
-        if list.len() - PIECE * so_far < PIECE * most_runs(tiles, width) {
+        let words = words_at(row.render, next);
+        if pieces.left() < PIECE * most_runs(words.span, row.width) {
             return reached;
         }
         level = reached.nesting;
-        n = put_fill(
-            depth,
-            look.kind == 5,
-            look.stop,
-            look.id,
-            list,
-            so_far,
-            render[k],
-            render[k + 3],
-            tiles,
-            render[k + 2],
-            level,
-            look.panel,
-            width,
-        );
+        let cut = Cut {
+            words,
+            nesting: level,
+            mark: part.mark,
+            width: row.width,
+        };
+        put_fill(depth, cut, part.seen, part.stop, pieces);
         at = next + 1;
     }
 }
@@ -546,80 +281,47 @@ fn none_done(pieces: usize) -> Gone
     Gone { steps: 0, pieces }
 }
 
-fn least(a: usize, b: usize) -> usize
-    ensures { (result ≤ a) × (result ≤ b) }
-{
-    if a < b { a } else { b }
-}
-
 // The row's next commands, at most `limit`, as far as one look settles each; none where depth fills are left or the row is forged.
 pub fn run_plain(
-    state: &[u32],
-    render: &[u32],
-    fills: &[u32],
+    row: &Row<'_>,
     depth: &[u32],
     painting: &mut [u32],
-    paint_attrs: &[u32],
-    paints: u32,
-    layer_attrs: &[u32],
-    layers: u32,
     list: &mut [u32],
     pieces: usize,
     limit: usize,
-    width: Width,
 ) -> Gone
-    requires state_len { (length state.now ≡ row-size) × (length render.now ≤ 4 * most-room) × (length fills.now ≤ 2 * most-room) × (length depth.now ≤ 65535) × (length painting.old ≡ 2) }
-    requires paint_attrs_len { (length paint_attrs.now ≡ paint-attr-table) × (paints ≤ most-attrs) × (length layer_attrs.now ≡ layer-attr-table) × (layers ≤ most-attrs) }
+    requires lens { (length depth.now ≤ 65535) × (length painting.old ≡ 2) }
     requires pieces_in_bounds { (piece-size * pieces ≤ length list.old) × (limit ≤ most) }
-    ensures onward { Onward (own-step (bucket-tiles width) (attrs-at paint_attrs.now paints layer_attrs.now layers) state.now render.now fills.now) result.steps (out (listed pieces) depth.now painting.old list.old) (out (listed result.pieces) depth.now painting.new list.new) }
+    ensures onward { Onward (steps_of row.now) result.steps (out (listed pieces) depth.now painting.old list.old) (out (listed result.pieces) depth.now painting.new list.new) }
+    ensures still { result.steps ≡ 0 → result.pieces ≡ pieces }
     ensures steps_le_limit { (result.steps ≤ limit) × (piece-size * result.pieces ≤ length list.old) }
 {
-    let depths = state[DEPTHS];
+    let depths = row.state[DEPTHS];
     let done = painting[0];
     if done < depths {
         return none_done(pieces);
     }
-    let renders = state[RENDERS];
+    let renders = row.state[RENDERS];
     let next = done - depths;
-    if renders <= next {
-        return none_done(pieces);
-    }
-    if render.len() < 4 * wide(renders) {
-        return none_done(pieces);
-    }
-    if fills.len() < 2 * wide(depths) {
+    if renders <= next
+        || row.render.len() < 4 * renders as usize
+        || row.fills.len() < 2 * depths as usize
+    {
         return none_done(pieces);
     }
     let nesting = painting[1];
-    if MOST_LAYERS < nesting {
+    if MOST_LAYERS < nesting || !is_good_summary(row.state) {
         return none_done(pieces);
     }
-    if !is_good_summary(state) {
-        return none_done(pieces);
-    }
-    let start = wide(next);
-    let some = least(wide(renders) - start, limit);
-    let reached = run_commands(
-        state,
-        render,
-        fills,
-        depth,
-        paint_attrs,
-        paints,
-        layer_attrs,
-        layers,
-        list,
-        start,
-        start + some,
-        pieces,
-        nesting,
-        width,
-    );
+    let start = next as usize;
+    let some = limit.min(renders as usize - start);
+    let mut out = Pieces::new(list, pieces);
+    let reached = run_commands(row, depth, &mut out, start, start + some, nesting);
     let steps = reached.at - start;
-    painting[0] = done + (steps as u32);
+    painting[0] = done + steps as u32;
     painting[1] = reached.nesting;
     Gone {
         steps,
-        pieces: reached.pieces,
+        pieces: out.count,
     }
 }

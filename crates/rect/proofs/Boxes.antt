@@ -1,11 +1,11 @@
 -- What a good viewport is, as facts. Assumes nothing.
 use mathlib.Core.Path.{◌≡◌}
 use mathlib.Core.Bool.{true, ◌&&◌}
-use Prim.Native.Nat.{ℕ, ◌≤◌, ◌%◌}
+use Prim.Native.Nat.{◌≤◌, ◌%◌}
 use native.Mathlib.Omega.{arith}
 use lib.Dec.{leb}
 use borrow.Author.Tests.{leb-true, eqb-true}
-use Rattle.rules.specs.Boxes.{Box, width, height, by_4, bounded, good-box, good-viewport}
+use Rattle.rules.specs.Boxes.{Box, width, height, by_4, bounded, good-box, good_viewport}
 use Rattle.rules.proofs.All.{both}
 use Rattle.rect.specs.Rects.{Small}
 
@@ -21,8 +21,8 @@ pub record View (v : Box) : Type 0 where
   pub wide : width v ≤ 4096
   pub high : height v ≤ 2048
 
-pub view : (v : Box) → good-viewport v ≡ true → View v
-unfolding good-viewport
+pub view : (v : Box) → good_viewport v ≡ true → View v
+unfolding good_viewport
 view v g =
     let a1 = by_4 v.x0 in
     let a2 = by_4 v.x1 in
@@ -54,7 +54,7 @@ view v g =
       high = leb-true _ _ h2.1;
     }
 
-pub small-viewport : (v : Box) → good-viewport v ≡ true → Small v
+pub small-viewport : (v : Box) → good_viewport v ≡ true → Small v
 small-viewport v g =
     let f = view v g in
     record { left = omega (arith, f.in_order, f.right); top = omega (arith, f.in-order-y, f.bottom); right = f.right; bottom = f.bottom }

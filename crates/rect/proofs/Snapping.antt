@@ -3,20 +3,17 @@ use mathlib.Core.Path.{◌≡◌, refl}
 use mathlib.Core.Bool.{Bool, true, false, cond}
 use Prim.Native.Nat.{ℕ, ◌<◌}
 use native.Mathlib.Omega.{arith}
-use Rattle.rules.specs.Boxes.{Box, good-viewport}
+use Rattle.rules.specs.Boxes.{Box, good_viewport}
 use Rattle.rules.specs.Setups.{exact, snapping, snapped, viewport-in}
 use Rattle.rules.proofs.laws.Snapping.{same-modes}
 use Rattle.rect.specs.declared.Rect.{Rect}
-use Rattle.rect.specs.declared.Viewport.{Viewport}
-use Rattle.rect.specs.declared.Viewport.TheVariants as viewport
+use Rattle.std.specs.Prelude.{Ok, Err}
+use Rattle.sizes.specs.declared.answers.Refusal.{Refusal}
+use Rattle.sizes.specs.declared.answers.Refusal.TheVariants.{BadViewport}
 use Rattle.rect.specs.Rects.{rect-of, seen}
 use Rattle.rect.proofs.Boxes.{view}
 
-pub seen-good : (b : Box) → good-viewport b ≡ true → viewport.Good (rect-of b) ≡ seen b
-unfolding seen
-seen-good b g = rw g
-
-pub seen-bad : (b : Box) → good-viewport b ≡ false → viewport.Bad ≡ seen b
+pub seen-bad : (b : Box) → good_viewport b ≡ false → Err BadViewport ≡ seen b
 unfolding seen
 seen-bad b g = rw g
 
@@ -25,31 +22,31 @@ is_false true h = absurd (h refl)
 is_false false h = refl
 
 -- an end past 32,768 stays past it
-pub too-far-right : (b : Box) → 32768 < b.x1 → viewport.Bad ≡ seen (snapped b)
+pub too-far-right : (b : Box) → 32768 < b.x1 → Err BadViewport ≡ seen (snapped b)
 too-far-right b h = seen-bad (snapped b) (is_false _ (λ g. omega (arith, (view (snapped b) g).right, h)))
 
-pub too-far-down : (b : Box) → 32768 < b.y1 → viewport.Bad ≡ seen (snapped b)
+pub too-far-down : (b : Box) → 32768 < b.y1 → Err BadViewport ≡ seen (snapped b)
 too-far-down b h = seen-bad (snapped b) (is_false _ (λ g. omega (arith, (view (snapped b) g).bottom, h)))
 
 -- a viewport that the exact mode takes is the same in the snapping mode
-pub exact-snapped : (b : Box) → good-viewport b ≡ true → viewport-in snapping b ≡ viewport-in exact b
+pub exact-snapped : (b : Box) → good_viewport b ≡ true → viewport-in snapping b ≡ viewport-in exact b
 exact-snapped b g =
     let v = view b g in
     same-modes b (record { left = v.x0-by-4; top = v.y0-by-4; right = v.x1-by-4; bottom = v.y1-by-4 })
 
 -- what an answer of `viewport_in` says
-by-test : (t : Bool) {r : Rect} (s : Rect) → viewport.Good r ≡ cond t (viewport.Good s) viewport.Bad → (t ≡ true) × (r ≡ s)
+by-test : (t : Bool) {r : Rect} (s : Rect) → Ok r ≡ cond t (Ok s) (Err BadViewport) → (t ≡ true) × (r ≡ s)
 by-test true s e = (refl, cc)
 by-test false s e = let z : ◌≡◌ {A = ℕ} 0 1 = cc in absurd (omega arith)
 
-not-by-test : (t : Bool) (s : Rect) → viewport.Bad ≡ cond t (viewport.Good s) viewport.Bad → t ≡ false
-not-by-test true s e = let z : ◌≡◌ {A = ℕ} 0 1 = cc in absurd (omega arith)
-not-by-test false s e = refl
+not-by-test : (t : Bool) (s : Rect) (r : Refusal) → Err r ≡ cond t (Ok s) (Err BadViewport) → (t ≡ false) × (r ≡ BadViewport)
+not-by-test true s r e = let z : ◌≡◌ {A = ℕ} 0 1 = cc in absurd (omega arith)
+not-by-test false s r e = (refl, cc)
 
-pub good-seen : (b : Box) (r : Rect) → viewport.Good r ≡ seen b → (good-viewport b ≡ true) × (r ≡ rect-of b)
+pub good-seen : (b : Box) (r : Rect) → Ok r ≡ seen b → (good_viewport b ≡ true) × (r ≡ rect-of b)
 unfolding seen
-good-seen b r e = by-test (good-viewport b) _ e
+good-seen b r e = by-test (good_viewport b) _ e
 
-pub bad-seen : (b : Box) → viewport.Bad ≡ seen b → good-viewport b ≡ false
+pub bad-seen : (b : Box) (r : Refusal) → Err r ≡ seen b → (good_viewport b ≡ false) × (r ≡ BadViewport)
 unfolding seen
-bad-seen b e = not-by-test (good-viewport b) _ e
+bad-seen b r e = not-by-test (good_viewport b) _ r e

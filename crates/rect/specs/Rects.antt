@@ -1,12 +1,12 @@
 -- The code's boxes as the rules' boxes.
-use Rattle.std.specs.Prelude.{◌≤◌, Bool, ◌&&◌, cond, eqb}
-use Rattle.rules.specs.Boxes.{Box, box, good-viewport}
+use Rattle.std.specs.Prelude.{◌≤◌, Bool, ◌&&◌, cond, eqb, Result, Ok, Err}
+use Rattle.sizes.specs.declared.answers.Refusal.{Refusal}
+use Rattle.sizes.specs.declared.answers.Refusal.TheVariants.{BadViewport}
+use Rattle.rules.specs.Boxes.{Box, box, good_viewport}
 use Rattle.rules.specs.Setups as rule
 use Rattle.rect.specs.declared.Rect.{Rect}
 use Rattle.rect.specs.declared.Mode.{Mode}
 use Rattle.rect.specs.declared.Mode.TheVariants as mode
-use Rattle.rect.specs.declared.Viewport.{Viewport}
-use Rattle.rect.specs.declared.Viewport.TheVariants as viewport
 
 abbrev pub box_of : Rect → Box
 box_of r = box r.x0 r.y0 r.x1 r.y1
@@ -19,8 +19,8 @@ mode_of mode.Exact = rule.exact
 mode_of mode.Snapping = rule.snapping
 
 -- a box as a screen's viewport, if it is good (answer 2)
-unfoldable pub seen : Box → Viewport
-seen b = cond (good-viewport b) (viewport.Good (rect-of b)) viewport.Bad
+unfoldable pub seen : Box → Result Rect Refusal
+seen b = cond (good_viewport b) (Ok (rect-of b)) (Err BadViewport)
 
 abbrev pub same-box : Box → Box → Bool
 same-box a b = eqb a.x0 b.x0 && eqb a.y0 b.y0 && eqb a.x1 b.x1 && eqb a.y1 b.y1

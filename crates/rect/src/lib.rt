@@ -1,17 +1,18 @@
 // Boxes in pixels (vello_common's RectU16). Parts: `is_..` judge any numbers, the others are exact on any.
 #![tactic(auto)]
 
-ghost use Rattle.std.specs.Prelude.{◌≡◌, ◌-◌, ◌≤◌};
-ghost use Rattle.rules.specs.Boxes.{width, height, empty-box, meet, to-local, bounded, good-dest, good-box, good-viewport, whole, span_of, box};
+ghost use Rattle.std.specs.Prelude.{◌≡◌, ◌≤◌};
+ghost use Rattle.rules.specs.Boxes.{width, height, empty-box, meet, to-local, bounded, good-dest, good-box, good_viewport, whole, span_of, box};
 ghost use Rattle.rules.specs.Setups.{snapped, viewport-in};
 ghost use Rattle.span.specs.Spans.{tiles};
-ghost use Rattle.rect.specs.Rects.{box_of, same-box, mode_of, seen};
+ghost use Rattle.rect.specs.Rects.{box_of, mode_of, seen};
 
+use sizes::answers::Refusal;
 use sizes::{MOST_HEIGHT, MOST_WIDTH};
-use span::{TileSpan, larger, smaller};
+use span::TileSpan;
 
 // From a left and a top edge to a right and a bottom edge, in pixels.
-#[derive(Clone, Copy)]
+#[derive(Clone, Copy, PartialEq, Eq)]
 pub struct Rect {
     pub x0: u32,
     pub y0: u32,
@@ -26,13 +27,6 @@ pub enum Mode {
     Snapping,
 }
 
-// What a box gives as a screen's viewport: answer 2, or the box that the screen holds.
-#[derive(Clone, Copy)]
-pub enum Viewport {
-    Bad,
-    Good(Rect),
-}
-
 // No box: all zeros.
 pub const NOWHERE: Rect = Rect {
     x0: 0,
@@ -41,36 +35,26 @@ pub const NOWHERE: Rect = Rect {
     y1: 0,
 };
 
-// A difference that stops at 0.
-pub fn less(a: u32, b: u32) -> u32
-    ensures { result ≡ a - b }
-{
-    if b < a { a - b } else { 0 }
-}
-
 impl Rect {
     // From left to right, 0 where the end is not after the start.
     pub fn width(self) -> u32
         ensures { result ≡ width (box_of self) }
     {
-        less(self.x1, self.x0)
+        self.x1.saturating_sub(self.x0)
     }
 
     // From top to bottom, likewise.
     pub fn height(self) -> u32
         ensures { result ≡ height (box_of self) }
     {
-        less(self.y1, self.y0)
+        self.y1.saturating_sub(self.y0)
     }
 
     // No pixel lies in it.
     pub fn is_empty(self) -> bool
         ensures { result ≡ empty-box (box_of self) }
     {
-        if self.x1 <= self.x0 {
-            return true;
-        }
-        self.y1 <= self.y0
+        self.x1 <= self.x0 || self.y1 <= self.y0
     }
 
     // The pixels of both.
@@ -78,10 +62,10 @@ impl Rect {
         ensures { box_of result ≡ meet (box_of self) (box_of other) }
     {
         Rect {
-            x0: larger(self.x0, other.x0),
-            y0: larger(self.y0, other.y0),
-            x1: smaller(self.x1, other.x1),
-            y1: smaller(self.y1, other.y1),
+            x0: self.x0.max(other.x0),
+            y0: self.y0.max(other.y0),
+            x1: self.x1.min(other.x1),
+            y1: self.y1.min(other.y1),
         }
     }
 
@@ -90,10 +74,10 @@ impl Rect {
         ensures { box_of result ≡ to-local (box x y 0 0) (box_of self) }
     {
         Rect {
-            x0: less(self.x0, x),
-            y0: less(self.y0, y),
-            x1: less(self.x1, x),
-            y1: less(self.y1, y),
+            x0: self.x0.saturating_sub(x),
+            y0: self.y0.saturating_sub(y),
+            x1: self.x1.saturating_sub(x),
+            y1: self.y1.saturating_sub(y),
         }
     }
 
@@ -101,55 +85,29 @@ impl Rect {
     pub fn is_bounded(self) -> bool
         ensures { result ≡ bounded (box_of self) }
     {
-        if self.x1 < self.x0 {
-            return false;
-        }
-        if self.y1 < self.y0 {
-            return false;
-        }
-        if 32768 < self.x1 {
-            return false;
-        }
-        self.y1 <= 32768
+        self.x0 <= self.x1 && self.y0 <= self.y1 && self.x1 <= 32768 && self.y1 <= 32768
     }
 
     // A filter's dest box: bounded, x in whole tiles.
     pub fn is_good_dest(self) -> bool
         ensures { result ≡ good-dest (box_of self) }
     {
-        if self.x0 % 4 != 0 {
-            return false;
-        }
-        if self.x1 % 4 != 0 {
-            return false;
-        }
-        self.is_bounded()
+        self.x0 % 4 == 0 && self.x1 % 4 == 0 && self.is_bounded()
     }
 
     // A clip's box: bounded, in whole tiles.
     pub fn is_good(self) -> bool
         ensures { result ≡ good-box (box_of self) }
     {
-        if self.y0 % 4 != 0 {
-            return false;
-        }
-        if self.y1 % 4 != 0 {
-            return false;
-        }
-        self.is_good_dest()
+        self.y0 % 4 == 0 && self.y1 % 4 == 0 && self.is_good_dest()
     }
 
     // The viewport rules: a good box of at most 4,096 x 2,048 pixels.
+    #[tactic(auto, unfolding(rules::specs::Boxes::good_viewport))]
     pub fn is_good_viewport(self) -> bool
-        ensures { result ≡ good-viewport (box_of self) }
+        ensures { result ≡ good_viewport (box_of self) }
     {
-        if !self.is_good() {
-            return false;
-        }
-        if MOST_WIDTH < self.width() {
-            return false;
-        }
-        self.height() <= MOST_HEIGHT
+        self.is_good() && self.width() <= MOST_WIDTH && self.height() <= MOST_HEIGHT
     }
 
     // The tile edges around it. Its ends are no further than a viewport's, so no number overflows.
@@ -165,36 +123,26 @@ impl Rect {
         }
     }
 
-    fn viewport(self) -> Viewport
-        ensures { result ≡ seen (box_of self) }
-    {
-        if self.is_good_viewport() {
-            return Viewport::Good(self);
-        }
-        Viewport::Bad
-    }
-
-    // The viewport that a screen has of this box in a mode: the limits are judged on the snapped box alone.
-    pub fn viewport_in(self, mode: Mode) -> Viewport
+    // The viewport that a screen has of this box in a mode, or answer 2: the limits are judged on the snapped box alone.
+    pub fn viewport_in(self, mode: Mode) -> Result<Rect, Refusal>
         ensures { result ≡ seen (viewport-in (mode_of mode) (box_of self)) }
     {
         match mode {
             Mode::Exact => self.viewport(),
-            Mode::Snapping => self.snapped_viewport(),
+            Mode::Snapping if self.x1 <= 32768 && self.y1 <= 32768 => {
+                self.snap_to_tile_coordinates().viewport()
+            }
+            Mode::Snapping => Err(Refusal::BadViewport),
         }
     }
 
-    fn snapped_viewport(self) -> Viewport
-        ensures { result ≡ seen (snapped (box_of self)) }
+    #[tactic(auto, unfolding(crate::specs::Rects::seen))]
+    fn viewport(self) -> Result<Rect, Refusal>
+        ensures { result ≡ seen (box_of self) }
     {
-        if 32768 < self.x1 {
-            return Viewport::Bad;
-        }
-        if 32768 < self.y1 {
-            return Viewport::Bad;
-        }
-        let around = self.snap_to_tile_coordinates();
-        around.viewport()
+        self.is_good_viewport()
+            .then_some(self)
+            .ok_or(Refusal::BadViewport)
     }
 
     // A box of the same size at 0, 0: the first clip box of this viewport.
@@ -210,32 +158,12 @@ impl Rect {
     }
 
     // The tiles from left to right; an empty box has none.
+    #[tactic(auto, unfolding(rules::specs::Boxes::span_of))]
     pub fn bbox_span(self) -> TileSpan
         ensures { tiles result ≡ span_of (box_of self) }
     {
         let first = self.x0 / 4;
-        if self.is_empty() {
-            return TileSpan { first, end: first };
-        }
-        TileSpan {
-            first,
-            end: self.x1 / 4,
-        }
-    }
-
-    // The same four edges.
-    pub fn is_same(self, other: Rect) -> bool
-        ensures { result ≡ same-box (box_of self) (box_of other) }
-    {
-        if self.x0 != other.x0 {
-            return false;
-        }
-        if self.y0 != other.y0 {
-            return false;
-        }
-        if self.x1 != other.x1 {
-            return false;
-        }
-        self.y1 == other.y1
+        let end = if self.is_empty() { first } else { self.x1 / 4 };
+        TileSpan { first, end }
     }
 }

@@ -3,12 +3,12 @@
 use mathlib.Core.Path.{◌≡◌, refl, sym, ap, ◌∙◌}
 use mathlib.Core.Bool.{Bool, true, false, cond}
 use mathlib.Core.List.{List}
-use mathlib.Core.Option.{Option, none, some}
+use Rattle.std.specs.Prelude.{Option, None, Some}
 use Prim.Native.Nat.{ℕ}
 use lib.Dec.{leb, ltb, eqb}
 use borrow.Author.Tests.{le-ltb, eqb-true}
 use Rattle.rules.specs.Answers.{Answer, answer, settle, Done, BadArena, BadViewport, BadForm, BadRecord, BadOrder}
-use Rattle.rules.specs.Boxes.{Box, good-viewport, rows_of}
+use Rattle.rules.specs.Boxes.{Box, good_viewport, rows_of}
 use Rattle.rules.specs.Rows.{Row, fresh-row, row-ops}
 use Rattle.rules.specs.Steps.{Screen, reset, call}
 use Rattle.rules.specs.Recording.{Recording, shape, sections, recording, good-records, good-order}
@@ -16,9 +16,9 @@ use Rattle.rules.specs.Plans.{Frame, Step}
 use Rattle.rules.specs.Setups.{Setup, frame}
 use Rattle.rules.specs.Walk.{◌then◌, good-arenas, frame-of, judge-records, walk-all, play-records, play}
 use Rattle.rules.proofs.All.{never}
-use Rattle.screen.specs.Judging.{good-tables, arenas, judged-reset}
-use Rattle.screen.specs.Tables.{lengths, ScreenLent, reset-to}
-use Rattle.screen.proofs.Laws.{few-rows}
+use Rattle.screen.specs.Judging.{good-tables, arenas, judged_reset}
+use Rattle.screen.specs.Tables.{lengths, ScreenLent, reset_to}
+use Rattle.screen.proofs.Laws.{few_rows}
 use Rattle.file_steps.specs.Steps.{call_at}
 use Rattle.file_judge.specs.Judging.{judged}
 use Rattle.file_call.specs.Recorded.{or-fresh, played, recorded-in, of-sections, recorded}
@@ -29,7 +29,7 @@ use Rattle.refine_file.specs.Played.{place, unaltered, made, Plays}
 
 module _ (S : Type 0) (step : Step → S → Answer S) (fresh-state : Frame → S) (R : S → ScreenLent → Type 0)
     (follows : (x : Step) → Follow R (step x) (call_at x))
-    (reset-made : (f : Frame) (l : ScreenLent) → judged-reset f (lengths l.tables) ≡ 0 → R (fresh-state f) (reset-to f l).value) where
+    (reset-made : (f : Frame) (l : ScreenLent) → judged_reset f (lengths l.tables) ≡ 0 → R (fresh-state f) (reset_to f l).value) where
   module _ (r : Recording) (q : Setup) (l : ScreenLent) (old : S)
       (t : good-tables (rows_of (frame q r.viewport).viewport) (lengths l.tables) ≡ true) where
     abbrev f : Frame
@@ -77,10 +77,10 @@ module _ (S : Type 0) (step : Step → S → Answer S) (fresh-state : Frame → 
 
     -- the call at the words
     abbrev fresh : Answer ScreenLent
-    fresh = reset-to f l
+    fresh = reset_to f l
 
-    refused-reset : (n : ℕ) → judged-reset f (lengths l.tables) ≡ n → eqb n Done ≡ false → recorded-in r q l ≡ answer n l
-    unfolding recorded-in ◌then◌ reset-to
+    refused-reset : (n : ℕ) → judged_reset f (lengths l.tables) ≡ n → eqb n Done ≡ false → recorded-in r q l ≡ answer n l
+    unfolding recorded-in ◌then◌ reset_to
     refused-reset n e z = rw (e, z, z)
 
     done-reset : fresh.number ≡ Done → recorded-in r q l ≡ played r fresh.value
@@ -98,32 +98,32 @@ module _ (S : Type 0) (step : Step → S → Answer S) (fresh-state : Frame → 
     abbrev ours : Answer ScreenLent
     ours = recorded-in r q l
 
-    no-play : (n : ℕ) → eqb n Done ≡ false → leb n BadForm ≡ true → judge-records (place q l) r ≡ n → judged-reset f (lengths l.tables) ≡ n → Plays R old l theirs ours
+    no-play : (n : ℕ) → eqb n Done ≡ false → leb n BadForm ≡ true → judge-records (place q l) r ≡ n → judged_reset f (lengths l.tables) ≡ n → Plays R old l theirs ours
     no-play n z k e g = rw (refused-play n e z, refused-reset n g z, k) (record { number = refl; value = unaltered z refl refl })
 
-    bad-view : good-viewport v ≡ false → Plays R old l theirs ours
-    unfolding judge-records judged-reset
+    bad-view : good_viewport v ≡ false → Plays R old l theirs ours
+    unfolding judge-records judged_reset
     bad-view e = no-play BadViewport refl refl (rw e) (rw e)
 
-    module _ (e : good-viewport v ≡ true) where
+    module _ (e : good_viewport v ≡ true) where
       few : ltb 512 (rows_of v) ≡ false
-      few = le-ltb 512 (rows_of v) (few-rows v e)
+      few = le-ltb 512 (rows_of v) (few_rows v e)
 
       bad-arenas : good-arenas f (arenas (lengths l.tables)) ≡ false → Plays R old l theirs ours
-      unfolding judge-records judged-reset
+      unfolding judge-records judged_reset
       bad-arenas g = no-play BadArena refl refl (rw (e, few, g)) (rw (e, g))
 
       module _ (g : good-arenas f (arenas (lengths l.tables)) ≡ true) where
-        judged-done : judged-reset f (lengths l.tables) ≡ 0
-        unfolding judged-reset
+        judged-done : judged_reset f (lengths l.tables) ≡ 0
+        unfolding judged_reset
         judged-done = rw (e, g, t)
 
         resets : R start fresh.value
         resets = reset-made f l judged-done
 
         ours-is : ours ≡ played r fresh.value
-        unfolding reset-to
-        ours-is = done-reset (settle-number (judged-reset f (lengths l.tables)) l _ ∙ judged-done)
+        unfolding reset_to
+        ours-is = done-reset (settle-number (judged_reset f (lengths l.tables)) l _ ∙ judged-done)
 
         judge-is : judge-records (place q l) r ≡ judged r
         unfolding judge-records
@@ -157,9 +157,9 @@ module _ (S : Type 0) (step : Step → S → Answer S) (fresh-state : Frame → 
 
     -- the records of a file
     pub records-play : Plays R old l theirs ours
-    records-play = go (good-viewport v) (good-arenas f (arenas (lengths l.tables))) refl refl
+    records-play = go (good_viewport v) (good-arenas f (arenas (lengths l.tables))) refl refl
       where
-        go : (x y : Bool) → good-viewport v ≡ x → good-arenas f (arenas (lengths l.tables)) ≡ y → Plays R old l theirs ours
+        go : (x y : Bool) → good_viewport v ≡ x → good-arenas f (arenas (lengths l.tables)) ≡ y → Plays R old l theirs ours
         go false y p q = bad-view p
         go true false p q = bad-arenas p q
         go true true p q = by-records p q (good-records r) (good-order r) refl refl
@@ -167,7 +167,7 @@ module _ (S : Type 0) (step : Step → S → Answer S) (fresh-state : Frame → 
   -- A recording call, from a state's words to all words afterwards: it has the rules' number, and leaves words that R relates to the rules'
   -- state, or alters nothing. The tables beside the arenas are as long as the frame asks.
   pub words-play : (ws : List ℕ) (q : Setup) (l : ScreenLent) (old : S)
-      → ((ss : List (List (List ℕ))) → sections shape ws ≡ some ss → good-tables (rows_of (frame q (recording ss).viewport).viewport) (lengths l.tables) ≡ true)
+      → ((ss : List (List (List ℕ))) → sections shape ws ≡ Some ss → good-tables (rows_of (frame q (recording ss).viewport).viewport) (lengths l.tables) ≡ true)
       → Plays R old l (play S step fresh-state (place q l) old ws) (recorded ws q l)
   unfolding play recorded
   words-play ws q l old h = go (sections shape ws) refl
@@ -175,16 +175,16 @@ module _ (S : Type 0) (step : Step → S → Answer S) (fresh-state : Frame → 
       go : (o : Option (List (List (List ℕ)))) → sections shape ws ≡ o
           → Plays R old l
           (elim o [
-            | none ↦ answer BadForm old
-            | some ss ↦ play-records S step fresh-state (place q l) old (recording ss)
+            | None ↦ answer BadForm old
+            | Some ss ↦ play-records S step fresh-state (place q l) old (recording ss)
           ])
           (of-sections o q l)
-      go none e = record { number = refl; value = unaltered refl refl refl }
-      go (some ss) e = records-play (recording ss) q l old (h ss e)
+      go None e = record { number = refl; value = unaltered refl refl refl }
+      go (Some ss) e = records-play (recording ss) q l old (h ss e)
 
 -- The screens of the rules: the words left are those of the rules' screen.
 pub file-plays : (ws : List ℕ) (q : Setup) (l : ScreenLent) (old : Screen Row)
-    → ((ss : List (List (List ℕ))) → sections shape ws ≡ some ss → good-tables (rows_of (frame q (recording ss).viewport).viewport) (lengths l.tables) ≡ true)
+    → ((ss : List (List (List ℕ))) → sections shape ws ≡ Some ss → good-tables (rows_of (frame q (recording ss).viewport).viewport) (lengths l.tables) ≡ true)
     → Plays Refines old l (play (Screen Row) (call Row row-ops) (reset fresh-row) (place q l) old ws) (recorded ws q l)
 file-plays =
     words-play (Screen Row) (call Row row-ops) (reset fresh-row) Refines

@@ -2,16 +2,16 @@
 use mathlib.Core.Path.{◌≡◌, refl, sym, ap, ◌∙◌}
 use mathlib.Core.Bool.{Bool, true, false, ◌&&◌, ◌||◌, not, cond}
 use mathlib.Core.List.{List, [], ◌∷◌, ◌++◌, map}
-use mathlib.Core.Option.{Option, none, some}
+use Rattle.std.specs.Prelude.{Option, None, Some}
 use Prim.Native.Nat.{ℕ, zero, suc, ◌+◌, ◌-◌, ◌/◌, ◌≤◌, ◌<◌, max}
 use native.Mathlib.Omega.{arith}
 use lib.Dec.{leb, ltb, eqb}
 use lib.ListN.{length, replicate}
 use borrow.Author.Tests.{leb-true, ltb-true, ltb-false, eqb-true, eqb-false, eq-eqb}
-use Rattle.rules.specs.Lists.{some_of, change, count-from, range}
+use Rattle.rules.specs.Lists.{some_of, change, count-from}
 use Rattle.rules.specs.Answers.{answer, Done, BadRecord, NoLayer}
 use Rattle.rules.specs.Boxes.{Box, meet, to-local, rows_of, rows_in, span_of, scene-tiles}
-use Rattle.rules.specs.Spans.{Span, Stretch, cut-to, span}
+use Rattle.rules.specs.Spans.{Span, Stretch, cut_to, span}
 use Rattle.rules.specs.Segments.{Segment, Cut, localised, on_row, stretch-of, cut_in, cuts}
 use Rattle.rules.specs.Inputs.{Paint, Draw, Clip, Props, Filter, good-filter-fill, draw-segments}
 use Rattle.rules.specs.Rows.{Row, fresh-row, row-ops}
@@ -87,15 +87,15 @@ rows_inside b =
 module _ (v c : Box) where
   local-row : (s : Segment) (o : Option Stretch) → (scene-tiles v c).y0 ≤ s.row → s.row < (scene-tiles v c).y1 → All (λ (k : Cut). In c k.row) (localised v s.row o)
   unfolding scene-tiles
-  local-row s none f t = nil
-  local-row s (some k) f t =
+  local-row s None f t = nil
+  local-row s (Some k) f t =
       let q : In c (s.row - v.y0 / 4) = record { from = omega arith; to = omega arith } in
       cons q nil
 
   cut-row : (s : Segment) (o : Option Stretch) → All (λ (k : Cut). In c k.row) (localised v s.row (on_row (scene-tiles v c) s o))
   cut-row s o = go (leb (scene-tiles v c).y0 s.row && ltb s.row (scene-tiles v c).y1) refl
     where
-      go : (t : Bool) → (leb (scene-tiles v c).y0 s.row && ltb s.row (scene-tiles v c).y1) ≡ t → All (λ (k : Cut). In c k.row) (localised v s.row (cond t o none))
+      go : (t : Bool) → (leb (scene-tiles v c).y0 s.row && ltb s.row (scene-tiles v c).y1) ≡ t → All (λ (k : Cut). In c k.row) (localised v s.row (cond t o None))
       go true e =
           let h = both (leb (scene-tiles v c).y0 s.row) (ltb s.row (scene-tiles v c).y1) e in
           local-row s o (leb-true (scene-tiles v c).y0 s.row h.0) (ltb-true s.row (scene-tiles v c).y1 h.1)
@@ -103,7 +103,7 @@ module _ (v c : Box) where
 
   one-cut : (s : Segment) → All (λ (k : Cut). In c k.row) (cut_in v (scene-tiles v c) s)
   unfolding cut_in
-  one-cut s = cut-row s (cut-to (span (scene-tiles v c).x0 (scene-tiles v c).x1) (stretch-of s))
+  one-cut s = cut-row s (cut_to (span (scene-tiles v c).x0 (scene-tiles v c).x1) (stretch-of s))
 
   pub cuts-inside : (ss : List Segment) → All (λ (k : Cut). In c k.row) (cuts v c ss)
   unfolding cuts
@@ -119,8 +119,8 @@ meet-under v a [] = tt
 meet-under v a (l ∷ ls) = (omega arith, omega arith)
 
 pub layer-under : (v : Box) (ls : List Layer) (c : Option Clip) → Under (layer-box v (clip-box v ls) c) ls
-layer-under v ls none = clip-under v ls
-layer-under v ls (some c) = meet-under v (to-local v c.bounds) ls
+layer-under v ls None = clip-under v ls
+layer-under v ls (Some c) = meet-under v (to-local v c.bounds) ls
 
 module _ (s : State) (n : Nested s.layers) where
   draws-in : (e : Bool) (i id : ℕ) {ks : List Cut} → All (λ (k : Cut). In (box_of s) k.row) ks → All (PutIn s.layers) (draw-puts e i id ks)
@@ -151,7 +151,7 @@ module _ (s : State) (n : Nested s.layers) where
   filter-in-in : (b : Box) → Under b s.layers → (count : ℕ) (f : Filter) (q : ℕ) → All (PutIn s.layers) (plan-filter-in b count f q s).puts
   unfolding plan-filter-in filter-puts
   filter-in-in b u count f q =
-      all-over (on (paint (span_of b) none (length s.attrs.paints))) (λ i h. inside (on (paint (span_of b) none (length s.attrs.paints)) i) (in_all i b s.layers u n h)) (rows_inside b)
+      all-over (on (paint (span_of b) None (length s.attrs.paints))) (λ i h. inside (on (paint (span_of b) None (length s.attrs.paints)) i) (in_all i b s.layers u n h)) (rows_inside b)
 
   filter-layers : (count : ℕ) (f : Filter) (q : ℕ) → (plan-filter count f q s).layers ≡ s.layers
   unfolding plan-filter plan-filter-in
@@ -253,8 +253,8 @@ closes_in i ts (k ∷ ks) = all-if (some_of (eqb k.row) ts) (cons (closed k.stre
 
 closing-in : (c : Option Clip) (v own parent : Box) (i : ℕ) (ss : List Segment) (ts : List ℕ) → All Closes (closing c v own parent i ss ts)
 unfolding closing
-closing-in none v own parent i ss ts = all-mapped (on (close (span_of own) none i)) (λ r. closed (span_of own) none i r) ts
-closing-in (some c) v own parent i ss ts = closes_in i ts (cuts v parent (clip-segments (some c) ss))
+closing-in None v own parent i ss ts = all-mapped (on (close (span_of own) None i)) (λ r. closed (span_of own) None i r) ts
+closing-in (Some c) v own parent i ss ts = closes_in i ts (cuts v parent (clip-segments (Some c) ss))
 
 -- the calls
 keep-plan : (p : Plan) (s : Screen Row) → Nested p.layers → All (PutIn p.layers) p.puts → ((i : ℕ) → Reached p.layers i (levels-at s.rows i)) → Reaching (done Row row-ops p s)

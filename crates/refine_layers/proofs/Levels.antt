@@ -1,7 +1,7 @@
 -- How many levels a row has after an act, and after puts. Assumes nothing.
 use mathlib.Core.Path.{◌≡◌, refl, ap, ◌∙◌}
 use mathlib.Core.List.{List, [], ◌∷◌, foldl}
-use mathlib.Core.Option.{Option, none, some}
+use Rattle.std.specs.Prelude.{Option, None, Some}
 use Prim.Native.Nat.{ℕ, zero, suc, ◌+◌, ◌-◌, ◌≤◌, max}
 use native.Mathlib.Omega.{arith}
 use lib.ListN.{length, get_or}
@@ -18,9 +18,9 @@ abbrev pub levels : Row → ℕ
 levels r = length r.levels
 
 include-levels : (a : Option Span) (ls : List Level) → length (include a ls) ≡ length ls
-include-levels none ls = refl
-include-levels (some s) [] = refl
-include-levels (some s) (l ∷ ls) = refl
+include-levels None ls = refl
+include-levels (Some s) [] = refl
+include-levels (Some s) (l ∷ ls) = refl
 
 pub put-levels : (c : Command) (r : Row) → levels (put-command c r) ≡ levels r
 unfolding put-command
@@ -56,7 +56,7 @@ module _ (n : ℕ) where
 module _ (w : ℕ) where
   part-levels : (i id : ℕ) (r : Row) (p : Part) → levels (put-part Row row-ops w i id r p) ≡ levels r
   unfolding put-depth-fill
-  part-levels i id r (regular s) = put-levels (paint-fill s none i) r
+  part-levels i id r (regular s) = put-levels (paint-fill s None i) r
   part-levels i id r (buckets b) = refl
 
   parts-levels : (i id : ℕ) (r : Row) (ps : List Part) → levels (foldl (put-part Row row-ops w i id) r ps) ≡ levels r

@@ -2,7 +2,7 @@
 use mathlib.Core.Path.{◌≡◌, refl, sym, ap, ◌∙◌}
 use mathlib.Core.Bool.{Bool, true, false, cond}
 use mathlib.Core.List.{List, [], ◌∷◌, ◌++◌, foldl}
-use mathlib.Core.Option.{Option, none, some}
+use Rattle.std.specs.Prelude.{Option, None, Some}
 use Prim.Native.Nat.{ℕ, zero, suc, ◌+◌, ◌-◌, ◌/◌, ◌≤◌, ◌<◌}
 use native.Mathlib.Omega.{arith}
 use lib.Dec.{leb, ltb}
@@ -13,7 +13,7 @@ use Rattle.sizes.specs.Widths.{bucket-tiles}
 use Rattle.rules.specs.Lists.{keep, change, times}
 use Rattle.rules.specs.Spans.{Span, span, hull}
 use Rattle.rules.specs.Split.{Part, regular, buckets, split, raised, lowered, around}
-use Rattle.rules.specs.Depth.{included, tiles-of}
+use Rattle.rules.specs.Depth.{tiles-of}
 use Rattle.rules.specs.Commands.{Command, paint-fill, layer-fill, push-buf, pop-buf}
 use Rattle.rules.specs.Attributes.{Attrs}
 use Rattle.rules.specs.Rows.{Row, Level, fresh-row, row-ops, include, put-command, put-push-buf, pop-levels, put-pop-buf, put-depth-fill}
@@ -51,13 +51,13 @@ after-append n (pop-buf ∷ cs) ds = after-append (n - 1) cs ds
 some-push : {P : Type 0} (s : Option Span) → ◌≡◌ {A = Command} pop-buf (push-buf s) → P
 some-push s e = let z : ◌≡◌ {A = ℕ} 0 1 = cc in absurd (omega arith)
 
-nested-set : (n : ℕ) (cs : List Command) (x : ℕ) (u : Option Span) → get_or cs x pop-buf ≡ push-buf none
+nested-set : (n : ℕ) (cs : List Command) (x : ℕ) (u : Option Span) → get_or cs x pop-buf ≡ push-buf None
     → (Nested n cs → Nested n (set cs x (push-buf u))) × (nesting-after n (set cs x (push-buf u)) ≡ nesting-after n cs)
-nested-set n [] x u e = some-push none e
+nested-set n [] x u e = some-push None e
 nested-set n (push-buf s ∷ cs) zero u e = (λ h. h, refl)
 nested-set n (paint-fill s a i ∷ cs) zero u e = let z : ◌≡◌ {A = ℕ} 0 1 = cc in absurd (omega arith)
 nested-set n (layer-fill s a i ∷ cs) zero u e = let z : ◌≡◌ {A = ℕ} 0 1 = cc in absurd (omega arith)
-nested-set n (pop-buf ∷ cs) zero u e = some-push none e
+nested-set n (pop-buf ∷ cs) zero u e = some-push None e
 nested-set n (paint-fill s a i ∷ cs) (suc x) u e = nested-set n cs x u e
 nested-set n (layer-fill s a i ∷ cs) (suc x) u e = nested-set n cs x u e
 nested-set n (push-buf s ∷ cs) (suc x) u e = let q = nested-set (suc n) cs x u e in (λ h. (h.0, q.0 h.1), q.1)
@@ -70,14 +70,14 @@ all_set (suc i) x p (cons q a) = cons q (all_set i x p a)
 
 -- unions
 hull-good : (u : Option Span) (s : Span) → GoodPush u → GoodSpan 8192 s → GoodSpan 8192 (hull u s)
-hull-good none s h g = g
-hull-good (some t) s h g = record { in_order = omega (arith, h.in_order, g.in_order); in-limit = omega (arith, h.in-limit, g.in-limit) }
+hull-good None s h g = g
+hull-good (Some t) s h g = record { in_order = omega (arith, h.in_order, g.in_order); in-limit = omega (arith, h.in-limit, g.in-limit) }
 
-include-good : (s : Span) → GoodSpan 8192 s → (ls : List Level) → All (λ (l : Level). GoodPush l.union) ls → All (λ (l : Level). GoodPush l.union) (include (some s) ls)
+include-good : (s : Span) → GoodSpan 8192 s → (ls : List Level) → All (λ (l : Level). GoodPush l.union) ls → All (λ (l : Level). GoodPush l.union) (include (Some s) ls)
 include-good s g [] h = nil
-include-good s g (l ∷ ls) h = cons {x = record { place = l.place; union = some (hull l.union s) }} (hull-good l.union s (head h) g) (tail h)
+include-good s g (l ∷ ls) h = cons {x = record { place = l.place; union = Some (hull l.union s) }} (hull-good l.union s (head h) g) (tail h)
 
-include-length : (s : Span) (ls : List Level) → length (include (some s) ls) ≡ length ls
+include-length : (s : Span) (ls : List Level) → length (include (Some s) ls) ≡ length ls
 include-length s [] = refl
 include-length s (l ∷ ls) = refl
 
@@ -111,11 +111,11 @@ module _ (width : Width) (a : Attrs) (n : ℕ) where
   unfolding put-push-buf
   push-fair r l h =
       record {
-        commands = all_append h.commands (cons {x = push-buf none} (record { good = tt; attributed = tt }) nil);
+        commands = all_append h.commands (cons {x = push-buf None} (record { good = tt; attributed = tt }) nil);
         fills = h.fills;
-        unions = cons {x = record { place = length r.commands; union = none }} tt h.unions;
-        nested = nested-append 0 r.commands (push-buf none ∷ []) h.nested (rw h.levels l, tt);
-        levels = after-append 0 r.commands (push-buf none ∷ []) ∙ ap suc h.levels;
+        unions = cons {x = record { place = length r.commands; union = None }} tt h.unions;
+        nested = nested-append 0 r.commands (push-buf None ∷ []) h.nested (rw h.levels l, tt);
+        levels = after-append 0 r.commands (push-buf None ∷ []) ∙ ap suc h.levels;
       }
 
   pushes-fair : (k : ℕ) (r : Row) → length r.levels + k ≤ 16 → Fair v a n r → Fair v a n (times k put-push-buf r)
@@ -192,7 +192,7 @@ module _ (width : Width) (a : Attrs) (n : ℕ) where
 
   parts-fair : (i id : ℕ) → good-paint a i ≡ true → paint-id a i ≡ id → {ps : List Part} → All PartFair ps → (r : Row) → Fair v a n r → Fair v a n (foldl (put-part Row row-ops v i id) r ps)
   parts-fair i id p e nil r h = h
-  parts-fair i id p e (cons {x = regular s} o os) r h = parts-fair i id p e os _ (put-paint s none i (record { good = (o, tt); attributed = p }) r h)
+  parts-fair i id p e (cons {x = regular s} o os) r h = parts-fair i id p e os _ (put-paint s None i (record { good = (o, tt); attributed = p }) r h)
   parts-fair i id p e (cons {x = buckets b} o os) r h = parts-fair i id p e os _ (fill-fair b i id o p e r h)
 
   -- what an act puts on its row is fair

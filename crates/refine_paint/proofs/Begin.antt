@@ -18,14 +18,13 @@ use Rattle.rules.specs.Calls as calls
 use Rattle.rules.specs.Calls.{begin-call, blank}
 use Rattle.rules.proofs.All.{All, nil, cons}
 use Rattle.row_screen.proofs.Laws.{one_more}
-use Rattle.screen.specs.Screens.{good-screen}
+use Rattle.screen.specs.Screens.{good_screen}
 use Rattle.screen.specs.Judging as screens
-use Rattle.screen.specs.Tables.{zeros}
 use Rattle.refine_steps.specs.Sound.{Sound}
 use Rattle.refine_steps.specs.Lent.{screen-of, rows_of}
 use Rattle.refine_steps.proofs.Judged.{judged-done}
 use Rattle.refine_steps.proofs.Tables.{replicate-add}
-use Rattle.paint_screen.specs.Judging.{judged, begin-number}
+use Rattle.paint_screen.specs.Judging.{judged, begin_number}
 use Rattle.paint_screen.specs.Beginning.{canvas, beginning}
 use Rattle.refine_paint.specs.Canvases.{buckets-in, standing-in, depth-of, painting-of, canvas-of, WholeCanvas}
 
@@ -36,12 +35,12 @@ good-by true true false g e = absurd (omega arith)
 good-by true true true false e = absurd (omega arith)
 good-by true true true true e = refl
 
-screen-good : (s : rule.Screen Row) → Sound s → (b : Bool) → good-screen (screen-of s.state b) ≡ true
+screen-good : (s : rule.Screen Row) → Sound s → (b : Bool) → good_screen (screen-of s.state b) ≡ true
 unfolding screens.judged
 screen-good s h b =
     let v = s.state.frame.viewport in
-    good-by (boxes.good-viewport v) (screens.good-rooms (boxes.rows_of v) s.state.frame.c s.state.frame.d (length (rows_of s).render) (length (rows_of s).fills))
-    (eqb (length (rows_of s).state) (boxes.rows_of v * 54)) (good-screen (screen-of s.state b)) (judged-done s h b)
+    good-by (boxes.good_viewport v) (screens.good-rooms (boxes.rows_of v) s.state.frame.c s.state.frame.d (length (rows_of s).render) (length (rows_of s).fills))
+    (eqb (length (rows_of s).state) (boxes.rows_of v * 54)) (good_screen (screen-of s.state b)) (judged-done s h b)
 
 -- 2, 1 and 4, where what is lent is long enough
 pub judged-0 : (s : rule.Screen Row) → Sound s → (b x y : Bool) → x ≡ true → y ≡ true → judged (screen-of s.state b) x y ≡ 0
@@ -88,7 +87,7 @@ module _ (k : calls.Canvas) (w : WholeCanvas k) where
 
   -- the call at the words: the rules' number, the words of the rules' canvas
   pub begin-by : beginning (canvas-of k) ≡ answer (begin-call k).number (canvas-of (begin-call k).value)
-  unfolding beginning begin-number begin-call zeros
+  unfolding beginning begin_number begin-call
   begin-by =
       let j = judged-0 s w.sound k.begun _ _ (eq-eqb _ _ depth-long) (eq-eqb _ _ painting-long) in
       rw j (go s.state.layers)

@@ -8,7 +8,7 @@ use lib.Dec.{eqb}
 use lib.ListN.{length, length-replicate}
 use Rattle.sizes.specs.Sizes.{piece-size}
 use Rattle.rules.specs.Answers.{answer, Done}
-use Rattle.rules.specs.Boxes.{good-viewport}
+use Rattle.rules.specs.Boxes.{good_viewport}
 use Rattle.rules.specs.Boxes as boxes
 use Rattle.rules.specs.Rows.{Row, fresh-row, row-ops}
 use Rattle.rules.specs.Plans.{Frame, buckets-across, Step}
@@ -30,7 +30,7 @@ use Rattle.refine_paint.proofs.Begin.{begin-by}
 use Rattle.refine_paint.proofs.Step.{step_by}
 
 -- a reset of a good frame
-pub reset-whole : (f : Frame) → good-viewport f.viewport ≡ true → good-room f.c ≡ true → good-room f.d ≡ true → WholeCanvas (fresh-canvas f)
+pub reset-whole : (f : Frame) → good_viewport f.viewport ≡ true → good-room f.c ≡ true → good-room f.d ≡ true → WholeCanvas (fresh-canvas f)
 unfolding reset
 reset-whole f g c d =
     let n = buckets-across f in

@@ -2,7 +2,7 @@
 use mathlib.Core.Path.{◌≡◌, refl, sym, ap, ◌∙◌}
 use mathlib.Core.Bool.{Bool, true, false, ◌&&◌, cond}
 use mathlib.Core.List.{List, [], ◌∷◌}
-use mathlib.Core.Option.{Option, none, some}
+use Rattle.std.specs.Prelude.{Option, None, Some}
 use Prim.Native.Nat.{ℕ, zero, suc, ◌+◌, ◌-◌, ◌≤◌, ◌<◌}
 use native.Mathlib.Omega.{arith}
 use lib.Dec.{leb, ltb, eqb}
@@ -63,9 +63,9 @@ one_more n (pop-buf ∷ cs) (suc k) h = one_more (n - 1) cs k (omega arith)
 
 -- the summary of the words is the row's, where there is a depth fill
 pub summary-same : (d : Summary) (u : Option Span) → d.union ≡ u → is_none u ≡ false → 0 < d.largest
-    → ◌≡◌ {A = Summary} (record { union = cond (eqb d.largest 0) none (some (span (first_of d.union) (end_of d.union))); largest = d.largest }) d
-summary-same d none e n h = never n
-summary-same d (some s) e n h =
+    → ◌≡◌ {A = Summary} (record { union = cond (eqb d.largest 0) None (Some (span (first_of d.union) (end_of d.union))); largest = d.largest }) d
+summary-same d None e n h = never n
+summary-same d (Some s) e n h =
     let z : (d.largest ≡ 0 → ⊥) = λ q. omega arith in
     let y : first_of d.union ≡ s.first = ap first_of e in
     let w : end_of d.union ≡ s.end = ap end_of e in

@@ -2,7 +2,7 @@
 use mathlib.Core.Path.{◌≡◌, refl}
 use mathlib.Core.Bool.{Bool, true, false, ◌&&◌, not, cond}
 use mathlib.Core.List.{List, [], ◌∷◌, ◌++◌}
-use mathlib.Core.Option.{Option, none, some}
+use Rattle.std.specs.Prelude.{Option, None, Some}
 use Prim.Native.Nat.{ℕ, ◌+◌, ◌-◌, ◌/◌, ◌%◌, ◌≤◌, ◌<◌, min, max}
 use native.Mathlib.Omega.{arith}
 use lib.Dec.{leb, ltb, eqb}
@@ -13,8 +13,8 @@ use Rattle.sizes.specs.Widths.{bucket-tiles}
 use Rattle.sizes.specs.Sizes.{last-id}
 use Rattle.rules.specs.Lists.{some_of, is-empty}
 use Rattle.rules.specs.Answers.{Done, BadRecord}
-use Rattle.rules.specs.Boxes.{Box, width, height, by_4, good-box, bounded, good-viewport, empty-box, rows_in, span_of, scene-tiles}
-use Rattle.rules.specs.Spans.{Span, span, Stretch, common, moved, meeting, cut_at, cut-when, cut-to}
+use Rattle.rules.specs.Boxes.{Box, width, height, by_4, good-box, bounded, good_viewport, empty-box, rows_in, span_of, scene-tiles}
+use Rattle.rules.specs.Spans.{Span, span, Stretch, common, moved, meeting, cut_at, cut-when, cut_to}
 use Rattle.rules.specs.Segments.{Segment, good-segment, alpha-of, stretch-of, Cut, localised, cut_in, cuts}
 use Rattle.rules.specs.Inputs.{Paint, Draw, Clip, Props, Filter, good-panel, good-draw, few-paints, good-props, good-filter, good-filter-fill, draw-segments, draw-paint, good-fill}
 use Rattle.rules.specs.Blends.{Blend, default-blend}
@@ -36,16 +36,16 @@ record FairCut (w : ℕ) (k : Cut) : Type 0 where
   pub near : k.stretch.tiles.end ≤ w
 
 data Left (b : Span) : Option Stretch → Type 0 where
-  nothing : Left b none
-  something : (k : Stretch) → GoodSpan 8192 k.tiles → GoodAlpha k.tiles k.alpha → k.tiles.end ≤ b.end → Left b (some k)
+  nothing : Left b None
+  something : (k : Stretch) → GoodSpan 8192 k.tiles → GoodAlpha k.tiles k.alpha → k.tiles.end ≤ b.end → Left b (Some k)
 
 alpha-local : (x : ℕ) (s : Span) (a : Option ℕ) → GoodAlpha s a → GoodAlpha (span (s.first - x) (s.end - x)) a
-alpha-local x s none h = tt
-alpha-local x s (some a) h = omega arith
+alpha-local x s None h = tt
+alpha-local x s (Some a) h = omega arith
 
 alpha-cut : (s c : Span) (a : Option ℕ) → GoodAlpha s a → s.first ≤ c.first → c.first ≤ c.end → c.end ≤ s.end → GoodAlpha c (moved a (c.first - s.first))
-alpha-cut s c none h l m r = tt
-alpha-cut s c (some a) h l m r = omega arith
+alpha-cut s c None h l m r = tt
+alpha-cut s c (Some a) h l m r = omega arith
 
 localised-fair : (v : Box) (w row : ℕ) (b : Span) → b.end - v.x0 / 4 ≤ w → {o : Option Stretch} → Left b o → All (FairCut w) (localised v row o)
 localised-fair v w row b n nothing = nil
@@ -53,15 +53,15 @@ localised-fair v w row b n (something k s a m) =
     let t : GoodSpan 8192 (span (k.tiles.first - v.x0 / 4) (k.tiles.end - v.x0 / 4)) = record { in_order = omega (arith, s.in_order); in-limit = omega (arith, s.in-limit) } in
     cons (record { tiles = t; alpha = alpha-local (v.x0 / 4) k.tiles k.alpha a; near = omega arith }) nil
 
-left-if : (b : Span) (t : Bool) {o : Option Stretch} → Left b o → Left b (cond t o none)
+left-if : (b : Span) (t : Bool) {o : Option Stretch} → Left b o → Left b (cond t o None)
 left-if b true l = l
 left-if b false l = nothing
 
-cut-fair : (b : Span) (s : Stretch) → s.tiles.end ≤ 8192 → GoodAlpha s.tiles s.alpha → Left b (cut-to b s)
-unfolding cut-to meeting
+cut-fair : (b : Span) (s : Stretch) → s.tiles.end ≤ 8192 → GoodAlpha s.tiles s.alpha → Left b (cut_to b s)
+unfolding cut_to meeting
 cut-fair b s h a = go (ltb (common s.tiles b).first (common s.tiles b).end) refl
   where
-    go : (t : Bool) → ltb (common s.tiles b).first (common s.tiles b).end ≡ t → Left b (cut-when s (cond t (some (common s.tiles b)) none))
+    go : (t : Bool) → ltb (common s.tiles b).first (common s.tiles b).end ≡ t → Left b (cut-when s (cond t (Some (common s.tiles b)) None))
     go true e =
         let l : max s.tiles.first b.first < min s.tiles.end b.end = ltb-true (max s.tiles.first b.first) (min s.tiles.end b.end) e in
         something (cut_at s (common s.tiles b)) (record { in_order = omega arith; in-limit = omega arith })
@@ -71,7 +71,7 @@ cut-fair b s h a = go (ltb (common s.tiles b).first (common s.tiles b).end) refl
 segment-alpha : (s : Segment) → good-segment s ≡ true → GoodAlpha (span s.first s.end) (alpha-of s)
 segment-alpha s g = go (eqb s.kind 0)
   where
-    go : (t : Bool) → GoodAlpha (span s.first s.end) (cond t none (some s.alpha))
+    go : (t : Bool) → GoodAlpha (span s.first s.end) (cond t None (Some s.alpha))
     go true = tt
     go false = (good-facts s g).alpha
 
@@ -81,8 +81,8 @@ cut-in-fair v b w n s g =
     localised-fair v w s.row (span b.x0 b.x1) n
     (left-if (span b.x0 b.x1) (leb b.y0 s.row && ltb s.row b.y1) (cut-fair (span b.x0 b.x1) (stretch-of s) (good-facts s g).end (segment-alpha s g)))
 
-view-4 : (v : Box) → good-viewport v ≡ true → v.x0 % 4 ≡ 0
-unfolding good-viewport
+view-4 : (v : Box) → good_viewport v ≡ true → v.x0 % 4 ≡ 0
+unfolding good_viewport
 view-4 v g =
     let h = (both (good-box v) (leb (width v) 4096) (both (good-box v && leb (width v) 4096) (leb (height v) 2048) g).0).0 in
     let k = (both (by_4 v.x0 && by_4 v.x1 && by_4 v.y0 && by_4 v.y1) (bounded v) h).0 in
@@ -90,7 +90,7 @@ view-4 v g =
     let k2 = (both (by_4 v.x0 && by_4 v.x1) (by_4 v.y0) k3).0 in
     eqb-true _ _ (both (by_4 v.x0) (by_4 v.x1) k2).0
 
-cuts-fair : (v c : Box) → good-viewport v ≡ true → c.x1 ≤ width v → {ss : List Segment} → All (λ (s : Segment). good-segment s ≡ true) ss → All (FairCut (width v / 4)) (cuts v c ss)
+cuts-fair : (v c : Box) → good_viewport v ≡ true → c.x1 ≤ width v → {ss : List Segment} → All (λ (s : Segment). good-segment s ≡ true) ss → All (FairCut (width v / 4)) (cuts v c ss)
 unfolding cuts scene-tiles
 cuts-fair v c g r a =
     let n : (v.x0 + c.x1) / 4 - v.x0 / 4 ≤ width v / 4 = omega (arith, view-4 v g) in
@@ -119,8 +119,8 @@ module _ (u : Width) (a : Attrs) (w : ℕ) where
 
   draw-fair : (e : Bool) (i id r : ℕ) (s : Span) (x : Option ℕ) → good-paint a i ≡ true → paint-id a i ≡ id → GoodSpan 8192 s → GoodAlpha s x → s.end ≤ w → FairPut u a wide (on (draw-act e i id s x) r)
   unfolding draw-act
-  draw-fair true i id r s none p q g h n = record { act = (g, bucket-near s.end n, p, q) }
-  draw-fair true i id r s (some x) p q g h n = record { act = record { good = (g, h); attributed = p } }
+  draw-fair true i id r s None p q g h n = record { act = (g, bucket-near s.end n, p, q) }
+  draw-fair true i id r s (Some x) p q g h n = record { act = record { good = (g, h); attributed = p } }
   draw-fair false i id r s x p q g h n = record { act = record { good = (g, h); attributed = p } }
 
   draws-fair : (e : Bool) (i id : ℕ) → good-paint a i ≡ true → paint-id a i ≡ id → {ks : List Cut} → All (FairCut w) ks → All (FairPut u a wide) (draw-puts e i id ks)
@@ -170,7 +170,7 @@ props-panel p g = go (good-panel p.panel) refl
 abbrev GoodProps : Layer → Type 0
 GoodProps l = good-props l.props ≡ true
 
-module _ (s : State) (f : Framed s) (g : good-viewport s.frame.viewport ≡ true) (one : 1 ≤ s.next) (props : All GoodProps s.layers) where
+module _ (s : State) (f : Framed s) (g : good_viewport s.frame.viewport ≡ true) (one : 1 ≤ s.next) (props : All GoodProps s.layers) where
   abbrev v : Box
   v = s.frame.viewport
 
@@ -219,8 +219,8 @@ module _ (s : State) (f : Framed s) (g : good-viewport s.frame.viewport ≡ true
   closing-fair : (a : Attrs) (c : Option Clip) (own parent : Box) (i : ℕ) (ss : List Segment) (ts : List ℕ) → good-layer a i ≡ true → GoodSpan 8192 (span_of own) → parent.x1 ≤ width v
       → All (λ (x : Segment). good-segment x ≡ true) (clip-segments c ss) → FairPuts a (closing c v own parent i ss ts)
   unfolding closing
-  closing-fair a none own parent i ss ts p h r o = all-mapped (on (close (span_of own) none i)) (λ x. record { act = record { good = (h, tt); attributed = p } }) ts
-  closing-fair a (some c) own parent i ss ts p h r o = closes-fair s.frame.width a (width v / 4) i p ts (cuts-fair v parent g r o)
+  closing-fair a None own parent i ss ts p h r o = all-mapped (on (close (span_of own) None i)) (λ x. record { act = record { good = (h, tt); attributed = p } }) ts
+  closing-fair a (Some c) own parent i ss ts p h r o = closes-fair s.frame.width a (width v / 4) i p ts (cuts-fair v parent g r o)
 
   pop-fair : (ls : List Layer) (ss : List Segment) (ts : List ℕ) → All (λ (l : Layer). Inside v l.bounds) ls → All GoodProps ls → (plan-pop ls ss ts s).refused ≡ Done → (plan-pop ls ss ts s).next ≤ 1048577
       → FairPuts (plan-pop ls ss ts s).attrs (plan-pop ls ss ts s).puts
@@ -244,7 +244,7 @@ module _ (s : State) (f : Framed s) (g : good-viewport s.frame.viewport ≡ true
   unfolding plan-filter-in filter-puts
   filter-in-fair b count q z i k n =
       let p = new-paint (count + length s.attrs.filters) default-blend 0 0 z (filter-paint q ∷ []) (omega arith) k in
-      all-mapped (on (paint (span_of b) none (length s.attrs.paints))) (λ x. record { act = record { good = (inside-fair b i, tt); attributed = p } }) (rows_in b)
+      all-mapped (on (paint (span_of b) None (length s.attrs.paints))) (λ x. record { act = record { good = (inside-fair b i, tt); attributed = p } }) (rows_in b)
 
   filter-fair : (count : ℕ) (q : Filter) (z : ℕ) → (plan-filter count q z s).next ≤ 1048577 → FairPuts (plan-filter count q z s).attrs (plan-filter count q z s).puts
   unfolding plan-filter

@@ -2,7 +2,7 @@
 use mathlib.Core.Path.{◌≡◌, refl, sym, ap, ◌∙◌}
 use mathlib.Core.Bool.{Bool, true, false, ◌||◌, cond}
 use mathlib.Core.List.{List, [], ◌∷◌}
-use mathlib.Core.Option.{Option, none, some}
+use Rattle.std.specs.Prelude.{Option, None, Some}
 use Prim.Native.Nat.{ℕ, ◌/◌, ◌≤◌, ◌<◌}
 use native.Mathlib.Omega.{arith}
 use lib.Dec.{leb, ltb, eqb}
@@ -12,7 +12,7 @@ use Rattle.rules.specs.Lists.{is-empty}
 use Rattle.rules.specs.Answers.{Answer, answer, settle, first_of, Done, BadRun, NoRoom}
 use Rattle.rules.specs.Spans.{Span, span, bad-range}
 use Rattle.rules.specs.Commands.{DepthFill}
-use Rattle.rules.specs.Depth.{apart, can-skip, can-skip-answer, write-runs, unset-answer, visible-answer, write-answer, write-after, written}
+use Rattle.rules.specs.Depth.{apart, can_skip, can_skip_answer, write-runs, unset_answer, visible_answer, write_answer, write-after, written}
 use Rattle.rules.specs.Attributes.{Attrs}
 use Rattle.rules.specs.Rows.{Row, fresh-row}
 use Rattle.rules.specs.Plans.{buckets-across}
@@ -32,7 +32,7 @@ use Rattle.screen.specs.declared.Screen.{Screen}
 use Rattle.paint_runs.specs.Summaries.{good-summary, summary-at}
 use Rattle.paint_runs.proofs.Skips.{passes}
 use Rattle.paint_screen.specs.Judging as judging
-use Rattle.paint_screen.specs.Judging.{runs_number, skip-number}
+use Rattle.paint_screen.specs.Judging.{runs_number, skip_number}
 use Rattle.paint_screen.specs.Beginning.{begun}
 use Rattle.paint_screen.specs.Stepping.{part, with_part}
 use Rattle.paint_screen.specs.Rows.{Wrote, or-runs, unset-of, visible-of, write-in-place, write-of, record-skip, skip-of-row}
@@ -47,7 +47,7 @@ use Rattle.refine_paint.proofs.Whole.{all_set}
 
 -- the summary of a row's words answers as the row's own
 module _ {v : ℕ} (a : Attrs) (n : ℕ) (r : Row) (o : Fine r) (h : Fair v a n r) (t : Span) (id : ℕ) where
-  apart_none : (z : Bool) → apart (cond z none (some (span 0 0))) t ≡ true
+  apart_none : (z : Bool) → apart (cond z None (Some (span 0 0))) t ≡ true
   apart_none true = refl
   apart_none false = rw (le-leb 0 t.first (omega arith))
 
@@ -55,17 +55,17 @@ module _ {v : ℕ} (a : Attrs) (n : ℕ) (r : Row) (o : Fine r) (h : Fair v a n 
   some-fill [] e = never e
   some-fill (f ∷ fs) e = omega arith
 
-  skip-same : can-skip (summary-at (state-of r)) t id ≡ can-skip r.depth t id
-  unfolding can-skip
+  skip-same : can_skip (summary-at (state-of r)) t id ≡ can_skip r.depth t id
+  unfolding can_skip
   skip-same = go r.depth.union refl
     where
-      go : (u : Option Span) → r.depth.union ≡ u → can-skip (summary-at (state-of r)) t id ≡ can-skip r.depth t id
-      go none e = rw (e, apart_none (eqb r.depth.largest 0))
-      go (some u) e =
+      go : (u : Option Span) → r.depth.union ≡ u → can_skip (summary-at (state-of r)) t id ≡ can_skip r.depth t id
+      go None e = rw (e, apart_none (eqb r.depth.largest 0))
+      go (Some u) e =
           let m : is-empty r.fills ≡ false = sym o.summary ∙ rw e in
           let f = all-at h.fills 0 no-fill (some-fill r.fills m) in
           let i = taken a (get_or r.fills 0 no-fill).attribute f.attributed in
-          ap (λ d. can-skip d t id) (summary-same r.depth r.depth.union refl (rw e) (omega (arith, f.included.below)))
+          ap (λ d. can_skip d t id) (summary-same r.depth r.depth.union refl (rw e) (omega (arith, f.included.below)))
 
 module _ (k : calls.Canvas) (w : WholeCanvas k) (i : ℕ) where
   abbrev s : rule.Screen Row
@@ -92,8 +92,8 @@ module _ (k : calls.Canvas) (w : WholeCanvas k) (i : ℕ) where
       let x : judging.depth-long here (length depth) ≡ true = eq-eqb _ _ (depth-long k w) in
       rw (judged-0 s w.sound k.begun _ true x refl, ← w.sound.count)
 
-  skip-judged : skip-number here i (length (rows_of s).state) ≡ cond (leb (length s.rows) i) BadRun Done
-  unfolding skip-number
+  skip-judged : skip_number here i (length (rows_of s).state) ≡ cond (leb (length s.rows) i) BadRun Done
+  unfolding skip_number
   skip-judged =
       let x : judging.rows_long here (length (rows_of s).state) ≡ true = eq-eqb _ _ (rows_long s w.sound).state in
       rw (judged-0 s w.sound k.begun true _ refl x, ← w.sound.count)
@@ -116,15 +116,15 @@ module _ (k : calls.Canvas) (w : WholeCanvas k) (i : ℕ) where
   -- The calls at the words: the rules' numbers and runs, 12 and 14 among them.
   pub unset-by : (t : Span) (l : List ℕ) → unset-of here i depth t l ≡ listing (unset-call i (length l / 2) t k) l
   unfolding unset-of unset-call
-  unset-by t l = by_runs (λ bs. unset-answer v bs t (length l / 2)) l
+  unset-by t l = by_runs (λ bs. unset_answer v bs t (length l / 2)) l
 
   pub visible-by : (id : ℕ) (t : Span) (l : List ℕ) → visible-of here i depth t id l ≡ listing (visible-call id i (length l / 2) t k) l
   unfolding visible-of visible-call
-  visible-by id t l = by_runs (λ bs. visible-answer v bs id t (length l / 2)) l
+  visible-by id t l = by_runs (λ bs. visible_answer v bs id t (length l / 2)) l
 
   module _ (id : ℕ) (t : Span) (m : ℕ) where
     abbrev wrote-answer : Answer (List Span)
-    wrote-answer = write-answer p.buckets id t m
+    wrote-answer = write_answer p.buckets id t m
 
     -- the painter after the writing run
     abbrev q : Painter
@@ -143,7 +143,7 @@ module _ (k : calls.Canvas) (w : WholeCanvas k) (i : ℕ) where
         go false = refl
 
     refused_none : eqb wrote-answer.number Done ≡ false → wrote-answer.value ≡ []
-    unfolding write-answer
+    unfolding write_answer
     refused_none = settle-kept (first_of ((bad-range (length p.buckets) t || eqb id 0, BadRun) ∷ (ltb m (length (write-runs p.buckets t)), NoRoom) ∷ [])) [] (write-runs p.buckets t)
 
     -- what the call gives in a row that is there, done or not; and in any
@@ -206,7 +206,7 @@ module _ (k : calls.Canvas) (w : WholeCanvas k) (i : ℕ) where
     m = length l / 2
 
     abbrev a : Answer (List Span)
-    a = write-answer p.buckets id t m
+    a = write_answer p.buckets id t m
 
     place : leb (length s.rows) i ≡ false → (b : Bool) → eqb a.number Done ≡ b
         → ◌≡◌ {A = Wrote} (record { listed = listing a l; screen = cond b (begun false here) here; depth = with_part n i depth (write-after p.buckets id t m) })
@@ -237,12 +237,12 @@ module _ (k : calls.Canvas) (w : WholeCanvas k) (i : ℕ) where
   own-state h = ap (λ (x : Words). x.state) (own-words s i h)
 
   pub skip_by : (t : Span) (id : ℕ) → skip-of-row here i (rows_of s).state t id ≡ can-skip-call i t id k
-  unfolding skip-of-row can-skip-call can-skip-answer
+  unfolding skip-of-row can-skip-call can_skip_answer
   skip_by t id = rw skip-judged (go (leb (length s.rows) i) refl)
     where
       go : (b : Bool) → leb (length s.rows) i ≡ b
           → cond (eqb (cond b BadRun Done) Done) (record-skip (part 54 i (rows_of s).state) t id) (answer (cond b BadRun Done) false)
-          ≡ calls.of_row b false (can-skip-answer r.depth t id)
+          ≡ calls.of_row b false (can_skip_answer r.depth t id)
       go true e = refl
       go false e =
           let h : i < length s.rows = leb-false _ _ e in
@@ -252,18 +252,18 @@ module _ (k : calls.Canvas) (w : WholeCanvas k) (i : ℕ) where
 
   -- While painting goes on, no depth word hides a tile of a span for which `can_skip` says yes.
   pub skip-clear : k.begun ≡ true → (t : Span) (id : ℕ) → (can-skip-call i t id k).value ≡ true → (x : ℕ) → t.first ≤ x → x < t.end → get_or (part n i depth) (x / v) 0 ≤ id
-  unfolding can-skip-call can-skip-answer
+  unfolding can-skip-call can_skip_answer
   skip-clear b t id y x lo hi = go (leb (length s.rows) i) refl y
     where
       low : t.first / v ≤ x / v
       low = each (λ v. t.first / v ≤ x / v) (omega arith) (omega arith) (omega arith) s.state.frame.width
 
-      tested : i < length s.rows → (c : Bool) → (cond c (answer BadRun false) (answer Done (can-skip r.depth t id))).value ≡ true → get_or p.buckets (x / v) 0 ≤ id
+      tested : i < length s.rows → (c : Bool) → (cond c (answer BadRun false) (answer Done (can_skip r.depth t id))).value ≡ true → get_or p.buckets (x / v) 0 ≤ id
       tested h true q = never (sym q)
       tested h false q =
           passes s.state.frame.width (summary-at (state-of r)) p.buckets (w.going b i h).sound id t
           (skip-same s.state.attrs n r (fine-at w.sound.built.fine i) (w.fair i) t id ∙ q) (x / v) low (meets s.state.frame.width x t.end hi) (omega arith)
 
-      go : (c : Bool) → leb (length s.rows) i ≡ c → (calls.of_row c false (can-skip-answer r.depth t id)).value ≡ true → get_or (part n i depth) (x / v) 0 ≤ id
+      go : (c : Bool) → leb (length s.rows) i ≡ c → (calls.of_row c false (can_skip_answer r.depth t id)).value ≡ true → get_or (part n i depth) (x / v) 0 ≤ id
       go true e q = never (sym q)
       go false e q = rw (own-depth e) (tested (leb-false _ _ e) (bad-range 8192 t) q)

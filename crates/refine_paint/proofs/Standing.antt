@@ -2,7 +2,7 @@
 use mathlib.Core.Path.{◌≡◌, refl, ap, ◌∙◌}
 use mathlib.Core.Bool.{true}
 use mathlib.Core.List.{List, [], ◌∷◌, ◌++◌, append_assoc}
-use mathlib.Core.Option.{Option, none, some}
+use Rattle.std.specs.Prelude.{Option, None, Some}
 use Prim.Native.Nat.{ℕ, zero, suc, ◌+◌, ◌*◌, ◌≤◌, ◌<◌}
 use native.Mathlib.Nat.{mul-suc}
 use native.Mathlib.Omega.{arith}
@@ -12,7 +12,7 @@ use lib.Seq.{get_or-append-add}
 use borrow.Author.Tests.{le-leb}
 use Rattle.rules.specs.Lists.{join}
 use Rattle.rules.specs.Spans.{Span}
-use Rattle.rules.specs.Commands.{Command, paint-fill, layer-fill, push-buf, pop-buf, DepthFill, command-words, depth-words}
+use Rattle.rules.specs.Commands.{Command, paint-fill, layer-fill, push-buf, pop-buf, DepthFill, command_words, depth-words}
 use Rattle.rules.specs.Attributes.{Attrs}
 use Rattle.rules.specs.Rows.{Row}
 use Rattle.rules.specs.Painting.{no-fill}
@@ -37,14 +37,14 @@ module _ {A : Type 0} (f : A → List ℕ) (w : ℕ) (long : (x : A) → length 
       let z : w * suc k + j ≡ length (f x) + (w * k + j) = rw (long, mul-suc w k) (omega arith) in
       rw (z, append_assoc (f x) (join f xs) ys, get_or-append-add (f x) (join f xs ++ ys) (w * k + j) 0) (join-at xs ys k j d (omega arith) g)
 
-four : (c : Command) → length (command-words c) ≡ 4
-unfolding command-words
-four (paint-fill s none i) = refl
-four (paint-fill s (some a) i) = refl
-four (layer-fill s none i) = refl
-four (layer-fill s (some a) i) = refl
-four (push-buf none) = refl
-four (push-buf (some s)) = refl
+four : (c : Command) → length (command_words c) ≡ 4
+unfolding command_words
+four (paint-fill s None i) = refl
+four (paint-fill s (Some a) i) = refl
+four (layer-fill s None i) = refl
+four (layer-fill s (Some a) i) = refl
+four (push-buf None) = refl
+four (push-buf (Some s)) = refl
 four pop-buf = refl
 
 two : (f : DepthFill) → length (depth-words f) ≡ 2
@@ -52,28 +52,28 @@ unfolding depth-words
 two f = refl
 
 union-good : (u : Option Span) → OrderedUnion u → (leb (first_of u) (end_of u) ≡ true) × (leb (end_of u) 8192 ≡ true)
-union-good none o = (refl, refl)
-union-good (some s) o = (le-leb _ _ o.order, le-leb _ _ o.end)
+union-good None o = (refl, refl)
+union-good (Some s) o = (le-leb _ _ o.order, le-leb _ _ o.end)
 
 module _ {v : ℕ} (a : Attrs) (n c d : ℕ) (few : n < 65536) (r : Row) (f : Fitting c d r) (h : Fair v a n r) where
-  render-at : (k j : ℕ) → k < length r.commands → j < 4 → get_or (padded (4 * c) (join command-words r.commands)) (4 * k + j) 0 ≡ get_or (command-words (get_or r.commands k pop-buf)) j 0
+  render-at : (k j : ℕ) → k < length r.commands → j < 4 → get_or (padded (4 * c) (join command_words r.commands)) (4 * k + j) 0 ≡ get_or (command_words (get_or r.commands k pop-buf)) j 0
   render-at k j l g =
-      let m : length (join command-words r.commands) ≤ 4 * c = rw (join-length command-words 4 four r.commands) (omega (arith, f.commands)) in
-      rw (padded-fits (4 * c) (join command-words r.commands) m) (join-at command-words 4 four r.commands _ k j pop-buf l g)
+      let m : length (join command_words r.commands) ≤ 4 * c = rw (join-length command_words 4 four r.commands) (omega (arith, f.commands)) in
+      rw (padded-fits (4 * c) (join command_words r.commands) m) (join-at command_words 4 four r.commands _ k j pop-buf l g)
 
   fill-at : (k j : ℕ) → k < length r.fills → j < 2 → get_or (padded (2 * d) (join depth-words r.fills)) (2 * k + j) 0 ≡ get_or (depth-words (get_or r.fills k no-fill)) j 0
   fill-at k j l g =
       let m : length (join depth-words r.fills) ≤ 2 * d = rw (join-length depth-words 2 two r.fills) (omega (arith, f.fills)) in
       rw (padded-fits (2 * d) (join depth-words r.fills) m) (join-at depth-words 2 two r.fills _ k j no-fill l g)
 
-  command-there : (k : ℕ) → k < length r.commands → command-at (padded (4 * c) (join command-words r.commands)) k ≡ some (get_or r.commands k pop-buf)
+  command-there : (k : ℕ) → k < length r.commands → command-at (padded (4 * c) (join command_words r.commands)) k ≡ Some (get_or r.commands k pop-buf)
   command-there k l =
       let z : 4 * k ≡ 4 * k + 0 = omega arith in
-      let w0 : get_or (padded (4 * c) (join command-words r.commands)) (4 * k) 0 ≡ get_or (command-words (get_or r.commands k pop-buf)) 0 0 = ap (λ (i : ℕ). get_or (padded (4 * c) (join command-words r.commands)) i 0) z ∙ render-at k 0 l (omega arith) in
+      let w0 : get_or (padded (4 * c) (join command_words r.commands)) (4 * k) 0 ≡ get_or (command_words (get_or r.commands k pop-buf)) 0 0 = ap (λ (i : ℕ). get_or (padded (4 * c) (join command_words r.commands)) i 0) z ∙ render-at k 0 l (omega arith) in
       rw (w0, render-at k 1 l (omega arith), render-at k 2 l (omega arith), render-at k 3 l (omega arith))
       (reads-back (get_or r.commands k pop-buf) (all-at h.commands k pop-buf l).good)
 
-  fill-there : (k : ℕ) → k < length r.fills → depth-fill-at n (padded (2 * d) (join depth-words r.fills)) k ≡ some (get_or r.fills k no-fill)
+  fill-there : (k : ℕ) → k < length r.fills → depth-fill-at n (padded (2 * d) (join depth-words r.fills)) k ≡ Some (get_or r.fills k no-fill)
   fill-there k l =
       let z : 2 * k ≡ 2 * k + 0 = omega arith in
       let w0 : get_or (padded (2 * d) (join depth-words r.fills)) (2 * k) 0 ≡ get_or (depth-words (get_or r.fills k no-fill)) 0 0 = ap (λ (i : ℕ). get_or (padded (2 * d) (join depth-words r.fills)) i 0) z ∙ fill-at k 0 l (omega arith) in

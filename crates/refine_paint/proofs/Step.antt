@@ -2,7 +2,7 @@
 use mathlib.Core.Path.{◌≡◌, refl, sym, ap, ◌∙◌}
 use mathlib.Core.Bool.{Bool, true, false, ◌||◌, cond}
 use mathlib.Core.List.{List, [], ◌∷◌, ◌++◌}
-use mathlib.Core.Option.{some}
+use Rattle.std.specs.Prelude.{Some}
 use Prim.Native.Nat.{ℕ, zero, suc, ◌*◌, ◌/◌, ◌≤◌, ◌<◌}
 use native.Mathlib.Omega.{arith}
 use lib.Dec.{leb, ltb, eqb}
@@ -31,7 +31,7 @@ use Rattle.refine_steps.proofs.Tables.{table-length, join-length}
 use Rattle.paint_runs.specs.Summaries.{summary-at, Sound}
 use Rattle.paint_command.specs.Painting.{out, refused, left, painter-at, settled}
 use Rattle.paint_command.specs.Standing.{Stands, PainterReady, Holds}
-use Rattle.paint_screen.specs.Judging.{arenas-long, tables-long, step-number}
+use Rattle.paint_screen.specs.Judging.{arenas-long, tables-long, step_number}
 use Rattle.paint_screen.specs.Stepping.{part, with_part, in_place, number, stepped}
 use Rattle.paint_screen.proofs.Laws.{step-by-rules}
 use Rattle.refine_paint.specs.Canvases.{buckets-in, standing-in, depth-of, painting-of, WholeCanvas, given_out, attributes-of, words_of}
@@ -106,7 +106,7 @@ module _ (k : calls.Canvas) (w : WholeCanvas k) (i : ℕ) (l : List ℕ) where
   layers-long = table-length 0 layer-attr-table (join attr-words s.state.attrs.layers) (omega (arith, join-length attr-words layer-attr-size (λ x. refl) s.state.attrs.layers, few.1))
 
   step-judged : number (screen-of s.state k.begun) i (attributes-of s) (words_of k l) ≡ cond (leb (length s.rows) i) BadRun (cond (calls.paints-on k) Done Open)
-  unfolding step-number
+  unfolding step_number
   step-judged =
       let e1 = eq-eqb _ _ long.render in
       let e2 = eq-eqb _ _ long.fills in
@@ -150,7 +150,7 @@ module _ (k : calls.Canvas) (w : WholeCanvas k) (i : ℕ) (l : List ℕ) where
     done-number = step-judged ∙ rw (lt-leb (length s.rows) i h, b)
 
     by-step : stepped (screen-of s.state k.begun) i (attributes-of s) (words_of k l)
-        ≡ in_place (screen-of s.state k.begun) i (words_of k l) (settled (some o) p.buckets (standing-in p) l)
+        ≡ in_place (screen-of s.state k.begun) i (words_of k l) (settled (Some o) p.buckets (standing-in p) l)
     by-step =
         let a = s.state.attrs in
         let m : length p.buckets ≡ n = all-at w.wide i (begin 0) there in
@@ -162,7 +162,7 @@ module _ (k : calls.Canvas) (w : WholeCanvas k) (i : ℕ) (l : List ℕ) where
         step-by-rules (screen-of s.state k.begun) i (attributes-of s) (words_of k l) done-number a (holds s) r g q u ∙ rw (own-depth, own-painting)
 
     -- 14 alters nothing; done, the row's painter is the rules'
-    step-out : in_place (screen-of s.state k.begun) i (words_of k l) (settled (some o) p.buckets (standing-in p) l) ≡ given_out (paint-call i (length l / piece-size) k) l
+    step-out : in_place (screen-of s.state k.begun) i (words_of k l) (settled (Some o) p.buckets (standing-in p) l) ≡ given_out (paint-call i (length l / piece-size) k) l
     unfolding settled paint-call
     step-out = rw (lt-leb (length s.rows) i h, b, on) (go (ltb (length l / piece-size) (length o.pieces)))
       where

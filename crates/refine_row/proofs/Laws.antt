@@ -1,7 +1,7 @@
 -- The row operations on words follow those of the rules. Assumes nothing.
 use mathlib.Core.Path.{◌≡◌, refl, sym, ap, ◌∙◌}
 use mathlib.Core.List.{List, [], ◌∷◌, ◌++◌, append_assoc, append-nil}
-use mathlib.Core.Option.{Option, none, some}
+use Rattle.std.specs.Prelude.{Option, None, Some}
 use Prim.Native.Nat.{ℕ, zero, suc, ◌+◌, ◌-◌, ◌*◌, ◌/◌, ◌%◌, ◌≤◌, ◌<◌, max}
 use native.Mathlib.Numerals.{add-one, add-two, add-three}
 use native.Mathlib.Omega.{arith}
@@ -10,48 +10,48 @@ use lib.Seq.{get_or-append-add, get_or_at, set_at}
 use borrow.Author.Tests.{ne_eqb}
 use Rattle.rules.specs.Lists.{join, is_none, is-empty}
 use Rattle.rules.specs.Spans.{Span, hull}
-use Rattle.rules.specs.Commands.{Command, paint-fill, layer-fill, push-buf, pop-buf, DepthFill, span-word, command-words, depth-words}
+use Rattle.rules.specs.Commands.{Command, paint-fill, layer-fill, push-buf, pop-buf, DepthFill, span-word, command_words, depth-words}
 use Rattle.rules.specs.Rows as rules
 use Rattle.rules.specs.Depth.{Summary}
 use Rattle.rules.specs.Rows.{Row, Level, include}
 use Rattle.rules.proofs.All.{never, head}
-use Rattle.row.specs.Words.{word, put4, hull-word, include-span, include-adds, put-command, put-buf, end-buf, put-depth}
+use Rattle.row.specs.Words.{word, put4, hull_word, include_span, include-adds, put_command, put_buf, end_buf, put_depth}
 use Rattle.refine_row.specs.Encode.{padded, union-words, stack, first_of, end_of, state-of, encode, Fine}
 use Rattle.refine_row.proofs.Pads.{zeros, padded-fits, stored-any, set_after, set-padded}
 
 -- commands
-four : (c : Command) → length (command-words c) ≡ 4
-unfolding command-words
-four (paint-fill s none i) = refl
-four (paint-fill s (some a) i) = refl
-four (layer-fill s none i) = refl
-four (layer-fill s (some a) i) = refl
-four (push-buf none) = refl
-four (push-buf (some s)) = refl
+four : (c : Command) → length (command_words c) ≡ 4
+unfolding command_words
+four (paint-fill s None i) = refl
+four (paint-fill s (Some a) i) = refl
+four (layer-fill s None i) = refl
+four (layer-fill s (Some a) i) = refl
+four (push-buf None) = refl
+four (push-buf (Some s)) = refl
 four pop-buf = refl
 
-flat-length : (cs : List Command) → length (join command-words cs) ≡ 4 * length cs
+flat-length : (cs : List Command) → length (join command_words cs) ≡ 4 * length cs
 flat-length [] = refl
-flat-length (c ∷ cs) = length-append (command-words c) (join command-words cs) ∙ omega (arith, four c, flat-length cs)
+flat-length (c ∷ cs) = length-append (command_words c) (join command_words cs) ∙ omega (arith, four c, flat-length cs)
 
-flat-more : (cs : List Command) (c : Command) → join command-words (cs ++ (c ∷ [])) ≡ join command-words cs ++ command-words c
-flat-more [] c = append-nil (command-words c)
-flat-more (x ∷ cs) c = rw (flat-more cs c) (sym (append_assoc (command-words x) (join command-words cs) (command-words c)))
+flat-more : (cs : List Command) (c : Command) → join command_words (cs ++ (c ∷ [])) ≡ join command_words cs ++ command_words c
+flat-more [] c = append-nil (command_words c)
+flat-more (x ∷ cs) c = rw (flat-more cs c) (sym (append_assoc (command_words x) (join command_words cs) (command_words c)))
 
 -- a command stored
-pub rendered : (k : ℕ) (cs : List Command) (c : Command) (a b x y : ℕ) → command-words c ≡ a ∷ b ∷ x ∷ y ∷ []
-    → put4 (padded (4 * k) (join command-words cs)) (length cs) a b x y ≡ padded (4 * k) (join command-words (cs ++ (c ∷ [])))
+pub rendered : (k : ℕ) (cs : List Command) (c : Command) (a b x y : ℕ) → command_words c ≡ a ∷ b ∷ x ∷ y ∷ []
+    → put4 (padded (4 * k) (join command_words cs)) (length cs) a b x y ≡ padded (4 * k) (join command_words (cs ++ (c ∷ [])))
 rendered k cs c a b x y e =
     rw (flat-more cs c, e, add-one, add-two, add-three)
-    (stored-any (4 * k) (join command-words cs) (a ∷ b ∷ x ∷ y ∷ []) (4 * length cs) (sym (flat-length cs)) (λ (h : length (join command-words cs) < 4 * k). omega (arith, flat-length cs)))
+    (stored-any (4 * k) (join command_words cs) (a ∷ b ∷ x ∷ y ∷ []) (4 * length cs) (sym (flat-length cs)) (λ (h : length (join command_words cs) < 4 * k). omega (arith, flat-length cs)))
 
 -- levels
 three : (l : Level) → length (l.place ∷ union-words l.union) ≡ 3
 three l = go l.union
   where
     go : (u : Option Span) → length (l.place ∷ union-words u) ≡ 3
-    go none = refl
-    go (some s) = refl
+    go None = refl
+    go (Some s) = refl
 
 stack-length : (ls : List Level) → length (stack ls) ≡ 3 * length ls
 unfolding stack
@@ -59,10 +59,10 @@ stack-length [] = refl
 stack-length (l ∷ ls) = length-append (stack ls) (l.place ∷ union-words l.union) ∙ omega (arith, three l, stack-length ls)
 
 -- the span word of the hull
-hulled : (u : Option Span) (s : Span) → end_of u < 65536 → (t v : ℕ) → union-words u ≡ t ∷ v ∷ [] → hull-word t v s.first s.end ≡ span-word (hull u s)
-unfolding hull-word
-hulled none s h t v e = let p : t ≡ 5 = sym (ap (λ (l : List ℕ). get_or l 0 0) e) in rw p
-hulled (some u) s h t v e =
+hulled : (u : Option Span) (s : Span) → end_of u < 65536 → (t v : ℕ) → union-words u ≡ t ∷ v ∷ [] → hull_word t v s.first s.end ≡ span-word (hull u s)
+unfolding hull_word
+hulled None s h t v e = let p : t ≡ 5 = sym (ap (λ (l : List ℕ). get_or l 0 0) e) in rw p
+hulled (Some u) s h t v e =
     let p : t ≡ 6 = sym (ap (λ (l : List ℕ). get_or l 0 0) e) in
     let q : v ≡ u.first * 65536 + u.end = sym (ap (λ (l : List ℕ). get_or l 1 0) e) in
     let d : (u.first * 65536 + u.end) / 65536 ≡ u.first = omega arith in
@@ -87,9 +87,9 @@ module _ (ls : List Level) (p t v : ℕ) (few : length ls ≤ 15) where
 
 module _ (n b c d g : ℕ) (l : Level) (ls : List Level) (s : Span) (few : length ls ≤ 15) (h : end_of l.union < 65536) where
   included-as : (t v : ℕ) → union-words l.union ≡ t ∷ v ∷ []
-      → include-span s.first s.end (n ∷ b ∷ c ∷ d ∷ g ∷ suc (length ls) ∷ padded 48 (stack (l ∷ ls)))
-      ≡ n ∷ b ∷ c ∷ d ∷ g ∷ suc (length ls) ∷ padded 48 (stack (record { place = l.place; union = some (hull l.union s) } ∷ ls))
-  unfolding include-span stack
+      → include_span s.first s.end (n ∷ b ∷ c ∷ d ∷ g ∷ suc (length ls) ∷ padded 48 (stack (l ∷ ls)))
+      ≡ n ∷ b ∷ c ∷ d ∷ g ∷ suc (length ls) ∷ padded 48 (stack (record { place = l.place; union = Some (hull l.union s) } ∷ ls))
+  unfolding include_span stack
   included-as t v e =
       let i1 : 3 + 3 * suc (length ls) + 1 ≡ suc (suc (suc (suc (suc (suc (3 * length ls + 1)))))) = omega arith in
       let i2 : 3 + 3 * suc (length ls) + 2 ≡ suc (suc (suc (suc (suc (suc (3 * length ls + 2)))))) = omega arith in
@@ -106,11 +106,11 @@ module _ (n b c d g : ℕ) (l : Level) (ls : List Level) (s : Span) (few : lengt
       )
 
   two : (u : Option Span) → (t : ℕ) × (v : ℕ) × (union-words u ≡ t ∷ v ∷ [])
-  two none = (5, 0, refl)
-  two (some s) = (6, span-word s, refl)
+  two None = (5, 0, refl)
+  two (Some s) = (6, span-word s, refl)
 
-  included : include-span s.first s.end (n ∷ b ∷ c ∷ d ∷ g ∷ suc (length ls) ∷ padded 48 (stack (l ∷ ls)))
-      ≡ n ∷ b ∷ c ∷ d ∷ g ∷ suc (length ls) ∷ padded 48 (stack (record { place = l.place; union = some (hull l.union s) } ∷ ls))
+  included : include_span s.first s.end (n ∷ b ∷ c ∷ d ∷ g ∷ suc (length ls) ∷ padded 48 (stack (l ∷ ls)))
+      ≡ n ∷ b ∷ c ∷ d ∷ g ∷ suc (length ls) ∷ padded 48 (stack (record { place = l.place; union = Some (hull l.union s) } ∷ ls))
   included = included-as (two l.union).0 (two l.union).1 (two l.union).2
 
 -- a fill's command: the state
@@ -119,30 +119,30 @@ module _ (s : Span) (cs : List Command) (c : Command) (f : List DepthFill) (d : 
   counted = length-append cs (c ∷ [])
 
   stated : (ls : List Level) → Fine (record { commands = cs; fills = f; levels = ls; depth = d })
-      → set (include-span s.first s.end (state-of (record { commands = cs; fills = f; levels = ls; depth = d }))) 0 (length cs + 1)
-      ≡ state-of (record { commands = cs ++ (c ∷ []); fills = f; levels = include (some s) ls; depth = d })
-  unfolding include-span
+      → set (include_span s.first s.end (state-of (record { commands = cs; fills = f; levels = ls; depth = d }))) 0 (length cs + 1)
+      ≡ state-of (record { commands = cs ++ (c ∷ []); fills = f; levels = include (Some s) ls; depth = d })
+  unfolding include_span
   stated [] r = rw counted
   stated (l ∷ ls) r = rw (included (length cs) (length f) (first_of d.union) (end_of d.union) d.largest l ls s (omega (arith, r.few)) (head r.spans), counted)
 
 -- a command simulates
-four-words : (c : Command) → command-words c ≡ get_or (command-words c) 0 0 ∷ get_or (command-words c) 1 0 ∷ get_or (command-words c) 2 0 ∷ get_or (command-words c) 3 0 ∷ []
-unfolding command-words
-four-words (paint-fill s none i) = refl
-four-words (paint-fill s (some a) i) = refl
-four-words (layer-fill s none i) = refl
-four-words (layer-fill s (some a) i) = refl
-four-words (push-buf none) = refl
-four-words (push-buf (some s)) = refl
+four-words : (c : Command) → command_words c ≡ get_or (command_words c) 0 0 ∷ get_or (command_words c) 1 0 ∷ get_or (command_words c) 2 0 ∷ get_or (command_words c) 3 0 ∷ []
+unfolding command_words
+four-words (paint-fill s None i) = refl
+four-words (paint-fill s (Some a) i) = refl
+four-words (layer-fill s None i) = refl
+four-words (layer-fill s (Some a) i) = refl
+four-words (push-buf None) = refl
+four-words (push-buf (Some s)) = refl
 four-words pop-buf = refl
 
 module _ (k j : ℕ) (r : Row) (o : Fine r) (c : Command) where
   added : (a : Option Span) → set (include-adds a (state-of r)) 0 (length r.commands + 1) ≡ state-of (record { commands = r.commands ++ (c ∷ []); fills = r.fills; levels = include a r.levels; depth = r.depth })
-  added none = rw (length-append r.commands (c ∷ []))
-  added (some s) = stated s r.commands c r.fills r.depth r.levels o
+  added None = rw (length-append r.commands (c ∷ []))
+  added (Some s) = stated s r.commands c r.fills r.depth r.levels o
 
-  pub puts : encode k j (rules.put-command c r) ≡ put-command c (encode k j r)
-  unfolding encode put-command rules.put-command
+  pub puts : encode k j (rules.put-command c r) ≡ put_command c (encode k j r)
+  unfolding encode put_command rules.put-command
   puts = rw (added (rules.adds c), rendered k r.commands c _ _ _ _ (four-words c))
 
 -- a PushBuf simulates
@@ -152,8 +152,8 @@ module _ (k j : ℕ) (r : Row) (few : length r.levels ≤ 15) where
       rw (add-one, add-two)
       (stored-any 48 (stack r.levels) (n ∷ 5 ∷ 0 ∷ []) (3 * length r.levels) (sym (stack-length r.levels)) (λ (h : length (stack r.levels) < 48). omega (arith, stack-length r.levels)))
 
-  pub pushes : encode k j (rules.put-push-buf r) ≡ put-buf (encode k j r)
-  unfolding encode put-buf stack command-words rules.put-push-buf
+  pub pushes : encode k j (rules.put-push-buf r) ≡ put_buf (encode k j r)
+  unfolding encode put_buf stack command_words rules.put-push-buf
   pushes =
       let m = length r.levels in
       let i0 : 3 + 3 * (length r.levels + 1) ≡ suc (suc (suc (suc (suc (suc (3 * length r.levels)))))) = omega arith in
@@ -165,7 +165,7 @@ module _ (k j : ℕ) (r : Row) (few : length r.levels ≤ 15) where
         i1,
         i2,
         pushed-stack (length r.commands),
-        rendered k r.commands (push-buf none) 5 0 0 0 refl,
+        rendered k r.commands (push-buf None) 5 0 0 0 refl,
         length-append,
         l,
       )
@@ -198,34 +198,34 @@ module _ (k j v : ℕ) (cs : List Command) (ls : List Level) (g : ℕ) (f : Dept
   least : (x : ℕ) → max 0 x ≡ x
   least x = omega arith
 
-  deep-as : (u : Option Span) (fs : List DepthFill) → is_none u ≡ is-empty fs → encode k j (rules.put-depth-fill v f id (row_of u fs)) ≡ put-depth v f id (encode k j (row_of u fs))
-  unfolding encode put-depth rules.put-depth-fill depth-words
-  deep-as none [] e = rw (← deepened j [] f, least)
-  deep-as none (x ∷ fs) e = never e
-  deep-as (some u) [] e = never (sym e)
-  deep-as (some u) (x ∷ fs) e = rw (← deepened j (x ∷ fs) f, ne_eqb (suc (length fs)) 0 (λ (z : suc (length fs) ≡ 0). omega arith), more)
+  deep-as : (u : Option Span) (fs : List DepthFill) → is_none u ≡ is-empty fs → encode k j (rules.put-depth-fill v f id (row_of u fs)) ≡ put_depth v f id (encode k j (row_of u fs))
+  unfolding encode put_depth rules.put-depth-fill depth-words
+  deep-as None [] e = rw (← deepened j [] f, least)
+  deep-as None (x ∷ fs) e = never e
+  deep-as (Some u) [] e = never (sym e)
+  deep-as (Some u) (x ∷ fs) e = rw (← deepened j (x ∷ fs) f, ne_eqb (suc (length fs)) 0 (λ (z : suc (length fs) ≡ 0). omega arith), more)
     where
       more : suc (length (fs ++ (f ∷ []))) ≡ suc (length fs) + 1
       more = omega (arith, length-append fs (f ∷ []))
 
-pub fills : (k j v : ℕ) (r : Row) → Fine r → (f : DepthFill) (id : ℕ) → encode k j (rules.put-depth-fill v f id r) ≡ put-depth v f id (encode k j r)
+pub fills : (k j v : ℕ) (r : Row) → Fine r → (f : DepthFill) (id : ℕ) → encode k j (rules.put-depth-fill v f id r) ≡ put_depth v f id (encode k j r)
 fills k j v r o f id = deep-as k j v r.commands r.levels r.depth.largest f id r.depth.union r.fills o.summary
 
 -- a PopBuf simulates
 two-words : (u : Option Span) → (t : ℕ) × (v : ℕ) × (union-words u ≡ t ∷ v ∷ [])
-two-words none = (5, 0, refl)
-two-words (some s) = (6, span-word s, refl)
+two-words None = (5, 0, refl)
+two-words (Some s) = (6, span-word s, refl)
 
-set-flat : (cs : List Command) (p : ℕ) (u : Option Span) (t v : ℕ) → union-words u ≡ t ∷ v ∷ [] → p < length cs → get_or cs p pop-buf ≡ push-buf none
-    → set (set (join command-words cs) (4 * p) t) (4 * p + 1) v ≡ join command-words (set cs p (push-buf u))
-unfolding command-words
+set-flat : (cs : List Command) (p : ℕ) (u : Option Span) (t v : ℕ) → union-words u ≡ t ∷ v ∷ [] → p < length cs → get_or cs p pop-buf ≡ push-buf None
+    → set (set (join command_words cs) (4 * p) t) (4 * p + 1) v ≡ join command_words (set cs p (push-buf u))
+unfolding command_words
 set-flat [] p u t v e h q = absurd (omega arith)
-set-flat (c ∷ cs) zero none t v e h q = rw (q, ← ap (λ (l : List ℕ). get_or l 0 0) e, ← ap (λ (l : List ℕ). get_or l 1 0) e)
-set-flat (c ∷ cs) zero (some s) t v e h q = rw (q, ← ap (λ (l : List ℕ). get_or l 0 0) e, ← ap (λ (l : List ℕ). get_or l 1 0) e)
+set-flat (c ∷ cs) zero None t v e h q = rw (q, ← ap (λ (l : List ℕ). get_or l 0 0) e, ← ap (λ (l : List ℕ). get_or l 1 0) e)
+set-flat (c ∷ cs) zero (Some s) t v e h q = rw (q, ← ap (λ (l : List ℕ). get_or l 0 0) e, ← ap (λ (l : List ℕ). get_or l 1 0) e)
 set-flat (c ∷ cs) (suc p) u t v e h q =
-    let i0 : 4 * suc p ≡ length (command-words c) + 4 * p = omega (arith, four c) in
-    let i1 : length (command-words c) + 4 * p + 1 ≡ length (command-words c) + (4 * p + 1) = omega arith in
-    rw (i0, i1, set_after (command-words c), set_after (command-words c), set-flat cs p u t v e (omega arith) q)
+    let i0 : 4 * suc p ≡ length (command_words c) + 4 * p = omega (arith, four c) in
+    let i1 : length (command_words c) + 4 * p + 1 ≡ length (command_words c) + (4 * p + 1) = omega arith in
+    rw (i0, i1, set_after (command_words c), set_after (command_words c), set-flat cs p u t v e (omega arith) q)
 
 module _ (ls : List Level) (p t v : ℕ) (few : length ls ≤ 15) where
   top-place : get_or (padded 48 (stack ls ++ (p ∷ t ∷ v ∷ []))) (3 * length ls) 0 ≡ p
@@ -241,21 +241,21 @@ module _ (k j : ℕ) (cs : List Command) (fs : List DepthFill) (d : Summary) whe
   abbrev with-levels : List Level → Row
   with-levels ls = record { commands = cs; fills = fs; levels = ls; depth = d }
 
-  ended-render : (p : ℕ) (u : Option Span) (t v : ℕ) → union-words u ≡ t ∷ v ∷ [] → p < length cs → get_or cs p pop-buf ≡ push-buf none
-      → put4 (set (set (padded (4 * k) (join command-words cs)) (4 * p) t) (4 * p + 1) v) (length cs) 7 0 0 0 ≡ padded (4 * k) (join command-words (set cs p (push-buf u) ++ (pop-buf ∷ [])))
-  unfolding command-words
+  ended-render : (p : ℕ) (u : Option Span) (t v : ℕ) → union-words u ≡ t ∷ v ∷ [] → p < length cs → get_or cs p pop-buf ≡ push-buf None
+      → put4 (set (set (padded (4 * k) (join command_words cs)) (4 * p) t) (4 * p + 1) v) (length cs) 7 0 0 0 ≡ padded (4 * k) (join command_words (set cs p (push-buf u) ++ (pop-buf ∷ [])))
+  unfolding command_words
   ended-render p u t v e h q =
-      let a : 4 * p < length (join command-words cs) = omega (arith, flat-length cs) in
-      let b : 4 * p + 1 < length (set (join command-words cs) (4 * p) t) = rw length-set (omega (arith, flat-length cs)) in
-      rw (set-padded (4 * k) (join command-words cs) (4 * p) t a, set-padded (4 * k) (set (join command-words cs) (4 * p) t) (4 * p + 1) v b, set-flat cs p u t v e h q, ← length-set cs p (push-buf u))
+      let a : 4 * p < length (join command_words cs) = omega (arith, flat-length cs) in
+      let b : 4 * p + 1 < length (set (join command_words cs) (4 * p) t) = rw length-set (omega (arith, flat-length cs)) in
+      rw (set-padded (4 * k) (join command_words cs) (4 * p) t a, set-padded (4 * k) (set (join command_words cs) (4 * p) t) (4 * p + 1) v b, set-flat cs p u t v e h q, ← length-set cs p (push-buf u))
       (rendered k (set cs p (push-buf u)) pop-buf 7 0 0 0 refl)
 
   ended-count : (p : ℕ) (u : Option Span) → length (set cs p (push-buf u) ++ (pop-buf ∷ [])) ≡ length cs + 1
   ended-count p u = length-append (set cs p (push-buf u)) (pop-buf ∷ []) ∙ omega (arith, length-set cs p (push-buf u))
 
   popped-as : (l : Level) (ls : List Level) → Fine (with-levels (l ∷ ls)) → (t v : ℕ) → union-words l.union ≡ t ∷ v ∷ []
-      → encode k j (rules.pop-levels (l ∷ ls) (with-levels (l ∷ ls))) ≡ end-buf (encode k j (with-levels (l ∷ ls)))
-  unfolding encode end-buf stack
+      → encode k j (rules.pop-levels (l ∷ ls) (with-levels (l ∷ ls))) ≡ end_buf (encode k j (with-levels (l ∷ ls)))
+  unfolding encode end_buf stack
   popped-as l ls o t v e =
       let few : length ls ≤ 15 = omega (arith, o.few) in
       let i0 : 3 + 3 * suc (length ls) ≡ suc (suc (suc (suc (suc (suc (3 * length ls)))))) = omega arith in
@@ -277,12 +277,12 @@ module _ (k j : ℕ) (cs : List Command) (fs : List DepthFill) (d : Summary) whe
         ended-count l.place l.union,
       )
 
-  popped : (ls : List Level) → Fine (with-levels ls) → encode k j (rules.pop-levels ls (with-levels ls)) ≡ end-buf (encode k j (with-levels ls))
-  unfolding end-buf encode
+  popped : (ls : List Level) → Fine (with-levels ls) → encode k j (rules.pop-levels ls (with-levels ls)) ≡ end_buf (encode k j (with-levels ls))
+  unfolding end_buf encode
   popped [] o = refl
   popped (l ∷ ls) o = popped-as l ls o (two-words l.union).0 (two-words l.union).1 (two-words l.union).2
 
-pub pops : (k j : ℕ) (r : Row) → Fine r → encode k j (rules.put-pop-buf r) ≡ end-buf (encode k j r)
+pub pops : (k j : ℕ) (r : Row) → Fine r → encode k j (rules.put-pop-buf r) ≡ end_buf (encode k j r)
 unfolding rules.put-pop-buf
 pops k j r o = popped k j r.commands r.fills r.depth r.levels o
 

@@ -2,7 +2,7 @@
 use mathlib.Core.Path.{◌≡◌, refl, ap, ◌∙◌}
 use mathlib.Core.Bool.{Bool, true, false, cond}
 use mathlib.Core.List.{List, [], ◌∷◌, ◌++◌, map}
-use mathlib.Core.Option.{Option, none, some}
+use Rattle.std.specs.Prelude.{Option, None, Some}
 use Prim.Native.Nat.{ℕ, ◌+◌, ◌-◌, ◌*◌, ◌≤◌, ◌<◌}
 use native.Mathlib.Nat.{div-mul-le_self, div-le_self}
 use native.Mathlib.Omega.{arith}
@@ -12,11 +12,11 @@ use lib.ListN.{length, set, replicate, length-append, length-set, get_or-append}
 use lib.Seq.{get_or-set_other, get_or-append_seam}
 use Rattle.rules.specs.Lists.{keep, is-empty}
 use Rattle.rules.specs.Spans.{Span, span, hull}
-use Rattle.rules.specs.Split.{regular, buckets, split, raised, lowered, around}
+use Rattle.rules.specs.Split.{regular, split, raised, lowered, around}
 use Rattle.rules.specs.Commands.{Command, paint-fill, layer-fill, push-buf, pop-buf, DepthFill}
 use Rattle.refine_row.proofs.Pads.{padded-fits}
 use Rattle.rules.specs.Rows.{fresh-row, Row, Level, row-ops, adds, include, put-command, put-push-buf, pop-levels, put-pop-buf, put-depth-fill}
-use Rattle.rules.specs.Boxes.{rows_of, good-viewport}
+use Rattle.rules.specs.Boxes.{rows_of, good_viewport}
 use Rattle.rules.specs.Plans.{Put, Step, Frame}
 use Rattle.rules.specs.Steps.{Screen, reset, do-puts, touched, call}
 use Rattle.rules.proofs.All.{All, nil, cons, head, tail, all_keep, all_replicate}
@@ -34,7 +34,7 @@ module _ (cs : List Command) (c : Command) where
       let i : l.place < length cs = omega (arith, p.0) in
       (omega (arith, p.0), get_or-append cs (c ∷ []) pop-buf l.place i ∙ p.1, more-places l.place l.place ls (omega arith) (omega arith) p.2)
 
-  top-place : (b m : ℕ) (s : Span) (ls : List Level) → b ≤ m → b ≤ length cs → placed cs b ls → placed (cs ++ (c ∷ [])) m (include (some s) ls)
+  top-place : (b m : ℕ) (s : Span) (ls : List Level) → b ≤ m → b ≤ length cs → placed cs b ls → placed (cs ++ (c ∷ [])) m (include (Some s) ls)
   top-place b m s [] h g p = tt
   top-place b m s (l ∷ ls) h g p = more-places b m (l ∷ ls) h g p
 
@@ -46,19 +46,19 @@ set-places cs x c b [] h p = tt
 set-places cs x c b (l ∷ ls) h p =
     (p.0, get_or-set_other cs x l.place c pop-buf (omega (arith, p.0)) ∙ p.1, set-places cs x c l.place ls (omega (arith, p.0)) p.2)
 
-few-include : (s : Span) (ls : List Level) → length (include (some s) ls) ≡ length ls
+few-include : (s : Span) (ls : List Level) → length (include (Some s) ls) ≡ length ls
 few-include s [] = refl
 few-include s (l ∷ ls) = refl
 
 hull-end : (u : Option Span) (s : Span) → end_of u < 65536 → s.end < 65536 → (hull u s).end < 65536
-hull-end none s h g = g
-hull-end (some u) s h g = omega arith
+hull-end None s h g = g
+hull-end (Some u) s h g = omega arith
 
-spans-include : (s : Span) → s.end < 65536 → (ls : List Level) → All (λ (l : Level). end_of l.union < 65536) ls → All (λ (l : Level). end_of l.union < 65536) (include (some s) ls)
+spans-include : (s : Span) → s.end < 65536 → (ls : List Level) → All (λ (l : Level). end_of l.union < 65536) ls → All (λ (l : Level). end_of l.union < 65536) (include (Some s) ls)
 spans-include s g [] a = nil
 spans-include s g (l ∷ ls) a = cons (hull-end l.union s (head a) g) (tail a)
 
-fine-put : (c : Command) (s : Span) → adds c ≡ some s → BoundedSpan s → (r : Row) → Fine r → Fine (put-command c r)
+fine-put : (c : Command) (s : Span) → adds c ≡ Some s → BoundedSpan s → (r : Row) → Fine r → Fine (put-command c r)
 unfolding put-command
 fine-put c s e g r o =
     rw e
@@ -74,12 +74,12 @@ unfolding put-push-buf
 fine-push r o h =
     record {
       few = h;
-      spans = cons {x = record { place = length r.commands; union = none }} (omega arith) o.spans;
+      spans = cons {x = record { place = length r.commands; union = None }} (omega arith) o.spans;
       summary = o.summary;
       places = (
         rw counted (omega arith),
-        get_or-append_seam r.commands (push-buf none) [] pop-buf,
-        more-places r.commands (push-buf none) (length r.commands) (length r.commands) r.levels (omega arith) (omega arith) o.places,
+        get_or-append_seam r.commands (push-buf None) [] pop-buf,
+        more-places r.commands (push-buf None) (length r.commands) (length r.commands) r.levels (omega arith) (omega arith) o.places,
       );
     }
 
@@ -184,6 +184,6 @@ called c d x s b =
     (r.0, record { framed = call-framed Row row-ops x s b.framed; fine = r.1 })
 
 -- .. and a reset
-pub reset-built : (f : Frame) → good-viewport f.viewport ≡ true → Built (reset fresh-row f)
+pub reset-built : (f : Frame) → good_viewport f.viewport ≡ true → Built (reset fresh-row f)
 unfolding reset
 reset-built f g = record { framed = reset-framed Row row-ops fresh-row f g; fine = all_replicate (rows_of f.viewport) fresh-row fresh-fine }

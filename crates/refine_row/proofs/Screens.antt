@@ -8,7 +8,7 @@ use Rattle.rules.specs.Boxes.{rows_of}
 use Rattle.rules.specs.Rows.{Row, Level, fresh-row}
 use Rattle.rules.specs.Plans.{Frame}
 use Rattle.rules.specs.Steps.{reset}
-use Rattle.rules.specs.Commands.{command-words, depth-words}
+use Rattle.rules.specs.Commands.{command_words, depth-words}
 use Rattle.rules.specs.Lists.{join}
 use Rattle.rules.proofs.All.{All, all-mapped}
 use Rattle.rules.proofs.laws.Maps.{screen-by}
@@ -26,7 +26,7 @@ unfolding encode
 encode-sized c d r =
     record {
       state = ap (λ (n : ℕ). suc (suc (suc (suc (suc (suc n)))))) (padded-length 48 (stack r.levels));
-      render = padded-length (4 * c) (join command-words r.commands);
+      render = padded-length (4 * c) (join command_words r.commands);
       fills = padded-length (2 * d) (join depth-words r.fills);
     }
 

@@ -2,7 +2,7 @@
 use mathlib.Core.Path.{◌≡◌, refl}
 use mathlib.Core.Bool.{Bool, true, false, cond}
 use mathlib.Core.List.{List, [], ◌∷◌, foldl}
-use mathlib.Core.Option.{Option, none, some}
+use Rattle.std.specs.Prelude.{Option, None, Some}
 use Prim.Native.Nat.{ℕ, zero, suc, ◌+◌, ◌-◌, ◌*◌, ◌/◌, ◌≤◌, ◌<◌}
 use native.Mathlib.Nat.{mul-div_cancel}
 use native.Mathlib.Omega.{arith}
@@ -39,20 +39,20 @@ pub record PutFine (p : Put) : Type 0 where
   pub id : id-of p.act ≤ 1048576
 
 hull-ordered : (u : Option Span) (s : Span) → OrderedUnion u → Ordered s → Ordered (hull u s)
-hull-ordered none s a b = b
-hull-ordered (some t) s a b = record { order = omega (arith, a.order, b.order); end = omega (arith, a.end, b.end) }
+hull-ordered None s a b = b
+hull-ordered (Some t) s a b = record { order = omega (arith, a.order, b.order); end = omega (arith, a.end, b.end) }
 
-include-ordered : (s : Span) → Ordered s → (ls : List Level) → All (λ (l : Level). OrderedUnion l.union) ls → All (λ (l : Level). OrderedUnion l.union) (include (some s) ls)
+include-ordered : (s : Span) → Ordered s → (ls : List Level) → All (λ (l : Level). OrderedUnion l.union) ls → All (λ (l : Level). OrderedUnion l.union) (include (Some s) ls)
 include-ordered s o [] a = nil
-include-ordered s o (l ∷ ls) a = cons {x = record { place = l.place; union = some (hull l.union s) }} (hull-ordered l.union s (head a) o) (tail a)
+include-ordered s o (l ∷ ls) a = cons {x = record { place = l.place; union = Some (hull l.union s) }} (hull-ordered l.union s (head a) o) (tail a)
 
-put-sane : (c : Command) (s : Span) → adds c ≡ some s → Ordered s → (r : Row) → Sane r → Sane (put-command c r)
+put-sane : (c : Command) (s : Span) → adds c ≡ Some s → Ordered s → (r : Row) → Sane r → Sane (put-command c r)
 unfolding put-command
 put-sane c s e o r h = rw e (record { unions = include-ordered s o r.levels h.unions; depth = h.depth; largest = h.largest })
 
 push-sane : (r : Row) → Sane r → Sane (put-push-buf r)
 unfolding put-push-buf
-push-sane r h = record { unions = cons {x = record { place = length r.commands; union = none }} tt h.unions; depth = h.depth; largest = h.largest }
+push-sane r h = record { unions = cons {x = record { place = length r.commands; union = None }} tt h.unions; depth = h.depth; largest = h.largest }
 
 pushes-sane : (k : ℕ) (r : Row) → Sane r → Sane (times k put-push-buf r)
 pushes-sane zero r h = h
@@ -74,7 +74,7 @@ PartFine w (buckets b) = Ordered (tiles-of w b)
 module _ (w : ℕ) where
   part-sane : (i id : ℕ) → id ≤ 1048576 → (p : Part) → PartFine w p → (r : Row) → Sane r → Sane (put-part Row row-ops w i id r p)
   unfolding put-depth-fill
-  part-sane i id g (regular s) o r h = put-sane (paint-fill s none i) s refl o r h
+  part-sane i id g (regular s) o r h = put-sane (paint-fill s None i) s refl o r h
   part-sane i id g (buckets b) o r h = record { unions = h.unions; depth = hull-ordered r.depth.union (tiles-of w b) h.depth o; largest = omega (arith, h.largest) }
 
   parts-sane : (i id : ℕ) → id ≤ 1048576 → {ps : List Part} → All (PartFine w) ps → (r : Row) → Sane r → Sane (foldl (put-part Row row-ops w i id) r ps)

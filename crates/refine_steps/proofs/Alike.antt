@@ -18,11 +18,10 @@ use Rattle.rules.proofs.laws.Bounds.{BoundedSpan}
 use Rattle.rules.proofs.laws.Maps.{PutOk, screen-by, answer-by, follows-perform}
 use Rattle.row.specs.Words.{Words, word-ops}
 use Rattle.row_screen.specs.Arena.{lay}
-use Rattle.row_judge.specs.Building.{rows_at, screen-at, good-rows, step-number}
+use Rattle.row_judge.specs.Building.{rows_at, screen-at, good_rows, step_number}
 use Rattle.refine_row.specs.Encode.{encode}
 use Rattle.refine_row.proofs.Refines.{refines}
 use Rattle.rules.specs.Attributes.{no-paint}
-use Rattle.screen.specs.declared.Screen.{Screen}
 use Rattle.screen.specs.Screens.{some-filter, layer-in, state-of, screen-after}
 use Rattle.refine_steps.specs.Sound.{Sound}
 use Rattle.refine_steps.specs.Lent.{screen-of, rows_of}
@@ -119,8 +118,8 @@ module _ (s : rule.Screen Row) (h : Sound s) (x : State) (f : x.frame ≡ s.stat
   plan-rows e = ap lay (done-rows ∙ rules-rows e)
 
   -- a step's number, where the tests before say nothing
-  pub number_is : (k : ℕ) (g : Bool) → k ≡ 0 → g ≡ true → step-number k g p here ≡ refusal Row row-ops q (done Row row-ops q s)
-  unfolding step-number
+  pub number_is : (k : ℕ) (g : Bool) → k ≡ 0 → g ≡ true → step_number k g p here ≡ refusal Row row-ops q (done Row row-ops q s)
+  unfolding step_number
   number_is k g z t = rw (z, t) plan-number
 
 -- the state of the screen's numbers
@@ -139,7 +138,7 @@ module _ (s : rule.Screen Row) (h : Sound s) (b : Bool) (p q : Plan) (a : Alike 
 
   -- .. of a step that judges the records of the rows that it puts on
   pub step_is : (k : ℕ) → k ≡ 0
-      → step-number k (good-rows s.state.frame (length s.state.layers) p.puts (rows_at s.state.frame (rows_of s))) p (screen-at (state-of (screen-of s.state b)) (rows_of s)) ≡ refusal Row row-ops q (done Row row-ops q s)
+      → step_number k (good_rows s.state.frame (length s.state.layers) p.puts (rows_at s.state.frame (rows_of s))) p (screen-at (state-of (screen-of s.state b)) (rows_of s)) ≡ refusal Row row-ops q (done Row row-ops q s)
   step_is k z =
       let g = records-good s.state.frame (length s.state.layers) p.puts s.rows (λ j. (h.rows j, (h.reaching.rows j).few)) h.built.fine in
       number_is s h (state-of (screen-of s.state b)) (state-frame s.state b) p q a o k _ z (rw (rows_cut s h) g)

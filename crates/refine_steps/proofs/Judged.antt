@@ -11,12 +11,12 @@ use Rattle.rules.specs.Rows.{Row}
 use Rattle.rules.specs.Plans.{Layer, clip-box}
 use Rattle.rules.specs.Steps as rule
 use Rattle.rules.proofs.All.{All, neither}
-use Rattle.row_screen.specs.Arena.{sizes, Long, cut}
+use Rattle.row_screen.specs.Arena.{sizes, Long}
 use Rattle.row_judge.specs.Building.{rows_at}
 use Rattle.refine_row.specs.Encode.{encode}
 use Rattle.refine_row.proofs.Screens.{cut-screen, screen-long}
 use Rattle.rect.specs.Rects.{same-box}
-use Rattle.screen.specs.Screens.{good-clip, good-screen}
+use Rattle.screen.specs.Screens.{good_clip, good_screen}
 use Rattle.screen.specs.Judging.{judged}
 use Rattle.screen.proofs.Laws as screens
 use Rattle.refine_steps.specs.Sound.{Good, Sound}
@@ -34,13 +34,13 @@ module _ (s : rule.Screen Row) (h : Sound s) where
   same-itself : (a : Box) → same-box a a ≡ true
   same-itself a = rw (eq-eqb a.x0 a.x0 refl, eq-eqb a.y0 a.y0 refl, eq-eqb a.x1 a.x1 refl, eq-eqb a.y1 a.y1 refl)
 
-  clip-is-good : (v : Box) (ls : List Layer) → boxes.good-viewport v ≡ true → All (Good v) ls → good-clip v (clip-box v ls) (length ls) ≡ true
-  unfolding good-clip
+  clip-is-good : (v : Box) (ls : List Layer) → boxes.good_viewport v ≡ true → All (Good v) ls → good_clip v (clip-box v ls) (length ls) ≡ true
+  unfolding good_clip
   clip-is-good v [] g a = same-itself (whole v)
   clip-is-good v (l ∷ ls) g a = screens.clip-good v l.bounds (length ls) (clip-good v g (l ∷ ls) a)
 
-  screen-good : (b : Bool) → good-screen (screen-of s.state b) ≡ true
-  unfolding good-screen
+  screen-good : (b : Bool) → good_screen (screen-of s.state b) ≡ true
+  unfolding good_screen
   screen-good b =
       let f1 = ltb 1024 (length s.state.attrs.paints) in
       let f2 = ltb 1024 (length s.state.attrs.layers) in

@@ -2,7 +2,7 @@
 use mathlib.Core.Path.{◌≡◌, refl, sym, ◌∙◌}
 use mathlib.Core.Bool.{Bool, true, false, ◌&&◌, not, cond}
 use mathlib.Core.List.{List, [], ◌∷◌}
-use mathlib.Core.Option.{Option, none, some}
+use Rattle.std.specs.Prelude.{Option, None, Some}
 use Prim.Native.Nat.{ℕ, zero, suc, ◌-◌, ◌/◌, ◌%◌, ◌≤◌, ◌<◌, min, max}
 use native.Mathlib.Omega.{arith}
 use lib.Dec.{leb, ltb, eqb}
@@ -10,8 +10,8 @@ use lib.ListN.{length, get_or, replicate, length-replicate}
 use borrow.Author.Tests.{leb-false, ltb-true, ltb-false, eqb-true, eqb-false}
 use Rattle.rules.specs.Lists.{some_of}
 use Rattle.rules.specs.Answers.{answer, first_of, Done, Deep, Ids, FullAttrs, FullRow, FullDepth, BadRecord}
-use Rattle.rules.specs.Boxes.{Box, width, height, by_4, good-box, bounded, good-viewport, empty-box, rows_of, rows_in, span_of, scene-tiles}
-use Rattle.rules.specs.Spans.{Span, span, Stretch, common, meeting, cut_at, cut-when, cut-to}
+use Rattle.rules.specs.Boxes.{Box, width, height, by_4, good-box, bounded, good_viewport, empty-box, rows_of, rows_in, span_of, scene-tiles}
+use Rattle.rules.specs.Spans.{Span, span, Stretch, common, meeting, cut_at, cut-when, cut_to}
 use Rattle.rules.specs.Segments.{Segment, good-segment, stretch-of, Cut, localised, cut_in, cuts}
 use Rattle.rules.specs.Blends.{good-blend}
 use Rattle.rules.specs.Inputs.{Paint, Draw, Clip, Props, good-handle, good-panel, few-paints, all-good, good-props, Filter, good-filter, good-filter-fill, draw-segments, good-fill}
@@ -36,8 +36,8 @@ pub record CutFine (k : Cut) : Type 0 where
   pub tiles : Ordered k.stretch.tiles
 
 data Left : Option Stretch → Type 0 where
-  nothing : Left none
-  something : (k : Stretch) → Ordered k.tiles → Left (some k)
+  nothing : Left None
+  something : (k : Stretch) → Ordered k.tiles → Left (Some k)
 
 localised-fine : (v : Box) (row : ℕ) {o : Option Stretch} → Left o → All CutFine (localised v row o)
 localised-fine v row nothing = nil
@@ -45,15 +45,15 @@ localised-fine v row (something k s) =
     let t : Ordered (span (k.tiles.first - v.x0 / 4) (k.tiles.end - v.x0 / 4)) = record { order = omega (arith, s.order); end = omega (arith, s.end) } in
     cons (record { tiles = t }) nil
 
-left-if : (t : Bool) {o : Option Stretch} → Left o → Left (cond t o none)
+left-if : (t : Bool) {o : Option Stretch} → Left o → Left (cond t o None)
 left-if true l = l
 left-if false l = nothing
 
-cut-fine : (b : Span) (s : Stretch) → s.tiles.end ≤ 8192 → Left (cut-to b s)
-unfolding cut-to meeting
+cut-fine : (b : Span) (s : Stretch) → s.tiles.end ≤ 8192 → Left (cut_to b s)
+unfolding cut_to meeting
 cut-fine b s h = go (ltb (common s.tiles b).first (common s.tiles b).end) refl
   where
-    go : (t : Bool) → ltb (common s.tiles b).first (common s.tiles b).end ≡ t → Left (cut-when s (cond t (some (common s.tiles b)) none))
+    go : (t : Bool) → ltb (common s.tiles b).first (common s.tiles b).end ≡ t → Left (cut-when s (cond t (Some (common s.tiles b)) None))
     go true e =
         let l : max s.tiles.first b.first < min s.tiles.end b.end = ltb-true (max s.tiles.first b.first) (min s.tiles.end b.end) e in
         something (cut_at s (common s.tiles b)) (record { order = omega arith; end = omega arith })
@@ -82,10 +82,10 @@ span-fine b l r = go (empty-box b) refl
 -- what steps put on rows
 draw-fine : (e : Bool) (i id r : ℕ) {s : Span} (a : Option ℕ) → id ≤ 1048576 → Ordered s → PutFine (on (draw-act e i id s a) r)
 unfolding draw-act
-draw-fine true i id r none g h = record { act = splits h; id = g }
-draw-fine true i id r (some a) g h = record { act = paints h; id = omega arith }
-draw-fine false i id r none g h = record { act = paints h; id = omega arith }
-draw-fine false i id r (some a) g h = record { act = paints h; id = omega arith }
+draw-fine true i id r None g h = record { act = splits h; id = g }
+draw-fine true i id r (Some a) g h = record { act = paints h; id = omega arith }
+draw-fine false i id r None g h = record { act = paints h; id = omega arith }
+draw-fine false i id r (Some a) g h = record { act = paints h; id = omega arith }
 
 draws-fine : (e : Bool) (i id : ℕ) → id ≤ 1048576 → {ks : List Cut} → All CutFine ks → All PutFine (draw-puts e i id ks)
 unfolding draw-puts
@@ -101,8 +101,8 @@ closes-fine i ts (cons {x = k} h hs) =
 closing-fine : (c : Option Clip) (v own parent : Box) (i : ℕ) (ss : List Segment) (ts : List ℕ) → Ordered (span_of own)
     → All (λ (x : Segment). good-segment x ≡ true) (clip-segments c ss) → All PutFine (closing c v own parent i ss ts)
 unfolding closing
-closing-fine none v own parent i ss ts h g = all-mapped (on (close (span_of own) none i)) (λ x. record { act = closes h; id = omega arith }) ts
-closing-fine (some c) v own parent i ss ts h g = closes-fine i ts (cuts-fine v parent g)
+closing-fine None v own parent i ss ts h g = all-mapped (on (close (span_of own) None i)) (λ x. record { act = closes h; id = omega arith }) ts
+closing-fine (Some c) v own parent i ss ts h g = closes-fine i ts (cuts-fine v parent g)
 
 module _ (s : State) (f : Framed s) where
   fill-fine : (ps : List Paint) (ss : List Segment) (d : Draw) → (plan-fill ps ss d s).refused ≡ Done → (plan-fill ps ss d s).next ≤ 1048577 → All PutFine (plan-fill ps ss d s).puts
@@ -138,7 +138,7 @@ module _ (s : State) (f : Framed s) where
 
   filter-in-fine : (b : Box) (count : ℕ) (q : Filter) (j : ℕ) → Inside s.frame.viewport b → All PutFine (plan-filter-in b count q j s).puts
   unfolding plan-filter-in filter-puts
-  filter-in-fine b count q j i = all-mapped (on (paint (span_of b) none (length s.attrs.paints))) (λ x. record { act = paints (inside-fine b i); id = omega arith }) (rows_in b)
+  filter-in-fine b count q j i = all-mapped (on (paint (span_of b) None (length s.attrs.paints))) (λ x. record { act = paints (inside-fine b i); id = omega arith }) (rows_in b)
 
   filter-fine : (count : ℕ) (q : Filter) (j : ℕ) → All PutFine (plan-filter count q j s).puts
   unfolding plan-filter
@@ -224,11 +224,11 @@ boxes-4 v g =
     let h1 = both a b h2.0 in
     (eqb-true _ _ h1.0, eqb-true _ _ h1.1, eqb-true _ _ h2.1, eqb-true _ _ h3.1)
 
-view-box : (v : Box) → good-viewport v ≡ true → good-box v ≡ true
-unfolding good-viewport
+view-box : (v : Box) → good_viewport v ≡ true → good-box v ≡ true
+unfolding good_viewport
 view-box v g = (both (good-box v) (leb (width v) 4096) (both (good-box v && leb (width v) 4096) (leb (height v) 2048) g).0).0
 
-module _ (v : Box) (g : good-viewport v ≡ true) where
+module _ (v : Box) (g : good_viewport v ≡ true) where
   whole-good : screens.Clip v (clip-box v [])
   whole-good =
       let k = boxes-4 v (view-box v g) in
@@ -249,8 +249,8 @@ module _ (v : Box) (g : good-viewport v ≡ true) where
   clip-good (l ∷ ls) a = (head a).bounds
 
   layer-good : (p : Box) (c : Option Clip) → all-good c ≡ true → screens.Clip v p → screens.Clip v (layer-box v p c)
-  layer-good p none e k = k
-  layer-good p (some c) e k =
+  layer-good p None e k = k
+  layer-good p (Some c) e k =
       let q = boxes-4 v (view-box v g) in
       let b = clip-facts c e in
       let o = boxes-4 c.bounds (both (good-box c.bounds) (leb c.start c.end) (both (good-box c.bounds && leb c.start c.end) (ltb c.thread 256) e).0).0 in
@@ -269,7 +269,7 @@ not-refused : (t : Bool) → cond t Done BadRecord ≡ Done → t ≡ true
 not-refused true e = refl
 not-refused false e = absurd (omega arith)
 
-module _ (s : State) (g : good-viewport s.frame.viewport ≡ true) (a : All (Good s.frame.viewport) s.layers) where
+module _ (s : State) (g : good_viewport s.frame.viewport ≡ true) (a : All (Good s.frame.viewport) s.layers) where
   push-layers : (p : Props) → (plan-push p s).refused ≡ Done → All (Good s.frame.viewport) (plan-push p s).layers
   unfolding plan-push
   push-layers p e =
@@ -362,7 +362,7 @@ call-sound x s h = go (eqb (refusal Row row-ops (planned Row row-ops x s) (after
     go false e b r = h
 
 -- .. and a reset of a good frame
-pub reset-sound : (f : Frame) → good-viewport f.viewport ≡ true → good-room f.c ≡ true → good-room f.d ≡ true → Sound (reset fresh-row f)
+pub reset-sound : (f : Frame) → good_viewport f.viewport ≡ true → good-room f.c ≡ true → good-room f.d ≡ true → Sound (reset fresh-row f)
 unfolding reset
 reset-sound f g c d =
     record {

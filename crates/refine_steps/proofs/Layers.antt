@@ -2,24 +2,24 @@
 use mathlib.Core.Path.{◌≡◌, refl, sym, ap, subst, ◌∙◌}
 use mathlib.Core.Bool.{Bool, true, ◌&&◌}
 use mathlib.Core.List.{List, [], ◌∷◌, ◌++◌, map, append_assoc}
-use mathlib.Core.Option.{Option, none, some}
+use Rattle.std.specs.Prelude.{Option, None, Some}
 use Prim.Native.Nat.{ℕ, suc, ◌+◌, ◌*◌}
 use lib.Dec.{leb}
 use lib.ListN.{length, get_or}
 use lib.Seq.{get_or-append-add}
 use borrow.Author.Tests.{le-leb, eq-eqb}
 use Rattle.sizes.specs.Sizes.{open-layer-size}
-use Rattle.rules.specs.Boxes.{Box, good-viewport, good-box}
+use Rattle.rules.specs.Boxes.{Box, good_viewport, good-box}
 use Rattle.rules.specs.Blends.{good-blend}
 use Rattle.rules.specs.Inputs.{Clip, good-handle, good-thread, good-panel, all-good, good-props}
 use Rattle.rules.specs.Plans.{Layer, clip-box}
 use Rattle.rules.proofs.All.{All, cons, both}
 use Rattle.screen.proofs.Laws as screens
 use Rattle.screen_layers.specs.declared.OpenLayer.{OpenLayer}
-use Rattle.screen_layers.specs.Layers.{layer-words, layer-at, open_at, good-layer, good-own-box}
+use Rattle.screen_layers.specs.Layers.{layer-words, layer-at, open_at, good_layer, good_own_box}
 use Rattle.screen_layers.proofs.Laws.{kept}
 use Rattle.step_pop.specs.Pop.{layers-in, good-open}
-use Rattle.file_read.specs.Reading.{pattern-of}
+use Rattle.file_read.specs.Reading.{pattern_of}
 use Rattle.refine_steps.specs.Sound.{Good}
 use Rattle.refine_steps.specs.Lent.{open-words, layers-words}
 use Rattle.refine_steps.proofs.Kept.{clip-good}
@@ -45,27 +45,27 @@ module _ (l : Layer) (n : ℕ) (rest : List ℕ) where
   layer-read = go l.props.clip
     where
       go : (c : Option Clip) → layer-at (layer-words (kept l c) n ++ rest) 0 ≡ kept l c
-      go none = refl
-      go (some c) = refl
+      go None = refl
+      go (Some c) = refl
 
   nan-read : (open_at (layer-words l n ++ rest) 0).nan ≡ n
   nan-read = go l.props.clip
     where
       go : (c : Option Clip) → (open_at (layer-words (kept l c) n ++ rest) 0).nan ≡ n
-      go none = refl
-      go (some c) = refl
+      go None = refl
+      go (Some c) = refl
 
-  open-read : good-props l.props ≡ true → good-layer (open_at (layer-words l n ++ rest) 0) ≡ true
-  unfolding good-layer
+  open-read : good-props l.props ≡ true → good_layer (open_at (layer-words l n ++ rest) 0) ≡ true
+  unfolding good_layer
   open-read g =
       let h3 = both (good-blend l.props.blend && good-handle l.props.mask && all-good l.props.clip) (good-panel l.props.panel) g in
       let h2 = both (good-blend l.props.blend && good-handle l.props.mask) (all-good l.props.clip) h3.0 in
       let h1 = both (good-blend l.props.blend) (good-handle l.props.mask) h2.0 in
       go l.props.clip h1.0 h1.1 h2.1 h3.1
     where
-      go : (c : Option Clip) → good-blend l.props.blend ≡ true → good-handle l.props.mask ≡ true → all-good c ≡ true → good-panel l.props.panel ≡ true → good-layer (open_at (layer-words (kept l c) n ++ rest) 0) ≡ true
-      go none p q r s = rw (p, q, s)
-      go (some c) p q r s =
+      go : (c : Option Clip) → good-blend l.props.blend ≡ true → good-handle l.props.mask ≡ true → all-good c ≡ true → good-panel l.props.panel ≡ true → good_layer (open_at (layer-words (kept l c) n ++ rest) 0) ≡ true
+      go None p q r s = rw (p, q, s)
+      go (Some c) p q r s =
           let k2 = both (good-box c.bounds && leb c.start c.end) (good-thread c.thread) r in
           let k1 = both (good-box c.bounds) (leb c.start c.end) k2.0 in
           rw (p, q, k1.1, k2.1, s)
@@ -78,10 +78,10 @@ layers-read (l ∷ ls) rest =
     let split : layers-words (l ∷ ls) ++ rest ≡ layers-words ls ++ (open-words l ++ rest) =
     append_assoc (layers-words ls) (open-words l) rest in
     subst (λ (ws : List ℕ). layers-in ws (length (l ∷ ls)) ≡ map bare (l ∷ ls)) (sym split)
-    (rw (layer-there (layers-words ls) (open-words l ++ rest) (length ls) (layers-length ls), layer-read l (pattern-of l.props.opacity) rest, layers-read ls (open-words l ++ rest)))
+    (rw (layer-there (layers-words ls) (open-words l ++ rest) (length ls) (layers-length ls), layer-read l (pattern_of l.props.opacity) rest, layers-read ls (open-words l ++ rest)))
 
-own-good : (v b : Box) → screens.Clip v b → good-own-box v b ≡ true
-unfolding good-own-box
+own-good : (v b : Box) → screens.Clip v b → good_own_box v b ≡ true
+unfolding good_own_box
 own-good v b k =
     rw (
       eq-eqb _ _ k.x0-by-4,
@@ -106,21 +106,21 @@ all_three : (a b c : Bool) → a ≡ true → b ≡ true → c ≡ true → (a &
 all_three a b c p q r = rw (p, q, r)
 
 -- what a pop reads of the layers is good
-pub layers-good : (v : Box) (ls : List Layer) → good-viewport v ≡ true → All (Good v) ls → (rest : List ℕ) → good-open v (layers-words ls ++ rest) (length ls) ≡ true
+pub layers-good : (v : Box) (ls : List Layer) → good_viewport v ≡ true → All (Good v) ls → (rest : List ℕ) → good-open v (layers-words ls ++ rest) (length ls) ≡ true
 unfolding good-open layers-words
 layers-good v [] g a rest = refl
 layers-good v (l ∷ ls) g (cons h hs) rest =
     let e = layers-length ls in
     let t = layers-words ls ++ (open-words l ++ rest) in
     rw (append_assoc (layers-words ls) (open-words l) rest)
-    (all_three (good-layer (open_at t (length ls))) (good-own-box v (layer-at t (length ls)).bounds) (good-own-box v (clip-box v (layers-in t (length ls))))
-    (ap good-layer (open-there (layers-words ls) (open-words l ++ rest) (length ls) e) ∙ open-read l (pattern-of l.props.opacity) rest h.props)
-    (ap (λ (x : Layer). good-own-box v x.bounds) (layer-there (layers-words ls) (open-words l ++ rest) (length ls) e ∙ layer-read l (pattern-of l.props.opacity) rest) ∙ own-good v l.bounds h.bounds)
-    (ap (λ (x : List Layer). good-own-box v (clip-box v x)) (layers-read ls (open-words l ++ rest)) ∙ ap (good-own-box v) (bare-clip v ls) ∙ own-good v (clip-box v ls) (clip-good v g ls hs)))
+    (all_three (good_layer (open_at t (length ls))) (good_own_box v (layer-at t (length ls)).bounds) (good_own_box v (clip-box v (layers-in t (length ls))))
+    (ap good_layer (open-there (layers-words ls) (open-words l ++ rest) (length ls) e) ∙ open-read l (pattern_of l.props.opacity) rest h.props)
+    (ap (λ (x : Layer). good_own_box v x.bounds) (layer-there (layers-words ls) (open-words l ++ rest) (length ls) e ∙ layer-read l (pattern_of l.props.opacity) rest) ∙ own-good v l.bounds h.bounds)
+    (ap (λ (x : List Layer). good_own_box v (clip-box v x)) (layers-read ls (open-words l ++ rest)) ∙ ap (good_own_box v) (bare-clip v ls) ∙ own-good v (clip-box v ls) (clip-good v g ls hs)))
 
 -- the NaN pattern of the innermost
-pub nan-there : (l : Layer) (ls : List Layer) (rest : List ℕ) → (open_at (layers-words (l ∷ ls) ++ rest) (length ls)).nan ≡ pattern-of l.props.opacity
+pub nan-there : (l : Layer) (ls : List Layer) (rest : List ℕ) → (open_at (layers-words (l ∷ ls) ++ rest) (length ls)).nan ≡ pattern_of l.props.opacity
 unfolding layers-words
 nan-there l ls rest =
     rw (append_assoc (layers-words ls) (open-words l) rest)
-    (ap (λ (x : OpenLayer). x.nan) (open-there (layers-words ls) (open-words l ++ rest) (length ls) (layers-length ls)) ∙ nan-read l (pattern-of l.props.opacity) rest)
+    (ap (λ (x : OpenLayer). x.nan) (open-there (layers-words ls) (open-words l ++ rest) (length ls) (layers-length ls)) ∙ nan-read l (pattern_of l.props.opacity) rest)

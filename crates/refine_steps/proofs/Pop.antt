@@ -35,8 +35,8 @@ use Rattle.screen.specs.Tables.{Tables, ScreenLent, float-0}
 use Rattle.screen_layers.specs.Layers.{no_words, open_at}
 use Rattle.screen_layers.proofs.Laws.{words-length}
 use Rattle.step_pop.specs.Pop as pop
-use Rattle.step_pop.specs.Pop.{layers-in, own-rows, good-open, good-lengths, popped}
-use Rattle.file_read.specs.Reading.{pattern-of}
+use Rattle.step_pop.specs.Pop.{layers-in, own-rows, good-open, good_lengths, popped}
+use Rattle.file_read.specs.Reading.{pattern_of}
 use Rattle.file_steps.specs.Steps.{pop-part, pop-into, call_at}
 use Rattle.file_steps.proofs.Lists.{segments-words-length, segments-said}
 use Rattle.refine_layers.proofs.Rows.{touched-own}
@@ -103,7 +103,7 @@ module _ (f : Frame) (n : ℕ) (a : Attrs) (rows : List Row) (b : Bool) (de pa :
     open-good = layers-good f.viewport ls h.viewport h.layers (replicate (open-layer-table - length (layers-words ls)) 0)
 
     first-none : pop.first (screen-of (screen f n a ls rows).state b) (pop-part (at ls)) (join segment-words ss) ≡ 0
-    unfolding pop.first lent_of good-lengths
+    unfolding pop.first lent_of good_lengths
     first-none =
         let q : length (join segment-words ss) % 5 ≡ 0 = omega (arith, segments-words-length ss) in
         rw (
@@ -202,7 +202,7 @@ module _ (f : Frame) (n : ℕ) (a : Attrs) (rows : List Row) (b : Bool) (de pa :
     unfolding layers-words
     layers-left =
         rw last-place
-        (table-clear 0 open-layer-table (open-layer-size * length ls) open-layer-size (layers-words ls) (open-words l) (layers-length ls) (words-length l (pattern-of l.props.opacity)) (omega (arith, few)))
+        (table-clear 0 open-layer-table (open-layer-size * length ls) open-layer-size (layers-words ls) (open-words l) (layers-length ls) (words-length l (pattern_of l.props.opacity)) (omega (arith, few)))
 
     abbrev its-opacity : Float
     its-opacity = of_bits binary32 l.props.opacity
@@ -232,7 +232,7 @@ module _ (f : Frame) (n : ℕ) (a : Attrs) (rows : List Row) (b : Bool) (de pa :
     unfolding plan-pop state-of
     drop-is = drop_at (replicate (length a.layers) no-layer) _ (length a.layers) (length-replicate (length a.layers) no-layer)
 
-    nan_is : (open_at (at (l ∷ ls)).tables.layers (suc (length ls) - 1)).nan ≡ pattern-of l.props.opacity
+    nan_is : (open_at (at (l ∷ ls)).tables.layers (suc (length ls) - 1)).nan ≡ pattern_of l.props.opacity
     unfolding lent_of table
     nan_is = rw last-place (nan-there l ls (replicate (open-layer-table - length (layers-words (l ∷ ls))) 0))
 

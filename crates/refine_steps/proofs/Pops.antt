@@ -2,56 +2,56 @@
 use mathlib.Core.Path.{◌≡◌, refl, ap, ◌∙◌}
 use mathlib.Core.Bool.{Bool, true, false, ◌&&◌, cond}
 use mathlib.Core.List.{List, [], ◌∷◌, ◌++◌, map}
-use mathlib.Core.Option.{none, some}
+use Rattle.std.specs.Prelude.{None, Some}
 use Prim.Native.Nat.{ℕ, zero, suc, ◌+◌, ◌*◌, ◌≤◌, ◌<◌}
 use native.Mathlib.Omega.{arith}
 use lib.Dec.{ltb, eqb}
 use lib.ListN.{length, get_or, replicate, length-append, get_or-append}
 use lib.Seq.{get_or-take, get_or-append-add}
 use borrow.Author.Tests.{lt-ltb, ne_eqb, eqb-true, eqb-false}
-use Rattle.rules.specs.Lists.{every, join}
-use Rattle.rules.specs.Commands.{Command, paint-fill, layer-fill, push-buf, pop-buf, command-words}
+use Rattle.rules.specs.Lists.{join}
+use Rattle.rules.specs.Commands.{Command, paint-fill, layer-fill, push-buf, pop-buf, command_words}
 use Rattle.rules.specs.Rows.{Row, Level, fresh-row}
 use Rattle.rules.proofs.All.{All, head, tail}
 use Rattle.row.specs.Words.{word}
 use Rattle.row_screen.specs.Arena.{nowhere}
-use Rattle.row_judge.specs.Building.{good-row}
+use Rattle.row_judge.specs.Building.{good_row}
 use Rattle.step_pop_rows.specs.Closing.{row_of, good-pop, good-pops}
 use Rattle.refine_row.specs.Encode.{padded, placed, encode, Fine}
 use Rattle.refine_row.proofs.Laws.{place-word}
 use Rattle.refine_steps.specs.Sound.{Fitting}
 use Rattle.refine_steps.proofs.Records.{record-good}
 
-four : (c : Command) → length (command-words c) ≡ 4
-unfolding command-words
-four (paint-fill s none i) = refl
-four (paint-fill s (some a) i) = refl
-four (layer-fill s none i) = refl
-four (layer-fill s (some a) i) = refl
-four (push-buf none) = refl
-four (push-buf (some s)) = refl
+four : (c : Command) → length (command_words c) ≡ 4
+unfolding command_words
+four (paint-fill s None i) = refl
+four (paint-fill s (Some a) i) = refl
+four (layer-fill s None i) = refl
+four (layer-fill s (Some a) i) = refl
+four (push-buf None) = refl
+four (push-buf (Some s)) = refl
 four pop-buf = refl
 
-flat-length : (cs : List Command) → length (join command-words cs) ≡ 4 * length cs
+flat-length : (cs : List Command) → length (join command_words cs) ≡ 4 * length cs
 flat-length [] = refl
-flat-length (c ∷ cs) = length-append (command-words c) (join command-words cs) ∙ omega (arith, four c, flat-length cs)
+flat-length (c ∷ cs) = length-append (command_words c) (join command_words cs) ∙ omega (arith, four c, flat-length cs)
 
 -- the tag of a command
-tag-there : (cs : List Command) (p : ℕ) → p < length cs → get_or (join command-words cs) (4 * p) 0 ≡ get_or (command-words (get_or cs p pop-buf)) 0 0
+tag-there : (cs : List Command) (p : ℕ) → p < length cs → get_or (join command_words cs) (4 * p) 0 ≡ get_or (command_words (get_or cs p pop-buf)) 0 0
 tag-there [] p h = absurd (omega arith)
-tag-there (c ∷ cs) zero h = get_or-append (command-words c) (join command-words cs) 0 0 (omega (arith, four c))
+tag-there (c ∷ cs) zero h = get_or-append (command_words c) (join command_words cs) 0 0 (omega (arith, four c))
 tag-there (c ∷ cs) (suc p) h =
-    let i : 4 * suc p ≡ length (command-words c) + 4 * p = omega (arith, four c) in
+    let i : 4 * suc p ≡ length (command_words c) + 4 * p = omega (arith, four c) in
     rw (i, get_or-append-add) (tag-there cs p (omega arith))
 
-push-tag : (c : ℕ) (cs : List Command) (p : ℕ) → p < length cs → length cs ≤ c → get_or cs p pop-buf ≡ push-buf none → get_or (padded (4 * c) (join command-words cs)) (4 * p) 0 ≡ 5
-unfolding padded command-words
+push-tag : (c : ℕ) (cs : List Command) (p : ℕ) → p < length cs → length cs ≤ c → get_or cs p pop-buf ≡ push-buf None → get_or (padded (4 * c) (join command_words cs)) (4 * p) 0 ≡ 5
+unfolding padded command_words
 push-tag c cs p h m e =
-    get_or-take (4 * c) (join command-words cs ++ replicate (4 * c) 0) (4 * p) 0 (omega arith)
-    ∙ get_or-append (join command-words cs) (replicate (4 * c) 0) 0 (4 * p) (omega (arith, flat-length cs))
-    ∙ tag-there cs p h ∙ ap (λ (x : Command). get_or (command-words x) 0 0) e
+    get_or-take (4 * c) (join command_words cs ++ replicate (4 * c) 0) (4 * p) 0 (omega arith)
+    ∙ get_or-append (join command_words cs) (replicate (4 * c) 0) 0 (4 * p) (omega (arith, flat-length cs))
+    ∙ tag-there cs p h ∙ ap (λ (x : Command). get_or (command_words x) 0 0) e
 
-drawn : (c d : ℕ) (r : Row) → Fitting c d r → (i : ℕ) → i < length r.commands → get_or r.commands i pop-buf ≡ push-buf none → get_or (encode c d r).render (4 * i) 0 ≡ 5
+drawn : (c d : ℕ) (r : Row) → Fitting c d r → (i : ℕ) → i < length r.commands → get_or r.commands i pop-buf ≡ push-buf None → get_or (encode c d r).render (4 * i) 0 ≡ 5
 unfolding encode
 drawn c d r f i h g = push-tag c r.commands i h f.commands g
 
@@ -74,7 +74,7 @@ module _ (c d n : ℕ) (some-open : 1 ≤ n) where
   row-pops r f o m = rw (row-levels r) (go (eqb (length r.levels) n) refl)
     where
       go : (t : Bool) → eqb (length r.levels) n ≡ t
-          → cond t (good-row c d n (encode c d r).state && eqb (get_or (encode c d r).render (4 * word (3 + 3 * n) (encode c d r)) 0) 5) (ltb (length r.levels) n) ≡ true
+          → cond t (good_row c d n (encode c d r).state && eqb (get_or (encode c d r).render (4 * word (3 + 3 * n) (encode c d r)) 0) 5) (ltb (length r.levels) n) ≡ true
       go true e = rw (record-good c d n r f o m, tag-good r f o r.levels refl (eqb-true (length r.levels) n e))
       go false e = lt-ltb (length r.levels) n (omega (arith, eqb-false (length r.levels) n e))
 

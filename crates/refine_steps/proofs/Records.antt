@@ -2,20 +2,19 @@
 use mathlib.Core.Path.{◌≡◌, refl, sym, ap, ◌∙◌}
 use mathlib.Core.Bool.{true}
 use mathlib.Core.List.{List, [], ◌∷◌, ◌++◌, map, append_assoc}
-use mathlib.Core.Option.{Option, none, some}
+use Rattle.std.specs.Prelude.{Option, None, Some}
 use Prim.Native.Nat.{ℕ, zero, suc, ◌+◌, ◌-◌, ◌*◌, ◌/◌, ◌%◌, ◌≤◌, ◌<◌}
 use native.Mathlib.Omega.{arith}
 use lib.Dec.{leb}
 use lib.ListN.{length, get_or, length-append}
 use lib.Seq.{get_or-append-add}
 use borrow.Author.Tests.{le-leb, lt-ltb, ne_eqb}
-use Rattle.rules.specs.Lists.{every}
 use Rattle.rules.specs.Spans.{Span}
 use Rattle.rules.specs.Commands.{span-word}
 use Rattle.rules.specs.Rows.{Row, Level, fresh-row}
 use Rattle.rules.specs.Plans.{Frame, Put}
 use Rattle.rules.proofs.All.{All, cons, head}
-use Rattle.row_judge.specs.Building.{good-union, good-level, good-top, good-row, good-at, good-rows}
+use Rattle.row_judge.specs.Building.{good-union, good-level, good-top, good_row, good-at, good_rows}
 use Rattle.refine_row.specs.Encode.{padded, union-words, stack, first_of, end_of, placed, encode, Fine}
 use Rattle.refine_row.proofs.Pads.{zeros, padded-fits}
 use Rattle.refine_steps.specs.Sound.{OrderedUnion, Fitting}
@@ -24,8 +23,8 @@ three : (l : Level) → length (l.place ∷ union-words l.union) ≡ 3
 three l = go l.union
   where
     go : (u : Option Span) → length (l.place ∷ union-words u) ≡ 3
-    go none = refl
-    go (some s) = refl
+    go None = refl
+    go (Some s) = refl
 
 stack-length : (ls : List Level) → length (stack ls) ≡ 3 * length ls
 unfolding stack
@@ -49,11 +48,11 @@ module _ (ls : List Level) (p t v : ℕ) (few : length ls ≤ 15) where
   top-span = rw (opened, ← stack-length ls, get_or-append-add)
 
 union-good : (u : Option Span) → OrderedUnion u → (t v : ℕ) → union-words u ≡ t ∷ v ∷ [] → good-union t v ≡ true
-union-good none o t v e =
+union-good None o t v e =
     let p : t ≡ 5 = sym (ap (λ (l : List ℕ). get_or l 0 0) e) in
     let q : v ≡ 0 = sym (ap (λ (l : List ℕ). get_or l 1 0) e) in
     rw (p, q)
-union-good (some s) o t v e =
+union-good (Some s) o t v e =
     let p : t ≡ 6 = sym (ap (λ (l : List ℕ). get_or l 0 0) e) in
     let q : v ≡ span-word s = sym (ap (λ (l : List ℕ). get_or l 1 0) e) in
     let a : span-word s / 65536 ≡ s.first = omega (arith, o.end, o.order) in
@@ -61,8 +60,8 @@ union-good (some s) o t v e =
     rw (p, q, a, b, le-leb _ _ o.order, le-leb _ _ o.end)
 
 two-words : (u : Option Span) → (t : ℕ) × (v : ℕ) × (union-words u ≡ t ∷ v ∷ [])
-two-words none = (5, 0, refl)
-two-words (some s) = (6, span-word s, refl)
+two-words None = (5, 0, refl)
+two-words (Some s) = (6, span-word s, refl)
 
 module _ (n f a b g : ℕ) where
   level-good : (l : Level) (ls : List Level) → length ls ≤ 15 → l.place < n → OrderedUnion l.union → good-level (suc (length ls)) (n ∷ f ∷ a ∷ b ∷ g ∷ suc (length ls) ∷ padded 48 (stack (l ∷ ls))) ≡ true
@@ -81,12 +80,12 @@ module _ (n f a b g : ℕ) where
   top-good (l ∷ ls) few o h = rw (ne_eqb (suc (length ls)) 0 (λ e. omega arith)) (level-good l ls (omega arith) (h l ls refl) (head o))
 
 summary-good : (u : Option Span) → OrderedUnion u → (leb (first_of u) (end_of u) ≡ true) × (leb (end_of u) 8192 ≡ true)
-summary-good none o = (refl, refl)
-summary-good (some s) o = (le-leb _ _ o.order, le-leb _ _ o.end)
+summary-good None o = (refl, refl)
+summary-good (Some s) o = (le-leb _ _ o.order, le-leb _ _ o.end)
 
 -- a row's record
-pub record-good : (c d n : ℕ) (r : Row) → Fitting c d r → Fine r → length r.levels ≤ n → good-row c d n (encode c d r).state ≡ true
-unfolding good-row encode
+pub record-good : (c d n : ℕ) (r : Row) → Fitting c d r → Fine r → length r.levels ≤ n → good_row c d n (encode c d r).state ≡ true
+unfolding good_row encode
 record-good c d n r h o m =
     let s = summary-good r.depth.union h.sane.depth in
     let t = top-good (length r.commands) (length r.fills) (first_of r.depth.union) (end_of r.depth.union) r.depth.largest r.levels o.few h.sane.unions (placed_first r.levels o.places) in
@@ -103,7 +102,7 @@ module _ (f : Frame) (n : ℕ) where
   at-good (suc i) (r ∷ rs) h (cons o os) = at-good i rs (λ j. h (suc j)) os
 
   pub records-good : (ps : List Put) (rs : List Row) → ((j : ℕ) → Fitting f.c f.d (get_or rs j fresh-row) × (length (get_or rs j fresh-row).levels ≤ n)) → All Fine rs
-      → good-rows f n ps (map (encode f.c f.d) rs) ≡ true
-  unfolding good-rows
+      → good_rows f n ps (map (encode f.c f.d) rs) ≡ true
+  unfolding good_rows
   records-good [] rs h o = refl
   records-good (p ∷ ps) rs h o = rw (at-good p.row rs h o) (records-good ps rs h o)

@@ -10,8 +10,8 @@ use Rattle.rules.specs.Rows.{Row, fresh-row, row-ops}
 use Rattle.rules.specs.Plans.{Frame, Step, a-fill, a-push, a-pop, a-filter}
 use Rattle.rules.specs.Steps as rule
 use Rattle.rules.specs.Steps.{reset, call}
-use Rattle.screen.specs.Judging.{judged-reset}
-use Rattle.screen.specs.Tables.{zeros, lengths, ScreenLent, reset-to}
+use Rattle.screen.specs.Judging.{judged_reset}
+use Rattle.screen.specs.Tables.{zeros, lengths, ScreenLent, reset_to}
 use Rattle.file_steps.specs.Steps.{call_at}
 use Rattle.refine_steps.specs.Sound.{Sound}
 use Rattle.refine_steps.specs.Lent.{lent_of, answer-of, Holds}
@@ -38,7 +38,7 @@ pub record Agrees (a : Answer (rule.Screen Row)) (w : Answer ScreenLent) : Type 
   pub value : Refines a.value w.value
 
 -- a done reset
-pub reset-refines : (f : Frame) (l : ScreenLent) → judged-reset f (lengths l.tables) ≡ 0 → Agrees (answer 0 (reset fresh-row f)) (reset-to f l)
+pub reset-refines : (f : Frame) (l : ScreenLent) → judged_reset f (lengths l.tables) ≡ 0 → Agrees (answer 0 (reset fresh-row f)) (reset_to f l)
 reset-refines f l z =
     let e = fresh-words f l z in
     record {
@@ -64,7 +64,7 @@ step-refines x s l r =
 
 -- a done reset and then done steps, each on the words that the last call left; s is what the rules make of the same steps
 pub data BuiltBy : rule.Screen Row → ScreenLent → Type 0 where
-  by-reset : (f : Frame) (l : ScreenLent) → judged-reset f (lengths l.tables) ≡ 0 → BuiltBy (reset fresh-row f) (reset-to f l).value
+  by-reset : (f : Frame) (l : ScreenLent) → judged_reset f (lengths l.tables) ≡ 0 → BuiltBy (reset fresh-row f) (reset_to f l).value
   by-step : (x : Step) (s : rule.Screen Row) (l : ScreenLent) → BuiltBy s l → (call_at x l).number ≡ 0 → BuiltBy (call Row row-ops x s).value (call_at x l).value
 
 -- on every built screen the lent words are those of the rules' screen

@@ -10,7 +10,7 @@ use lib.IntN.{pos}
 use lib.ListN.{length, replicate}
 use borrow.Author.Tests.{eqb-true}
 use Rattle.rules.specs.Answers.{answer}
-use Rattle.rules.specs.Boxes.{good-viewport, rows_of}
+use Rattle.rules.specs.Boxes.{good_viewport, rows_of}
 use Rattle.sizes.specs.Sizes.{open-layer-table, opacity-count, paint-attr-table, layer-attr-table, filter-paint-table}
 use Rattle.rules.specs.Lists.{join}
 use Rattle.screen.specs.Attributes.{paint-attr-words}
@@ -24,8 +24,8 @@ use Rattle.refine_row.proofs.Screens.{blank-row, reset-words}
 use Rattle.rules.specs.Plans.{Frame}
 use Rattle.screen.specs.Screens.{fresh-screen}
 use Rattle.screen.specs.declared.Lengths.{Lengths}
-use Rattle.screen.specs.Judging.{good-fixed, good-tables, arenas, judged-reset}
-use Rattle.screen.specs.Tables.{zeros, lengths, ScreenLent, lent, float-0, reset-to}
+use Rattle.screen.specs.Judging.{good-fixed, good-tables, arenas, judged_reset}
+use Rattle.screen.specs.Tables.{zeros, lengths, ScreenLent, float-0, reset_to}
 use Rattle.screen.proofs.Passed.{reset-says}
 use Rattle.step_filter.specs.Filter.{filter-paint-words}
 use Rattle.refine_steps.specs.Sound.{Sound}
@@ -51,11 +51,11 @@ blank-rows (suc n) c d = rw (blank-rows n c d, more n 54, more n (4 * c), more n
 
 -- tables of zeros
 zeros-table : {A : Type 0} (z : A) (n : ℕ) (xs : List A) → length xs ≡ n → zeros z xs ≡ table z n []
-unfolding zeros table
+unfolding table
 zeros-table z n xs e = let q : n - 0 ≡ n = omega arith in rw (q, e)
 
 two-tables : {A : Type 0} (z : A) (m n : ℕ) (xs : List A) → length xs ≡ m + n → zeros z xs ≡ table z m [] ++ table z n []
-unfolding zeros table
+unfolding table
 two-tables z m n xs e =
     let p : m - 0 ≡ m = omega arith in
     let q : n - 0 ≡ n = omega arith in
@@ -72,11 +72,11 @@ pub record Lengthy (l : Lengths) (n c d : ℕ) : Type 0 where
   pub attrs : l.layer_attrs ≡ layer-attr-table
   pub filters : l.filter_paints ≡ filter-paint-table
 
-module _ (f : Frame) (l : ScreenLent) (z : judged-reset f (lengths l.tables) ≡ 0) where
+module _ (f : Frame) (l : ScreenLent) (z : judged_reset f (lengths l.tables) ≡ 0) where
   abbrev n : ℕ
   n = rows_of f.viewport
 
-  pub judged-facts : (good-viewport f.viewport ≡ true) × (good-arenas f (arenas (lengths l.tables)) ≡ true) × (good-tables n (lengths l.tables) ≡ true)
+  pub judged-facts : (good_viewport f.viewport ≡ true) × (good-arenas f (arenas (lengths l.tables)) ≡ true) × (good-tables n (lengths l.tables) ≡ true)
   judged-facts = reset-says f (lengths l.tables) z
 
   pub rooms : (good-room f.c ≡ true) × (good-room f.d ≡ true)
@@ -120,15 +120,12 @@ module _ (f : Frame) (l : ScreenLent) (z : judged-reset f (lengths l.tables) ≡
   fresh = reset fresh-row f
 
   render-is : zeros 0 l.tables.render ≡ (words.rows_of fresh).render
-  unfolding zeros
   render-is = ap (λ (k : ℕ). replicate k 0) lengthy.render ∙ sym (ap (λ (w : Words). w.render) fresh-rows)
 
   fills-is : zeros 0 l.tables.fills ≡ (words.rows_of fresh).fills
-  unfolding zeros
   fills-is = ap (λ (k : ℕ). replicate k 0) lengthy.fills ∙ sym (ap (λ (w : Words). w.fills) fresh-rows)
 
   rows_is : zeros 0 l.tables.rows ≡ (words.rows_of fresh).state
-  unfolding zeros
   rows_is = ap (λ (k : ℕ). replicate k 0) lengthy.rows ∙ sym (ap (λ (w : Words). w.state) fresh-rows)
 
   layers-is : zeros 0 l.tables.layers ≡ table 0 open-layer-table (layers-words fresh.state.layers)
@@ -156,6 +153,6 @@ module _ (f : Frame) (l : ScreenLent) (z : judged-reset f (lengths l.tables) ≡
   screen-is = refl
 
   -- a done reset
-  pub fresh-words : reset-to f l ≡ answer 0 (lent_of (reset fresh-row f) false (zeros 0 l.tables.depth) (zeros 0 l.tables.painting))
-  unfolding reset-to lent_of
+  pub fresh-words : reset_to f l ≡ answer 0 (lent_of (reset fresh-row f) false (zeros 0 l.tables.depth) (zeros 0 l.tables.painting))
+  unfolding reset_to lent_of
   fresh-words = rw (z, screen-is, render-is, fills-is, rows_is, layers-is, opacities-is, paints-is, attrs-is, filters-is)

@@ -2,7 +2,7 @@
 use mathlib.Core.Path.{◌≡◌, refl, ap, ◌∙◌}
 use mathlib.Core.Bool.{Bool, true, false, ◌||◌, not, cond}
 use mathlib.Core.List.{List, [], ◌∷◌, ◌++◌, map, append-nil}
-use mathlib.Core.Option.{Option, none, some}
+use Rattle.std.specs.Prelude.{Option, None, Some}
 use Prim.Native.Nat.{ℕ, suc, ◌*◌, ◌%◌, ◌≤◌, ◌<◌}
 use native.Mathlib.Omega.{arith}
 use lib.Dec.{ltb, eqb}
@@ -34,9 +34,9 @@ use Rattle.step_fill.specs.Fills as fills
 use Rattle.step_push.specs.Push as push
 use Rattle.screen_layers.specs.Layers.{props-of, clip-of, layer-words}
 use Rattle.screen_layers.proofs.Laws.{words-length}
-use Rattle.file_read.specs.Reading.{pattern-of, draw-in, clip-in, props-in}
+use Rattle.file_read.specs.Reading.{pattern_of, draw_in, clip_in, props_in}
 use Rattle.file_read.proofs.Given.{pattern-good}
-use Rattle.file_steps.specs.Steps.{placement-in, fill-part, fill-into, push-part, push-into, filter-part, filter-into, with_value, call_at}
+use Rattle.file_steps.specs.Steps.{placement_in, fill-part, fill-into, push-part, push-into, filter-part, filter-into, with_value, call_at}
 use Rattle.file_steps.proofs.Lists.{paints-words-length, segments-words-length, paints-said, segments-said}
 use Rattle.refine_steps.specs.Sound.{Sound}
 use Rattle.refine_steps.specs.Lent.{table, open-words, layers-words, layers-opacities, attr-opacity, screen-of, lent_of, answer-of}
@@ -65,7 +65,7 @@ grown-table z n k f e {d} {old} {xs} {ys} g =
 pub layers-length : (ls : List Layer) → length (layers-words ls) ≡ open-layer-size * length ls
 unfolding layers-words
 layers-length [] = refl
-layers-length (l ∷ ls) = length-append (layers-words ls) (open-words l) ∙ omega (arith, words-length l (pattern-of l.props.opacity), layers-length ls)
+layers-length (l ∷ ls) = length-append (layers-words ls) (open-words l) ∙ omega (arith, words-length l (pattern_of l.props.opacity), layers-length ls)
 
 pub layers-long : (ls : List Layer) → length ls ≤ 16 → length (table 0 open-layer-table (layers-words ls)) ≡ open-layer-table
 layers-long ls d = table-length 0 open-layer-table (layers-words ls) (omega (arith, layers-length ls))
@@ -131,14 +131,14 @@ module _ (s : rule.Screen Row) (h : Sound s) (b : Bool) (de pa : List ℕ) where
     unfolding lent_of
     filter-first = rw (judged-done s h b, eq-eqb _ _ paints-long, eq-eqb _ _ filters-long)
 
-    filter-is : filter-number (given (placement-in f) f.pixmap count q) (filter-part (lent_of s b de pa)) ≡ refusal Row row-ops filter-plan (done Row row-ops filter-plan s)
+    filter-is : filter-number (given (placement_in f) f.pixmap count q) (filter-part (lent_of s b de pa)) ≡ refusal Row row-ops filter-plan (done Row row-ops filter-plan s)
     unfolding filter-number lent_of
     filter-is =
         step_is s h b (plan-filter count f q (state-of (screen-of st b))) filter-plan (filter_alike st b count f q) filter-ok
         (filter.first-number (filter-part (lent_of s b de pa))) filter-first
 
     filter-after : refusal Row row-ops filter-plan (done Row row-ops filter-plan s) ≡ Done
-        → filter-into (lent_of s b de pa).tables (filter.after (given (placement-in f) f.pixmap count q) (filter-part (lent_of s b de pa))) ≡ lent_of (done Row row-ops filter-plan s) false de pa
+        → filter-into (lent_of s b de pa).tables (filter.after (given (placement_in f) f.pixmap count q) (filter-part (lent_of s b de pa))) ≡ lent_of (done Row row-ops filter-plan s) false de pa
     unfolding filter.after lent_of done
     filter-after e =
         let a = filter_alike st b count f q in
@@ -155,8 +155,8 @@ module _ (s : rule.Screen Row) (h : Sound s) (b : Bool) (de pa : List ℕ) where
     pub filter-stepped : call_at (a-filter count f q) (lent_of s b de pa) ≡ answer-of (call Row row-ops (a-filter count f q) s) b de pa
     unfolding call_at filtered call perform plan
     filter-stepped =
-        settled (filter-into (lent_of s b de pa).tables) (filter-number (given (placement-in f) f.pixmap count q) (filter-part (lent_of s b de pa))) (refusal Row row-ops filter-plan (done Row row-ops filter-plan s))
-        (filter-part (lent_of s b de pa)) (filter.after (given (placement-in f) f.pixmap count q) (filter-part (lent_of s b de pa))) s (done Row row-ops filter-plan s) b de pa filter-is refl filter-after
+        settled (filter-into (lent_of s b de pa).tables) (filter-number (given (placement_in f) f.pixmap count q) (filter-part (lent_of s b de pa))) (refusal Row row-ops filter-plan (done Row row-ops filter-plan s))
+        (filter-part (lent_of s b de pa)) (filter.after (given (placement_in f) f.pixmap count q) (filter-part (lent_of s b de pa))) s (done Row row-ops filter-plan s) b de pa filter-is refl filter-after
 
   -- a fill
   module _ (ps : List Paint) (ss : List Segment) (d : Draw) where
@@ -178,21 +178,21 @@ module _ (s : rule.Screen Row) (h : Sound s) (b : Bool) (de pa : List ℕ) where
         go false = (refl, append-nil st.attrs.filters)
 
     fill-first : fills.first-of-lent (fill-part (lent_of s b de pa)) (join paint-words ps) (join segment-words ss) ≡ 0
-    unfolding lent_of fills.first-number
+    unfolding lent_of fills.first_number
     fill-first =
         let p : length (join paint-words ps) % 4 ≡ 0 = omega (arith, paints-words-length ps) in
         let q : length (join segment-words ss) % 5 ≡ 0 = omega (arith, segments-words-length ss) in
         rw (judged-done s h b, eq-eqb _ _ paints-long, eq-eqb _ _ p, eq-eqb _ _ q)
 
-    fill_is : fills.fill-number (fill-part (lent_of s b de pa)) (join paint-words ps) (join segment-words ss) (draw-in d) ≡ refusal Row row-ops the-fill (done Row row-ops the-fill s)
-    unfolding fills.fill-number lent_of state-of
+    fill_is : fills.fill_number (fill-part (lent_of s b de pa)) (join paint-words ps) (join segment-words ss) (draw_in d) ≡ refusal Row row-ops the-fill (done Row row-ops the-fill s)
+    unfolding fills.fill_number lent_of state-of
     fill_is =
         rw (paints-said ps, segments-said ss)
         (step_is s h b (plan-fill ps ss d (state-of (screen-of st b))) the-fill (fill-alike st b ps ss d) fill-ok
         (fills.first-of-lent (fill-part (lent_of s b de pa)) (join paint-words ps) (join segment-words ss)) fill-first)
 
     fill-after : refusal Row row-ops the-fill (done Row row-ops the-fill s) ≡ Done
-        → fill-into (lent_of s b de pa).tables (fills.fill_done (fill-part (lent_of s b de pa)) (join paint-words ps) (join segment-words ss) (draw-in d)) ≡ lent_of (done Row row-ops the-fill s) false de pa
+        → fill-into (lent_of s b de pa).tables (fills.fill_done (fill-part (lent_of s b de pa)) (join paint-words ps) (join segment-words ss) (draw_in d)) ≡ lent_of (done Row row-ops the-fill s) false de pa
     unfolding fills.fill_done lent_of done
     fill-after e =
         let a = fill-alike st b ps ss d in
@@ -211,8 +211,8 @@ module _ (s : rule.Screen Row) (h : Sound s) (b : Bool) (de pa : List ℕ) where
     pub fill-stepped : call_at (a-fill ps ss d) (lent_of s b de pa) ≡ answer-of (call Row row-ops (a-fill ps ss d) s) b de pa
     unfolding call_at call perform plan
     fill-stepped =
-        settled (fill-into (lent_of s b de pa).tables) (fills.fill-number (fill-part (lent_of s b de pa)) (join paint-words ps) (join segment-words ss) (draw-in d)) (refusal Row row-ops the-fill (done Row row-ops the-fill s))
-        (fill-part (lent_of s b de pa)) (fills.fill_done (fill-part (lent_of s b de pa)) (join paint-words ps) (join segment-words ss) (draw-in d)) s (done Row row-ops the-fill s) b de pa fill_is refl fill-after
+        settled (fill-into (lent_of s b de pa).tables) (fills.fill_number (fill-part (lent_of s b de pa)) (join paint-words ps) (join segment-words ss) (draw_in d)) (refusal Row row-ops the-fill (done Row row-ops the-fill s))
+        (fill-part (lent_of s b de pa)) (fills.fill_done (fill-part (lent_of s b de pa)) (join paint-words ps) (join segment-words ss) (draw_in d)) s (done Row row-ops the-fill s) b de pa fill_is refl fill-after
 
   -- a push
   module _ (p : Props) where
@@ -226,35 +226,35 @@ module _ (s : rule.Screen Row) (h : Sound s) (b : Bool) (de pa : List ℕ) where
     unfolding plan
     push_ok e = plan-ok st h.built.framed (a-push p) [] e
 
-    clip-back : (c : Option Clip) → clip-of (clip-in c) ≡ c
-    clip-back none = refl
-    clip-back (some c) = refl
+    clip-back : (c : Option Clip) → clip-of (clip_in c) ≡ c
+    clip-back None = refl
+    clip-back (Some c) = refl
 
-    push-same : Alike st (push.plan-of (props-in p) (screen-of st b)) the-push
-    push-same = push-alike st b (props-of (props-in p)) p (rw (clip-back p.clip)) refl (clip-back p.clip)
+    push-same : Alike st (push.plan-of (props_in p) (screen-of st b)) the-push
+    push-same = push-alike st b (props-of (props_in p)) p (rw (clip-back p.clip)) refl (clip-back p.clip)
 
     push-layers : (the-push.layers ≡ the_layer ∷ st.layers) × (the-push.attrs ≡ st.attrs)
     unfolding plan-push
     push-layers = (refl, refl)
 
-    top-is : (n : ℕ) → push.top-words (push.plan-of (props-in p) (screen-of st b)).layers n ≡ layer-words the_layer n
+    top-is : (n : ℕ) → push.top-words (push.plan-of (props_in p) (screen-of st b)).layers n ≡ layer-words the_layer n
     unfolding plan-push state-of
     top-is n = rw (clip-back p.clip, box-same st b)
 
-    push-first : push.first-number (props-in p) (push-part (lent_of s b de pa)) ≡ 0
+    push-first : push.first-number (props_in p) (push-part (lent_of s b de pa)) ≡ 0
     unfolding lent_of
     push-first = rw (judged-done s h b, eq-eqb _ _ (layers-long st.layers h.deep), eq-eqb _ _ opacities-long, pattern-good p.opacity)
 
-    push-is : push.push-number (props-in p) (push-part (lent_of s b de pa)) ≡ refusal Row row-ops the-push (done Row row-ops the-push s)
+    push-is : push.push-number (props_in p) (push-part (lent_of s b de pa)) ≡ refusal Row row-ops the-push (done Row row-ops the-push s)
     unfolding push.push-number lent_of
     push-is =
-        step_is s h b (push.plan-of (props-in p) (screen-of st b)) the-push push-same push_ok
-        (push.first-number (props-in p) (push-part (lent_of s b de pa))) push-first
+        step_is s h b (push.plan-of (props_in p) (screen-of st b)) the-push push-same push_ok
+        (push.first-number (props_in p) (push-part (lent_of s b de pa))) push-first
 
-    new-layers : words-at (table 0 open-layer-table (layers-words st.layers)) (open-layer-size * length st.layers) (push.top-words (push.plan-of (props-in p) (screen-of st b)).layers (pattern-of p.opacity))
+    new-layers : words-at (table 0 open-layer-table (layers-words st.layers)) (open-layer-size * length st.layers) (push.top-words (push.plan-of (props_in p) (screen-of st b)).layers (pattern_of p.opacity))
         ≡ table 0 open-layer-table (layers-words the-push.layers)
     unfolding layers-words
-    new-layers = rw (top-is (pattern-of p.opacity), push-layers.0) (table_more 0 open-layer-table (open-layer-size * length st.layers) (layers-words st.layers) (open-words the_layer) (layers-length st.layers))
+    new-layers = rw (top-is (pattern_of p.opacity), push-layers.0) (table_more 0 open-layer-table (open-layer-size * length st.layers) (layers-words st.layers) (open-words the_layer) (layers-length st.layers))
 
     new-opacities : length st.layers < 16 → (ys : List Float)
         → set (table float-0 16 (layers-opacities st.layers) ++ ys) (length st.layers) (of_bits binary32 p.opacity) ≡ table float-0 16 (layers-opacities the-push.layers) ++ ys
@@ -269,12 +269,12 @@ module _ (s : rule.Screen Row) (h : Sound s) (b : Bool) (de pa : List ℕ) where
     deep-enough e = rw push-layers.0 at (passing the-push (done Row row-ops the-push s) e).deep
 
     push-after : refusal Row row-ops the-push (done Row row-ops the-push s) ≡ Done
-        → push-into (lent_of s b de pa).tables (push.after (props-in p) (push-part (lent_of s b de pa))) ≡ lent_of (done Row row-ops the-push s) false de pa
+        → push-into (lent_of s b de pa).tables (push.after (props_in p) (push-part (lent_of s b de pa))) ≡ lent_of (done Row row-ops the-push s) false de pa
     unfolding push.after lent_of done
     push-after e =
         rw (
-          plan-screen s h b (push.plan-of (props-in p) (screen-of st b)) the-push push-same push_ok,
-          rows_is s h b (push.plan-of (props-in p) (screen-of st b)) the-push push-same push_ok e,
+          plan-screen s h b (push.plan-of (props_in p) (screen-of st b)) the-push push-same push_ok,
+          rows_is s h b (push.plan-of (props_in p) (screen-of st b)) the-push push-same push_ok e,
           new-layers,
           new-opacities (deep-enough e) (table float-0 1024 (map attr-opacity st.attrs.layers)),
           push-layers.1,
@@ -283,5 +283,5 @@ module _ (s : rule.Screen Row) (h : Sound s) (b : Bool) (de pa : List ℕ) where
     pub push-stepped : call_at (a-push p) (lent_of s b de pa) ≡ answer-of (call Row row-ops (a-push p) s) b de pa
     unfolding call_at call perform plan push.pushed
     push-stepped =
-        settled (push-into (lent_of s b de pa).tables) (push.push-number (props-in p) (push-part (lent_of s b de pa))) (refusal Row row-ops the-push (done Row row-ops the-push s))
-        (push-part (lent_of s b de pa)) (push.after (props-in p) (push-part (lent_of s b de pa))) s (done Row row-ops the-push s) b de pa push-is refl push-after
+        settled (push-into (lent_of s b de pa).tables) (push.push-number (props_in p) (push-part (lent_of s b de pa))) (refusal Row row-ops the-push (done Row row-ops the-push s))
+        (push-part (lent_of s b de pa)) (push.after (props_in p) (push-part (lent_of s b de pa))) s (done Row row-ops the-push s) b de pa push-is refl push-after

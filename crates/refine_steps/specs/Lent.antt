@@ -20,7 +20,7 @@ use Rattle.screen.specs.Screens.{screen-in}
 use Rattle.screen.specs.Tables.{tables, ScreenLent, lent, float-0}
 use Rattle.screen_layers.specs.Layers.{layer-words}
 use Rattle.step_filter.specs.Filter.{filter-paint-words}
-use Rattle.file_read.specs.Reading.{pattern-of}
+use Rattle.file_read.specs.Reading.{pattern_of}
 
 -- n places: what is there, then z
 unfoldable pub table : {A : Type 0} → A → ℕ → List A → List A
@@ -28,7 +28,7 @@ table z n xs = xs ++ replicate (n - length xs) z
 
 -- an open layer's words; a NaN's pattern is kept beside the f32
 abbrev pub open-words : Layer → List ℕ
-open-words l = layer-words l (pattern-of l.props.opacity)
+open-words l = layer-words l (pattern_of l.props.opacity)
 
 -- the open layers' words, and their opacities, the outermost first
 unfoldable pub layers-words : List Layer → List ℕ
@@ -41,7 +41,7 @@ layers-opacities (l ∷ ls) = layers-opacities ls ++ (of_bits binary32 l.props.o
 
 -- a layer attribute's words
 abbrev pub attr-words : LayerAttr → List ℕ
-attr-words a = layer-attr-words a (pattern-of a.opacity)
+attr-words a = layer-attr-words a (pattern_of a.opacity)
 
 abbrev pub attr-opacity : LayerAttr → Float
 attr-opacity a = of_bits binary32 a.opacity

@@ -1,9 +1,8 @@
 -- What holds of every screen of the rules that a reset and steps make: what the calls judge of their state and of the rows' records
 -- (answers 1, 2 and 4) is never wrong there.
-use Rattle.std.specs.Prelude.{ℕ, ◌≤◌, ◌≡◌, true, false, length, get_or}
-use Rattle.std.proofs.Math.Option.{Option, none, some}
+use Rattle.std.specs.Prelude.{ℕ, ◌≤◌, ◌≡◌, true, false, length, get_or, Option, None, Some}
 use Rattle.sizes.specs.Sizes.{tile-end, most-layers, last-id}
-use Rattle.rules.specs.Boxes.{Box, good-viewport, rows_of}
+use Rattle.rules.specs.Boxes.{Box, good_viewport, rows_of}
 use Rattle.rules.specs.Spans.{Span}
 use Rattle.rules.specs.Inputs.{good-props}
 use Rattle.rules.specs.Attributes.{attrs-full}
@@ -22,8 +21,8 @@ pub record Ordered (s : Span) : Type 0 where
   pub end : s.end ≤ tile-end
 
 abbrev pub OrderedUnion : Option Span → Type 0
-OrderedUnion none = Unit {0}
-OrderedUnion (some s) = Ordered s
+OrderedUnion None = Unit {0}
+OrderedUnion (Some s) = Ordered s
 
 -- a row's unions and its summary
 pub record Sane (r : Row) : Type 0 where
@@ -45,7 +44,7 @@ pub record Good (v : Box) (l : Layer) : Type 0 where
 pub record Sound (s : Screen Row) : Type 0 where
   pub built : Built s
   pub reaching : Reaching s
-  pub viewport : good-viewport s.state.frame.viewport ≡ true
+  pub viewport : good_viewport s.state.frame.viewport ≡ true
   pub c-room : good-room s.state.frame.c ≡ true
   pub d-room : good-room s.state.frame.d ≡ true
   pub some_id : 1 ≤ s.state.next

@@ -2,7 +2,7 @@
 use mathlib.Core.Path.{◌≡◌, refl, sym, ap, ◌∙◌}
 use mathlib.Core.Bool.{Bool, true, false, not, ◌&&◌, ◌||◌, cond}
 use mathlib.Core.List.{List, [], ◌∷◌, ◌++◌, append-nil}
-use mathlib.Core.Option.{Option, none, some}
+use Rattle.std.specs.Prelude.{Option, None, Some, Ok}
 use Prim.Native.Nat.{ℕ, ◌*◌, ◌%◌, ◌≤◌}
 use native.Mathlib.Omega.{arith}
 use lib.Dec.{ltb, leb, eqb}
@@ -12,7 +12,7 @@ use borrow.Author.Tests.{le-ltb, lt-ltb, leb-true, leb-false, eq-eqb, eqb-true}
 use Rattle.sizes.specs.declared.width.Width.{Width}
 use Rattle.sizes.specs.Widths.{bucket-tiles}
 use Rattle.rules.specs.Answers.{Answer, answer, settle, Done, BadForm}
-use Rattle.rules.specs.Boxes.{Box, box, good-viewport, rows_of, buckets-of}
+use Rattle.rules.specs.Boxes.{Box, box, good_viewport, rows_of, buckets-of}
 use Rattle.rules.specs.Rows.{Row, fresh-row, row-ops}
 use Rattle.rules.specs.Plans.{Frame, buckets-across}
 use Rattle.rules.specs.Setups.{Setup, frame}
@@ -22,9 +22,8 @@ use Rattle.rules.specs.Walk.{Place, Arenas, needed, good-arenas, frame-of, judge
 use Rattle.rules.specs.Lines as rules
 use Rattle.rules.specs.Lines.{refused, answer-lines, rowlist-place, rowlist-screen, rowlist-words, words_of, rowlist, line-bytes}
 use Rattle.rules.proofs.All.{never, and_left, and_right}
-use Rattle.row.specs.Words.{words}
 use Rattle.screen.specs.declared.Screen as declared
-use Rattle.screen.specs.Judging.{good-tables, good-fixed, arenas, judged-reset}
+use Rattle.screen.specs.Judging.{good-tables, good-fixed, arenas, judged_reset}
 use Rattle.screen.specs.Tables.{Tables, lengths, ScreenLent, lent}
 use Rattle.screen.proofs.Laws.{few-buckets}
 use Rattle.refine_steps.specs.Sound.{Fitting}
@@ -34,13 +33,12 @@ use Rattle.refine_paint.proofs.Kept.{reset-fair}
 use Rattle.refine_file.specs.Played.{place, Plays, Outcome, unaltered, made}
 use Rattle.refine_file.proofs.Laws.{file-plays}
 use Rattle.file_call.specs.Recorded.{recorded}
-use Rattle.file_form.specs.Layouts.{layout, formed, form_of, sections-at}
-use Rattle.file_form.specs.declared.Form.TheVariants as form
+use Rattle.file_form.specs.Layouts.{layout, formed, form_of, sections_at}
 use Rattle.file_form.specs.Words.{words-in}
 use Rattle.file_form.proofs.Bytes.{rules-words}
 use Rattle.file_form.proofs.Laid.{good-form}
 use Rattle.file_form.proofs.Reading.{viewport-is}
-use Rattle.file_judge.specs.Judging.{box-from}
+use Rattle.file_judge.specs.Judging.{box_from}
 use Rattle.text_screen.specs.Listed.{written, text_of}
 use Rattle.text_file.specs.declared.Size.{Size}
 use Rattle.text_file.specs.Files.{Showed, nothing, refusing, shown-as, showing, FileOut, file-out, answered, recording-text, frame_at, size, sized-if, sized, size_of, cut-to, over, in-front, front-text, text_in, words-text, Usual, Roomy, is-roomy, refused-as-is, bytes-text}
@@ -64,7 +62,7 @@ usual-frame v x = record { viewport = v; c = 64; d = 64; width = x }
 
 -- the first words of the tables that it has
 abbrev pub usual-size : Box → Width → Size
-usual-size v x = size 0 (rows_of v) (buckets-of (bucket-tiles x) v)
+usual-size v x = size (rows_of v) (buckets-of (bucket-tiles x) v)
 
 -- a done answer of the rules and the words beside it
 record Done-with (a : Answer (Screen Row)) (w : Answer ScreenLent) (v : Box) (x : Width) : Type 0 where
@@ -220,7 +218,7 @@ not-shown : (g : Bool) (n : ℕ) → (g && leb n 32) ≡ false → (not g || ltb
 not-shown false n e = refl
 not-shown true n e = lt-ltb 32 n (leb-false n 32 e)
 
-some_same : {A : Type 0} {x y : A} → some x ≡ some y → x ≡ y
+some_same : {A : Type 0} {x y : A} → Some x ≡ Some y → x ≡ y
 some_same p = cc
 
 module _ (q : Setup) (u : Usual q) (ws : List ℕ) (t : Tables) (enough-room : is-roomy t ≡ true) (fixed : good-fixed (lengths t) ≡ true)
@@ -231,7 +229,7 @@ module _ (q : Setup) (u : Usual q) (ws : List ℕ) (t : Tables) (enough-room : i
   roomy : Roomy t
   roomy = enough t enough-room
 
-  module _ (ss : List (List (List ℕ))) (e : sections shape ws ≡ some ss) where
+  module _ (ss : List (List (List ℕ))) (e : sections shape ws ≡ Some ss) where
     abbrev r : Recording
     r = recording ss
 
@@ -246,25 +244,25 @@ module _ (q : Setup) (u : Usual q) (ws : List ℕ) (t : Tables) (enough-room : i
     at_words : r.viewport ≡ box (get_or ws 1 0) (get_or ws 2 0) (get_or ws 3 0) (get_or ws 4 0)
     unfolding form_of
     at_words =
-        let y : form.Good (layout ws) ≡ form_of ws = rw e in
+        let y : Ok (layout ws) ≡ form_of ws = rw e in
         let g = good-form ws (layout ws) y in
-        let x : ss ≡ sections-at (layout ws) ws = some_same (sym e ∙ g.same) in
+        let x : ss ≡ sections_at (layout ws) ws = some_same (sym e ∙ g.same) in
         rw x (viewport-is (layout ws) ws g.fits)
 
-    view : box-from ws 1 ≡ r.viewport
-    unfolding box-from
+    view : box_from ws 1 ≡ r.viewport
+    unfolding box_from
     view = sym at_words
 
     place_view : box-at ws 1 ≡ r.viewport
     place_view = rw (get_or-drop 1 ws 0 0, get_or-drop 1 ws 1 0, get_or-drop 1 ws 2 0, get_or-drop 1 ws 3 0) (sym at_words)
 
-    refused-there : (good-viewport v && leb (rows_of v) 32) ≡ false → answer-lines (play-records (Screen Row) (call Row row-ops) (reset fresh-row) (rowlist-place q ws) old r) ≡ refused 2 ∷ []
+    refused-there : (good_viewport v && leb (rows_of v) 32) ≡ false → answer-lines (play-records (Screen Row) (call Row row-ops) (reset fresh-row) (rowlist-place q ws) old r) ≡ refused 2 ∷ []
     unfolding judge-records
     refused-there h =
         refused-lines (play-records (Screen Row) (call Row row-ops) (reset fresh-row) (rowlist-place q ws) old r) 2
-        (refused-view (rowlist-place q ws) old r (rw (not-shown (good-viewport v) (rows_of v) h))) refl
+        (refused-view (rowlist-place q ws) old r (rw (not-shown (good_viewport v) (rows_of v) h))) refl
 
-    module _ (g : good-viewport v ≡ true) (few : rows_of v ≤ 32) where
+    module _ (g : good_viewport v ≡ true) (few : rows_of v ≤ 32) where
       abbrev cut : Tables
       cut = cut-to (usual-size v q.width) t
 
@@ -293,8 +291,8 @@ module _ (q : Setup) (u : Usual q) (ws : List ℕ) (t : Tables) (enough-room : i
       arenas-good : good-arenas f (arenas (lengths cut)) ≡ true
       arenas-good = rw (u.c, u.d, eq-eqb _ _ render-long, eq-eqb _ _ fills-long, eq-eqb _ _ depth-long)
 
-      judged-0 : judged-reset f (lengths cut) ≡ 0
-      unfolding judged-reset
+      judged-0 : judged_reset f (lengths cut) ≡ 0
+      unfolding judged_reset
       judged-0 = rw (g, arenas-good, tables-good)
 
       abbrev first : Frame
@@ -330,8 +328,8 @@ module _ (q : Setup) (u : Usual q) (ws : List ℕ) (t : Tables) (enough-room : i
       unfolding play
       at-words-play =
           ap (λ (o : Option (List (List (List ℕ)))). elim o [
-            | none ↦ answer BadForm old
-            | some qs ↦ play-records (Screen Row) (call Row row-ops) (reset fresh-row) (place q given) old (recording qs)
+            | None ↦ answer BadForm old
+            | Some qs ↦ play-records (Screen Row) (call Row row-ops) (reset fresh-row) (place q given) old (recording qs)
           ])
           e
           ∙ sym (same-play 32 512 q (needed (frame q (box-at ws 1))) (arenas (lengths cut)) old r (judge-at (box-at ws 1) place_view))
@@ -356,22 +354,22 @@ module _ (q : Setup) (u : Usual q) (ws : List ℕ) (t : Tables) (enough-room : i
       unfolding recording-text
       shown-there = answer-shows bs room theirs (recorded ws q given) v q.width few plays.number done-with
 
-    refused-number : (good-viewport v && leb (rows_of v) 32) ≡ false → (play-records (Screen Row) (call Row row-ops) (reset fresh-row) (rowlist-place q ws) old r).number ≡ 2
+    refused-number : (good_viewport v && leb (rows_of v) 32) ≡ false → (play-records (Screen Row) (call Row row-ops) (reset fresh-row) (rowlist-place q ws) old r).number ≡ 2
     unfolding judge-records
-    refused-number h = refused-view (rowlist-place q ws) old r (rw (not-shown (good-viewport v) (rows_of v) h))
+    refused-number h = refused-view (rowlist-place q ws) old r (rw (not-shown (good_viewport v) (rows_of v) h))
 
-    by-size-leaves : (x : Bool) → (good-viewport v && leb (rows_of v) 32) ≡ x
+    by-size-leaves : (x : Bool) → (good_viewport v && leb (rows_of v) 32) ≡ x
         → Leaves (play-records (Screen Row) (call Row row-ops) (reset fresh-row) (rowlist-place q ws) old r) t (text_in (sized-if x f) ws q t bs)
     by-size-leaves false h = refused-leaves bs room (play-records (Screen Row) (call Row row-ops) (reset fresh-row) (rowlist-place q ws) old r) t 2 (refused-number h) refl
     by-size-leaves true h =
         rw enough-room
         (unfold front-text in
-        left_there (and_left (good-viewport v) (leb (rows_of v) 32) h) (leb-true _ _ (and_right (good-viewport v) (leb (rows_of v) 32) h)))
+        left_there (and_left (good_viewport v) (leb (rows_of v) 32) h) (leb-true _ _ (and_right (good_viewport v) (leb (rows_of v) 32) h)))
 
-    by_size : (x : Bool) → (good-viewport v && leb (rows_of v) 32) ≡ x
+    by_size : (x : Bool) → (good_viewport v && leb (rows_of v) 32) ≡ x
         → shows (text_in (sized-if x f) ws q t bs).showed ≡ text-first (text_of (answer-lines (play-records (Screen Row) (call Row row-ops) (reset fresh-row) (rowlist-place q ws) old r))) bs
     by_size false h = rw (refused-there h) (refusing-shows bs room 2 nothing)
-    by_size true h = rw enough-room (unfold front-text in shown-there (and_left (good-viewport v) (leb (rows_of v) 32) h) (leb-true _ _ (and_right (good-viewport v) (leb (rows_of v) 32) h)))
+    by_size true h = rw enough-room (unfold front-text in shown-there (and_left (good_viewport v) (leb (rows_of v) 32) h) (leb-true _ _ (and_right (good_viewport v) (leb (rows_of v) 32) h)))
 
   -- A file's words, in tables that are long enough, with room for the longest text: what is written is the text of the rules' lines.
   pub words-printed : shows (words-text ws q t bs).showed ≡ text-first (text_of (rowlist-words q ws)) bs
@@ -384,12 +382,12 @@ module _ (q : Setup) (u : Usual q) (ws : List ℕ) (t : Tables) (enough-room : i
           (text_of
           (answer-lines
           (elim o [
-            | none ↦ answer BadForm old
-            | some qs ↦ play-records (Screen Row) (call Row row-ops) (reset fresh-row) (rowlist-place q ws) old (recording qs)
+            | None ↦ answer BadForm old
+            | Some qs ↦ play-records (Screen Row) (call Row row-ops) (reset fresh-row) (rowlist-place q ws) old (recording qs)
           ])))
           bs
-      go none e = refusing-shows bs room 3 nothing
-      go (some ss) e = rw (view ss e) (by_size ss e _ refl)
+      go None e = refusing-shows bs room 3 nothing
+      go (Some ss) e = rw (view ss e) (by_size ss e _ refl)
 
   -- .. and what is left beside it is the rules' screen, where it is not refused.
   pub words-leave : Leaves (rowlist-screen q ws) t (words-text ws q t bs)
@@ -399,13 +397,13 @@ module _ (q : Setup) (u : Usual q) (ws : List ℕ) (t : Tables) (enough-room : i
       go : (o : Option (List (List (List ℕ)))) → sections shape ws ≡ o
           → Leaves
           (elim o [
-            | none ↦ answer BadForm old
-            | some qs ↦ play-records (Screen Row) (call Row row-ops) (reset fresh-row) (rowlist-place q ws) old (recording qs)
+            | None ↦ answer BadForm old
+            | Some qs ↦ play-records (Screen Row) (call Row row-ops) (reset fresh-row) (rowlist-place q ws) old (recording qs)
           ])
           t
           (text_in (sized (formed o (layout ws)) (frame_at ws q)) ws q t bs)
-      go none e = refused-leaves bs room (answer BadForm old) t 3 refl refl
-      go (some ss) e = rw (view ss e) (by-size-leaves ss e _ refl)
+      go None e = refused-leaves bs room (answer BadForm old) t 3 refl refl
+      go (Some ss) e = rw (view ss e) (by-size-leaves ss e _ refl)
 
   -- .. of at most 264,256 bytes
   words-few : length (text_of (rowlist-words q ws)) ≤ 264256
@@ -430,7 +428,7 @@ module _ (q : Setup) (u : Usual q) (fs : List ℕ) (t : Tables) (roomy : is-room
           (text_of
           (elim (ltb 65536 (length fs)) [
             | true ↦ refused BadForm ∷ []
-            | false ↦ elim (words_of fs) [ none ↦ refused BadForm ∷ [] | some vs ↦ rowlist-words q vs ]
+            | false ↦ elim (words_of fs) [ None ↦ refused BadForm ∷ [] | Some vs ↦ rowlist-words q vs ]
           ]))
           bs
       go false y p e = rw (lt-ltb 65536 (length fs) (leb-false _ _ p)) (refusing-shows bs room 3 nothing)
@@ -446,7 +444,7 @@ module _ (q : Setup) (u : Usual q) (fs : List ℕ) (t : Tables) (roomy : is-room
           (text_of
           (elim x [
             | true ↦ refused BadForm ∷ []
-            | false ↦ elim (words_of fs) [ none ↦ refused BadForm ∷ [] | some vs ↦ rowlist-words q vs ]
+            | false ↦ elim (words_of fs) [ None ↦ refused BadForm ∷ [] | Some vs ↦ rowlist-words q vs ]
           ]))
           ≤ 264256
       go true y e = refused-few BadForm

@@ -1,8 +1,7 @@
 -- How long lines are at most, and the texts of the two programs. Assumes nothing.
-use mathlib.Core.Path.{◌≡◌}
 use mathlib.Core.Bool.{Bool, true, false, cond}
 use mathlib.Core.List.{List, [], ◌∷◌, ◌++◌, map}
-use mathlib.Core.Option.{Option, none, some}
+use Rattle.std.specs.Prelude.{Option, None, Some}
 use Prim.Native.Nat.{ℕ, zero, suc, ◌+◌, ◌*◌, ◌/◌, ◌%◌, ◌≤◌}
 use native.Mathlib.Omega.{arith}
 use lib.Dec.{ltb}
@@ -30,12 +29,12 @@ pub number-few : (n : ℕ) → length (number n) ≤ 11
 number-few n = omega (arith, digits-few 10 n)
 
 pub alpha-few : (x : Option ℕ) → length (alpha-bytes x) ≤ 11
-alpha-few none = omega arith
-alpha-few (some a) = number-few a
+alpha-few None = omega arith
+alpha-few (Some a) = number-few a
 
 span-few : (s : Option Span) → length (span-bytes s) ≤ 22
-span-few none = omega arith
-span-few (some s) = plus {a = 11} {b = 11} (number s.first) (number s.end) (number-few s.first) (number-few s.end)
+span-few None = omega arith
+span-few (Some s) = plus {a = 11} {b = 11} (number s.first) (number s.end) (number-few s.first) (number-few s.end)
 
 fill-few : (a b : ℕ) (x : Option ℕ) (i : ℕ) → length (fill-bytes a b x i) ≤ 44
 fill-few a b x i =

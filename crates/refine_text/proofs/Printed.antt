@@ -2,7 +2,7 @@
 use mathlib.Core.Path.{◌≡◌, refl}
 use mathlib.Core.Bool.{Bool, true}
 use mathlib.Core.List.{List}
-use mathlib.Core.Option.{Option, some}
+use Rattle.std.specs.Prelude.{Option, Some}
 use Prim.Native.Nat.{ℕ, zero, suc, ◌≤◌, ◌<◌}
 use native.Mathlib.Omega.{arith}
 use lib.ListN.{length, get_or}
@@ -25,11 +25,11 @@ use Rattle.refine_paint.specs.Fair.{FairRows}
 use Rattle.refine_paint.proofs.Standing.{stands}
 use Rattle.refine_paint.proofs.Kept.{built-fair, own-words}
 use Rattle.text_screen.specs.Places.{all-below, is_some}
-use Rattle.text_screen.specs.Listed.{depth-fill-at, command-at, screen-lines, good-row, good-rows, list-number, written, text_of, listed}
+use Rattle.text_screen.specs.Listed.{depth-fill-at, command-at, screen-lines, good_row, good-rows, list-number, written, text_of, listed}
 use Rattle.text_screen.proofs.ByRules.{Stands, no-fill, screen-by-rules}
 
 -- what is there at each place is some
-module _ {A : Type 0} (g : ℕ → Option A) (xs : List A) (d : A) (h : (k : ℕ) → k < length xs → g k ≡ some (get_or xs k d)) where
+module _ {A : Type 0} (g : ℕ → Option A) (xs : List A) (d : A) (h : (k : ℕ) → k < length xs → g k ≡ Some (get_or xs k d)) where
   all-some : (m : ℕ) → m ≤ length xs → all-below (λ (i : ℕ). is_some (g i)) m ≡ true
   unfolding all-below
   all-some zero p = refl
@@ -61,8 +61,8 @@ module _ (s : Screen Row) (o : Sound s) (f : FairRows s) where
   pub screen-printed : (b : Bool) → screen-lines (screen-of s.state b) (rows_of s) ≡ rules.screen-lines s
   screen-printed b = screen-by-rules (screen-of s.state b) (rows_of s) s.rows o.count row-shown
 
-  row-good : (i : ℕ) → i < length s.rows → good-row c d n (row_at (sizes c d) i (rows_of s)) ≡ true
-  unfolding good-row
+  row-good : (i : ℕ) → i < length s.rows → good_row c d n (row_at (sizes c d) i (rows_of s)) ≡ true
+  unfolding good_row
   row-good i h =
       let r = get_or s.rows i fresh-row in
       let w = row_at (sizes c d) i (rows_of s) in

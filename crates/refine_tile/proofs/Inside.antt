@@ -3,7 +3,7 @@ use Prim.Native.Nat.{ℕ}
 use native.Mathlib.Nat.{le_refl}
 use mathlib.Core.Path.{◌≡◌, refl, sym, ◌∙◌}
 use mathlib.Core.Bool.{Bool, true, false, ◌&&◌, not}
-use mathlib.Core.Option.{Option, none, some}
+use Rattle.std.specs.Prelude.{Option, None, Some}
 use mathlib.Core.List.{List, [], ◌∷◌, ◌++◌}
 use Rattle.rules.specs.Answers.{Done}
 use Rattle.rules.specs.Boxes.{Box, to-local}
@@ -61,8 +61,8 @@ module _ (v : Box) (row : ℕ) where
 
 -- the box of a layer lies within the one in force
 layer-within : (v p : Box) (c : Option Clip) → Within (layer-box v p c) p
-layer-within v p none = record { top = le_refl p.y0; bottom = le_refl p.y1 }
-layer-within v p (some c) = meet_within (to-local v c.bounds) p
+layer-within v p None = record { top = le_refl p.y0; bottom = le_refl p.y1 }
+layer-within v p (Some c) = meet_within (to-local v c.bounds) p
 
 -- What is judged of a step, by the story before it: a fill's segments, and a pop's, which has a layer to close.
 unfoldable pub PopFits : List OpenLayer → List Segment → Type 0

@@ -2,7 +2,7 @@
 use Prim.Native.Nat.{ℕ, suc, ◌+◌, ◌/◌}
 use mathlib.Core.Path.{◌≡◌, refl, sym, ◌∙◌, ap}
 use mathlib.Core.Bool.{Bool, true, false, ◌&&◌, not, cond}
-use mathlib.Core.Option.{Option, none, some}
+use Rattle.std.specs.Prelude.{Option, None, Some}
 use mathlib.Core.List.{List, [], ◌∷◌, ◌++◌, append-nil, append_assoc}
 use lib.ListN.{length}
 use Rattle.rules.specs.Lists.{keep, some_of, is-empty, is_none}
@@ -125,24 +125,24 @@ module _ (w : ℕ) (v : Box) (row tile : ℕ) where
   closing-says : (c : Option Clip) (own : Box) (ls : List OpenLayer) (ss : List Segment) (b : Bool) (i n q id : ℕ)
       → judge-segments (not (clip-fits c ss)) (clip-segments c ss) ≡ Done → (b ≡ true → in_row own row ≡ true)
       → Says (closing-account c own ls ss b i n q id) (pop-line c own (box-now v ls) ss b i n q)
-  closing-says none own ls ss b i n q id j f =
-      let t : Told = record { entry = entry_of (pop-line none own (box-now v ls) ss b i n q); id = id; hides = false } in
+  closing-says None own ls ss b i n q id j f =
+      let t : Told = record { entry = entry_of (pop-line None own (box-now v ls) ss b i n q); id = id; hides = false } in
       let st : standing-of true (met own row tile) b false ≡ standing-of true (meets w v row tile own row tile) b false = rw (tiles-met w v row tile own row tile) in
-      let one : tell w v row tile true i q n id false (closers w v row tile none own ls ss) ≡ keep (covers (span_of own) tile) t [] =
+      let one : tell w v row tile true i q n id false (closers w v row tile None own ls ss) ≡ keep (covers (span_of own) tile) t [] =
       by (covers (span_of own) tile) (λ y. rw y) (λ m. rw m) in
-      let to : cond b (tell w v row tile true i q n id false (closers w v row tile none own ls ss)) [] ≡ keep (meets w v row tile own row tile && b) t [] =
+      let to : cond b (tell w v row tile true i q n id false (closers w v row tile None own ls ss)) [] ≡ keep (meets w v row tile own row tile && b) t [] =
       rw (one, tiles-met w v row tile own row tile) (span-told own t b f) in
       record { id = id; hides = false; layer = refl; attribute = refl; standing = st; panel = refl; told = to }
-  closing-says (some c) box ls ss b i n q id j f =
-      let own = clip-segments (some c) ss in
-      let (_, good, ord) = judged-facts (not (clip-fits (some c) ss)) own j in
+  closing-says (Some c) box ls ss b i n q id j f =
+      let own = clip-segments (Some c) ss in
+      let (_, good, ord) = judged-facts (not (clip-fits (Some c) ss)) own j in
       let p = box-now v ls in
       let k = look w v row tile p no-look own in
       let r = looked w v row tile p own good ord in
       let ks = here w v row tile ls own in
       let st : standing-of k.covered k.kept b false ≡ standing-of (some_of (covering w v row tile) own) (some_of (keeping w v row tile) ks) b false =
       rw (r.covered, r.kept) in
-      let t : Told = record { entry = entry_of (pop-line (some c) box p ss b i n q); id = id; hides = false } in
+      let t : Told = record { entry = entry_of (pop-line (Some c) box p ss b i n q); id = id; hides = false } in
       let to : cond b (tell w v row tile true i q n id false ks) [] ≡ keep (some_of (covering w v row tile) own && some_of (keeping w v row tile) ks && b) t [] =
       ap (λ (ts : List Told). cond b ts []) (r.told true i q n id false) ∙ keep-when (k.covered && k.kept) b t ∙ rw (r.covered, r.kept) in
       record { id = id; hides = false; layer = refl; attribute = refl; standing = st; panel = refl; told = to }

@@ -3,13 +3,13 @@ use Prim.Native.Nat.{ℕ, ◌+◌, ◌-◌, ◌/◌, ◌≤◌, ◌<◌}
 use native.Mathlib.Omega.{arith}
 use mathlib.Core.Path.{◌≡◌, refl, sym, ◌∙◌, ap, subst}
 use mathlib.Core.Bool.{Bool, true, false, ◌&&◌, ◌||◌, not}
-use mathlib.Core.Option.{Option, none, some}
+use Rattle.std.specs.Prelude.{Option, None, Some}
 use mathlib.Core.List.{List, [], ◌∷◌, ◌++◌, map}
 use lib.Dec.{leb, ltb, eqb}
 use borrow.Author.Tests.{leb-true, ltb-true, eqb-true, eqb-false, eq-eqb, ne_eqb}
 use Rattle.rules.specs.Lists.{such, keep, some_of, is-empty, is_none, join}
 use Rattle.rules.specs.Boxes.{Box, scene-tiles}
-use Rattle.rules.specs.Spans.{span, covers, Stretch, shifted, moved, common, meeting, cut_at, cut-to}
+use Rattle.rules.specs.Spans.{span, covers, Stretch, shifted, moved, common, meeting, cut_at, cut_to}
 use Rattle.rules.specs.Segments.{Segment, good-segment, ordered, Cut, stretch-of, cut_in, cuts}
 use Rattle.rules.specs.Painting.{Entry}
 use Rattle.rules.specs.Plain.{Told, tell}
@@ -51,8 +51,8 @@ such-all p [] = nil
 such-all p (x ∷ xs) = by (p x) (λ y. rw y (cons y (such-all p xs))) (λ n. rw n (such-all p xs))
 
 none-moved : (a : Option ℕ) (n : ℕ) → is_none (moved a n) ≡ is_none a
-none-moved none n = refl
-none-moved (some a) n = refl
+none-moved None n = refl
+none-moved (Some a) n = refl
 
 -- a look with another value of `covered`
 abbrev covered-as : Bool → Look → Look
@@ -121,7 +121,7 @@ module _ (w : ℕ) (v : Box) (row tile : ℕ) where
           → (keeping w v row tile k ≡ true → covers (span s.first s.end) (tile + v.x0 / 4) ≡ true) → Cuts s (k ∷ [])
 
     cut-cases : (s : Segment) → Cuts s (cut_in v (scene-tiles v c) s)
-    unfolding cut_in cut-to meeting scene-tiles
+    unfolding cut_in cut_to meeting scene-tiles
     cut-cases s =
         let low = (v.x0 + c.x0) / 4 in
         let m = common (span s.first s.end) (span low ((v.x0 + c.x1) / 4)) in
@@ -189,7 +189,7 @@ module _ (w : ℕ) (v : Box) (row tile : ℕ) where
         let same = own_row s (left k q a b f) y in
         let g : (keeping w v row tile k || false) ≡ true = rw same at e in
         and_both _ _ y (f (sym (or-false (keeping w v row tile k)) ∙ g)))
-        (λ n. let none = other_row s (left k q a b f) n in never (sym (rw none at e)))
+        (λ n. let None = other_row s (left k q a b f) n in never (sym (rw None at e)))
 
     pub kept-covered : (ss : List Segment) → some_of (keeping w v row tile) (here_of (cuts v c ss)) ≡ true → some_of (covering w v row tile) ss ≡ true
     unfolding cuts
@@ -212,7 +212,7 @@ module _ (w : ℕ) (v : Box) (row tile : ℕ) where
         let z = eqb-true s.row (row + v.y0 / 4) y in
         let t = ev.top in
         row-yes c row (omega arith) (omega arith))
-        (λ n. let none = other_row s (left k q a b f) n in never (sym (rw none at e)))
+        (λ n. let None = other_row s (left k q a b f) n in never (sym (rw None at e)))
 
     pub reached-inside : Even v → (ss : List Segment) → not (is-empty (here_of (cuts v c ss))) ≡ true → in_row c row ≡ true
     unfolding cuts

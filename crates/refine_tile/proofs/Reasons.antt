@@ -5,7 +5,7 @@ use mathlib.Core.Bool.{true}
 use mathlib.Core.List.{List}
 use lib.ListN.{length, drop}
 use Rattle.rules.specs.Answers.{Done}
-use Rattle.rules.specs.Boxes.{Box, good-viewport}
+use Rattle.rules.specs.Boxes.{Box, good_viewport}
 use Rattle.rules.specs.Rows.{Row, row-ops, fresh-row}
 use Rattle.rules.specs.Plans.{Frame, Step}
 use Rattle.rules.specs.Recording.{Recording}
@@ -31,7 +31,7 @@ reason-retold w v row tile xs ws t h q =
     (reason-said q h.say (numbered-once q (accounts-numbered w v row tile xs)) (drop (line-size * length h.all_said) ws))
 
 -- .. of a recording: where the rules' walk is done, the engine's lines give the reason of the recording's history
-pub reason-told : (w : ℕ) (f : Frame) (r : Recording) (row tile : ℕ) (ws : List ℕ) → good-viewport f.viewport ≡ true
+pub reason-told : (w : ℕ) (f : Frame) (r : Recording) (row tile : ℕ) (ws : List ℕ) → good_viewport f.viewport ≡ true
     → let a = walk-logged Row row-ops fresh-row f r in
     let b = walk-all Telling (tell-at w f.viewport row tile) r (nothing-told ws) in
     a.number ≡ Done → (q : Asked) → reason-read q b.value.lines (b.value.paints + b.value.layers) ≡ reason w f.viewport row tile a.value.log q

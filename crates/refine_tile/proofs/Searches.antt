@@ -4,7 +4,7 @@ use native.Mathlib.Nat.{add-zero, zero-add}
 use native.Mathlib.Omega.{arith}
 use mathlib.Core.Path.{◌≡◌, refl, sym, ◌∙◌, ap, subst}
 use mathlib.Core.Bool.{Bool, true, false, ◌&&◌, not, cond, beq}
-use mathlib.Core.Option.{Option, none, some}
+use Rattle.std.specs.Prelude.{Option, None, Some}
 use mathlib.Core.List.{List, [], ◌∷◌, ◌++◌, map, append-nil, append_assoc}
 use lib.ListN.{length, get_or, length-append}
 use lib.Seq.{get_or-append-add}
@@ -16,7 +16,7 @@ use Rattle.rules.proofs.All.{All, nil, cons, head, tail, all_append, never}
 use Rattle.rules_picture.proofs.Cases.{by}
 use Rattle.rules_reason.specs.Reasons.{Reason, no-segment, cut-away, row-untouched, shown-at, Asked, Account, account-of, place_of, hider-of, newest-hider, hidden, placed, because}
 use Rattle.tile_steps.specs.Telling.{Line, standing-of, alpha-words, after-alpha, line-words, line-panel-at}
-use Rattle.tile_reason.specs.Reading.{Mark, mark-at, marks, Search, no-search, is-asked, is-told, hider-in, anew, met, one_more, read, read_all, reason-by, reason-read}
+use Rattle.tile_reason.specs.Reading.{Mark, mark_at, marks, Search, no-search, is-asked, is-told, hider-in, anew, met, one_more, read, read_all, reason-by, reason-read}
 use Rattle.refine_tile.specs.Retold.{entry_of, tells, Says, Say, said, says, flat}
 use Rattle.refine_tile.proofs.Tells.{line-length}
 use Rattle.refine_tile.proofs.Numbers.{told-all, asks, Once, once}
@@ -30,11 +30,11 @@ panel-word : (l : Line) (back : List ℕ) → get_or (line-words l ++ back) line
 panel-word l back = go l.alpha
   where
     go : (a : Option ℕ) → get_or ((cond l.layer 1 0 ∷ l.attribute ∷ l.standing ∷ alpha-words a (after-alpha l)) ++ back) line-panel-at 0 ≡ l.panel
-    go none = refl
-    go (some n) = refl
+    go None = refl
+    go (Some n) = refl
 
-mark-seen : (front : List ℕ) (i : ℕ) (l : Line) (back : List ℕ) → length front ≡ line-size * i → mark-at (front ++ (line-words l ++ back)) i ≡ mark_of l
-unfolding mark-at
+mark-seen : (front : List ℕ) (i : ℕ) (l : Line) (back : List ℕ) → length front ≡ line-size * i → mark_at (front ++ (line-words l ++ back)) i ≡ mark_of l
+unfolding mark_at
 mark-seen front i l back e =
     let at : (n : ℕ) → get_or (front ++ (line-words l ++ back)) (line-size * i + n) 0 ≡ get_or (line-words l ++ back) n 0 =
     λ n. ap (λ (k : ℕ). get_or (front ++ (line-words l ++ back)) (k + n) 0) (sym e) ∙ get_or-append-add front (line-words l ++ back) n 0 in
@@ -49,7 +49,7 @@ marks-seen front i (l ∷ ls) back e =
     let split : front ++ ((words ++ flat ls) ++ back) ≡ front ++ (words ++ (flat ls ++ back)) = ap (λ (x : List ℕ). front ++ x) (append_assoc words (flat ls) back) in
     let shift : front ++ (words ++ (flat ls ++ back)) ≡ (front ++ words) ++ (flat ls ++ back) = sym (append_assoc front words (flat ls ++ back)) in
     let n : length (front ++ words) ≡ line-size * (i + 1) = rw (length-append, line-length l, e) (omega arith) in
-    ap (λ (x : List ℕ). mark-at x i ∷ marks x (i + 1) (length ls)) split
+    ap (λ (x : List ℕ). mark_at x i ∷ marks x (i + 1) (length ls)) split
     ∙ ap (λ (m : Mark). m ∷ marks (front ++ (words ++ (flat ls ++ back))) (i + 1) (length ls)) (mark-seen front i l (flat ls ++ back) e)
     ∙ ap (λ (x : List ℕ). mark_of l ∷ marks x (i + 1) (length ls)) shift
     ∙ ap (λ (ms : List Mark). mark_of l ∷ ms) (marks-seen (front ++ words) (i + 1) ls back n)
@@ -85,14 +85,14 @@ module _ (a : Asked) where
 
   -- where an entry of the asked attribute is now
   data Where (ts : List Told) (s : Search) : Type 0 where
-    in_list : s.hidden ≡ false → place_of a 0 (shown ts) ≡ some s.place → Where ts s
-    gone : s.hidden ≡ true → place_of a 0 (shown ts) ≡ none → hiding ts ≡ true → Where ts s
+    in_list : s.hidden ≡ false → place_of a 0 (shown ts) ≡ Some s.place → Where ts s
+    gone : s.hidden ≡ true → place_of a 0 (shown ts) ≡ None → hiding ts ≡ true → Where ts s
 
   -- the asked attribute's account, if it was there
   data Found : Option Account → List Told → Search → Type 0 where
-    not_there : {ts : List Told} {s : Search} → s.found ≡ false → Unnamed a ts → Found none ts s
+    not_there : {ts : List Told} {s : Search} → s.found ≡ false → Unnamed a ts → Found None ts s
     there : {ts : List Told} {s : Search} (k : Account) (h : Bool) → s.found ≡ true → s.standing ≡ standing-of k.covered k.kept k.touched h
-        → s.panel ≡ k.panel → (tells k ≡ true → Where ts s) → Found (some k) ts s
+        → s.panel ≡ k.panel → (tells k ≡ true → Where ts s) → Found (Some k) ts s
 
   -- the search after the accounts js, with entries ts
   record Knows (o : Option Account) (ts : List Told) (s : Search) : Type 0 where
@@ -102,8 +102,8 @@ module _ (a : Asked) where
 
   -- of two the first is known
   abbrev known : Option Account → Account → Option Account
-  known (some j) k = some j
-  known none k = cond (asks a k) (some k) none
+  known (Some j) k = Some j
+  known None k = cond (asks a k) (Some k) None
 
   -- an account that tells nothing
   skipped : (k : Account) (h : Bool) (m : Mark) (o : Option Account) (ts : List Told) (s : Search) → m.standing ≡ standing-of k.covered k.kept k.touched h → m.panel ≡ k.panel → tells k ≡ false
@@ -134,8 +134,8 @@ module _ (a : Asked) where
       stays n (in_list e p) = in_list e (rw (shown-more ts u nh) (place-first a 0 s.place (shown ts) u p))
       stays n (gone e p y) = gone e (rw (shown-more ts u nh) (place_none a 0 (shown ts) u p (nm ∙ n))) (hiding-same ts u nh ∙ y)
 
-      new-place : Unnamed a ts → asks a k ≡ true → place_of a 0 (shown (ts ++ (u ∷ []))) ≡ some s.count
-      new-place un y = rw (shown-more ts u nh) (place-last a 0 (shown ts) u (shown-all ts un) (nm ∙ y) ∙ ap (λ (i : ℕ). some i) (zero-add (length (shown ts)) ∙ sym w.count))
+      new-place : Unnamed a ts → asks a k ≡ true → place_of a 0 (shown (ts ++ (u ∷ []))) ≡ Some s.count
+      new-place un y = rw (shown-more ts u nh) (place-last a 0 (shown ts) u (shown-all ts un) (nm ∙ y) ∙ ap (λ (i : ℕ). Some i) (zero-add (length (shown ts)) ∙ sym w.count))
 
       go : (p : Option Account) → Found p ts s → Knows (known p k) (ts ++ (u ∷ [])) (one_more (met a m s))
       go p (there j g f e l x) =
@@ -158,16 +158,16 @@ module _ (a : Asked) where
       newest : hiding (ts ++ (u ∷ [])) ≡ true → hider-in m ≡ newest-hider (ts ++ (u ∷ []))
       newest y = at ∙ sym (hider-anew ts u yh)
 
-      one_place : place_of a 0 (shown (ts ++ (u ∷ []))) ≡ cond (asks a k) (some 0) none
+      one_place : place_of a 0 (shown (ts ++ (u ∷ []))) ≡ cond (asks a k) (Some 0) None
       one_place = rw (shown-anew ts u yh, ← nm)
 
       go : (p : Option Account) → Found p ts s → Knows (known p k) (ts ++ (u ∷ [])) (one_more (met a m (anew m s)))
       go p (there j g f e l x) =
-          let p : place_of a 0 (shown (ts ++ (u ∷ []))) ≡ none = one_place ∙ rw (free f) in
+          let p : place_of a 0 (shown (ts ++ (u ∷ []))) ≡ None = one_place ∙ rw (free f) in
           rw (q, free f) (record { count = alone; hider = newest; found = there j g f e l (λ z. gone f p (hiding-yes ts u yh)) })
       go p (not_there f un) = by (asks a k)
           (λ y.
-          let p : place_of a 0 (shown (ts ++ (u ∷ []))) ≡ some 0 = one_place ∙ rw y in
+          let p : place_of a 0 (shown (ts ++ (u ∷ []))) ≡ Some 0 = one_place ∙ rw y in
           rw (q, y, f) (record { count = alone; hider = newest; found = there k h refl st pn (λ z. in_list refl p) }))
           (λ z. rw (q, z) (record { count = alone; hider = newest; found = not_there f (all_append un (cons (nm ∙ z) nil)) }))
 
@@ -210,11 +210,11 @@ module _ (a : Asked) where
   known-all o [] = o
   known-all o (k ∷ ks) = known-all (known o k) ks
 
-  known_some : (j : Account) (ks : List Account) → known-all (some j) ks ≡ some j
+  known_some : (j : Account) (ks : List Account) → known-all (Some j) ks ≡ Some j
   known_some j [] = refl
   known_some j (k ∷ ks) = known_some j ks
 
-  known-none : (ks : List Account) → known-all none ks ≡ account-of a ks
+  known-none : (ks : List Account) → known-all None ks ≡ account-of a ks
   unfolding account-of
   known-none [] = refl
   known-none (k ∷ ks) = by (asks a k) (λ y. rw y (known_some k ks)) (λ n. rw n (known-none ks))
@@ -267,7 +267,7 @@ module _ (a : Asked) where
       → reason-read a (flat ls ++ back) (length ls) ≡ because a (account-of a ks) (told-all ks)
   unfolding reason-read shown
   reason-said {ks} {ls} y x back = rw (marks-said ls back)
-      (reason-knows (known-all none ks) (told-all ks) (read_all a no-search (map mark_of ls)) (reads y x none [] no-search begun (λ e. never (sym e))) ∙ rw (known-none ks))
+      (reason-knows (known-all None ks) (told-all ks) (read_all a no-search (map mark_of ls)) (reads y x None [] no-search begun (λ e. never (sym e))) ∙ rw (known-none ks))
     where
-      begun : Knows none [] no-search
+      begun : Knows None [] no-search
       begun = record { count = refl; hider = λ e. never (sym e); found = not_there refl nil }

@@ -4,7 +4,7 @@ use native.Mathlib.Nat.{add-zero}
 use native.Mathlib.Omega.{arith}
 use mathlib.Core.Path.{◌≡◌, refl, sym, ◌∙◌, ap}
 use mathlib.Core.Bool.{Bool, true, false, ◌&&◌, ◌||◌, beq}
-use mathlib.Core.Option.{Option, none, some}
+use Rattle.std.specs.Prelude.{Option, None, Some}
 use mathlib.Core.List.{List, [], ◌∷◌, ◌++◌}
 use lib.ListN.{length}
 use lib.Dec.{eqb}
@@ -68,23 +68,23 @@ module _ (a : Asked) where
   abbrev pub Unnamed : List Told → Type 0
   Unnamed ts = All (λ (t : Told). names t ≡ false) ts
 
-  pub place-first : (n p : ℕ) (ts : List Told) (u : Told) → place_of a n ts ≡ some p → place_of a n (ts ++ (u ∷ [])) ≡ some p
+  pub place-first : (n p : ℕ) (ts : List Told) (u : Told) → place_of a n ts ≡ Some p → place_of a n (ts ++ (u ∷ [])) ≡ Some p
   unfolding place_of
   place-first n p [] u e = let z : ◌≡◌ {A = ℕ} 0 1 = cc in absurd (omega arith)
   place-first n p (t ∷ ts) u e = by (names t)
       (λ y. rw y (rw y at e))
       (λ m. rw m (place-first (suc n) p ts u (rw m at e)))
 
-  pub place_none : (n : ℕ) (ts : List Told) (u : Told) → place_of a n ts ≡ none → names u ≡ false → place_of a n (ts ++ (u ∷ [])) ≡ none
+  pub place_none : (n : ℕ) (ts : List Told) (u : Told) → place_of a n ts ≡ None → names u ≡ false → place_of a n (ts ++ (u ∷ [])) ≡ None
   unfolding place_of
   place_none n [] u e h = rw h
   place_none n (t ∷ ts) u e h = by (names t)
-      (λ y. let k : ◌≡◌ {A = Option ℕ} (some n) none = rw y at e in let z : ◌≡◌ {A = ℕ} 0 1 = cc in absurd (omega arith))
+      (λ y. let k : ◌≡◌ {A = Option ℕ} (Some n) None = rw y at e in let z : ◌≡◌ {A = ℕ} 0 1 = cc in absurd (omega arith))
       (λ m. rw m (place_none (suc n) ts u (rw m at e) h))
 
-  pub place-last : (n : ℕ) (ts : List Told) (u : Told) → Unnamed ts → names u ≡ true → place_of a n (ts ++ (u ∷ [])) ≡ some (n + length ts)
+  pub place-last : (n : ℕ) (ts : List Told) (u : Told) → Unnamed ts → names u ≡ true → place_of a n (ts ++ (u ∷ [])) ≡ Some (n + length ts)
   unfolding place_of
   place-last n [] u m h = rw (h, add-zero n)
   place-last n (t ∷ ts) u (cons e m) h =
       let k : suc n + length ts ≡ n + suc (length ts) = omega arith in
-      rw e (place-last (suc n) ts u m h ∙ ap (λ (i : ℕ). some i) k)
+      rw e (place-last (suc n) ts u m h ∙ ap (λ (i : ℕ). Some i) k)

@@ -3,7 +3,7 @@ use Prim.Native.Nat.{ℕ, suc, ◌+◌, ◌*◌, ◌≤◌, ◌<◌, min}
 use native.Mathlib.Omega.{arith}
 use mathlib.Core.Path.{◌≡◌, refl, sym, ◌∙◌, ap}
 use mathlib.Core.Bool.{Bool, true, false, ◌&&◌, ◌||◌, not, cond}
-use mathlib.Core.Option.{Option, none, some}
+use Rattle.std.specs.Prelude.{Option, None, Some}
 use mathlib.Core.List.{List, [], ◌∷◌, ◌++◌, map, append_assoc, append-nil}
 use lib.ListN.{length, take, drop, length-append, length-map}
 use lib.Seq.{take_at, drop-append-add, drop-drop}
@@ -38,8 +38,8 @@ pub line-length : (l : Line) → length (line-words l) ≡ line-size
 line-length l = go l.alpha
   where
     go : (a : Option ℕ) → length (cond l.layer 1 0 ∷ l.attribute ∷ l.standing ∷ alpha-words a (after-alpha l)) ≡ line-size
-    go none = refl
-    go (some n) = refl
+    go None = refl
+    go (Some n) = refl
 
 pub flat_append : (ls ms : List Line) → flat (ls ++ ms) ≡ flat ls ++ flat ms
 flat_append [] ms = refl

@@ -9,7 +9,7 @@ use lib.Dec.{ltb}
 use borrow.Author.Tests.{eqb-true, ltb-false}
 use Rattle.sizes.specs.Sizes.{most-attrs, most-filters}
 use Rattle.rules.specs.Answers.{answer, Done}
-use Rattle.rules.specs.Boxes.{Box, by_4, bounded, good-viewport}
+use Rattle.rules.specs.Boxes.{Box, by_4, bounded, good_viewport}
 use Rattle.rules.specs.Attributes.{attrs-full}
 use Rattle.rules.specs.Rows.{Row, row-ops, fresh-row}
 use Rattle.rules.specs.Plans.{Frame, Step, plan}
@@ -31,8 +31,8 @@ use Rattle.refine_tile.proofs.Stories.{Stands, planned, done-state, call-stands,
 use Rattle.refine_tile.proofs.Tells.{telling, step_after}
 
 -- a good viewport starts at multiples of 4
-pub even : (v : Box) → good-viewport v ≡ true → Even v
-unfolding good-viewport
+pub even : (v : Box) → good_viewport v ≡ true → Even v
+unfolding good_viewport
 even v g =
     let a = by_4 v.x0 in
     let b = by_4 v.x1 in
@@ -130,7 +130,7 @@ module _ (w : ℕ) (v : Box) (row tile : ℕ) (ws : List ℕ) where
       }
 
 -- Where the rules' walk of a recording is done, so is the engine's; and what it has told is the rules' account of the tile.
-pub tile-told : (w : ℕ) (f : Frame) (r : Recording) (row tile : ℕ) (ws : List ℕ) → good-viewport f.viewport ≡ true
+pub tile-told : (w : ℕ) (f : Frame) (r : Recording) (row tile : ℕ) (ws : List ℕ) → good_viewport f.viewport ≡ true
     → let a = walk-logged Row row-ops fresh-row f r in
     let b = walk-all Telling (tell-at w f.viewport row tile) r (nothing-told ws) in
     a.number ≡ Done → (b.number ≡ Done) × Retold w f.viewport row tile a.value.log ws b.value

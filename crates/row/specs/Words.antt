@@ -3,10 +3,10 @@
 -- state: 0 render count, 1 fill count, 2 the union's first tile, 3 its end, 4 the largest id, 5 levels;
 -- then for level k from 1 to 16, at 3 + 3k: the place of its PushBuf, and the tag and the span word that its pop will store.
 use Rattle.std.specs.Prelude.{ℕ, ◌≤◌, ◌<◌, ◌+◌, ◌-◌, ◌*◌, ◌/◌, ◌%◌, min, max, ◌≡◌, cond, List, get_or, set, length, eqb}
-use Rattle.std.proofs.Math.Option.{Option, none, some}
+use Rattle.std.specs.Prelude.{Option, None, Some}
 use Rattle.sizes.specs.Sizes.{most-layers, most-room, row-size, renders-at, depths-at, first-at, end-at, largest-at, levels-at, level-at}
 use Rattle.rules.specs.Spans.{Span}
-use Rattle.rules.specs.Commands.{Command, command-words, DepthFill, depth-words}
+use Rattle.rules.specs.Commands.{Command, command_words, DepthFill, depth-words}
 use Rattle.rules.specs.Depth.{tiles-of}
 use Rattle.rules.specs.Rows.{RowOps, adds}
 
@@ -27,32 +27,32 @@ abbrev pub put4 : List ℕ → ℕ → ℕ → ℕ → ℕ → ℕ → List ℕ
 put4 l n a b x y = set (set (set (set l (4 * n) a) (4 * n + 1) b) (4 * n + 2) x) (4 * n + 3) y
 
 -- the span word of a union with the span f to e; only the tag 6 says that there is a union already
-unfoldable pub hull-word : ℕ → ℕ → ℕ → ℕ → ℕ
-hull-word tag s f e = cond (eqb tag 6) (min (s / 65536) f * 65536 + max (s % 65536) e) (f * 65536 + e)
+unfoldable pub hull_word : ℕ → ℕ → ℕ → ℕ → ℕ
+hull_word tag s f e = cond (eqb tag 6) (min (s / 65536) f * 65536 + max (s % 65536) e) (f * 65536 + e)
 
 -- the level whose words stand at a, its union widened
 abbrev pub widened : ℕ → ℕ → ℕ → List ℕ → List ℕ
-widened a f e s = set (set s (a + 1) 6) (a + 2) (hull-word (get_or s (a + 1) 0) (get_or s (a + 2) 0) f e)
+widened a f e s = set (set s (a + 1) 6) (a + 2) (hull_word (get_or s (a + 1) 0) (get_or s (a + 2) 0) f e)
 
 -- rule 10: the span f to e counts for the innermost level
-unfoldable pub include-span : ℕ → ℕ → List ℕ → List ℕ
-include-span f e s = cond (eqb (get_or s levels-at 0) 0) s (widened (level-at (get_or s levels-at 0)) f e s)
+unfoldable pub include_span : ℕ → ℕ → List ℕ → List ℕ
+include_span f e s = cond (eqb (get_or s levels-at 0) 0) s (widened (level-at (get_or s levels-at 0)) f e s)
 
 -- what a command adds to the union at its level
 abbrev pub include-adds : Option Span → List ℕ → List ℕ
-include-adds none l = l
-include-adds (some s) l = include-span s.first s.end l
+include-adds None l = l
+include-adds (Some s) l = include_span s.first s.end l
 
 -- a command, by its four words
-unfoldable pub put-command : Command → Words → Words
-put-command c w =
-    let ws = command-words c in
+unfoldable pub put_command : Command → Words → Words
+put_command c w =
+    let ws = command_words c in
     words (set (include-adds (adds c) w.state) renders-at (word renders-at w + 1))
     (put4 w.render (word renders-at w) (get_or ws 0 0) (get_or ws 1 0) (get_or ws 2 0) (get_or ws 3 0)) w.fills
 
 -- rule 5: a PushBuf, with no span yet, and one more level
-unfoldable pub put-buf : Words → Words
-put-buf w =
+unfoldable pub put_buf : Words → Words
+put_buf w =
     let n = word renders-at w in
     let k = word levels-at w + 1 in
     let a = level-at k in
@@ -69,12 +69,12 @@ ended w =
     words (set (set (set (set (set w.state a 0) (a + 1) 0) (a + 2) 0) levels-at (k - 1)) renders-at (n + 1))
     (put4 (set (set w.render (4 * p) (word (a + 1) w)) (4 * p + 1) (word (a + 2) w)) n 7 0 0 0) w.fills
 
-unfoldable pub end-buf : Words → Words
-end-buf w = cond (eqb (word levels-at w) 0) w (ended w)
+unfoldable pub end_buf : Words → Words
+end_buf w = cond (eqb (word levels-at w) 0) w (ended w)
 
 -- rule 7: a depth fill at v tiles a bucket, by its two words; the summary takes in its tiles and its id
-unfoldable pub put-depth : ℕ → DepthFill → ℕ → Words → Words
-put-depth v f id w =
+unfoldable pub put_depth : ℕ → DepthFill → ℕ → Words → Words
+put_depth v f id w =
     let n = word depths-at w in
     let t = tiles-of v f.buckets in
     let ws = depth-words f in
@@ -89,10 +89,10 @@ word-ops =
       renders = word renders-at;
       depths = word depths-at;
       levels-of = word levels-at;
-      put = put-command;
-      put-push = put-buf;
-      put-pop = end-buf;
-      put-depth = put-depth;
+      put = put_command;
+      put-push = put_buf;
+      put-pop = end_buf;
+      put-depth = put_depth;
     }
 
 -- w' is what a step, done without limits, makes of the row w: the row's words have room for it

@@ -7,109 +7,94 @@ ghost use Rattle.sizes.specs.Sizes.{most-layers};
 ghost use Rattle.rules.specs.Commands.{paint-fill, layer-fill};
 ghost use Rattle.span.specs.Spans.{tiles};
 ghost use Rattle.sizes.specs.Widths.{bucket-tiles};
-ghost use Rattle.row.specs.Words.{words, put-command, Room};
+ghost use Rattle.row.specs.Words.{Room};
+ghost use Rattle.row.specs.Rows.{held, Same};
 ghost use Rattle.row.specs.Cmds.{Short};
-ghost use Rattle.row_acts.specs.Acts.{alpha-of, ensured, parted, ShortEdge, edged, drawn};
+ghost use Rattle.row_acts.specs.Acts.{ensured, parted, ShortEdge, edged, unsplit, drawn};
 
 use cmd::depth_fill::DepthFill;
-use depth::{Edge, Split, split_opaque_span};
-use row::{push_buf, push_depth_fill, push_paint};
+use depth::split::{Split, split_opaque_span};
+use row::Row;
 use sizes::LEVELS;
 use sizes::width::Width;
-use span::{Alpha, TileSpan};
+use span::{Stretch, TileSpan};
 
 // Rule 5: a PushBuf for each open layer that the row lacks. A destructive push does this alone (rule 8).
-pub fn ensure_row_layers(state: &mut [u32], render: &mut [u32], fills: &mut [u32], n: u32)
-    requires { (n ≤ most-layers) × Room (words state.old render.old fills.old) (ensured n (words state.old render.old fills.old)) }
-    ensures { words state.new render.new fills.new ≡ ensured n (words state.old render.old fills.old) }
+#[tactic(auto, using(crate::proofs::Laws::layers_room, crate::proofs::Laws::layers_again))]
+pub fn ensure_row_layers(row: &mut Row<'_>, n: u32)
+    requires { (n ≤ most-layers) × Room (held row.old) (ensured n (held row.old)) }
+    ensures same { Same row.old row.new }
+    ensures row { held row.new ≡ ensured n (held row.old) }
 {
-    let mut k = state[LEVELS];
+    let mut k = row.state[LEVELS];
     while k < n {
-        push_buf(state, render, fills);
+        row.push_buf();
         k += 1;
     }
 }
 
 // Rule 7: the regular piece on one side of a depth fill, where there is one.
-fn push_edge(state: &mut [u32], render: &mut [u32], fills: &mut [u32], edge: Edge, attrs_idx: u32)
-    requires { ShortEdge edge × Room (words state.old render.old fills.old) (edged edge attrs_idx (words state.old render.old fills.old)) }
-    ensures { words state.new render.new fills.new ≡ edged edge attrs_idx (words state.old render.old fills.old) }
+fn push_edge(row: &mut Row<'_>, edge: Option<TileSpan>, attrs_idx: u32)
+    requires { ShortEdge edge × Room (held row.old) (edged edge attrs_idx (held row.old)) }
+    ensures same { Same row.old row.new }
+    ensures row { held row.new ≡ edged edge attrs_idx (held row.old) }
 {
-    match edge {
-        Edge::Absent => {}
-        Edge::Tiles(span) => {
-            push_paint(state, render, fills, span, Alpha::Solid, attrs_idx);
-        }
+    if let Some(span) = edge {
+        row.push_paint(span, None, attrs_idx);
     }
 }
 
 // Rule 7: an eligible span, split over buckets. No caller has a span that starts after its end; it would stay whole.
-fn push_opaque(
-    state: &mut [u32],
-    render: &mut [u32],
-    fills: &mut [u32],
-    span: TileSpan,
-    attrs_idx: u32,
-    draw_id: u32,
-    width: Width,
-)
-    requires { Short (tiles span) × Room (words state.old render.old fills.old) (parted (bucket-tiles width) attrs_idx draw_id (tiles span) (words state.old render.old fills.old)) }
-    ensures { words state.new render.new fills.new ≡ parted (bucket-tiles width) attrs_idx draw_id (tiles span) (words state.old render.old fills.old) }
+#[tactic(auto, using(crate::proofs::Laws::refused_is, crate::proofs::Laws::refused_asks, crate::proofs::Laws::whole_is, crate::proofs::Laws::whole_asks, crate::proofs::Laws::before_asks, crate::proofs::Laws::buckets_ask, crate::proofs::Laws::after_asks, crate::proofs::Laws::pieces_done))]
+fn push_opaque(row: &mut Row<'_>, span: TileSpan, attrs_idx: u32, draw_id: u32, width: Width)
+    requires { Short (tiles span) × Room (held row.old) (parted (bucket-tiles width) attrs_idx draw_id (tiles span) (held row.old)) }
+    ensures same { Same row.old row.new }
+    ensures row { held row.new ≡ parted (bucket-tiles width) attrs_idx draw_id (tiles span) (held row.old) }
 {
-    let split = split_opaque_span(span, width);
+    let Ok(split) = split_opaque_span(span, width) else {
+        row.push_paint(span, None, attrs_idx);
+        return;
+    };
     match split {
-        Split::Refused => {
-            push_paint(state, render, fills, span, Alpha::Solid, attrs_idx);
-        }
-        Split::Whole(whole) => {
-            push_paint(state, render, fills, whole, Alpha::Solid, attrs_idx);
-        }
+        Split::Whole(whole) => row.push_paint(whole, None, attrs_idx),
         Split::Opaque {
             before,
             buckets,
             after,
         } => {
-            push_edge(state, render, fills, before, attrs_idx);
-            push_depth_fill(
-                state,
-                render,
-                fills,
-                DepthFill { buckets, attrs_idx },
-                draw_id,
-                width,
-            );
-            push_edge(state, render, fills, after, attrs_idx);
+            push_edge(row, before, attrs_idx);
+            row.push_depth_fill(DepthFill { buckets, attrs_idx }, draw_id, width);
+            push_edge(row, after, attrs_idx);
         }
     }
 }
 
+// Rule 6: one command comes of what is left of a segment.
+pub fn is_unsplit(eligible: bool, alpha: Option<u32>) -> bool
+    ensures { result ≡ unsplit eligible alpha }
+{
+    alpha.is_some() || !eligible
+}
+
 // Rules 5 to 7: what is left of a segment, on its row. `eligible` is rule 6's, for the whole draw.
+#[tactic(auto, using(crate::proofs::Laws::first_room, crate::proofs::Laws::one_asks, crate::proofs::Laws::one_done, crate::proofs::Laws::parts_ask, crate::proofs::Laws::parts_done))]
 pub fn push_fill(
-    state: &mut [u32],
-    render: &mut [u32],
-    fills: &mut [u32],
+    row: &mut Row<'_>,
     n: u32,
     eligible: bool,
-    span: TileSpan,
-    alpha: Alpha,
+    stretch: Stretch,
     attrs_idx: u32,
     draw_id: u32,
     width: Width,
 )
-    requires { Short (tiles span) × (n ≤ most-layers) × Room (words state.old render.old fills.old) (drawn (bucket-tiles width) n eligible (tiles span) (alpha-of alpha) attrs_idx draw_id (words state.old render.old fills.old)) }
-    ensures { words state.new render.new fills.new ≡ drawn (bucket-tiles width) n eligible (tiles span) (alpha-of alpha) attrs_idx draw_id (words state.old render.old fills.old) }
+    requires { Short (tiles stretch.tiles) × (n ≤ most-layers) × Room (held row.old) (drawn (bucket-tiles width) n eligible (tiles stretch.tiles) stretch.alpha attrs_idx draw_id (held row.old)) }
+    ensures same { Same row.old row.new }
+    ensures row { held row.new ≡ drawn (bucket-tiles width) n eligible (tiles stretch.tiles) stretch.alpha attrs_idx draw_id (held row.old) }
 {
-    ensure_row_layers(state, render, fills, n);
-    match alpha {
-        Alpha::Solid => {
-            if eligible {
-                push_opaque(state, render, fills, span, attrs_idx, draw_id, width);
-                return;
-            }
-            push_paint(state, render, fills, span, Alpha::Solid, attrs_idx);
-        }
-        Alpha::At(index) => {
-            push_paint(state, render, fills, span, Alpha::At(index), attrs_idx);
-        }
+    ensure_row_layers(row, n);
+    if is_unsplit(eligible, stretch.alpha) {
+        row.push_paint(stretch.tiles, stretch.alpha, attrs_idx);
+    } else {
+        push_opaque(row, stretch.tiles, attrs_idx, draw_id, width);
     }
 }

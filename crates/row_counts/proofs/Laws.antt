@@ -13,7 +13,7 @@ use Rattle.rules.specs.Plans.{Act, paint, opaque, touch, close, pop, Put, Plan, 
 use Rattle.rules.specs.Steps.{Screen, do-puts, perform, call}
 use Rattle.rules.proofs.All.{All, all_any}
 use Rattle.rules.proofs.laws.Maps.{PartOk, of-tiles, of-buckets, ActOk, paints, splits, touches, closes, pops, PutOk, Follows, screen-by, follows-puts, follows-perform, follows-call}
-use Rattle.row.specs.Words.{Words, word, put-command, ended, end-buf, put-depth, word-ops}
+use Rattle.row.specs.Words.{Words, word, put_command, ended, end_buf, put_depth, word-ops}
 use Rattle.row.proofs.Laws.{cmd-renders, cmd-depths, cmd-levels, cmd-grown, buf-renders, buf-depths, buf-levels, buf-grown, fill-renders, fill-depths, fill-levels, fill-grown, end-grown, end-levels, ended-renders, ended-depths, ended-level}
 use Rattle.row_counts.specs.Counts.{Counts, counts, count, count-ops}
 
@@ -41,13 +41,13 @@ any-put : (p : Put) → PutOk any p
 any-put p = record { act = any-act p.act }
 
 module _ (w : Words) (o : Sane w) where
-  cmd-counts : (c : Command) → (count (put-command c w) ≡ counts (word 0 w + 1) (word 1 w) (word 5 w)) × Sane (put-command c w)
+  cmd-counts : (c : Command) → (count (put_command c w) ≡ counts (word 0 w + 1) (word 1 w) (word 5 w)) × Sane (put_command c w)
   cmd-counts c = (
     rw (cmd-renders w o.state c, cmd-depths w o.state c, cmd-levels w o.state c),
     record { state = (cmd-grown w o.state c).state ∙ o.state; levels = omega (arith, cmd-levels w o.state c, o.levels) },
   )
 
-  fill-counts : (v : ℕ) (f : DepthFill) (id : ℕ) → (count (put-depth v f id w) ≡ counts (word 0 w) (word 1 w + 1) (word 5 w)) × Sane (put-depth v f id w)
+  fill-counts : (v : ℕ) (f : DepthFill) (id : ℕ) → (count (put_depth v f id w) ≡ counts (word 0 w) (word 1 w + 1) (word 5 w)) × Sane (put_depth v f id w)
   fill-counts v f id = (
     rw (fill-renders w o.state v f id, fill-depths w o.state v f id, fill-levels w o.state v f id),
     record { state = (fill-grown w o.state v f id).state ∙ o.state; levels = omega (arith, fill-levels w o.state v f id, o.levels) },
@@ -57,8 +57,8 @@ module _ (w : Words) (o : Sane w) where
   either true = refl
   either false = rw (ended-renders w o.state, ended-depths w o.state, ended-level w o.state)
 
-  pop-counts : count (end-buf w) ≡ cond (eqb (word 5 w) 0) (count w) (counts (word 0 w + 1) (word 1 w) (word 5 w - 1))
-  unfolding end-buf
+  pop-counts : count (end_buf w) ≡ cond (eqb (word 5 w) 0) (count w) (counts (word 0 w + 1) (word 1 w) (word 5 w - 1))
+  unfolding end_buf
   pop-counts = either (eqb (word 5 w) 0)
 
 pub counted : Follows Words Counts word-ops count-ops count Sane any

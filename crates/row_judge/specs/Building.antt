@@ -1,5 +1,5 @@
 -- A building step at a screen's words: what is judged of the rows that it puts on (answer 4), and its number.
-use Rattle.std.specs.Prelude.{ℕ, zero, suc, ◌+◌, ◌*◌, Bool, true, false, ◌&&◌, ◌||◌, not, cond, List, [], ◌∷◌, get_or, leb, ltb, eqb}
+use Rattle.std.specs.Prelude.{ℕ, zero, suc, ◌+◌, Bool, true, ◌&&◌, cond, List, [], ◌∷◌, get_or, leb, ltb, eqb}
 use Rattle.sizes.specs.Sizes.{tile-end, last-id, renders-at, depths-at, first-at, end-at, largest-at, levels-at, level-at}
 use Rattle.rules.specs.Lists.{every}
 use Rattle.rules.specs.Answers.{Done, BadRecord}
@@ -37,21 +37,21 @@ abbrev pub good-summary : List ℕ → Bool
 good-summary s = leb (get_or s first-at 0) (get_or s end-at 0) && leb (get_or s end-at 0) tile-end && leb (get_or s largest-at 0) last-id
 
 -- a row's record with room for c commands and d depth fills, n layers being open: counts, levels, the top level, the summary
-unfoldable pub good-row : ℕ → ℕ → ℕ → List ℕ → Bool
-good-row c d n s =
+unfoldable pub good_row : ℕ → ℕ → ℕ → List ℕ → Bool
+good_row c d n s =
     leb (get_or s renders-at 0) c && leb (get_or s depths-at 0) d && leb (get_or s levels-at 0) n && good-summary s && good-top (get_or s levels-at 0) s
 
 -- row i, if it is there
 abbrev pub good-at : Frame → ℕ → ℕ → List Words → Bool
 good-at f n i [] = true
-good-at f n zero (w ∷ ws) = good-row f.c f.d n w.state
+good-at f n zero (w ∷ ws) = good_row f.c f.d n w.state
 good-at f n (suc i) (w ∷ ws) = good-at f n i ws
 
 -- every row that is put on, n layers being open before the step
-unfoldable pub good-rows : Frame → ℕ → List Put → List Words → Bool
-good-rows f n ps rs = every (λ (p : Put). good-at f n p.row rs) ps
+unfoldable pub good_rows : Frame → ℕ → List Put → List Words → Bool
+good_rows f n ps rs = every (λ (p : Put). good-at f n p.row rs) ps
 
 -- a step's number: what the screen and the lent words say (2, 1, 4), then 4 for a row's record, then the rules' own refusal
-unfoldable pub step-number : ℕ → Bool → Plan → Screen Words → ℕ
-step-number first good p s =
+unfoldable pub step_number : ℕ → Bool → Plan → Screen Words → ℕ
+step_number first good p s =
     cond (eqb first Done) (cond good (refusal Words word-ops p (done Words word-ops p s)) BadRecord) first

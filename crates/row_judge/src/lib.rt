@@ -1,58 +1,51 @@
 // What the building steps share. Parts: the steps judge what these ask.
 #![tactic(auto)]
 
-ghost use Rattle.std.specs.Prelude.{◌≡◌, ◌≤◌, length};
+ghost use Rattle.std.specs.Prelude.{◌≡◌, ◌≤◌, ◌<◌, length};
 ghost use Rattle.sizes.specs.Sizes.{most-layers, row-size};
-ghost use Rattle.row_judge.specs.Building.{good-union, good-row};
+ghost use Rattle.row_judge.specs.Building.{good-union, good-level, good-summary, good_row};
 
-use sizes::{
-    DEPTHS, END, FIRST, LARGEST, LAST_ID, LEVEL, LEVEL_BASE, LEVELS, RENDERS, TILE_END, wide,
-};
+use cmd::command::good_span_word;
+use sizes::{DEPTHS, END, FIRST, LARGEST, LAST_ID, LEVEL, LEVEL_BASE, LEVELS, RENDERS, TILE_END};
 
 // The tag and the span word of an open buffer's union.
 fn is_good_union(tag: u32, span: u32) -> bool
     ensures { result ≡ good-union tag span }
 {
     if tag == 5 {
-        return span == 0;
+        span == 0
+    } else {
+        tag == 6 && good_span_word(TILE_END, span)
     }
-    if tag == 6 {
-        return cmd::command::good_span_word(TILE_END, span);
-    }
-    false
+}
+
+// Level k's PushBuf stands on the row, and its union is good.
+fn is_good_level(state: &[u32], k: u32) -> bool
+    requires { (length state.now ≡ row-size) × (k ≤ most-layers) }
+    ensures { result ≡ good-level k state.now }
+{
+    let at = LEVEL_BASE + LEVEL * k as usize;
+    state[at] < state[RENDERS] && is_good_union(state[at + 1], state[at + 2])
+}
+
+// The depth summary.
+fn is_good_summary(state: &[u32]) -> bool
+    requires { length state.now ≡ row-size }
+    ensures { result ≡ good-summary state.now }
+{
+    state[FIRST] <= state[END] && state[END] <= TILE_END && state[LARGEST] <= LAST_ID
 }
 
 // Answer 4: a row's record where a step reads it, `open` layers being open.
+#[tactic(auto, unfolding(crate::specs::Building::good_row))]
 pub fn is_good_row(state: &[u32], c: u32, d: u32, open: u32) -> bool
     requires { (length state.now ≡ row-size) × («open» ≤ most-layers) }
-    ensures { result ≡ good-row c d «open» state.now }
+    ensures { result ≡ good_row c d «open» state.now }
 {
-    let renders = state[RENDERS];
     let levels = state[LEVELS];
-    if c < renders {
-        return false;
-    }
-    if d < state[DEPTHS] {
-        return false;
-    }
-    if open < levels {
-        return false;
-    }
-    if state[END] < state[FIRST] {
-        return false;
-    }
-    if TILE_END < state[END] {
-        return false;
-    }
-    if LAST_ID < state[LARGEST] {
-        return false;
-    }
-    if levels == 0 {
-        return true;
-    }
-    let at = LEVEL_BASE + LEVEL * wide(levels);
-    if renders <= state[at] {
-        return false;
-    }
-    is_good_union(state[at + 1], state[at + 2])
+    state[RENDERS] <= c
+        && state[DEPTHS] <= d
+        && levels <= open
+        && is_good_summary(state)
+        && (levels == 0 || is_good_level(state, levels))
 }

@@ -9,9 +9,11 @@ use lib.ListN.{length, get_or, drop, length-drop}
 use lib.Seq.{length-take-le}
 use borrow.Author.Tests.{leb-true, le-ltb}
 use Rattle.rules.proofs.All.{both}
-use Rattle.row_judge.specs.Building.{good-row, good-summary, good-top}
+use Rattle.row_judge.specs.Building.{good_row, good-summary, good-top}
 use Rattle.row_room.specs.declared.Limits.{Limits}
-use Rattle.row_room.specs.Room.{record-at, hand_of, loaded, turned-to, noted, added-to, Found}
+use Rattle.row_room.specs.declared.Fault.{Fault}
+use Rattle.row_room.specs.declared.Fault.TheVariants as fault
+use Rattle.row_room.specs.Room.{record-at, fault_number, hand_of, loaded, turned_to, noted, added_to, Found}
 
 -- a good record's counts
 pub record Small (c d n : ℕ) (s : List ℕ) : Type 0 where
@@ -19,8 +21,8 @@ pub record Small (c d n : ℕ) (s : List ℕ) : Type 0 where
   pub depths : get_or s 1 0 ≤ d
   pub levels : get_or s 5 0 ≤ n
 
-pub good-small : (c d n : ℕ) (s : List ℕ) → good-row c d n s ≡ true → Small c d n s
-unfolding good-row
+pub good-small : (c d n : ℕ) (s : List ℕ) → good_row c d n s ≡ true → Small c d n s
+unfolding good_row
 good-small c d n s g =
     let r = leb (get_or s 0 0) c in
     let f = leb (get_or s 1 0) d in
@@ -37,26 +39,26 @@ record-long ws r h = length-take-le 54 (drop (r * 54) ws) (rw length-drop (omega
 
 -- judging a record, n being the number so far
 module _ (l : Limits) (s : List ℕ) (n r : ℕ) where
-  pub turned-good : good-row l.c l.d l.layers s ≡ true → turned-to l s n r ≡ loaded l s n r
-  unfolding turned-to
+  pub turned-good : good_row l.c l.d l.layers s ≡ true → turned_to l s n r ≡ loaded l s n r
+  unfolding turned_to
   turned-good g = rw g
 
-  pub turned-bad : good-row l.c l.d l.layers s ≡ false → turned-to l s n r ≡ hand_of 0 0 r 4
-  unfolding turned-to
+  pub turned-bad : good_row l.c l.d l.layers s ≡ false → turned_to l s n r ≡ hand_of 0 0 r 4
+  unfolding turned_to
   turned-bad g = rw g
 
   module _ (q : n ≡ 4 → ⊥) where
-    pub bad-turn : (turned-to l s n r).code ≡ 4 → good-row l.c l.d l.layers s ≡ false
-    unfolding turned-to
-    bad-turn e = go (good-row l.c l.d l.layers s) e
+    pub bad-turn : (turned_to l s n r).code ≡ 4 → good_row l.c l.d l.layers s ≡ false
+    unfolding turned_to
+    bad-turn e = go (good_row l.c l.d l.layers s) e
       where
         go : (g : Bool) → (cond g (loaded l s n r) (hand_of 0 0 r 4)).code ≡ 4 → g ≡ false
         go true e = absurd (q e)
         go false e = refl
 
-    pub good_turn : ((turned-to l s n r).code ≡ 4 → ⊥) → good-row l.c l.d l.layers s ≡ true
-    unfolding turned-to
-    good_turn e = go (good-row l.c l.d l.layers s) e
+    pub good_turn : ((turned_to l s n r).code ≡ 4 → ⊥) → good_row l.c l.d l.layers s ≡ true
+    unfolding turned_to
+    good_turn e = go (good_row l.c l.d l.layers s) e
       where
         go : (g : Bool) → ((cond g (loaded l s n r) (hand_of 0 0 r 4)).code ≡ 4 → ⊥) → g ≡ true
         go true e = refl
@@ -78,7 +80,14 @@ noted-found false false = refl
 
 -- commands more, on a row whose record is good: 10 if they pass c, else as before
 pub commands-told : (l : Limits) (s : List ℕ) (n r x : ℕ) → Found n → get_or s 1 0 ≤ l.d
-    → (added-to l (loaded l s n r) x 0).code ≡ cond (ltb l.c (get_or s 0 0 + (l.layers - get_or s 5 0) + l.once + x)) 10 n
-unfolding added-to
+    → (added_to l (loaded l s n r) x 0).code ≡ cond (ltb l.c (get_or s 0 0 + (l.layers - get_or s 5 0) + l.once + x)) 10 n
+unfolding added_to
 commands-told l s n r x o h =
     rw (le-ltb l.d (get_or s 1 0 + 0) (omega arith), o.is) (noted-found o.yet (ltb l.c (get_or s 0 0 + (l.layers - get_or s 5 0) + l.once + x)))
+
+-- a bad record is not found so far: it ends the look
+pub never_bad : (f : Fault) → fault_number f ≡ 4 → ⊥
+never_bad fault.Nothing e = omega arith
+never_bad fault.BadOrder e = omega arith
+never_bad fault.FullRow e = omega arith
+never_bad fault.FullDepth e = omega arith

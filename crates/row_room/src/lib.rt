@@ -4,12 +4,13 @@
 
 ghost use Rattle.std.specs.Prelude.{◌≡◌, ◌+◌, ◌*◌, ◌≤◌, ltb, length, get_or};
 ghost use Rattle.sizes.specs.Sizes.{most-layers, most-room, row-size, levels-at};
-ghost use Rattle.row_room.specs.Room.{record-at, loaded, turned-to, noted, added-to, Low};
+ghost use Rattle.sizes.specs.Refusals.{answer_number};
+ghost use Rattle.row_room.specs.Room.{record-at, fault_number, at-hand, loaded, Turned, noted, added_to, Low};
 
 use row_judge::is_good_row;
 use row_screen::part;
-use sizes::answers::{BAD_ORDER, BAD_RECORD, DONE, FULL_DEPTH, FULL_ROW};
-use sizes::{DEPTHS, LEVELS, RENDERS, ROW, TILE_END, wide};
+use sizes::answers::Refusal;
+use sizes::{DEPTHS, LEVELS, RENDERS, ROW, TILE_END};
 
 // What a row has room for: c commands and d depth fills. What it gets beside what is added: the open layers that it lacks, and `once` commands.
 #[derive(Clone, Copy)]
@@ -32,13 +33,35 @@ pub const ONE_COMMAND: Counts = Counts {
     depths: 0,
 };
 
-// The row at hand with its counts so far, and the number of what was found so far: 4, 5, 10, 11 or 0.
+// What was found so far: nothing, or the answer 5, 10 or 11.
+#[derive(Clone, Copy)]
+pub enum Fault {
+    Nothing,
+    BadOrder,
+    FullRow,
+    FullDepth,
+}
+
+impl Fault {
+    pub fn answer(self) -> Result<(), Refusal>
+        ensures { answer_number result ≡ fault_number self }
+    {
+        match self {
+            Fault::Nothing => Ok(()),
+            Fault::BadOrder => Err(Refusal::BadOrder),
+            Fault::FullRow => Err(Refusal::FullRow),
+            Fault::FullDepth => Err(Refusal::FullDepth),
+        }
+    }
+}
+
+// The row at hand with its counts so far, and what was found so far.
 #[derive(Clone, Copy)]
 pub struct Hand {
     pub renders: usize,
     pub depths: usize,
     pub row: u32,
-    pub code: u32,
+    pub found: Fault,
 }
 
 // TILE_END is no row.
@@ -46,70 +69,68 @@ pub const NO_ROW: Hand = Hand {
     renders: 0,
     depths: 0,
     row: TILE_END,
-    code: DONE,
+    found: Fault::Nothing,
 };
 
 // Row r by its record, which has no more levels than layers are open.
-pub fn load(state: &[u32], limits: Limits, code: u32, r: u32) -> Hand
+pub fn load(state: &[u32], limits: Limits, found: Fault, r: u32) -> Hand
     requires { (length state.now ≡ row-size) × (get_or state.now levels-at 0 ≤ limits.layers) }
-    ensures { (result ≡ loaded limits state.now code r) × Low result }
+    ensures { (at-hand result ≡ loaded limits state.now (fault_number found) r) × Low (at-hand result) }
 {
-    let lacking = wide(limits.layers - state[LEVELS]);
+    let lacking = (limits.layers - state[LEVELS]) as usize;
     Hand {
-        renders: wide(state[RENDERS]) + lacking + wide(limits.once),
-        depths: wide(state[DEPTHS]),
+        renders: state[RENDERS] as usize + lacking + limits.once as usize,
+        depths: state[DEPTHS] as usize,
         row: r,
-        code,
+        found,
     }
 }
 
-// Row r, its record judged: 4 for a bad one, else the number so far.
-pub fn turn_to(rows: &[u32], limits: Limits, code: u32, r: u32) -> Hand
+// Row r, its record judged: answer 4 for a bad one.
+pub fn turn_to(rows: &[u32], limits: Limits, found: Fault, r: u32) -> Result<Hand, Refusal>
     requires { (limits.layers ≤ most-layers) × (r * row-size + row-size ≤ length rows.now) }
-    ensures { (result ≡ turned-to limits (record-at rows.now r) code r) × Low result }
+    ensures { Turned limits (record-at rows.now r) (fault_number found) r result }
 {
-    let state = part(rows, ROW, wide(r));
-    if is_good_row(state, limits.c, limits.d, limits.layers) {
-        return load(state, limits, code, r);
+    let state = part(rows, ROW, r as usize);
+    if !is_good_row(state, limits.c, limits.d, limits.layers) {
+        return Err(Refusal::BadRecord);
     }
-    Hand {
-        renders: 0,
-        depths: 0,
-        row: r,
-        code: BAD_RECORD,
-    }
+    Ok(load(state, limits, found, r))
 }
 
-// The number after counts that may pass their limits: a broken order stays first, then 10, then 11.
-fn note(code: u32, c: u32, d: u32, renders: usize, depths: usize) -> u32
-    ensures { result ≡ noted code (ltb c renders) (ltb d depths) }
+// What is found after counts that may pass their limits: a broken order stays first, then 10, then 11.
+fn note(found: Fault, limits: Limits, renders: usize, depths: usize) -> Fault
+    ensures { fault_number result ≡ noted (fault_number found) (ltb limits.c renders) (ltb limits.d depths) }
 {
-    if wide(c) < renders {
-        if code == BAD_ORDER {
-            return BAD_ORDER;
-        }
-        return FULL_ROW;
+    if (limits.c as usize) < renders {
+        return match found {
+            Fault::BadOrder => found,
+            _ => Fault::FullRow,
+        };
     }
-    if wide(d) < depths {
-        if code == DONE {
-            return FULL_DEPTH;
-        }
-        return code;
+    if (limits.d as usize) < depths {
+        return match found {
+            Fault::Nothing => Fault::FullDepth,
+            _ => found,
+        };
     }
-    code
+    found
 }
 
-// More commands and depth fills, on the row at hand.
-pub fn add(limits: Limits, hand: Hand, more: Counts) -> Hand
-    requires { Low hand × (more.renders ≤ most-room) × (more.depths ≤ most-room) }
-    ensures { result ≡ added-to limits hand more.renders more.depths }
-{
-    let renders = hand.renders + more.renders;
-    let depths = hand.depths + more.depths;
-    Hand {
-        renders,
-        depths,
-        row: hand.row,
-        code: note(hand.code, limits.c, limits.d, renders, depths),
+impl Hand {
+    // More commands and depth fills, on the row at hand.
+    #[tactic(auto, unfolding(crate::specs::Room::added_to))]
+    pub fn add(self, limits: Limits, more: Counts) -> Hand
+        requires { Low (at-hand self) × (more.renders ≤ most-room) × (more.depths ≤ most-room) }
+        ensures { at-hand result ≡ added_to limits (at-hand self) more.renders more.depths }
+    {
+        let renders = self.renders + more.renders;
+        let depths = self.depths + more.depths;
+        Hand {
+            renders,
+            depths,
+            row: self.row,
+            found: note(self.found, limits, renders, depths),
+        }
     }
 }

@@ -7,6 +7,14 @@ ghost use Rattle.row_screen.specs.Arena.{Stands};
 
 use sizes::ROW;
 
+// The words of all rows, lent: their states, their render commands, their depth fills.
+#[derive(Drop)]
+pub struct Rows<'a> {
+    pub state: &'a mut [u32],
+    pub render: &'a mut [u32],
+    pub fills: &'a mut [u32],
+}
+
 // Where row r's words start and end: x in the records, y in the render commands, z in the depth fills.
 #[derive(Clone, Copy)]
 pub struct Place {

@@ -1,8 +1,8 @@
 -- What is printed of a stream, recording by recording.
-use Rattle.std.proofs.Common.{◌≡◌, ℕ, ◌+◌, ◌-◌, ◌<◌, min, Bool, true, false, List, [], ◌++◌, length, take, drop, Option, None, Some, IfSome, Result, Ok, Err, OnOk, sym, ap, subst, ◌∙◌, arith, drop-drop}
+use Rattle.std.proofs.Common.{◌≡◌, ℕ, ◌-◌, ◌<◌, min, Bool, true, false, List, [], ◌++◌, length, take, drop, Option, None, Some, IfSome, Result, Ok, Err, OnOk, sym, ap, subst, ◌∙◌}
 use Rattle.std.specs.Io.KnownBytes.{Appends}
 use borrow.Author.Tests.{lt-ltb}
-use Rattle.std.proofs.Math.Option.{none, some}
+use Rattle.std.specs.Prelude.{None, Some}
 use Rattle.rules.specs.Setups.{Setup}
 use Rattle.rules.specs.Lines.{words_of}
 use Rattle.text_programs.specs.Programs.{Wanted}
@@ -15,14 +15,14 @@ use Rattle.rowdump.specs.Printed.{recording_printed}
 long-lines : (q : Setup) (xs : List ℕ) → 65536 < length xs → rowdump-lines q xs ≡ []
 unfolding rowdump-lines
 long-lines q xs h =
-    ap (λ (b : Bool). elim b [ true ↦ [] | false ↦ elim (words_of xs) [ none ↦ [] | some ws ↦ rowdump-words q ws ] ]) (lt-ltb 65536 (length xs) h)
+    ap (λ (b : Bool). elim b [ true ↦ [] | false ↦ elim (words_of xs) [ None ↦ [] | Some ws ↦ rowdump-words q ws ] ]) (lt-ltb 65536 (length xs) h)
 
 lines-cut : (q : Setup) (fs : List ℕ) → rowdump-lines q (take 65537 fs) ≡ rowdump-lines q fs
 lines-cut q = cut (rowdump-lines q) (λ xs ys h k. long-lines q xs h ∙ sym (long-lines q ys k))
 
 -- a recording that is cut where it is too long is printed as the whole is
-recording-cut : (none v : Bool) (q : Setup) (i : ℕ) (fs : List ℕ)
-    → dump-by-width none i (take 65537 fs) (rowdump-text v q i (take 65537 fs)) ≡ dump-by-width none i fs (rowdump-text v q i fs)
+recording-cut : (None v : Bool) (q : Setup) (i : ℕ) (fs : List ℕ)
+    → dump-by-width None i (take 65537 fs) (rowdump-text v q i (take 65537 fs)) ≡ dump-by-width None i fs (rowdump-text v q i fs)
 recording-cut true v q i fs = ap (λ ts. recording-line i ++ ts) (no-width-cut fs)
 recording-cut false v q i fs = rw (rowlist-cut q fs, lines-cut q fs)
 

@@ -2,7 +2,7 @@
 use mathlib.Core.Path.{◌≡◌, refl}
 use mathlib.Core.Bool.{true}
 use mathlib.Core.List.{List, [], ◌∷◌}
-use mathlib.Core.Option.{none, some}
+use Rattle.std.specs.Prelude.{None, Some}
 use lib.IntN.{pos}
 use Rattle.sizes.specs.declared.width.Width.TheVariants.{W128}
 use Rattle.rules.specs.Lists.{every}
@@ -20,20 +20,20 @@ use Rattle.rules.proofs.Samples.{solid, alpha, opaque-paint, any-draw, draw, any
 abbrev pub left_cut : Recording
 left_cut = rec (box 16 0 144 4) (alpha 0 0 20 160 ∷ []) (draw 0 1 ∷ []) [] (node 0 1 0 ∷ []) 0 1
 
-pub left-cut-lines : listed (file left_cut) ≡ header 1 1 1 ∷ row 0 0 1 ∷ P 0 16 (some 224) 0 ∷ []
+pub left-cut-lines : listed (file left_cut) ≡ header 1 1 1 ∷ row 0 0 1 ∷ P 0 16 (Some 224) 0 ∷ []
 unfolding computing
 left-cut-lines = refl
 
 -- In snapping mode the screen is the snapped box: here the one before, and 1,366 pixels are 342 tiles in 11 buckets.
 pub snapped-lines :
     listed-snapped (file (rec (box 19 3 141 1) (alpha 0 0 20 160 ∷ []) (draw 0 1 ∷ []) [] (node 0 1 0 ∷ []) 0 1)) ≡
-    header 1 1 1 ∷ row 0 0 1 ∷ P 0 16 (some 224) 0 ∷ []
+    header 1 1 1 ∷ row 0 0 1 ∷ P 0 16 (Some 224) 0 ∷ []
 unfolding computing
 snapped-lines = refl
 
 pub panel-1366-lines :
     listed-snapped (file (rec (box 0 0 1366 4) (alpha 0 0 400 0 ∷ []) (draw 0 1 ∷ []) [] (node 0 1 0 ∷ []) 0 1)) ≡
-    header 1 11 1 ∷ row 0 0 1 ∷ P 0 342 (some 0) 0 ∷ []
+    header 1 11 1 ∷ row 0 0 1 ∷ P 0 342 (Some 0) 0 ∷ []
 unfolding computing
 panel-1366-lines = refl
 
@@ -52,12 +52,12 @@ pub parent-cut-lines :
     listed (file parent-cut) ≡
     header 1 2 3
     ∷ row 0 0 7
-    ∷ B (some (span 0 40))
-    ∷ B (some (span 0 16))
-    ∷ P 8 16 none 0
-    ∷ L 0 16 none 0
+    ∷ B (Some (span 0 40))
+    ∷ B (Some (span 0 16))
+    ∷ P 8 16 None 0
+    ∷ L 0 16 None 0
     ∷ E
-    ∷ L 0 40 none 1
+    ∷ L 0 40 None 1
     ∷ E
     ∷ []
 unfolding computing
@@ -76,7 +76,7 @@ unreached =
 
 pub unreached-lines :
     listed (file unreached) ≡
-    header 2 2 2 ∷ row 0 0 4 ∷ B (some (span 0 40)) ∷ P 0 40 none 0 ∷ L 4 30 none 0 ∷ E ∷ row 1 0 0 ∷ []
+    header 2 2 2 ∷ row 0 0 4 ∷ B (Some (span 0 40)) ∷ P 0 40 None 0 ∷ L 4 30 None 0 ∷ E ∷ row 1 0 0 ∷ []
 unfolding computing
 unreached-lines = refl
 
@@ -95,10 +95,10 @@ pub no-span-lines :
     listed (file no_span) ≡
     header 2 2 3
     ∷ row 0 0 6
-    ∷ B none
-    ∷ B (some (span 0 64))
-    ∷ P 3 9 none 0
-    ∷ L 0 64 none 0
+    ∷ B None
+    ∷ B (Some (span 0 64))
+    ∷ P 3 9 None 0
+    ∷ L 0 64 None 0
     ∷ E
     ∷ E
     ∷ row 1 0 0
@@ -114,12 +114,12 @@ pub destructive-lines :
     listed (file destructive-push) ≡
     header 2 1 1
     ∷ row 0 0 3
-    ∷ B (some (span 0 16))
-    ∷ L 0 16 none 0
+    ∷ B (Some (span 0 16))
+    ∷ L 0 16 None 0
     ∷ E
     ∷ row 1 0 3
-    ∷ B (some (span 0 16))
-    ∷ L 0 16 none 0
+    ∷ B (Some (span 0 16))
+    ∷ L 0 16 None 0
     ∷ E
     ∷ []
 unfolding computing
@@ -131,7 +131,7 @@ shifted = rec (box 0 0 128 16) [] [] (filtered full 0 (filter 5 (box 20 6 60 9) 
 
 pub shifted-lines :
     listed (file shifted) ≡
-    header 4 1 1 ∷ row 0 0 0 ∷ row 1 0 1 ∷ P 5 15 none 0 ∷ row 2 0 1 ∷ P 5 15 none 0 ∷ row 3 0 0 ∷ []
+    header 4 1 1 ∷ row 0 0 0 ∷ row 1 0 1 ∷ P 5 15 None 0 ∷ row 2 0 1 ∷ P 5 15 None 0 ∷ row 3 0 0 ∷ []
 unfolding computing
 shifted-lines = refl
 
@@ -139,7 +139,7 @@ pub shifted-attributes : attributes shifted ≡ attrs (paint-attr 1 0 3 0 1 0 0 
 unfolding computing
 shifted-attributes = refl
 
-pub shifted-pieces : pieces shifted ≡ [] ∷ (paint-piece 0 5 15 none 0 ∷ []) ∷ (paint-piece 0 5 15 none 0 ∷ []) ∷ [] ∷ []
+pub shifted-pieces : pieces shifted ≡ [] ∷ (paint-piece 0 5 15 None 0 ∷ []) ∷ (paint-piece 0 5 15 None 0 ∷ []) ∷ [] ∷ []
 unfolding computing
 shifted-pieces = refl
 
@@ -149,7 +149,7 @@ nan-filter = rec (box 0 0 64 4) [] [] (filtered a-nan 0 (filter 5 (box 0 0 32 4)
 
 pub nan-lines :
     listed (file nan-filter) ≡
-    header 1 1 2 ∷ row 0 0 4 ∷ B (some (span 0 16)) ∷ P 0 8 none 0 ∷ L 0 16 none 0 ∷ E ∷ []
+    header 1 1 2 ∷ row 0 0 4 ∷ B (Some (span 0 16)) ∷ P 0 8 None 0 ∷ L 0 16 None 0 ∷ E ∷ []
 unfolding computing
 nan-lines = refl
 
@@ -157,7 +157,7 @@ pub nan-attributes : attributes nan-filter ≡ attrs (paint-attr 1 0 3 0 1 0 0 0
 unfolding computing
 nan-attributes = refl
 
-pub nan-pieces : pieces nan-filter ≡ (paint-piece 0 0 8 none 1 ∷ layer-piece 0 0 16 none 1 ∷ []) ∷ []
+pub nan-pieces : pieces nan-filter ≡ (paint-piece 0 0 8 None 1 ∷ layer-piece 0 0 16 None 1 ∷ []) ∷ []
 unfolding computing
 nan-pieces = refl
 
@@ -187,7 +187,7 @@ first-picture =
     0
     2
 
-pub first-picture-lines : listed (file first-picture) ≡ header 1 1 2 ∷ row 0 0 2 ∷ P 0 8 none 0 ∷ P 8 16 none 1 ∷ []
+pub first-picture-lines : listed (file first-picture) ≡ header 1 1 2 ∷ row 0 0 2 ∷ P 0 8 None 0 ∷ P 8 16 None 1 ∷ []
 unfolding computing
 first-picture-lines = refl
 
@@ -197,7 +197,7 @@ pub first-picture-attributes :
 unfolding computing
 first-picture-attributes = refl
 
-pub first-picture-pieces : pieces first-picture ≡ (paint-piece 0 0 8 none 0 ∷ paint-piece 1 8 16 none 0 ∷ []) ∷ []
+pub first-picture-pieces : pieces first-picture ≡ (paint-piece 0 0 8 None 0 ∷ paint-piece 1 8 16 None 0 ∷ []) ∷ []
 unfolding computing
 first-picture-pieces = refl
 
@@ -212,7 +212,7 @@ filter-nodes =
     0
     1
 
-pub filter-nodes-lines : listed (file filter-nodes) ≡ header 1 1 1 ∷ row 0 0 1 ∷ P 0 8 none 0 ∷ []
+pub filter-nodes-lines : listed (file filter-nodes) ≡ header 1 1 1 ∷ row 0 0 1 ∷ P 0 8 None 0 ∷ []
 unfolding computing
 filter-nodes-lines = refl
 
@@ -248,7 +248,7 @@ last-bucket =
 
 pub last-bucket-lines :
     listed (file last-bucket) ≡
-    header 1 2 2 ∷ row 0 1 2 ∷ D 0 1 1 ∷ P 20 50 (some 32) 0 ∷ P 32 50 none 1 ∷ []
+    header 1 2 2 ∷ row 0 1 2 ∷ D 0 1 1 ∷ P 20 50 (Some 32) 0 ∷ P 32 50 None 1 ∷ []
 unfolding computing
 last-bucket-lines = refl
 
@@ -256,7 +256,7 @@ pub last-bucket-attributes : attributes last-bucket ≡ attrs (paint-attr 0 0 3 
 unfolding computing
 last-bucket-attributes = refl
 
-pub last-bucket-pieces : pieces last-bucket ≡ (paint-piece 1 0 32 none 0 ∷ paint-piece 0 32 50 (some 224) 0 ∷ paint-piece 1 32 50 none 0 ∷ []) ∷ []
+pub last-bucket-pieces : pieces last-bucket ≡ (paint-piece 1 0 32 None 0 ∷ paint-piece 0 32 50 (Some 224) 0 ∷ paint-piece 1 32 50 None 0 ∷ []) ∷ []
 unfolding computing
 last-bucket-pieces = refl
 
@@ -276,9 +276,9 @@ pub away-lines :
     header 2 2 4
     ∷ row 0 1 4
     ∷ D 0 2 0
-    ∷ B (some (span 0 64))
-    ∷ P 0 32 none 1
-    ∷ L 0 64 none 0
+    ∷ B (Some (span 0 64))
+    ∷ P 0 32 None 1
+    ∷ L 0 64 None 0
     ∷ E
     ∷ row 1 0 0
     ∷ []
@@ -307,7 +307,7 @@ panel =
 
 pub panel-lines :
     listed (file panel) ≡
-    header 1 4 3 ∷ row 0 2 3 ∷ D 0 4 0 ∷ D 2 3 2 ∷ P 20 90 (some 320) 1 ∷ P 40 64 none 2 ∷ P 96 100 none 2 ∷ []
+    header 1 4 3 ∷ row 0 2 3 ∷ D 0 4 0 ∷ D 2 3 2 ∷ P 20 90 (Some 320) 1 ∷ P 40 64 None 2 ∷ P 96 100 None 2 ∷ []
 unfolding computing
 panel-lines = refl
 
@@ -315,7 +315,7 @@ pub panel-attributes : attributes panel ≡ attrs (paint-attr 0 0 3 0 1 0 0 0 �
 unfolding computing
 panel-attributes = refl
 
-pub panel-pieces : pieces panel ≡ (paint-piece 2 64 96 none 0 ∷ paint-piece 0 0 64 none 0 ∷ paint-piece 0 96 128 none 0 ∷ paint-piece 1 20 64 (some 320) 0 ∷ paint-piece 2 40 64 none 0 ∷ paint-piece 2 96 100 none 0 ∷ []) ∷ []
+pub panel-pieces : pieces panel ≡ (paint-piece 2 64 96 None 0 ∷ paint-piece 0 0 64 None 0 ∷ paint-piece 0 96 128 None 0 ∷ paint-piece 1 20 64 (Some 320) 0 ∷ paint-piece 2 40 64 None 0 ∷ paint-piece 2 96 100 None 0 ∷ []) ∷ []
 unfolding computing
 panel-pieces = refl
 
@@ -341,7 +341,7 @@ ineligible =
 
 pub ineligible-lines :
     listed (file ineligible) ≡
-    header 1 4 4 ∷ row 0 1 3 ∷ D 0 4 0 ∷ P 0 128 none 1 ∷ P 0 128 none 2 ∷ P 0 128 none 3 ∷ []
+    header 1 4 4 ∷ row 0 1 3 ∷ D 0 4 0 ∷ P 0 128 None 1 ∷ P 0 128 None 2 ∷ P 0 128 None 3 ∷ []
 unfolding computing
 ineligible-lines = refl
 
@@ -362,7 +362,7 @@ kept =
 
 pub kept-lines :
     listed (file kept) ≡
-    header 2 2 2 ∷ row 0 0 4 ∷ B (some (span 8 28)) ∷ P 8 28 none 0 ∷ L 8 18 none 0 ∷ E ∷ row 1 0 0 ∷ []
+    header 2 2 2 ∷ row 0 0 4 ∷ B (Some (span 8 28)) ∷ P 8 28 None 0 ∷ L 8 18 None 0 ∷ E ∷ row 1 0 0 ∷ []
 unfolding computing
 kept-lines = refl
 
@@ -384,7 +384,7 @@ placed =
 
 pub placed-lines :
     listed (file placed) ≡
-    header 2 2 3 ∷ row 0 0 2 ∷ P 0 18 none 0 ∷ P 8 12 none 2 ∷ row 1 0 1 ∷ P 8 18 none 1 ∷ []
+    header 2 2 3 ∷ row 0 0 2 ∷ P 0 18 None 0 ∷ P 8 12 None 2 ∷ row 1 0 1 ∷ P 8 18 None 1 ∷ []
 unfolding computing
 placed-lines = refl
 
@@ -423,7 +423,7 @@ clipped-filter =
 
 pub clipped-filter-lines :
     listed (file clipped-filter) ≡
-    header 1 1 2 ∷ row 0 0 4 ∷ B (some (span 0 9)) ∷ P 0 4 none 0 ∷ L 0 9 none 0 ∷ E ∷ []
+    header 1 1 2 ∷ row 0 0 4 ∷ B (Some (span 0 9)) ∷ P 0 4 None 0 ∷ L 0 9 None 0 ∷ E ∷ []
 unfolding computing
 clipped-filter-lines = refl
 
@@ -443,15 +443,15 @@ pub in-turn-lines :
     listed (file in-turn) ≡
     header 1 2 8
     ∷ row 0 0 10
-    ∷ P 0 8 none 0
-    ∷ B (some (span 0 64))
-    ∷ P 10 20 none 1
-    ∷ L 0 64 none 0
+    ∷ P 0 8 None 0
+    ∷ B (Some (span 0 64))
+    ∷ P 10 20 None 1
+    ∷ L 0 64 None 0
     ∷ E
-    ∷ P 0 8 none 2
-    ∷ B (some (span 0 64))
-    ∷ P 10 20 none 3
-    ∷ L 0 64 none 1
+    ∷ P 0 8 None 2
+    ∷ B (Some (span 0 64))
+    ∷ P 10 20 None 3
+    ∷ L 0 64 None 1
     ∷ E
     ∷ []
 unfolding computing

@@ -1,16 +1,16 @@
--- Tests: each bound of document 01 on both sides of its edge, and each leaf rule that says yes or no: one table with one computed test.
+-- Tests: each bound of the rules on both sides of its edge, and each leaf rule that says yes or no: one table with one computed test.
 use Prim.Native.Nat.{ℕ}
 use mathlib.Core.Path.{◌≡◌, refl}
 use mathlib.Core.Bool.{Bool, true, false, beq}
 use mathlib.Core.List.{List, [], ◌∷◌}
-use mathlib.Core.Option.{Option, none, some}
+use Rattle.std.specs.Prelude.{Option, None, Some}
 use Rattle.rules.specs.Lists.{every}
-use Rattle.rules.specs.Boxes.{box, good-box, good-dest, good-viewport, empty-box}
+use Rattle.rules.specs.Boxes.{box, good-box, good-dest, good_viewport, empty-box}
 use Rattle.rules.specs.Spans.{span, covers, bad-range, good-range}
 use Rattle.rules.specs.Blends.{Blend, default-blend, good-blend, is-default, destructive}
 use Rattle.rules.specs.Segments.{good-segment, follows, ordered}
 use Rattle.rules.specs.Inputs.{Clip, Props, good-handle, good-thread, good-panel, good-paint, few-paints, good-draw, good-clip, good-props, needs-buffer, good-pixmap, good-filter}
-use Rattle.rules.specs.Depth.{Summary, no-depth, included, can-skip, is-visible}
+use Rattle.rules.specs.Depth.{Summary, no-depth, included, can_skip, is-visible}
 use Rattle.rules.specs.Recording.{good-count, pixmap-of}
 use Rattle.rules.specs.Walk.{good-room}
 use Rattle.rules.specs.Lines.{too_long}
@@ -41,15 +41,15 @@ abbrev ◌is◌ : Bool → Bool → Bool
 abbrev pub edges : List Bool
 edges =
     -- the viewport
-    good-viewport (box 0 0 4096 2048) is true
-    ∷ good-viewport (box 0 0 4100 2048) is false
-    ∷ good-viewport (box 0 0 4096 2052) is false
-    ∷ good-viewport (box 28672 30720 32768 32768) is true
-    ∷ good-viewport (box 28676 30720 32772 32768) is false
-    ∷ good-viewport (box 28672 30724 32768 32772) is false
-    ∷ good-viewport (box 4 0 0 4) is false
-    ∷ good-viewport (box 0 4 4 0) is false
-    ∷ good-viewport (box 4 4 4 4) is true
+    good_viewport (box 0 0 4096 2048) is true
+    ∷ good_viewport (box 0 0 4100 2048) is false
+    ∷ good_viewport (box 0 0 4096 2052) is false
+    ∷ good_viewport (box 28672 30720 32768 32768) is true
+    ∷ good_viewport (box 28676 30720 32772 32768) is false
+    ∷ good_viewport (box 28672 30724 32768 32772) is false
+    ∷ good_viewport (box 4 0 0 4) is false
+    ∷ good_viewport (box 0 4 4 0) is false
+    ∷ good_viewport (box 4 4 4 4) is true
     -- a clip's box is a multiple of 4 at each end; a dest box in x alone
     ∷ good-box (box 4 8 12 16) is true
     ∷ good-box (box 5 8 12 16) is false
@@ -139,21 +139,21 @@ edges =
     ∷ good-clip (clip (box 0 0 4 2) 2 2 255) is false
     ∷ good-clip (clip (box 0 0 4 4) 2 1 255) is false
     ∷ good-clip (clip (box 0 0 4 4) 2 2 256) is false
-    ∷ good-props (props default-blend 0 2147483647 none) is true
-    ∷ good-props (props (blend 16 0) 0 0 none) is false
-    ∷ good-props (props default-blend 0 2147483648 none) is false
-    ∷ good-props (props default-blend 0 0 (some (clip (box 0 0 4 4) 2 1 0))) is false
+    ∷ good-props (props default-blend 0 2147483647 None) is true
+    ∷ good-props (props (blend 16 0) 0 0 None) is false
+    ∷ good-props (props default-blend 0 2147483648 None) is false
+    ∷ good-props (props default-blend 0 0 (Some (clip (box 0 0 4 4) 2 1 0))) is false
     -- what makes a filter layer need a buffer: blend, opacity, mask, clip
-    ∷ needs-buffer (props default-blend full 0 none) is false
-    ∷ needs-buffer (props (blend 1 3) full 0 none) is true
-    ∷ needs-buffer (props (blend 0 4) full 0 none) is true
-    ∷ needs-buffer (props default-blend 1065353215 0 none) is true
-    ∷ needs-buffer (props default-blend 1065353217 0 none) is true
-    ∷ needs-buffer (props default-blend full 1 none) is true
-    ∷ needs-buffer (props default-blend full 0 (some (clip (box 0 0 4 4) 0 0 0))) is true
+    ∷ needs-buffer (props default-blend full 0 None) is false
+    ∷ needs-buffer (props (blend 1 3) full 0 None) is true
+    ∷ needs-buffer (props (blend 0 4) full 0 None) is true
+    ∷ needs-buffer (props default-blend 1065353215 0 None) is true
+    ∷ needs-buffer (props default-blend 1065353217 0 None) is true
+    ∷ needs-buffer (props default-blend full 1 None) is true
+    ∷ needs-buffer (props default-blend full 0 (Some (clip (box 0 0 4 4) 0 0 0))) is true
     -- a picture's handle, its word in a file, and filters
-    ∷ good-pixmap none is true
-    ∷ good-pixmap (some 0) is true
+    ∷ good-pixmap None is true
+    ∷ good-pixmap (Some 0) is true
     ∷ good-pixmap (pixmap-of 2147483648) is true
     ∷ good-pixmap (pixmap-of 2147483649) is false
     ∷ good-filter (filter 2147483647 (box 0 1 4 3) 32768 32768) is true
@@ -186,14 +186,14 @@ edges =
     ∷ covers (span 3 5) 4 is true
     ∷ covers (span 3 5) 5 is false
     -- can_skip: the largest id counts and not the last, the largest itself may skip, and what lies outside the hull may
-    ∷ can-skip two-fills (span 64 65) 9 is true
-    ∷ can-skip two-fills (span 64 65) 8 is false
-    ∷ can-skip two-fills (span 100 101) 8 is false
-    ∷ can-skip two-fills (span 159 170) 8 is false
-    ∷ can-skip two-fills (span 160 170) 8 is true
-    ∷ can-skip two-fills (span 60 64) 8 is true
-    ∷ can-skip two-fills (span 60 65) 8 is false
-    ∷ can-skip no-depth (span 0 1) 0 is true
+    ∷ can_skip two-fills (span 64 65) 9 is true
+    ∷ can_skip two-fills (span 64 65) 8 is false
+    ∷ can_skip two-fills (span 100 101) 8 is false
+    ∷ can_skip two-fills (span 159 170) 8 is false
+    ∷ can_skip two-fills (span 160 170) 8 is true
+    ∷ can_skip two-fills (span 60 64) 8 is true
+    ∷ can_skip two-fills (span 60 65) 8 is false
+    ∷ can_skip no-depth (span 0 1) 0 is true
     ∷ is-visible 7 7 is true
     ∷ is-visible 7 8 is false
     ∷ []

@@ -3,7 +3,7 @@ use Prim.Native.Nat.{ℕ, ◌+◌, ◌-◌}
 use mathlib.Core.Path.{◌≡◌, refl}
 use mathlib.Core.Bool.{true}
 use mathlib.Core.List.{List, [], ◌∷◌, ◌++◌, map}
-use mathlib.Core.Option.{none, some}
+use Rattle.std.specs.Prelude.{None, Some}
 use lib.ListN.{length, take, replicate}
 use lib.Dec.{eqb}
 use Rattle.sizes.specs.declared.width.Width.TheVariants.{W128}
@@ -250,7 +250,7 @@ deep l =
 pub filter-16-deep : listed (file (deep (filtered full 0 (filter 5 (box 0 0 32 4) 0 0)))) ≡
     header 1 1 17
     ∷ row 0 0 49
-    ∷ (replicate 15 (B (some (span 0 16))) ++ (B (some (span 0 16)) ∷ P 0 8 none 0 ∷ join (λ (i : ℕ). L 0 16 none i ∷ E ∷ []) (range 0 16)))
+    ∷ (replicate 15 (B (Some (span 0 16))) ++ (B (Some (span 0 16)) ∷ P 0 8 None 0 ∷ join (λ (i : ℕ). L 0 16 None i ∷ E ∷ []) (range 0 16)))
 unfolding computing
 filter-16-deep = refl
 

@@ -1,4 +1,4 @@
--- Tests: the known points of document 01 (those marked there), as one table with one computed test.
+-- Tests: the known points of the rules (docs/RULES.md), as one table with one computed test.
 use Prim.Native.Nat.{ℕ}
 use mathlib.Core.Path.{◌≡◌, refl}
 use mathlib.Core.Bool.{Bool, true, false, ◌&&◌, not}

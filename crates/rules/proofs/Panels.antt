@@ -1,8 +1,8 @@
--- Tests: whose panel stands in each attribute, each piece and each entry of a tile (T-07). The other tests are at panel 0.
+-- Tests: whose panel stands in each attribute, each piece and each entry of a tile. The other tests are at panel 0.
 use Prim.Native.Nat.{ℕ}
 use mathlib.Core.Path.{◌≡◌, refl}
 use mathlib.Core.List.{List, [], ◌∷◌, map}
-use mathlib.Core.Option.{none}
+use Rattle.std.specs.Prelude.{None}
 use Rattle.sizes.specs.declared.width.Width.TheVariants.{W128}
 use Rattle.rules.specs.Boxes.{box}
 use Rattle.rules.specs.Blends.{default-blend}
@@ -18,7 +18,7 @@ use Rattle.rules.proofs.Samples.{solid, opaque-paint, draw-for, any-props, full,
 use Rattle.rules.proofs.Computing.{computing}
 
 abbrev layer-for : ℕ → Step
-layer-for q = a-push (any-props default-blend full 0 none q)
+layer-for q = a-push (any-props default-blend full 0 None q)
 
 -- in a layer of panel 2 one of panel 3, and in it a fill of panel 1 and a filter fill of panel 9; then an eligible fill of panel 255
 abbrev drawn : List Step

@@ -3,7 +3,7 @@ use Prim.Native.Nat.{ℕ, ◌+◌}
 use mathlib.Core.Path.{◌≡◌, refl}
 use mathlib.Core.Bool.{true, false}
 use mathlib.Core.List.{List, [], ◌∷◌, ◌++◌}
-use mathlib.Core.Option.{none, some}
+use Rattle.std.specs.Prelude.{None, Some}
 use lib.ListN.{replicate}
 use lib.Dec.{eqb}
 use Rattle.sizes.specs.declared.width.Width.TheVariants.{W128}
@@ -11,7 +11,7 @@ use Rattle.rules.specs.Lists.{every}
 use Rattle.rules.specs.Answers.{Answer, answer, Done, BadArena, BadViewport, BadForm, BadRecord, BadOrder, Deep, NoLayer, Ids, FullAttrs, FullRow, FullDepth, BadRun, Open, NoRoom}
 use Rattle.rules.specs.Boxes.{Box, box}
 use Rattle.rules.specs.Spans.{span}
-use Rattle.rules.specs.Split.{split-answer}
+use Rattle.rules.specs.Split.{split_answer}
 use Rattle.rules.specs.Blends.{default-blend}
 use Rattle.rules.specs.Segments.{Segment}
 use Rattle.rules.specs.Inputs.{Props}
@@ -47,7 +47,7 @@ with-state n a ls =
 abbrev clip-open : ℕ → ℕ → Canvas
 clip-open a b =
     with-state 1 no-attrs
-    (record { props = any-props default-blend full 0 (some (clip (box 0 0 256 4) a b 0)) 0; bounds = box 0 0 256 4 } ∷ [])
+    (record { props = any-props default-blend full 0 (Some (clip (box 0 0 256 4) a b 0)) 0; bounds = box 0 0 256 4 } ∷ [])
 
 abbrev next-id : ℕ → Canvas
 next-id n = with-state n no-attrs []
@@ -77,7 +77,7 @@ abbrev with-paints : ℕ → Step
 with-paints n = a-fill (replicate n opaque-paint) [] (draw 0 0)
 
 abbrev plain-props : Props
-plain-props = any-props default-blend full 0 none 0
+plain-props = any-props default-blend full 0 None 0
 
 abbrev open-layer : Layer
 open-layer = record { props = plain-props; bounds = box 0 0 256 4 }
@@ -173,9 +173,9 @@ answers =
     ∷ steps (fills (solid 0 5 6 ∷ solid 0 5 7 ∷ []) 1) start is Done
     ∷ steps (a-fill (opaque-paint ∷ []) [] (draw-for 255 0 0)) start is Done
     ∷ steps (a-fill (opaque-paint ∷ []) [] (draw-for 256 0 0)) start is BadRecord
-    ∷ steps (a-push (any-props (blend 0 14) full 0 none 0)) start is BadRecord
-    ∷ steps (a-push (any-props default-blend full 0 none 255)) start is Done
-    ∷ steps (a-push (any-props default-blend full 0 none 256)) start is BadRecord
+    ∷ steps (a-push (any-props (blend 0 14) full 0 None 0)) start is BadRecord
+    ∷ steps (a-push (any-props default-blend full 0 None 255)) start is Done
+    ∷ steps (a-push (any-props default-blend full 0 None 256)) start is BadRecord
     ∷ steps (a-pop (solid 0 5 6 ∷ [])) (clip-open 0 1) is Done
     ∷ steps (a-pop (solid 0 5 6 ∷ [])) (clip-open 0 2) is BadRecord
     ∷ steps (a-pop (solid 0 5 5 ∷ [])) (clip-open 0 1) is BadRecord
@@ -247,9 +247,9 @@ answers =
     ∷ (write-call 1 0 0 (span 0 2) start).number is NoRoom
     ∷ (can-skip-call 0 (span 0 8192) 1 start).number is Done
     ∷ (can-skip-call 0 (span 0 8193) 1 start).number is BadRun
-    ∷ (split-answer 32 (span 0 8192)).number is Done
-    ∷ (split-answer 32 (span 0 8193)).number is BadRun
-    ∷ (split-answer 32 (span 6 5)).number is BadRun
+    ∷ (split_answer 32 (span 0 8192)).number is Done
+    ∷ (split_answer 32 (span 0 8193)).number is BadRun
+    ∷ (split_answer 32 (span 6 5)).number is BadRun
     ∷ []
 
 pub all-due : every (λ (t : Answered). eqb t.got t.due) answers ≡ true

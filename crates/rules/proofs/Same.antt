@@ -1,7 +1,7 @@
 -- For the tests: two lists, or two that may be missing, are the same.
 use mathlib.Core.Bool.{Bool, true, false, ◌&&◌}
 use mathlib.Core.List.{List, [], ◌∷◌}
-use mathlib.Core.Option.{Option, none, some}
+use Rattle.std.specs.Prelude.{Option, None, Some}
 
 module _ {A : Type 0} where
   -- two lists are the same, element by element
@@ -12,7 +12,7 @@ module _ {A : Type 0} where
   same-list p (x ∷ xs) (y ∷ ys) = p x y && same-list p xs ys
 
   abbrev pub same-option : (A → A → Bool) → Option A → Option A → Bool
-  same-option p none none = true
-  same-option p none (some y) = false
-  same-option p (some x) none = false
-  same-option p (some x) (some y) = p x y
+  same-option p None None = true
+  same-option p None (Some y) = false
+  same-option p (Some x) None = false
+  same-option p (Some x) (Some y) = p x y

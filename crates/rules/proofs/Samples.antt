@@ -2,7 +2,7 @@
 use Prim.Native.Nat.{ℕ}
 use mathlib.Core.Bool.{true, false}
 use mathlib.Core.List.{List, [], ◌∷◌, map}
-use mathlib.Core.Option.{Option, none, some}
+use Rattle.std.specs.Prelude.{Option, None, Some}
 use lib.IntN.{ℤ, pos, neg_ℤ}
 use Rattle.sizes.specs.declared.width.Width.TheVariants.{W128}
 use Rattle.rules.specs.Spans.{span}
@@ -48,7 +48,7 @@ abbrev pub no-clip : Clip
 no-clip = record { bounds = box 0 0 0 0; start = 0; end = 0; thread = 0 }
 
 abbrev pub no-filter : Filter
-no-filter = record { pixmap = none; dest = box 0 0 0 0; source-x = 0; source-y = 0 }
+no-filter = record { pixmap = None; dest = box 0 0 0 0; source-x = 0; source-y = 0 }
 
 abbrev pub blend : ℕ → ℕ → Blend
 blend m c = record { mix = m; compose = c }
@@ -85,10 +85,10 @@ filtered o m f = any-layer 1 0 0 default-blend o m 0 no-clip f
 
 -- picture h, or no picture, to a dest box, from a source origin
 abbrev pub filter : ℕ → Box → ℕ → ℕ → Filter
-filter h q x y = record { pixmap = some h; dest = q; source-x = x; source-y = y }
+filter h q x y = record { pixmap = Some h; dest = q; source-x = x; source-y = y }
 
 abbrev pub pictureless : Box → ℕ → ℕ → Filter
-pictureless q x y = record { pixmap = none; dest = q; source-x = x; source-y = y }
+pictureless q x y = record { pixmap = None; dest = q; source-x = x; source-y = y }
 
 -- a node: draws a to b, then a layer's number + 1, or 0
 abbrev pub node : ℕ → ℕ → ℕ → Node

@@ -1,13 +1,13 @@
 -- Tests: boxes, spans, segments, runs, words and text by their numbers, each axis and each end apart from the others.
 use mathlib.Core.Path.{◌≡◌, refl}
 use mathlib.Core.List.{[], ◌∷◌, map}
-use mathlib.Core.Option.{none, some}
+use Rattle.std.specs.Prelude.{None, Some}
 use Rattle.rules.specs.Boxes.{box, width, height, meet, to-local, whole, rows_of, buckets-of, rows_in, span_of, scene-tiles}
 use Rattle.rules.specs.Spans.{span, hull, meeting, solid-tiles}
 use Rattle.rules.specs.Split.{regular, buckets, split}
 use Rattle.rules.specs.Segments.{cuts}
 use Rattle.rules.specs.Depth.{unset-runs, visible-runs, write-runs, written, write-after}
-use Rattle.rules.specs.Commands.{paint-fill, layer-fill, push-buf, pop-buf, command-words, depth-words}
+use Rattle.rules.specs.Commands.{paint-fill, layer-fill, push-buf, pop-buf, command_words, depth-words}
 use Rattle.rules.specs.Lines.{P, B, refused, words_of, line-bytes}
 use Rattle.rules.specs.Lists.{join}
 use Rattle.rules.proofs.Samples.{solid, alpha}
@@ -54,10 +54,10 @@ unfolding computing
 scene = refl
 
 -- spans
-pub hulls : hull none (span 3 5) ∷ hull (some (span 3 5)) (span 1 4) ∷ hull (some (span 3 5)) (span 7 9) ∷ [] ≡ span 3 5 ∷ span 1 5 ∷ span 3 9 ∷ []
+pub hulls : hull None (span 3 5) ∷ hull (Some (span 3 5)) (span 1 4) ∷ hull (Some (span 3 5)) (span 7 9) ∷ [] ≡ span 3 5 ∷ span 1 5 ∷ span 3 9 ∷ []
 hulls = refl
 
-pub meetings : meeting (span 3 9) (span 5 20) ∷ meeting (span 5 20) (span 3 9) ∷ meeting (span 3 5) (span 5 9) ∷ [] ≡ some (span 5 9) ∷ some (span 5 9) ∷ none ∷ []
+pub meetings : meeting (span 3 9) (span 5 20) ∷ meeting (span 5 20) (span 3 9) ∷ meeting (span 3 5) (span 5 9) ∷ [] ≡ Some (span 5 9) ∷ Some (span 5 9) ∷ None ∷ []
 unfolding computing
 meetings = refl
 
@@ -65,8 +65,8 @@ meetings = refl
 pub cut-tiles :
     cuts (box 40 80 100 100) (box 4 8 16 20)
     (alpha 21 0 99 7 ∷ alpha 22 5 13 7 ∷ alpha 22 13 99 7 ∷ solid 23 12 13 ∷ solid 23 14 15 ∷ solid 24 5 11 ∷ solid 24 0 99 ∷ solid 25 0 99 ∷ []) ≡
-    record { row = 2; stretch = record { tiles = span 1 3; alpha = some 103 } }
-    ∷ record { row = 2; stretch = record { tiles = span 3 4; alpha = some 7 } }
+    record { row = 2; stretch = record { tiles = span 1 3; alpha = Some 103 } }
+    ∷ record { row = 2; stretch = record { tiles = span 3 4; alpha = Some 7 } }
     ∷ record { row = 3; stretch = solid-tiles (span 2 3) }
     ∷ record { row = 4; stretch = solid-tiles (span 1 4) }
     ∷ []
@@ -112,8 +112,8 @@ writes-when-done = refl
 
 -- the words of commands and of a depth fill
 pub words :
-    map command-words
-    (paint-fill (span 1 2) none 9 ∷ paint-fill (span 1 2) (some 5) 9 ∷ layer-fill (span 3 4) none 8 ∷ layer-fill (span 3 4) (some 6) 8 ∷ push-buf none ∷ push-buf (some (span 3 4)) ∷ pop-buf ∷ []) ≡
+    map command_words
+    (paint-fill (span 1 2) None 9 ∷ paint-fill (span 1 2) (Some 5) 9 ∷ layer-fill (span 3 4) None 8 ∷ layer-fill (span 3 4) (Some 6) 8 ∷ push-buf None ∷ push-buf (Some (span 3 4)) ∷ pop-buf ∷ []) ≡
     (1 ∷ 65538 ∷ 0 ∷ 9 ∷ [])
     ∷ (2 ∷ 65538 ∷ 5 ∷ 9 ∷ [])
     ∷ (3 ∷ 196612 ∷ 0 ∷ 8 ∷ [])
@@ -130,15 +130,15 @@ unfolding computing
 fill-words = refl
 
 -- A file's bytes: four make a word, the first the least; what is left over makes none.
-pub little_endian : words_of (1 ∷ 2 ∷ 3 ∷ 4 ∷ 255 ∷ 0 ∷ 0 ∷ 0 ∷ []) ≡ some (67305985 ∷ 255 ∷ [])
+pub little_endian : words_of (1 ∷ 2 ∷ 3 ∷ 4 ∷ 255 ∷ 0 ∷ 0 ∷ 0 ∷ []) ≡ Some (67305985 ∷ 255 ∷ [])
 little_endian = refl
 
-pub bytes_left : words_of (1 ∷ []) ∷ words_of (1 ∷ 2 ∷ []) ∷ words_of (1 ∷ 2 ∷ 3 ∷ []) ∷ words_of (1 ∷ 2 ∷ 3 ∷ 4 ∷ 5 ∷ []) ∷ [] ≡ none ∷ none ∷ none ∷ none ∷ []
+pub bytes_left : words_of (1 ∷ []) ∷ words_of (1 ∷ 2 ∷ []) ∷ words_of (1 ∷ 2 ∷ 3 ∷ []) ∷ words_of (1 ∷ 2 ∷ 3 ∷ 4 ∷ 5 ∷ []) ∷ [] ≡ None ∷ None ∷ None ∷ None ∷ []
 bytes_left = refl
 
 -- "refused 14", "B - -" and "P 0 1 4294967279 1023", each with its line feed
 pub lines-text :
-    join line-bytes (refused 14 ∷ B none ∷ P 0 1 (some 4294967279) 1023 ∷ []) ≡
+    join line-bytes (refused 14 ∷ B None ∷ P 0 1 (Some 4294967279) 1023 ∷ []) ≡
     114 ∷ 101 ∷ 102 ∷ 117 ∷ 115 ∷ 101 ∷ 100 ∷ 32 ∷ 49 ∷ 52 ∷ 10 ∷ 66 ∷ 32 ∷ 45 ∷ 32 ∷ 45 ∷ 10
     ∷ 80 ∷ 32 ∷ 48 ∷ 32 ∷ 49 ∷ 32 ∷ 52 ∷ 50 ∷ 57 ∷ 52 ∷ 57 ∷ 54 ∷ 55 ∷ 50 ∷ 55 ∷ 57 ∷ 32 ∷ 49 ∷ 48 ∷ 50 ∷ 51 ∷ 10 ∷ []
 unfolding computing

@@ -1,9 +1,10 @@
--- Tests: what the width of a bucket changes (T-06), at 64 and 256 pixels. The other tests are at 128.
+-- Tests: what the width of a bucket changes, at 64 and 256 pixels. The other tests are at 128.
 use Prim.Native.Nat.{ℕ}
 use mathlib.Core.Path.{◌≡◌, refl}
 use mathlib.Core.Bool.{true}
 use mathlib.Core.List.{List, [], ◌∷◌, map}
-use mathlib.Core.Option.{none, some}
+use Rattle.std.specs.Prelude.{None, Some, Ok, Err}
+use Rattle.sizes.specs.declared.answers.Refusal.TheVariants.{BadViewport}
 use Rattle.sizes.specs.declared.width.Width.{Width}
 use Rattle.sizes.specs.declared.width.Width.TheVariants.{W64, W128, W256}
 use Rattle.sizes.specs.Widths.{bucket-tiles, width_of}
@@ -27,10 +28,10 @@ use Rattle.rules.proofs.Cases.{last-bucket, pictured}
 use Rattle.rules.proofs.Computing.{computing}
 
 -- 64, 128 and 256 pixels, and no other number
-pub widths-there : map width_of (64 ∷ 128 ∷ 256 ∷ []) ≡ some W64 ∷ some W128 ∷ some W256 ∷ []
+pub widths-there : map width_of (64 ∷ 128 ∷ 256 ∷ []) ≡ Ok W64 ∷ Ok W128 ∷ Ok W256 ∷ []
 widths-there = refl
 
-pub no-widths : map width_of (0 ∷ 16 ∷ 32 ∷ 63 ∷ 65 ∷ 96 ∷ 127 ∷ 129 ∷ 192 ∷ 255 ∷ 257 ∷ 512 ∷ []) ≡ none ∷ none ∷ none ∷ none ∷ none ∷ none ∷ none ∷ none ∷ none ∷ none ∷ none ∷ none ∷ []
+pub no-widths : map width_of (0 ∷ 16 ∷ 32 ∷ 63 ∷ 65 ∷ 96 ∷ 127 ∷ 129 ∷ 192 ∷ 255 ∷ 257 ∷ 512 ∷ []) ≡ Err BadViewport ∷ Err BadViewport ∷ Err BadViewport ∷ Err BadViewport ∷ Err BadViewport ∷ Err BadViewport ∷ Err BadViewport ∷ Err BadViewport ∷ Err BadViewport ∷ Err BadViewport ∷ Err BadViewport ∷ Err BadViewport ∷ []
 no-widths = refl
 
 -- buckets of 260 pixels; arenas of two rows of them at C = 3 and D = 5
@@ -68,7 +69,7 @@ unfolding computing
 split-at-256 = refl
 
 -- the summary has the tiles of the fill's own buckets
-pub summaries : map (λ (w : ℕ). (put-depth-fill w (record { buckets = span 1 3; attribute = 0 }) 7 fresh-row).depth.union) (16 ∷ 64 ∷ []) ≡ some (span 16 48) ∷ some (span 64 192) ∷ []
+pub summaries : map (λ (w : ℕ). (put-depth-fill w (record { buckets = span 1 3; attribute = 0 }) 7 fresh-row).depth.union) (16 ∷ 64 ∷ []) ≡ Some (span 16 48) ∷ Some (span 64 192) ∷ []
 unfolding computing
 summaries = refl
 
@@ -76,11 +77,11 @@ summaries = refl
 abbrev listed_at : Width → Recording → List Line
 listed_at w r = rowlist-words (usual exact w) (file r)
 
-pub lines-at-64 : listed_at W64 last-bucket ≡ header 1 4 2 ∷ row 0 1 2 ∷ D 0 3 1 ∷ P 20 50 (some 32) 0 ∷ P 48 50 none 1 ∷ []
+pub lines-at-64 : listed_at W64 last-bucket ≡ header 1 4 2 ∷ row 0 1 2 ∷ D 0 3 1 ∷ P 20 50 (Some 32) 0 ∷ P 48 50 None 1 ∷ []
 unfolding computing
 lines-at-64 = refl
 
-pub lines-at-256 : listed_at W256 last-bucket ≡ header 1 1 2 ∷ row 0 0 2 ∷ P 20 50 (some 32) 0 ∷ P 0 50 none 1 ∷ []
+pub lines-at-256 : listed_at W256 last-bucket ≡ header 1 1 2 ∷ row 0 0 2 ∷ P 20 50 (Some 32) 0 ∷ P 0 50 None 1 ∷ []
 unfolding computing
 lines-at-256 = refl
 
@@ -89,11 +90,11 @@ pieces-at w r =
     let s = (rowlist-screen (usual exact w) (file r)).value in
     map (paint-row (bucket-tiles w) s.state.attrs (buckets-of (bucket-tiles w) r.viewport)) s.rows
 
-pub pieces-at-64 : pieces-at W64 last-bucket ≡ (paint-piece 1 0 48 none 0 ∷ paint-piece 0 48 50 (some 480) 0 ∷ paint-piece 1 48 50 none 0 ∷ []) ∷ []
+pub pieces-at-64 : pieces-at W64 last-bucket ≡ (paint-piece 1 0 48 None 0 ∷ paint-piece 0 48 50 (Some 480) 0 ∷ paint-piece 1 48 50 None 0 ∷ []) ∷ []
 unfolding computing
 pieces-at-64 = refl
 
-pub pieces-at-256 : pieces-at W256 last-bucket ≡ (paint-piece 0 20 50 (some 32) 0 ∷ paint-piece 1 0 50 none 0 ∷ []) ∷ []
+pub pieces-at-256 : pieces-at W256 last-bucket ≡ (paint-piece 0 20 50 (Some 32) 0 ∷ paint-piece 1 0 50 None 0 ∷ []) ∷ []
 unfolding computing
 pieces-at-256 = refl
 

@@ -1,7 +1,7 @@
 -- Words from records, the other way than a file is read: for the tests, and for what is proved of the words of lists.
 use Prim.Native.Nat.{ℕ, suc}
 use mathlib.Core.List.{List, [], ◌∷◌, ◌++◌}
-use mathlib.Core.Option.{Option, none, some}
+use Rattle.std.specs.Prelude.{Option, None, Some}
 use lib.ListN.{length}
 use Rattle.rules.specs.Lists.{join}
 use Rattle.rules.specs.Boxes.{Box}
@@ -23,8 +23,8 @@ draw-words d = d.thread ∷ d.start ∷ d.end ∷ d.paint ∷ d.blend.mix ∷ d.
 
 -- a picture's handle + 1, or 0 for none
 abbrev pub pixmap-word : Option ℕ → ℕ
-pixmap-word none = 0
-pixmap-word (some h) = suc h
+pixmap-word None = 0
+pixmap-word (Some h) = suc h
 
 abbrev pub layer-words : LayerRec → List ℕ
 layer-words l =

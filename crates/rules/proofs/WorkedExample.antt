@@ -1,9 +1,9 @@
--- Tests: document 01's worked example, by computation: from the file to the lines, and to their bytes.
+-- Tests: the rules' worked example, by computation: from the file to the lines, and to their bytes.
 use Prim.Native.Nat.{ℕ}
 use mathlib.Core.Path.{◌≡◌, refl}
 use mathlib.Core.Bool.{true}
 use mathlib.Core.List.{List, [], ◌∷◌, ◌++◌}
-use mathlib.Core.Option.{get_or, none, some}
+use Rattle.std.specs.Prelude.{unwrap_or, None, Some}
 use Rattle.sizes.specs.declared.width.Width.TheVariants.{W128}
 use Rattle.rules.specs.Lists.{join}
 use Rattle.rules.specs.Spans.{span}
@@ -48,11 +48,11 @@ worked-lines =
     header 2 2 3
     ∷ row 0 1 1
     ∷ D 1 2 0
-    ∷ P 10 32 none 0
+    ∷ P 10 32 None 0
     ∷ row 1 0 4
-    ∷ B (some (span 0 64))
-    ∷ P 0 8 none 1
-    ∷ L 0 64 none 0
+    ∷ B (Some (span 0 64))
+    ∷ P 0 8 None 1
+    ∷ L 0 64 None 0
     ∷ E
     ∷ []
 
@@ -88,14 +88,14 @@ unfolding computing
 worked-text = refl
 
 abbrev pub worked-recording : Recording
-worked-recording = recording (get_or (sections shape worked-words) [])
+worked-recording = recording (unwrap_or (sections shape worked-words) [])
 
 -- Attributes and painted pieces.
 pub worked-attributes : attributes worked-recording ≡ attrs (paint-attr 0 0 3 0 1 0 0 0 ∷ paint-attr 0 0 3 0 2 0 0 0 ∷ []) (layer-attr 0 3 1056964608 0 3 0 ∷ []) []
 unfolding computing
 worked-attributes = refl
 
-pub worked-pieces : pieces worked-recording ≡ (paint-piece 0 32 64 none 0 ∷ paint-piece 0 10 32 none 0 ∷ []) ∷ (paint-piece 1 0 8 none 1 ∷ layer-piece 0 0 64 none 1 ∷ []) ∷ []
+pub worked-pieces : pieces worked-recording ≡ (paint-piece 0 32 64 None 0 ∷ paint-piece 0 10 32 None 0 ∷ []) ∷ (paint-piece 1 0 8 None 1 ∷ layer-piece 0 0 64 None 1 ∷ []) ∷ []
 unfolding computing
 worked-pieces = refl
 

@@ -1,4 +1,4 @@
--- Document 01, "Answer numbers": the numbers by their names, and the order among several.
+-- Answer numbers: the numbers by their names, and the order among several.
 use Rattle.std.specs.Prelude.{ℕ, Bool, cond, List, [], ◌∷◌, eqb}
 
 abbrev pub Done : ℕ

@@ -1,6 +1,6 @@
 -- What the steps take: paints, draws, clips, layers, filters, each with its bounds (answer 4).
 use Rattle.std.specs.Prelude.{ℕ, Bool, true, ◌&&◌, ◌||◌, not, List, length, get_or, leb, ltb, eqb}
-use Rattle.std.proofs.Math.Option.{Option, none, some}
+use Rattle.std.specs.Prelude.{Option, None, Some}
 use Rattle.sizes.specs.Sizes.{thread-end, handle-end, panel-end, most-records}
 use Rattle.rules.specs.Lists.{is_none, slice}
 use Rattle.rules.specs.Spans.{good-range}
@@ -15,7 +15,7 @@ good-handle h = ltb h handle-end
 abbrev pub good-thread : ℕ → Bool
 good-thread t = ltb t thread-end
 
--- a panel: the number of the program module that draws (T-07)
+-- a panel: the number of the program module that draws
 abbrev pub good-panel : ℕ → Bool
 good-panel p = ltb p panel-end
 
@@ -80,8 +80,8 @@ pub record Props : Type 0 where
   pub panel : ℕ
 
 abbrev pub all-good : Option Clip → Bool
-all-good none = true
-all-good (some c) = good-clip c
+all-good None = true
+all-good (Some c) = good-clip c
 
 abbrev pub good-props : Props → Bool
 good-props p = good-blend p.blend && good-handle p.mask && all-good p.clip && good-panel p.panel
@@ -99,8 +99,8 @@ pub record Filter : Type 0 where
   pub source-y : ℕ
 
 abbrev pub good-pixmap : Option ℕ → Bool
-good-pixmap none = true
-good-pixmap (some h) = good-handle h
+good-pixmap None = true
+good-pixmap (Some h) = good-handle h
 
 abbrev pub good-filter : Filter → Bool
 good-filter f = good-pixmap f.pixmap && good-dest f.dest && leb f.source-x 32768 && leb f.source-y 32768

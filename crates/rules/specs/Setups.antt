@@ -1,4 +1,4 @@
--- What a screen is asked to be, and the frame that a reset makes of it (rule 1; T-02, T-06). A tile is 4 x 4 pixels.
+-- What a screen is asked to be, and the frame that a reset makes of it (rule 1). A tile is 4 x 4 pixels.
 use Rattle.std.specs.Prelude.{ℕ, ◌+◌, ◌*◌, ◌/◌}
 use Rattle.sizes.specs.declared.width.Width.{Width}
 use Rattle.rules.specs.Boxes.{Box, box}

@@ -31,5 +31,5 @@ split w s =
     cond (leb b a) (regular s ∷ []) (around w s a b)
 
 -- the call: 12 for a bad range
-unfoldable pub split-answer : ℕ → Span → Answer (List Part)
-split-answer w s = cond (bad-range tile-end s) (answer BadRun []) (answer Done (split w s))
+unfoldable pub split_answer : ℕ → Span → Answer (List Part)
+split_answer w s = cond (bad-range tile-end s) (answer BadRun []) (answer Done (split w s))

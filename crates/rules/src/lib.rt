@@ -1,2 +1,2 @@
-// Document 01 as definitions that compute, with tests of them. No code.
+// The rules (docs/RULES.md) as definitions that compute, with tests of them. No code.
 #![tactic(auto)]

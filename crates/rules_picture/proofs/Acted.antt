@@ -5,7 +5,7 @@ use native.Mathlib.Numerals.{add-one}
 use native.Mathlib.Omega.{arith}
 use mathlib.Core.Path.{◌≡◌, refl, sym, ◌∙◌, ap}
 use mathlib.Core.Bool.{Bool, true, false, ◌&&◌, not, cond}
-use mathlib.Core.Option.{Option, none, some}
+use Rattle.std.specs.Prelude.{Option, None, Some}
 use mathlib.Core.List.{List, [], ◌∷◌, ◌++◌, foldl, append_assoc, append-nil}
 use lib.ListN.{length, get_or, set, replicate, length-append, length-set, get_or-append}
 use lib.Seq.{get_or-append_seam, get_or-set_same, get_or-set_other}
@@ -91,14 +91,14 @@ pushed-set cs i u l p = record {
 }
 
 pushed-union : (cs : List Command) (o : Option Span) {ls : List Level} → All (Pushed cs) ls → All (Pushed cs) (include o ls)
-pushed-union cs none a = a
-pushed-union cs (some s) nil = nil
-pushed-union cs (some s) (cons p a) = cons (record { there = p.there; push = p.push }) a
+pushed-union cs None a = a
+pushed-union cs (Some s) nil = nil
+pushed-union cs (Some s) (cons p a) = cons (record { there = p.there; push = p.push }) a
 
 include-length : (o : Option Span) (ls : List Level) → length (include o ls) ≡ length ls
-include-length none ls = refl
-include-length (some s) [] = refl
-include-length (some s) (l ∷ ls) = refl
+include-length None ls = refl
+include-length (Some s) [] = refl
+include-length (Some s) (l ∷ ls) = refl
 
 module _ (w : ℕ) (attrs : Attrs) (t : ℕ) where
   pub told-append : (n : ℕ) (cs ds : List Command) → told-commands w attrs t n (cs ++ ds) ≡ told-commands w attrs t n cs ++ told-commands w attrs t (nest n cs) ds
@@ -174,21 +174,21 @@ module _ (w : ℕ) (attrs : Attrs) (t : ℕ) where
   close-adds s a i r k = unfold told-commands in put-adds (layer-fill s a i) r k (unfold nest in refl)
 
   -- a buffer pushed
-  pushed-new : (cs : List Command) → Pushed (cs ++ (push-buf none ∷ [])) (record { place = length cs; union = none })
+  pushed-new : (cs : List Command) → Pushed (cs ++ (push-buf None ∷ [])) (record { place = length cs; union = None })
   pushed-new cs = record {
-    there = rw (length-append cs (push-buf none ∷ [])) (omega arith);
-    push = rw (get_or-append_seam cs (push-buf none) [] pop-buf);
+    there = rw (length-append cs (push-buf None ∷ [])) (omega arith);
+    push = rw (get_or-append_seam cs (push-buf None) [] pop-buf);
   }
 
   pub push-adds : (r : Row) → Sound r → Adds [] [] (suc (length r.levels)) r (put-push-buf r)
   unfolding put-push-buf told-commands nest
   push-adds r s = record {
-    commands = told-append 0 r.commands (push-buf none ∷ []);
+    commands = told-append 0 r.commands (push-buf None ∷ []);
     fills = sym (append-nil _);
     levels = refl;
     sound = record {
-      nested = nest-append 0 r.commands (push-buf none ∷ []) ∙ rw s.nested (add-one (length r.levels));
-      pushed = cons (pushed-new r.commands) (all_map (λ (l : Level). pushed-later r.commands (push-buf none ∷ []) l) s.pushed);
+      nested = nest-append 0 r.commands (push-buf None ∷ []) ∙ rw s.nested (add-one (length r.levels));
+      pushed = cons (pushed-new r.commands) (all_map (λ (l : Level). pushed-later r.commands (push-buf None ∷ []) l) s.pushed);
     };
     numbered = λ a. a;
     summed = λ a. a;

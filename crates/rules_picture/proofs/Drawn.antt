@@ -4,7 +4,7 @@ use native.Mathlib.Nat.{le_refl, suc-mul}
 use native.Mathlib.Omega.{arith}
 use mathlib.Core.Path.{◌≡◌, refl, sym, ◌∙◌, ap}
 use mathlib.Core.Bool.{Bool, true, false, ◌&&◌, not, cond}
-use mathlib.Core.Option.{Option, none, some}
+use Rattle.std.specs.Prelude.{Option, None, Some}
 use mathlib.Core.List.{List, [], ◌∷◌, ◌++◌, map, foldl, append-nil}
 use lib.ListN.{length, replicate}
 use lib.Dec.{leb}
@@ -34,7 +34,7 @@ use Rattle.rules_picture.proofs.Acted.{Sound, Adds, adds_none, adds-both, paint-
 module _ (w : ℕ) (attrs : Attrs) (t : ℕ) where
   -- a solid piece of attribute i with no layer open, and a depth fill of it: their span does not matter to the tile
   abbrev solid-told : ℕ → Told
-  solid-told i = paint-told w attrs t (span 0 0) none i 0
+  solid-told i = paint-told w attrs t (span 0 0) None i 0
 
   abbrev depth-told : ℕ → Told
   depth-told i = fill-told w attrs t (record { buckets = span 0 0; attribute = i })
@@ -43,8 +43,8 @@ module _ (w : ℕ) (attrs : Attrs) (t : ℕ) where
       → Adds w attrs t (replicate (regular-hits t ps) (solid-told i)) (replicate (bucket-hits (t / w) ps) (depth-told i)) 0 r (foldl (put-part Row row-ops w i id) r ps)
   parts_add i id pos le [] r s z = rw z at (adds_none w attrs t r s)
   parts_add i id pos le (regular x ∷ ps) r s z =
-      let a : Adds w attrs t (keep (covers x t) (solid-told i) []) [] 0 r (put-command (paint-fill x none i) r) = rw z at (paint-adds w attrs t x none i r s) in
-      let b = parts_add i id pos le ps (put-command (paint-fill x none i) r) a.sound a.levels in
+      let a : Adds w attrs t (keep (covers x t) (solid-told i) []) [] 0 r (put-command (paint-fill x None i) r) = rw z at (paint-adds w attrs t x None i r s) in
+      let b = parts_add i id pos le ps (put-command (paint-fill x None i) r) a.sound a.levels in
       let c = adds-both w attrs t a b in
       by (covers x t) (λ y. rw y (rw y at c)) (λ n. rw n (rw n at c))
   parts_add i id pos le (buckets x ∷ ps) r s z =
@@ -94,7 +94,7 @@ module _ (w : ℕ) (attrs : Attrs) (t : ℕ) where
         (such hides-of (cut-told false i q n id e (record { row = j; stretch = record { tiles = x; alpha = a } })))
         n r (do-act Row row-ops w n (draw-act e i id x a) r)
     unfolding draw-act
-    cut-adds pos true i q id n has num z j x none r s h =
+    cut-adds pos true i q id n has num z j x None r s h =
         let o : n ≡ 0 = z refl in
         let m = has.id-is in
         let p : 0 < paint-id attrs i = omega arith in
@@ -104,8 +104,8 @@ module _ (w : ℕ) (attrs : Attrs) (t : ℕ) where
         rw o (by (whole-bucket w v row t x)
         (λ y. let u = whole_covers pos x y in rw (u, y) (rw (u, y) at c))
         (λ m. by (covers x t) (λ u. rw (u, m) (rw (u, m) at c)) (λ u. rw u (rw (u, m) at c))))
-    cut-adds pos true i q id n has num z j x (some a) r s h =
-        let c = rw (has.id-is, has.panel-is) at (act-paint w attrs t n x (some a) i r s h) in
+    cut-adds pos true i q id n has num z j x (Some a) r s h =
+        let c = rw (has.id-is, has.panel-is) at (act-paint w attrs t n x (Some a) i r s h) in
         by (covers x t) (λ u. rw u (rw u at c)) (λ u. rw u (rw u at c))
     cut-adds pos false i q id n has num z j x a r s h =
         let c = rw (has.id-is, has.panel-is) at (act-paint w attrs t n x a i r s h) in

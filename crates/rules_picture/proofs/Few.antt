@@ -3,7 +3,7 @@
 use mathlib.Core.Path.{◌≡◌, refl}
 use mathlib.Core.Bool.{Bool, true, false, cond}
 use mathlib.Core.List.{List, [], ◌∷◌, map}
-use mathlib.Core.Option.{Option}
+use Rattle.std.specs.Prelude.{Option}
 use Prim.Native.Nat.{ℕ, zero, suc, ◌+◌, ◌-◌, ◌*◌, ◌≤◌, ◌<◌}
 use native.Mathlib.Omega.{arith}
 use lib.ListN.{length, get_or, take, drop, length-append, length-map, length-take, length-drop, length-replicate}
@@ -110,9 +110,9 @@ unset-runs-few i (b ∷ bs) = go (is-unset b) (bucket-runs is-unset (suc i) bs) 
     go false rs h = omega (arith, h)
 
 -- a bucket written with an id is set
-module _ (id : ℕ) (some : 1 ≤ id) where
+module _ (id : ℕ) (Some : 1 ≤ id) where
   now-set : (b : ℕ) → one-unset (write id b) ≡ 0
-  now-set zero = go id some
+  now-set zero = go id Some
     where
       go : (n : ℕ) → 1 ≤ n → one-unset n ≡ 0
       go zero h = absurd (omega arith)
@@ -199,10 +199,10 @@ module _ (w : ℕ) (a : Attrs) where
   depth-left : (r : Row) (f : DepthFill) (p : Painter) → 1 ≤ paint-id a f.attribute → p.steps < length r.fills
       → length (paint-depth w a f p).pieces + pieces-left r (paint-depth w a f p).painter ≤ pieces-left r p
   unfolding paint-depth pieces-left
-  depth-left r f p some m =
+  depth-left r f p Some m =
       let n : p.steps + 1 - length r.fills ≡ 0 = omega arith in
       let o : p.steps - length r.fills ≡ 0 = omega arith in
-      rw (length-map, n, o) (omega (arith, write-sets (paint-id a f.attribute) some p.buckets f.buckets))
+      rw (length-map, n, o) (omega (arith, write-sets (paint-id a f.attribute) Some p.buckets f.buckets))
 
   command-left : (r : Row) (c : Command) (p : Painter) → length p.buckets ≤ 64 → length r.fills ≤ p.steps → p.steps - length r.fills < length r.commands
       → length (paint-command w a c p).pieces + pieces-left r (paint-command w a c p).painter ≤ pieces-left r p

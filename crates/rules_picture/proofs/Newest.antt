@@ -1,4 +1,4 @@
--- The heart of demand 3 on one row: painted newest to oldest, a bucket ends up with the id of the newest depth fill that covers it.
+-- The heart of the picture on one row: painted newest to oldest, a bucket ends up with the id of the newest depth fill that covers it.
 use Prim.Native.Nat.{ℕ, zero, suc, ◌+◌, ◌-◌, ◌≤◌, ◌<◌}
 use mathlib.Core.Path.{◌≡◌, refl, sym, ap, ◌∙◌}
 use mathlib.Core.Bool.{Bool, true, false, cond}

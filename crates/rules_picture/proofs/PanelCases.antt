@@ -2,7 +2,7 @@
 use Prim.Native.Nat.{ℕ}
 use mathlib.Core.Path.{◌≡◌, refl}
 use mathlib.Core.List.{List, [], ◌∷◌, map}
-use mathlib.Core.Option.{none}
+use Rattle.std.specs.Prelude.{None}
 use Rattle.sizes.specs.declared.width.Width.TheVariants.{W128}
 use Rattle.rules.specs.Boxes.{box}
 use Rattle.rules.specs.Blends.{default-blend}
@@ -19,7 +19,7 @@ use Rattle.rules_picture.specs.Panels.{panelless-step, panelless-screen, panelle
 abbrev drawn : ℕ → ℕ → ℕ → ℕ → List Step
 drawn a b c d =
     a-fill (opaque-paint ∷ []) (solid 0 32 64 ∷ []) (draw-for a 0 1)
-    ∷ a-push (any-props default-blend full 0 none b)
+    ∷ a-push (any-props default-blend full 0 None b)
     ∷ a-fill (opaque-paint ∷ []) (solid 0 0 8 ∷ []) (draw-for c 0 1)
     ∷ a-filter 1 (filter 5 (box 0 0 16 4) 0 0) d
     ∷ a-pop []

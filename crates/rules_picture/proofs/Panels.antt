@@ -3,7 +3,7 @@ use Prim.Native.Nat.{ℕ, zero, suc, ◌+◌}
 use native.Mathlib.Omega.{arith}
 use mathlib.Core.Path.{◌≡◌, refl, sym, ◌∙◌, ap}
 use mathlib.Core.Bool.{Bool, true, false, ◌&&◌, not, cond}
-use mathlib.Core.Option.{Option, none, some}
+use Rattle.std.specs.Prelude.{Option, None, Some}
 use mathlib.Core.List.{List, [], ◌∷◌, ◌++◌, map, map-append, map-map}
 use lib.ListN.{length, length-map, get_or-map}
 use lib.Dec.{eqb}
@@ -254,8 +254,8 @@ module _ (w : ℕ) (v : Box) (row tile : ℕ) where
 
   closers-alike : (c : Option Clip) (own : Box) (ls : List OpenLayer) (ss : List Segment)
       → closers w v row tile c own (map panelless-open ls) ss ≡ closers w v row tile c own ls ss
-  closers-alike none own ls ss = refl
-  closers-alike (some c) own ls ss = rw (now-alike v ls)
+  closers-alike None own ls ss = refl
+  closers-alike (Some c) own ls ss = rw (now-alike v ls)
 
   pop-told-alike : (ls : List OpenLayer) (ss : List Segment) (s : Story)
       → tell-pop w v row tile (map panelless-open ls) ss (panelless-story s) ≡ panelless-story (tell-pop w v row tile ls ss s)

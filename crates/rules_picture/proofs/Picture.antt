@@ -1,4 +1,4 @@
--- Demand 3 about the rules: a row painted to its end alone, and rows painted by turns.
+-- The picture, about the rules: a row painted to its end alone, and rows painted by turns.
 use Prim.Native.Nat.{ℕ, zero, suc, ◌+◌, ◌/◌, ◌≤◌, ◌<◌}
 use native.Mathlib.Omega.{arith}
 use mathlib.Core.Path.{◌≡◌, refl, sym, ◌∙◌, ap}
@@ -16,7 +16,7 @@ use Rattle.rules.specs.Plain.{Told, shown, Story, untold, tell-step, tell-steps,
 use Rattle.rules.proofs.All.{neither}
 use Rattle.rules.proofs.laws.Widths.{bucket-some}
 use Rattle.rules_picture.specs.Built.{Built, no_step, then}
-use Rattle.rules_picture.specs.Turns.{Demand-3}
+use Rattle.rules_picture.specs.Turns.{Picture}
 use Rattle.rules_picture.proofs.Buckets.{touched-end}
 use Rattle.rules_picture.proofs.Shape.{none_open}
 use Rattle.rules_picture.proofs.Summed.{Summed}
@@ -101,8 +101,8 @@ module _ (f : Frame) (xs : List Step) (u : Screen Row) (b : Built xs (reset fres
   pub built-summed : (row : ℕ) → row < rows_of f.viewport → Summed (bucket f) u.state.attrs (get_or u.rows row fresh-row)
   built-summed row h = (follows row 0 h).grown.holds.summed
 
--- Demand 3 about the rules, for rows painted by turns.
-pub picture : Demand-3
+-- The picture, about the rules, for rows painted by turns.
+pub picture : Picture
 picture f xs k b e ts r t h on fin =
     let (v, there) = built-on f xs k.screen b r h in
     let row = get_or k.screen.rows r fresh-row in

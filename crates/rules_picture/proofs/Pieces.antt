@@ -3,7 +3,7 @@ use Prim.Native.Nat.{ℕ, suc, ◌+◌, ◌*◌, ◌-◌, ◌/◌, ◌≤◌, �
 use native.Mathlib.Omega.{arith}
 use mathlib.Core.Path.{◌≡◌, refl, sym, ◌∙◌, ap}
 use mathlib.Core.Bool.{Bool, true, false, ◌&&◌, cond}
-use mathlib.Core.Option.{Option, none, some}
+use Rattle.std.specs.Prelude.{Option, None, Some}
 use mathlib.Core.List.{List, [], ◌∷◌, ◌++◌, map}
 use lib.ListN.{length, get_or, replicate}
 use lib.Dec.{leb, ltb, eqb}
@@ -20,8 +20,8 @@ use Rattle.rules_picture.proofs.Buckets.{from-bucket, to-bucket, from-bucket-bef
 use Rattle.rules_picture.proofs.Runs.{hits, range-hit}
 
 moved_on : (a : Option ℕ) (m n k : ℕ) → m + n ≡ k → moved (moved a m) n ≡ moved a k
-moved_on none m n k e = refl
-moved_on (some a) m n k e = ap some (omega arith)
+moved_on None m n k e = refl
+moved_on (Some a) m n k e = ap Some (omega arith)
 
 once : {X : Type 0} (p q v : Bool) → (p ≡ true → q ≡ true) → (x : X) → cond p (replicate (cond (q && v) 1 0) x) [] ≡ keep (p && v) x []
 once true q true f x = rw (f refl)
@@ -102,7 +102,7 @@ module _ (w : ℕ) (pos : 0 < w) (t : ℕ) where
 
     -- a run of a depth fill, cut to the tile
     depth-parts : (i q : ℕ) (rs : List Span)
-        → received t (map (depth-piece w attrs i q) rs) ≡ replicate (hits rs (t / w)) (entry_in t false i q (span t (suc t)) none 0)
+        → received t (map (depth-piece w attrs i q) rs) ≡ replicate (hits rs (t / w)) (entry_in t false i q (span t (suc t)) None 0)
     depth-parts i q [] = unfold received in refl
     depth-parts i q (r ∷ rs) =
         received-cons t (depth-piece w attrs i q r) (map (depth-piece w attrs i q) rs)
@@ -125,12 +125,12 @@ module _ (w : ℕ) (pos : 0 < w) (t : ℕ) where
       -- a depth fill is received, once, iff it covers the tile's bucket and that is unset
       pub depth-received : (f : DepthFill) (q : ℕ)
           → received t (map (depth-piece w attrs f.attribute q) (write-runs bs f.buckets))
-          ≡ keep (covers f.buckets (t / w) && eqb (get_or bs (t / w) 0) 0) (entry_in t false f.attribute q (span t (suc t)) none 0) []
+          ≡ keep (covers f.buckets (t / w) && eqb (get_or bs (t / w) 0) 0) (entry_in t false f.attribute q (span t (suc t)) None 0) []
       unfolding write-runs
       depth-received f q =
           rw (depth-parts f.attribute q (runs-in is-unset bs f.buckets), range-hit is-unset bs f.buckets (t / w) on)
           (go (covers f.buckets (t / w) && eqb (get_or bs (t / w) 0) 0))
         where
-          go : (b : Bool) → replicate (cond b 1 0) (entry_in t false f.attribute q (span t (suc t)) none 0) ≡ keep b (entry_in t false f.attribute q (span t (suc t)) none 0) []
+          go : (b : Bool) → replicate (cond b 1 0) (entry_in t false f.attribute q (span t (suc t)) None 0) ≡ keep b (entry_in t false f.attribute q (span t (suc t)) None 0) []
           go true = refl
           go false = refl

@@ -3,7 +3,7 @@ use Prim.Native.Nat.{ℕ, zero, suc, ◌+◌, ◌-◌, ◌/◌, ◌≤◌, ◌<�
 use native.Mathlib.Omega.{arith}
 use mathlib.Core.Path.{◌≡◌, refl, sym, ◌∙◌, ap}
 use mathlib.Core.Bool.{Bool, true, false, ◌&&◌, not, cond}
-use mathlib.Core.Option.{Option, none, some}
+use Rattle.std.specs.Prelude.{Option, None, Some}
 use mathlib.Core.List.{List, [], ◌∷◌, ◌++◌, map}
 use lib.ListN.{length, get_or, length-map, length-append}
 use lib.Dec.{eqb, leb}
@@ -67,7 +67,7 @@ module _ (w : ℕ) (attrs : Attrs) (t : ℕ) (v : Box) (row : ℕ) where
   cut-single b true = by (covers (span_of b) t) (λ y. rw y (one _)) (λ n. rw n nothing)
   cut-single b false = nothing
 
-  cut-acts : (b : Box) (i id : ℕ) (c : Bool) → map (cut-act false i id) (cond c (record { row = row; stretch = solid-tiles (span_of b) } ∷ []) []) ≡ keep c (paint (span_of b) none i) []
+  cut-acts : (b : Box) (i id : ℕ) (c : Bool) → map (cut-act false i id) (cond c (record { row = row; stretch = solid-tiles (span_of b) } ∷ []) []) ≡ keep c (paint (span_of b) None i) []
   unfolding draw-act
   cut-acts b i id true = refl
   cut-acts b i id false = refl
@@ -95,11 +95,11 @@ module _ (w : ℕ) (attrs : Attrs) (t : ℕ) (v : Box) (row : ℕ) where
       let ks : List Cut = cond c (record { row = row; stretch = solid-tiles (span_of b) } ∷ []) [] in
       let has : PaintHas attrs o.paints o.next q = rw (f.paints, f.next) at (new-paint w attrs t v row st.attrs.paints _ l.paints-more l.paints) in
       let g = draw-grows w attrs t v row pos f.grown f.first false o.paints q has (λ y. never (sym y)) ks (cut-single b c) in
-      let puts = map (on (paint (span_of b) none o.paints)) (rows_in b) in
+      let puts = map (on (paint (span_of b) None o.paints)) (rows_in b) in
       let r = get_or s.rows row fresh-row in
       let same : do-acts Row row-ops w (length o.open-layers) (map (cut-act false o.paints o.next) ks) r
       ≡ get_or (do-puts Row row-ops w (length o.open-layers) puts s.rows) row fresh-row =
-      ap (λ (xs : List Act). do-acts Row row-ops w (length o.open-layers) xs r) (cut-acts b o.paints o.next c ∙ sym (box-acts (paint (span_of b) none o.paints) b))
+      ap (λ (xs : List Act). do-acts Row row-ops w (length o.open-layers) xs r) (cut-acts b o.paints o.next c ∙ sym (box-acts (paint (span_of b) None o.paints) b))
       ∙ sym (row-by-row Row row-ops w (length o.open-layers) row fresh-row puts s.rows f.there) in
       record {
         view = f.view;

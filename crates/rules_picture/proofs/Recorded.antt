@@ -3,7 +3,7 @@ use Prim.Native.Nat.{ℕ, ◌/◌, ◌≤◌, ◌<◌}
 use native.Mathlib.Omega.{arith}
 use mathlib.Core.Path.{◌≡◌, refl, sym, ◌∙◌, ap}
 use mathlib.Core.Bool.{true, false, cond}
-use mathlib.Core.Option.{Option, none, some}
+use Rattle.std.specs.Prelude.{Option, None, Some}
 use mathlib.Core.List.{List, []}
 use lib.Dec.{leb, eqb}
 use borrow.Author.Tests.{eqb-true, le-leb, lt-leb}
@@ -98,21 +98,21 @@ module _ (p : Place) (old : Screen Row) where
       ap (λ (x : Answer (Screen Row)). x.value) (play-judged r n) ∙ rw l)
 
   -- the words that say no recording, and those that say one
-  play-none : (ws : List ℕ) → sections shape ws ≡ none → played p old ws ≡ answer BadForm old
+  play-none : (ws : List ℕ) → sections shape ws ≡ None → played p old ws ≡ answer BadForm old
   unfolding play
   play-none ws e = rw (e, play)
 
-  play-some : (ws : List ℕ) (ss : List (List (List ℕ))) → sections shape ws ≡ some ss → played p old ws ≡ play-records (Screen Row) (call Row row-ops) (reset fresh-row) p old (recording ss)
+  play-some : (ws : List ℕ) (ss : List (List (List ℕ))) → sections shape ws ≡ Some ss → played p old ws ≡ play-records (Screen Row) (call Row row-ops) (reset fresh-row) p old (recording ss)
   unfolding play
   play-some ws ss e = rw (e, play)
 
-  -- Document 01: an accepted recording leaves what its history builds, ..
+  -- Rule 2: an accepted recording leaves what its history builds, ..
   pub accepted : (ws : List ℕ) → (played p old ws).number ≡ Done → Accepted p ws (played p old ws).value
   accepted ws e = go (sections shape ws) refl
     where
       go : (o : Option (List (List (List ℕ)))) → sections shape ws ≡ o → Accepted p ws (played p old ws).value
-      go none n = let z : ◌≡◌ {A = ℕ} BadForm Done = sym (ap (λ (x : Answer (Screen Row)). x.number) (play-none ws n)) ∙ e in absurd (omega arith)
-      go (some ss) y =
+      go None n = let z : ◌≡◌ {A = ℕ} BadForm Done = sym (ap (λ (x : Answer (Screen Row)). x.number) (play-none ws n)) ∙ e in absurd (omega arith)
+      go (Some ss) y =
           let q = play-some ws ss y in
           let (b, c) = records-done (recording ss) (sym (ap (λ (x : Answer (Screen Row)). x.number) q) ∙ e) in
           record { words = record { parts = ss; formed = y }; built = rw q b; closed = rw q c }
@@ -122,8 +122,8 @@ module _ (p : Place) (old : Screen Row) where
   refused-early ws a b = go (sections shape ws) refl
     where
       go : (o : Option (List (List (List ℕ)))) → sections shape ws ≡ o → (played p old ws).value ≡ old
-      go none n = ap (λ (x : Answer (Screen Row)). x.value) (play-none ws n)
-      go (some ss) y =
+      go None n = ap (λ (x : Answer (Screen Row)). x.value) (play-none ws n)
+      go (Some ss) y =
           let q = play-some ws ss y in
           ap (λ (x : Answer (Screen Row)). x.value) q ∙ records-early (recording ss) (rw q at a) (rw q at b)
 
@@ -132,8 +132,8 @@ module _ (p : Place) (old : Screen Row) where
   refused-late ws a = go (sections shape ws) refl
     where
       go : (o : Option (List (List (List ℕ)))) → sections shape ws ≡ o → LeftReset p ws (played p old ws).value
-      go none n = let e = ap (λ (x : Answer (Screen Row)). x.number) (play-none ws n) in absurd (omega arith)
-      go (some ss) y =
+      go None n = let e = ap (λ (x : Answer (Screen Row)). x.number) (play-none ws n) in absurd (omega arith)
+      go (Some ss) y =
           let q = play-some ws ss y in
           record { words = record { parts = ss; formed = y }; fresh = ap (λ (x : Answer (Screen Row)). x.value) q ∙ records-reset (recording ss) (rw q at a) }
 
@@ -141,7 +141,7 @@ begin-done : (k : Canvas) → k.screen.state.layers ≡ [] → (begin-call k).nu
 unfolding begin-call
 begin-done k e = rw e
 
--- The screen u of an accepted recording can be painted, and demand 3 speaks of it: a finished row has given each of its tiles what plain
+-- The screen u of an accepted recording can be painted, and the picture speaks of it: a finished row has given each of its tiles what plain
 -- draw order gives it of the recording's history, on the screen of the frame that its reset made.
 pub recorded-picture : (p : Place) (ws : List ℕ) (u : Screen Row) (a : Accepted p ws u) (k : Canvas) → k.screen ≡ u
     → ((begin-call k).number ≡ Done)

@@ -5,7 +5,7 @@ use native.Mathlib.Numerals.{add-one}
 use native.Mathlib.Omega.{arith}
 use mathlib.Core.Path.{◌≡◌, refl, sym, ◌∙◌, ap}
 use mathlib.Core.Bool.{Bool, true, false, ◌&&◌, ◌||◌, not, cond}
-use mathlib.Core.Option.{Option, none, some}
+use Rattle.std.specs.Prelude.{Option, None, Some}
 use mathlib.Core.List.{List, [], ◌∷◌, ◌++◌, map, append_assoc, append-nil, map-append}
 use lib.ListN.{length, get_or, drop, replicate, length-replicate, drop_of_length-le}
 use lib.Seq.{drop-cons}
@@ -55,7 +55,7 @@ pub record LayerHas (attrs : Attrs) (i id panel : ℕ) : Type 0 where
 module _ (w : ℕ) (attrs : Attrs) (t : ℕ) where
   -- a depth fill, and a command at nesting n, as the tile is told of it
   abbrev pub fill-told : DepthFill → Told
-  fill-told f = record { entry = entry_in t false f.attribute (paint-panel attrs f.attribute) (span t (suc t)) none 0; id = paint-id attrs f.attribute; hides = true }
+  fill-told f = record { entry = entry_in t false f.attribute (paint-panel attrs f.attribute) (span t (suc t)) None 0; id = paint-id attrs f.attribute; hides = true }
 
   abbrev pub told-fills : List DepthFill → List Told
   told-fills [] = []

@@ -1,4 +1,4 @@
--- The other half of demand 3, on one tile: of entries with rising ids, two passes show what plain draw order leaves:
+-- The other half of the picture, on one tile: of entries with rising ids, two passes show what plain draw order leaves:
 -- first the newest entry that hides, then, in order, each that does not hide and is not older than it.
 use Prim.Native.Nat.{ℕ, zero, suc, ◌≤◌, ◌<◌}
 use mathlib.Core.Path.{◌≡◌, refl, sym, ap, subst, ◌∙◌}

@@ -4,14 +4,14 @@ use native.Mathlib.Nat.{le-div_iff_mul-le, div-mul-le_self}
 use native.Mathlib.Omega.{arith}
 use mathlib.Core.Path.{◌≡◌, refl, sym, ◌∙◌, ap}
 use mathlib.Core.Bool.{Bool, true, false, ◌&&◌, ◌||◌, cond}
-use mathlib.Core.Option.{Option, none, some}
+use Rattle.std.specs.Prelude.{Option, None, Some}
 use mathlib.Core.List.{List, [], ◌∷◌, ◌++◌}
 use lib.ListN.{length}
 use lib.Dec.{leb, ltb, eqb}
 use borrow.Author.Tests.{leb-true, ltb-true, eqb-true}
 use Rattle.rules.specs.Lists.{such, keep, join}
 use Rattle.rules.specs.Boxes.{Box, scene-tiles}
-use Rattle.rules.specs.Spans.{Span, span, covers, Stretch, shifted, common, when-some, meeting, cut_at, cut-when, cut-to}
+use Rattle.rules.specs.Spans.{Span, span, covers, Stretch, shifted, common, when-some, meeting, cut_at, cut-when, cut_to}
 use Rattle.rules.specs.Segments.{Segment, good-segment, follows, ordered-after, ordered, Cut, localised, on_row, stretch-of, cut_in, cuts}
 use Rattle.rules.proofs.All.{All, nil, cons, both, never, all_map, and_left, and_right}
 use Rattle.rules.proofs.laws.Bounds.{good-facts}
@@ -82,7 +82,7 @@ module _ (v c : Box) (row t : ℕ) where
       (λ n. rw n missed)
 
   here-cut : (s : Segment) → Here s (there (cut_in v (scene-tiles v c) s))
-  unfolding cut_in cut-to meeting scene-tiles
+  unfolding cut_in cut_to meeting scene-tiles
   here-cut s =
       let low = (v.x0 + c.x0) / 4 in
       let m = common (span s.first s.end) (span low ((v.x0 + c.x1) / 4)) in

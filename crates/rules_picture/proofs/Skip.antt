@@ -4,7 +4,7 @@ use native.Mathlib.Nat.{add-zero, add-suc, suc-add, zero-add, le_refl}
 use native.Mathlib.Omega.{arith}
 use mathlib.Core.Path.{◌≡◌, refl, sym, ◌∙◌, ap}
 use mathlib.Core.Bool.{Bool, true, false}
-use mathlib.Core.Option.{Option, none, some}
+use Rattle.std.specs.Prelude.{Option, None, Some}
 use mathlib.Core.List.{List}
 use lib.ListN.{length, get_or, drop, replicate, length-replicate}
 use lib.Dec.{leb, ltb, eqb}
@@ -14,7 +14,7 @@ use Rattle.rules.specs.Boxes.{width, rows_of}
 use Rattle.rules.specs.Spans.{Span, covers, bad-range}
 use Rattle.rules.specs.Commands.{Command, paint-fill, layer-fill, push-buf, pop-buf, DepthFill}
 use Rattle.rules.specs.Attributes.{Attrs}
-use Rattle.rules.specs.Depth.{Summary, apart, can-skip, can-skip-answer, is-visible, tiles-of}
+use Rattle.rules.specs.Depth.{Summary, apart, can_skip, can_skip_answer, is-visible, tiles-of}
 use Rattle.rules.specs.Rows.{Row, fresh-row}
 use Rattle.rules.specs.Plans.{Frame, bucket, buckets-across, Step}
 use Rattle.rules.specs.Steps.{reset}
@@ -49,8 +49,8 @@ module _ (id : ℕ → ℕ) (b : ℕ) where
 
 -- a tile of the span s, which lies outside the union, is in nothing that the union has
 misses : (o : Option Span) (s x : Span) (t : ℕ) → apart o s ≡ true → covers s t ≡ true → Within o x → covers x t ≡ false
-misses none s x t a c h = absurd h
-misses (some u) s x t a c h =
+misses None s x t a c h = absurd h
+misses (Some u) s x t a c h =
     let (l, m) = h in
     let low = covers_low s t c in
     let high = covers_high s t c in
@@ -65,9 +65,9 @@ module _ (w : ℕ) (attrs : Attrs) where
       never (sym (covers-yes (tiles-of w f.buckets) t (from-bucket w pos p) (from-bucket-before w pos q)) ∙ misses d.union s (tiles-of w f.buckets) t a c h.tiles))
 
   -- the newest depth fill over the bucket of a tile that can be skipped does not hide it
-  pub skip-newest : 0 < w → (r : Row) → Summed w attrs r → (s : Span) (id : ℕ) → can-skip r.depth s id ≡ true → (t : ℕ) → covers s t ≡ true
+  pub skip-newest : 0 < w → (r : Row) → Summed w attrs r → (s : Span) (id : ℕ) → can_skip r.depth s id ≡ true → (t : ℕ) → covers s t ≡ true
       → is-visible id (newest (paint-id attrs) r.fills (t / w)) ≡ true
-  unfolding can-skip
+  unfolding can_skip
   skip-newest pos r a s id e t c = le-leb (newest (paint-id attrs) r.fills (t / w)) id (by (leb r.depth.largest id)
       (λ y.
       let l = leb-true r.depth.largest id y in
@@ -145,8 +145,8 @@ module _ (w : ℕ) (attrs : Attrs) where
         ap (λ (m : ℕ). length (painter-after w attrs r n m).buckets) e ∙ ap (λ (bs : List ℕ). length bs) (after_kept (k - f)).0 ∙ all)
 
 -- a yes is a done call's
-said-yes : (r : ℕ) (s : Span) (id : ℕ) (k : Canvas) → (can-skip-call r s id k).value ≡ true → can-skip (get_or k.screen.rows r fresh-row).depth s id ≡ true
-unfolding can-skip-call can-skip-answer
+said-yes : (r : ℕ) (s : Span) (id : ℕ) (k : Canvas) → (can-skip-call r s id k).value ≡ true → can_skip (get_or k.screen.rows r fresh-row).depth s id ≡ true
+unfolding can-skip-call can_skip_answer
 said-yes r s id k e = by (no_row k r)
     (λ y. never (sym (rw y at e)))
     (λ n. by (bad-range 8192 s)
@@ -193,7 +193,7 @@ skip-tile f xs k b e ts r h fp s id can t c on =
     let (v, there) = built-on f xs k.screen b r h in
     let near : t / bucket f < buckets-across k.screen.state.frame = rw v on in
     let row = get_or k.screen.rows r fresh-row in
-    let y : can-skip row.depth s id ≡ true = rw (painted-screen ts k e) at (said-yes r s id (painted ts k).canvas can) in
+    let y : can_skip row.depth s id ≡ true = rw (painted-screen ts k e) at (said-yes r s id (painted ts k).canvas can) in
     ap (is-visible id) (words-painted k e ts r there fp (t / bucket f) near)
     ∙ skip-newest (bucket f) k.screen.state.attrs (bucket-some f.width) row (built-summed f xs k.screen b r h) s id y t c
 

@@ -2,7 +2,7 @@
 use Prim.Native.Nat.{ℕ, ◌≤◌}
 use native.Mathlib.Nat.{le_refl}
 use native.Mathlib.Omega.{arith}
-use mathlib.Core.Option.{Option, none, some}
+use Rattle.std.specs.Prelude.{Option, None, Some}
 use Rattle.rules.specs.Spans.{Span, hull}
 use Rattle.rules.specs.Commands.{DepthFill}
 use Rattle.rules.specs.Attributes.{Attrs}
@@ -13,17 +13,17 @@ use Rattle.rules.proofs.All.{All, nil, cons, all_map, all_append}
 
 -- the span lies in the union
 abbrev pub Within : Option Span → Span → Type 0
-Within none s = ⊥
-Within (some u) s = (u.first ≤ s.first) × (s.end ≤ u.end)
+Within None s = ⊥
+Within (Some u) s = (u.first ≤ s.first) × (s.end ≤ u.end)
 
 -- a union that has grown still has what lay in it, and has what was added
-within-old : (o : Option Span) (s x : Span) → Within o x → Within (some (hull o s)) x
-within-old none s x h = absurd h
-within-old (some u) s x h = let (a, b) = h in (omega arith, omega arith)
+within-old : (o : Option Span) (s x : Span) → Within o x → Within (Some (hull o s)) x
+within-old None s x h = absurd h
+within-old (Some u) s x h = let (a, b) = h in (omega arith, omega arith)
 
-within_new : (o : Option Span) (s : Span) → Within (some (hull o s)) s
-within_new none s = (le_refl s.first, le_refl s.end)
-within_new (some u) s = (omega arith, omega arith)
+within_new : (o : Option Span) (s : Span) → Within (Some (hull o s)) s
+within_new None s = (le_refl s.first, le_refl s.end)
+within_new (Some u) s = (omega arith, omega arith)
 
 module _ (w : ℕ) (attrs : Attrs) where
   pub record Included (d : Summary) (f : DepthFill) : Type 0 where

@@ -1,6 +1,6 @@
 -- What playing a recording leaves, told by the steps of its walk.
 use Rattle.std.specs.Prelude.{ℕ, ◌≡◌, List, []}
-use Rattle.std.proofs.Math.Option.{some}
+use Rattle.std.specs.Prelude.{Some}
 use Rattle.rules.specs.Answers.{Answer}
 use Rattle.rules.specs.Rows.{Row, row-ops, fresh-row}
 use Rattle.rules.specs.Plans.{Step}
@@ -21,7 +21,7 @@ history p r = (walk-logged Row row-ops fresh-row (frame-of p r) r).value.log
 -- the words are well formed: the file's parts, and the recording that they say
 pub record Readable (ws : List ℕ) : Type 0 where
   pub parts : List (List (List ℕ))
-  pub formed : sections shape ws ≡ some parts
+  pub formed : sections shape ws ≡ Some parts
 
 abbrev pub said : {ws : List ℕ} → Readable ws → Recording
 said s = recording s.parts

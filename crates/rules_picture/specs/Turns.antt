@@ -68,8 +68,8 @@ painted ts k = turns ts (begin-call k).value
 -- painting steps ts of its rows by turns, in any mixture. When a row has finished, each of its tiles has received exactly what plain
 -- draw order gives it, in that order and at that nesting, less what came before the newest eligible solid segment that, once cut to
 -- the screen, covers the tile's whole bucket, at the frame's own width; where there is none, it has received everything.
-abbrev pub Demand-3 : Type 0
-Demand-3 =
+abbrev pub Picture : Type 0
+Picture =
     (f : Frame) (xs : List Step) (k : Canvas) → Built xs (reset fresh-row f) k.screen → (begin-call k).number ≡ Done
     → (ts : List Turn) (r t : ℕ) → r < rows_of f.viewport → t < width f.viewport / 4
     → has-finished (painted ts k).canvas r ≡ true

@@ -1,8 +1,8 @@
--- Tests: whose panels stand in a reason (T-07), by computation. The other tests are at panel 0.
+-- Tests: whose panels stand in a reason, by computation. The other tests are at panel 0.
 use Prim.Native.Nat.{ℕ}
 use mathlib.Core.Path.{◌≡◌, refl}
 use mathlib.Core.List.{List, [], ◌∷◌, map}
-use mathlib.Core.Option.{some}
+use Rattle.std.specs.Prelude.{Some}
 use Rattle.rules.specs.Boxes.{Box, box}
 use Rattle.rules.specs.Blends.{default-blend}
 use Rattle.rules.specs.Segments.{Segment}
@@ -13,7 +13,7 @@ use Rattle.rules_reason.proofs.Cases.{computing-reasons, draw-of, layer-of}
 
 -- a layer of panel q with a clip box
 abbrev layer-for : ℕ → Box → Step
-layer-for q b = a-push (any-props default-blend full 0 (some (clip b 0 2 3)) q)
+layer-for q b = a-push (any-props default-blend full 0 (Some (clip b 0 2 3)) q)
 
 -- a draw of one segment for panel q
 abbrev fill-for : ℕ → Segment → Step

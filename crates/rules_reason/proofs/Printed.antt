@@ -51,7 +51,7 @@ pub wide-text :
 unfolding computing-answers
 wide-text = refl
 
--- document 01's worked example, from its bytes: draws first, then layers
+-- the rules' worked example, from its bytes: draws first, then layers
 pub worked-text :
     why-text (usual exact W128) worked-bytes 0 0 every ≡
     100 ∷ 114 ∷ 97 ∷ 119 ∷ 32 ∷ 48 ∷ 58 ∷ 32 ∷ 110 ∷ 111 ∷ 32 ∷ 115 ∷ 101 ∷ 103 ∷ 109 ∷ 101 ∷ 110 ∷ 116 ∷ 32 ∷ 99 ∷ 111 ∷ 118 ∷ 101 ∷ 114 ∷ 115 ∷ 32 ∷ 116 ∷ 104 ∷ 101 ∷ 32 ∷ 116 ∷ 105 ∷ 108 ∷ 101 ∷ 44 ∷ 32 ∷ 112 ∷ 97 ∷ 110 ∷ 101 ∷ 108 ∷ 32

@@ -1,6 +1,6 @@
--- What `why` prints of a recording file's bytes, a row, a tile and a question (T-01): over the rules alone.
+-- What `why` prints of a recording file's bytes, a row, a tile and a question: over the rules alone.
 use Rattle.std.specs.Prelude.{ℕ, zero, suc, ◌/◌, Bool, true, false, ◌||◌, cond, List, [], ◌∷◌, ◌++◌, length, leb, eqb}
-use Rattle.std.proofs.Math.Option.{Option, none, some}
+use Rattle.std.specs.Prelude.{Option, None, Some}
 use Rattle.rules.specs.Answers.{Done, BadForm, BadRun}
 use Rattle.rules.specs.Boxes.{Box, width, rows_of}
 use Rattle.rules.specs.Rows.{Row, row-ops, fresh-row}
@@ -119,8 +119,8 @@ recording-answer f r row tile q =
     cond (off-screen f.viewport row tile) (refused-bytes BadRun) answer
 
 abbrev pub answer-in : Setup → Option (List (List (List ℕ))) → ℕ → ℕ → Question → List ℕ
-answer-in u none row tile q = refused-bytes BadForm
-answer-in u (some ss) row tile q = let r = recording ss in recording-answer (frame u r.viewport) r row tile q
+answer-in u None row tile q = refused-bytes BadForm
+answer-in u (Some ss) row tile q = let r = recording ss in recording-answer (frame u r.viewport) r row tile q
 
 -- a file's words, and what the screen is asked to be: the recording's own number first
 unfoldable pub why-words : Setup → List ℕ → ℕ → ℕ → Question → List ℕ
@@ -134,7 +134,7 @@ unfoldable pub why-text : Setup → List ℕ → ℕ → ℕ → Question → Li
 why-text u fs row tile q =
     elim (too_long (length fs)) [
       | true ↦ refused-bytes BadForm
-      | false ↦ elim (words_of fs) [ none ↦ refused-bytes BadForm | some ws ↦ why-words u ws row tile q ]
+      | false ↦ elim (words_of fs) [ None ↦ refused-bytes BadForm | Some ws ↦ why-words u ws row tile q ]
     ]
 
 -- in a stream: the line before question i's answer

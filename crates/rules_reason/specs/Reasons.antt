@@ -1,8 +1,8 @@
--- Why does this tile show that (T-01)? For one tile of one row, and one attribute: one reason, the first that holds, told by the history of
--- done steps in plain draw order (rules 3, 4, 9 and 11, demand 3). At w tiles a bucket.
+-- Why does this tile show that? For one tile of one row, and one attribute: one reason, the first that holds, told by the history of
+-- done steps in plain draw order (rules 3, 4, 9 and 11, and the picture). At w tiles a bucket.
 use Rattle.std.specs.Prelude.{ℕ, suc, ◌+◌, ◌/◌, Bool, true, false, ◌&&◌, not, cond, List, [], ◌∷◌, ◌++◌, length, eqb}
 use Rattle.std.specs.Bool.{beq}
-use Rattle.std.proofs.Math.Option.{Option, none, some}
+use Rattle.std.specs.Prelude.{Option, None, Some}
 use Rattle.rules.specs.Lists.{some_of, is-empty}
 use Rattle.rules.specs.Boxes.{Box, rows_in, span_of}
 use Rattle.rules.specs.Spans.{span, covers, solid-tiles}
@@ -71,13 +71,13 @@ module _ (w : ℕ) (v : Box) (row tile : ℕ) where
 
   -- before the cut: a clip's segments, or the whole viewport, which stands as the segment of a layer without a clip
   abbrev pub layer-covers : Option Clip → List Segment → Bool
-  layer-covers none ss = true
-  layer-covers (some c) ss = some_of covering (clip-segments (some c) ss)
+  layer-covers None ss = true
+  layer-covers (Some c) ss = some_of covering (clip-segments (Some c) ss)
 
   -- after it: a clip's segments cut by the parent's box, or the layer's own box
   abbrev pub layer-keeps : Option Clip → Box → List OpenLayer → List Segment → Bool
-  layer-keeps none own ls ss = meets own row tile
-  layer-keeps (some c) own ls ss = some_of keeping (here w v row tile ls (clip-segments (some c) ss))
+  layer-keeps None own ls ss = meets own row tile
+  layer-keeps (Some c) own ls ss = some_of keeping (here w v row tile ls (clip-segments (Some c) ss))
 
   -- a closing layer
   abbrev pub account-pop : List OpenLayer → List Segment → Story → List Account
@@ -127,14 +127,14 @@ module _ (w : ℕ) (v : Box) (row tile : ℕ) where
 
 -- the account of the asked attribute
 unfoldable pub account-of : Asked → List Account → Option Account
-account-of a [] = none
-account-of a (k ∷ ks) = cond (beq k.layer a.layer && eqb k.attribute a.attribute) (some k) (account-of a ks)
+account-of a [] = None
+account-of a (k ∷ ks) = cond (beq k.layer a.layer && eqb k.attribute a.attribute) (Some k) (account-of a ks)
 
 -- the place of the asked attribute's entry in a list that starts at place n
 unfoldable pub place_of : Asked → ℕ → List Told → Option ℕ
-place_of a n [] = none
+place_of a n [] = None
 place_of a n (t ∷ ts) =
-    cond (beq t.entry.layer a.layer && eqb t.entry.attribute a.attribute) (some n) (place_of a (suc n) ts)
+    cond (beq t.entry.layer a.layer && eqb t.entry.attribute a.attribute) (Some n) (place_of a (suc n) ts)
 
 -- an attribute and its panel
 pub record Hider : Type 0 where
@@ -154,13 +154,13 @@ hidden h q = hidden-by h.attribute h.panel q
 
 -- an entry of the tile's list, or one that is not in it any more; q: its panel
 abbrev pub placed : Option ℕ → List Told → ℕ → Reason
-placed (some n) ts q = shown-at n q
-placed none ts q = hidden (newest-hider ts) q
+placed (Some n) ts q = shown-at n q
+placed None ts q = hidden (newest-hider ts) q
 
 -- the first that holds
 unfoldable pub because : Asked → Option Account → List Told → Reason
-because a none ts = unknown-attribute
-because a (some k) ts =
+because a None ts = unknown-attribute
+because a (Some k) ts =
     cond (not k.covered) (no-segment k.panel)
     (cond (not k.kept) (cut-away k.panel)
     (cond (not k.touched) (row-untouched k.panel) (placed (place_of a 0 (shown ts)) ts k.panel)))

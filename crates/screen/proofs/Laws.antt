@@ -10,7 +10,7 @@ use borrow.Author.Tests.{leb-true, ltb-false, eqb-true, eq-eqb, ne_eqb, le-leb}
 use Rattle.sizes.specs.declared.width.Width.{Width}
 use Rattle.sizes.specs.Widths.{bucket-tiles}
 use Rattle.rules.specs.Lists.{is-empty}
-use Rattle.rules.specs.Boxes.{Box, width, height, by_4, whole, rows_of, buckets-of, good-viewport}
+use Rattle.rules.specs.Boxes.{Box, width, height, by_4, whole, rows_of, buckets-of, good_viewport}
 use Rattle.rules.specs.Attributes.{attrs-full, no-paint, no-layer}
 use Rattle.rules.specs.Plans as plans
 use Rattle.rules.specs.Plans.{Frame, Plan, clip-box}
@@ -20,7 +20,7 @@ use Rattle.rules.proofs.laws.Widths.{each}
 use Rattle.rect.specs.Rects.{box_of, same-box}
 use Rattle.rect.proofs.Boxes.{View, view}
 use Rattle.screen.specs.declared.Screen.{Screen}
-use Rattle.screen.specs.Screens.{in-tiles, good-clip, good-counts, good-screen, some-filter, layer-in, state-of, screen-after, counted, fresh-screen}
+use Rattle.screen.specs.Screens.{in-tiles, good_clip, good-counts, good_screen, some-filter, layer-in, state-of, screen-after, counted, fresh-screen}
 use Rattle.rules.proofs.All.{and_left, and_right, or_left, or_right}
 
 pub record Room (n : ℕ) : Type 0 where
@@ -35,9 +35,9 @@ room n h =
 pub small : (n k c : ℕ) → n ≤ 512 → k ≤ 4 → good-room c ≡ true → n * (k * c) ≤ 2097152
 small n k c p q g = mul-le-mul {n₂ = 512} {m₂ = 4096} p (mul-le-mul {n₂ = 4} {m₂ = 1024} q (room c g).few)
 
-module _ (v : Box) (g : good-viewport v ≡ true) where
-  pub few-rows : rows_of v ≤ 512
-  few-rows = omega (arith, (view v g).high)
+module _ (v : Box) (g : good_viewport v ≡ true) where
+  pub few_rows : rows_of v ≤ 512
+  few_rows = omega (arith, (view v g).high)
 
   pub few-buckets : (w : Width) → buckets-of (bucket-tiles w) v ≤ 64
   few-buckets w = each (λ w. buckets-of w v ≤ 64) (omega (arith, (view v g).wide)) (omega (arith, (view v g).wide)) (omega (arith, (view v g).wide)) w
@@ -125,14 +125,14 @@ module _ (v b : Box) where
       }
 
   -- of a good viewport
-  pub clip : (n : ℕ) → good-viewport v ≡ true → good-clip v b n ≡ true → Clip v b
-  unfolding good-clip
+  pub clip : (n : ℕ) → good_viewport v ≡ true → good_clip v b n ≡ true → Clip v b
+  unfolding good_clip
   clip zero g h = rw (same b (whole v) h) (whole-clip v (view v g))
   clip (suc n) g h = inside-clip (rw (ne_eqb (suc n) 0 (λ e. omega arith)) at h)
 
   -- .. and the other way, with a layer open
-  pub clip-good : (n : ℕ) → Clip v b → good-clip v b (suc n) ≡ true
-  unfolding good-clip
+  pub clip-good : (n : ℕ) → Clip v b → good_clip v b (suc n) ≡ true
+  unfolding good_clip
   clip-good n k =
       rw (
         ne_eqb (suc n) 0 (λ e. omega arith),
@@ -146,15 +146,15 @@ module _ (v b : Box) where
         le-leb _ _ k.bottom,
       )
 
-  clip-is : (n : ℕ) → good-clip v b n ≡ true → clip-box v (replicate n (layer-in b)) ≡ b
-  unfolding good-clip
+  clip-is : (n : ℕ) → good_clip v b n ≡ true → clip-box v (replicate n (layer-in b)) ≡ b
+  unfolding good_clip
   clip-is zero h = sym (same b (whole v) h)
   clip-is (suc n) h = refl
 
-module _ (s : Screen) (g : good-screen s ≡ true) where
+module _ (s : Screen) (g : good_screen s ≡ true) where
   -- the counts of a good screen
   pub bounds : Bounds s
-  unfolding good-screen
+  unfolding good_screen
   bounds =
       let t1 = leb 1 s.next_draw_id in
       let t2 = leb s.next_draw_id 1048577 in
@@ -176,8 +176,8 @@ module _ (s : Screen) (g : good-screen s ≡ true) where
         deep = leb-true _ _ (and_right (t1 && t2 && t3 && t4 && t5) t6 h6);
       }
 
-  pub good-clip-of : good-clip (box_of s.viewport) (box_of s.clip_bbox) s.layers ≡ true
-  unfolding good-screen
+  pub good-clip-of : good_clip (box_of s.viewport) (box_of s.clip_bbox) s.layers ≡ true
+  unfolding good_screen
   good-clip-of = and_right (good-counts s) _ g
 
   -- its clip box is the rules'
@@ -222,15 +222,15 @@ pub fresh-state : (f : Frame) → state-of (fresh-screen f) ≡ reset-state f
 unfolding state-of
 fresh-state f = refl
 
-pub fresh-good : (f : Frame) → good-screen (fresh-screen f) ≡ true
-unfolding good-screen good-clip
+pub fresh-good : (f : Frame) → good_screen (fresh-screen f) ≡ true
+unfolding good_screen good_clip
 fresh-good f = same-itself (whole f.viewport)
 
 -- a done plan leaves a good screen, if its clip box is good
 pub good-after : (s : Screen) (p : Plan) → 1 ≤ p.next → p.next ≤ 1048577 → attrs-full p.attrs ≡ false → length p.layers ≤ 16
-    → good-clip (box_of s.viewport) (clip-box (box_of s.viewport) p.layers) (length p.layers) ≡ true
-    → good-screen (screen-after s p) ≡ true
-unfolding good-screen screen-after
+    → good_clip (box_of s.viewport) (clip-box (box_of s.viewport) p.layers) (length p.layers) ≡ true
+    → good_screen (screen-after s p) ≡ true
+unfolding good_screen screen-after
 good-after s p h1 h2 h3 h4 h5 =
     let f1 = ltb 1024 (length p.attrs.paints) in
     let f2 = ltb 1024 (length p.attrs.layers) in

@@ -1,4 +1,3 @@
-pub mod Clearing
 pub mod Laws
 pub mod Judged
 pub mod Resets

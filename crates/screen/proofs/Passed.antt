@@ -7,14 +7,14 @@ use native.Mathlib.Omega.{arith}
 use lib.Dec.{eqb}
 use borrow.Author.Tests.{eqb-true, not-false}
 use Rattle.rules.specs.Answers.{first_of}
-use Rattle.rules.specs.Boxes.{good-viewport, rows_of}
+use Rattle.rules.specs.Boxes.{good_viewport, rows_of}
 use Rattle.rules.specs.Plans.{Frame, buckets-across}
 use Rattle.rules.specs.Walk.{good-room, good-arenas}
 use Rattle.rect.specs.Rects.{box_of}
 use Rattle.screen.specs.declared.Screen.{Screen}
 use Rattle.screen.specs.declared.Lengths.{Lengths}
-use Rattle.screen.specs.Screens.{good-screen, fresh-screen}
-use Rattle.screen.specs.Judging.{good-rooms, judged, good-fixed, good-tables, arenas, judged-reset}
+use Rattle.screen.specs.Screens.{good_screen, fresh-screen}
+use Rattle.screen.specs.Judging.{good-rooms, judged, good-fixed, good-tables, arenas, judged_reset}
 use Rattle.rules.proofs.All.{and_left, and_right}
 use Rattle.screen.proofs.Laws.{Room, room, fresh-good}
 use Rattle.screen.proofs.Judged.{good}
@@ -29,13 +29,13 @@ none_said false false false h = (refl, refl, refl)
 -- a screen of n rows that a building step takes
 pub record Passed (s : Screen) (rows render fills n : ℕ) : Type 0 where
   pub rows-of-it : n ≡ rows_of (box_of s.viewport)
-  pub view : good-viewport (box_of s.viewport) ≡ true
+  pub view : good_viewport (box_of s.viewport) ≡ true
   pub c-room : Room s.c
   pub d-room : Room s.d
   pub render-words : render ≡ n * (4 * s.c)
   pub fill-words : fills ≡ n * (2 * s.d)
   pub row_words : rows ≡ n * 54
-  pub screen : good-screen s ≡ true
+  pub screen : good_screen s ≡ true
 
 module _ (s : Screen) (rows render fills : ℕ) where
   pub passed : judged s rows render fills ≡ 0 → Passed s rows render fills (rows_of (box_of s.viewport))
@@ -47,11 +47,11 @@ module _ (s : Screen) (rows render fills : ℕ) where
       let d = good-room s.d in
       let re = eqb render (n * (4 * s.c)) in
       let fi = eqb fills (n * (2 * s.d)) in
-      let all = none_said (not (good-viewport (box_of s.viewport))) (not (good-rooms n s.c s.d render fills)) (not (t && good-screen s)) h in
+      let all = none_said (not (good_viewport (box_of s.viewport))) (not (good-rooms n s.c s.d render fills)) (not (t && good_screen s)) h in
       let r4 : (c && d && re && fi) ≡ true = not-false _ all.1 in
       let r3 : (c && d && re) ≡ true = and_left (c && d && re) fi r4 in
       let r2 : (c && d) ≡ true = and_left (c && d) re r3 in
-      let l : (t && good-screen s) ≡ true = not-false _ all.2 in
+      let l : (t && good_screen s) ≡ true = not-false _ all.2 in
       record {
         rows-of-it = refl;
         view = not-false _ all.0;
@@ -59,20 +59,20 @@ module _ (s : Screen) (rows render fills : ℕ) where
         d-room = room _ (and_right c d r2);
         render-words = eqb-true _ _ (and_right (c && d) re r3);
         fill-words = eqb-true _ _ (and_right (c && d && re) fi r4);
-        row_words = eqb-true _ _ (and_left t (good-screen s) l);
-        screen = and_right t (good-screen s) l;
+        row_words = eqb-true _ _ (and_left t (good_screen s) l);
+        screen = and_right t (good_screen s) l;
       }
 
 module _ (f : Frame) (l : Lengths) where
   -- each test of a reset that is judged 0
-  pub reset-says : judged-reset f l ≡ 0 → (good-viewport f.viewport ≡ true) × (good-arenas f (arenas l) ≡ true) × (good-tables (rows_of f.viewport) l ≡ true)
-  unfolding judged-reset
+  pub reset-says : judged_reset f l ≡ 0 → (good_viewport f.viewport ≡ true) × (good-arenas f (arenas l) ≡ true) × (good-tables (rows_of f.viewport) l ≡ true)
+  unfolding judged_reset
   reset-says h =
-      let all = none_said (not (good-viewport f.viewport)) (not (good-arenas f (arenas l))) (not (good-tables (rows_of f.viewport) l)) h in
+      let all = none_said (not (good_viewport f.viewport)) (not (good-arenas f (arenas l))) (not (good-tables (rows_of f.viewport) l)) h in
       (not-false _ all.0, not-false _ all.1, not-false _ all.2)
 
   -- after a done reset a building step finds nothing wrong with the screen
-  pub reset-passes : judged-reset f l ≡ 0 → judged (fresh-screen f) l.rows l.render l.fills ≡ 0
+  pub reset-passes : judged_reset f l ≡ 0 → judged (fresh-screen f) l.rows l.render l.fills ≡ 0
   reset-passes h =
       let n = rows_of f.viewport in
       let a = good-room f.c && good-room f.d in

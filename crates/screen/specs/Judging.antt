@@ -2,13 +2,13 @@
 use Rattle.std.specs.Prelude.{ℕ, ◌*◌, Bool, ◌&&◌, not, [], ◌∷◌, eqb}
 use Rattle.sizes.specs.Sizes.{row-size, open-layer-table, opacity-count, paint-attr-table, layer-attr-table, filter-paint-table}
 use Rattle.rules.specs.Answers.{first_of, BadArena, BadViewport, BadRecord}
-use Rattle.rules.specs.Boxes.{good-viewport, rows_of}
+use Rattle.rules.specs.Boxes.{good_viewport, rows_of}
 use Rattle.rules.specs.Plans.{Frame}
 use Rattle.rules.specs.Walk.{Arenas, good-room, good-arenas}
 use Rattle.rect.specs.Rects.{box_of}
 use Rattle.screen.specs.declared.Screen.{Screen}
 use Rattle.screen.specs.declared.Lengths.{Lengths}
-use Rattle.screen.specs.Screens.{good-screen}
+use Rattle.screen.specs.Screens.{good_screen}
 
 -- C and D in range, and the render and depth fill arenas of n rows lent exactly
 abbrev pub good-rooms : ℕ → ℕ → ℕ → ℕ → ℕ → Bool
@@ -19,9 +19,9 @@ unfoldable pub judged : Screen → ℕ → ℕ → ℕ → ℕ
 judged s rows render fills =
     let n = rows_of (box_of s.viewport) in
     first_of
-    ((not (good-viewport (box_of s.viewport)), BadViewport)
+    ((not (good_viewport (box_of s.viewport)), BadViewport)
     ∷ (not (good-rooms n s.c s.d render fills), BadArena)
-    ∷ (not (eqb rows (n * row-size) && good-screen s), BadRecord)
+    ∷ (not (eqb rows (n * row-size) && good_screen s), BadRecord)
     ∷ [])
 
 -- the tables whose length no screen changes
@@ -41,10 +41,10 @@ abbrev pub arenas : Lengths → Arenas
 arenas l = record { render = l.render; fills = l.fills; depth = l.depth }
 
 -- a reset to a frame
-unfoldable pub judged-reset : Frame → Lengths → ℕ
-judged-reset f l =
+unfoldable pub judged_reset : Frame → Lengths → ℕ
+judged_reset f l =
     first_of
-    ((not (good-viewport f.viewport), BadViewport)
+    ((not (good_viewport f.viewport), BadViewport)
     ∷ (not (good-arenas f (arenas l)), BadArena)
     ∷ (not (good-tables (rows_of f.viewport) l), BadRecord)
     ∷ [])

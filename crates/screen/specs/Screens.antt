@@ -1,6 +1,6 @@
 -- A screen's numbers: what it stands for among the rules, and which are good (answer 4).
 use Rattle.std.specs.Prelude.{ℕ, Bool, false, ◌&&◌, cond, length, replicate, leb, eqb, pos}
-use Rattle.std.proofs.Math.Option.{none}
+use Rattle.std.specs.Prelude.{None}
 use Rattle.sizes.specs.Sizes.{most-layers, most-attrs, most-filters}
 use Rattle.rules.specs.Boxes.{Box, width, height, by_4, whole}
 use Rattle.rules.specs.Blends.{default-blend}
@@ -28,8 +28,8 @@ abbrev pub in-tiles : Box → Bool
 in-tiles b = by_4 b.x0 && by_4 b.y0 && by_4 b.x1 && by_4 b.y1
 
 -- the clip box b of n open layers in the viewport v: the whole viewport with none open
-unfoldable pub good-clip : Box → Box → ℕ → Bool
-good-clip v b n =
+unfoldable pub good_clip : Box → Box → ℕ → Bool
+good_clip v b n =
     cond (eqb n 0) (same-box b (whole v))
     (in-tiles b && leb b.x0 32768 && leb b.y0 32768 && leb b.x1 (width v) && leb b.y1 (height v))
 
@@ -43,15 +43,15 @@ good-counts s =
     && leb s.filter_paints most-filters
     && leb s.layers most-layers
 
-unfoldable pub good-screen : Screen → Bool
-good-screen s = good-counts s && good-clip (box_of s.viewport) (box_of s.clip_bbox) s.layers
+unfoldable pub good_screen : Screen → Bool
+good_screen s = good-counts s && good_clip (box_of s.viewport) (box_of s.clip_bbox) s.layers
 
 -- filter paints and layers where only their number matters
 abbrev pub some-filter : FilterPaint
 some-filter = record { pixmap = 0; shift-x = pos 0; shift-y = pos 0 }
 
 abbrev pub layer-in : Box → Layer
-layer-in b = record { props = record { blend = default-blend; opacity = 0; mask = 0; clip = none; panel = 0 }; bounds = b }
+layer-in b = record { props = record { blend = default-blend; opacity = 0; mask = 0; clip = None; panel = 0 }; bounds = b }
 
 -- the rules' state for a step that reads no more of the attributes than their number, and of the layers the clip box
 unfoldable pub state-of : Screen → State

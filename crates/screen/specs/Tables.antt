@@ -1,16 +1,19 @@
 -- The words that a host lends, and what a reset leaves of them (rule 1).
-use Rattle.std.specs.Prelude.{ℕ, List, length, replicate, ℤ, pos, Float}
+use Rattle.std.specs.Prelude.{Result, ℕ, List, length, replicate, ℤ, pos, Float}
 use Rattle.std.specs.Float.Ieee.{of_bits}
 use Rattle.std.specs.Float.{binary32}
-use Rattle.rules.specs.Answers.{Answer, settle}
+use Rattle.std.specs.Result.{result_unwrap_or}
+use Rattle.sizes.specs.declared.answers.Refusal.{Refusal}
+use Rattle.sizes.specs.Refusals.{answer_number}
+use Rattle.rules.specs.Answers.{Answer, answer, settle}
 use Rattle.rules.specs.Plans.{Frame}
 use Rattle.screen.specs.declared.Screen.{Screen}
 use Rattle.screen.specs.declared.Lengths.{Lengths}
 use Rattle.screen.specs.Screens.{fresh-screen}
-use Rattle.screen.specs.Judging.{judged-reset}
+use Rattle.screen.specs.Judging.{judged_reset}
 
 -- as many zeros z as there are words
-unfoldable pub zeros : {A : Type 0} → A → List A → List A
+abbrev pub zeros : {A : Type 0} → A → List A → List A
 zeros z xs = replicate (length xs) z
 
 abbrev pub float-0 : Float
@@ -71,6 +74,10 @@ pub record ScreenLent : Type 0 where
 abbrev pub lent : Screen → Tables → ScreenLent
 lent s t = record { screen = s; tables = t }
 
+-- what a call answers: the screen that it gives and its words; refused, the screen that was there
+abbrev pub answer_of : Screen → Result Screen Refusal → Tables → Answer ScreenLent
+answer_of s r t = answer (answer_number r) (lent (result_unwrap_or r s) t)
+
 -- a reset to a frame: the fresh screen with every word 0, or what was there before
-unfoldable pub reset-to : Frame → ScreenLent → Answer ScreenLent
-reset-to f l = settle (judged-reset f (lengths l.tables)) l (lent (fresh-screen f) (zeroed l.tables))
+unfoldable pub reset_to : Frame → ScreenLent → Answer ScreenLent
+reset_to f l = settle (judged_reset f (lengths l.tables)) l (lent (fresh-screen f) (zeroed l.tables))

@@ -1,23 +1,25 @@
 // A screen: its numbers by value, its words lent (rule 1). `reset` is a public call; the others are parts of the building steps.
 #![tactic(auto)]
 
-ghost use Rattle.std.specs.Prelude.{true, ◌≡◌, ◌≤◌, pos};
+ghost use Rattle.std.specs.Prelude.{true, ◌≡◌, ◌≤◌};
 ghost use Rattle.sizes.specs.Sizes.{most-rows};
 ghost use Rattle.sizes.specs.Widths.{bucket-tiles};
-ghost use Rattle.rules.specs.Answers.{answer};
-ghost use Rattle.rules.specs.Boxes.{good-viewport, rows_of, buckets-of};
+ghost use Rattle.sizes.specs.Refusals.{answer_number};
+ghost use Rattle.rules.specs.Boxes.{good_viewport, rows_of, buckets-of};
 ghost use Rattle.rules.specs.Walk.{good-room};
 ghost use Rattle.rect.specs.Rects.{box_of};
-ghost use Rattle.screen.specs.Screens.{in-tiles, good-clip, good-screen, frame, frame-of, fresh-screen};
-ghost use Rattle.screen.specs.Judging.{good-rooms, judged, good-fixed, judged-reset};
-ghost use Rattle.screen.specs.Tables.{zeros, tables, lent, reset-to, float-0};
+ghost use Rattle.screen.specs.declared.Screen.{Screen};
+ghost use Rattle.screen.specs.Screens.{in-tiles, good_clip, good_screen, frame, frame-of, fresh-screen};
+ghost use Rattle.screen.specs.Judging.{good-rooms, judged, good-fixed, judged_reset};
+ghost use Rattle.screen.specs.Tables.{lengths, zeroed, answer_of, reset_to};
+ghost use Rattle.screen.specs.Lent.{tables_in, whole, SameLent};
 
-use rect::{Mode, Rect, Viewport};
-use sizes::answers::{BAD_ARENA, BAD_RECORD, BAD_VIEWPORT, DONE};
+use rect::{Mode, Rect};
+use sizes::answers::Refusal;
 use sizes::width::Width;
 use sizes::{
-    FILTER_TABLE, LAYER_TABLE, MOST_ATTRS, MOST_FILTERS, MOST_LAYERS, MOST_ROOM, OPACITIES,
-    OPEN_TABLE, PAINT_TABLE, ROW,
+    FILTER_TABLE, LAST_ID, LAYER_TABLE, MOST_ATTRS, MOST_FILTERS, MOST_LAYERS, MOST_ROOM,
+    OPACITIES, OPEN_TABLE, PAINT_TABLE, ROW,
 };
 
 #[derive(Clone, Copy)]
@@ -45,11 +47,20 @@ pub struct Setup {
     pub width: Width,
 }
 
-// What a call gives: its number, and the screen afterwards.
-#[derive(Clone, Copy)]
-pub struct Built {
-    pub number: u32,
-    pub screen: Screen,
+// All that a host lends with a screen: the rows' render commands, depth fills, depth words and records, what the painter keeps of each row,
+// the open layers and their opacities, and the tables of attributes.
+#[derive(Drop)]
+pub struct Lent<'a> {
+    pub render: &'a mut [u32],
+    pub fills: &'a mut [u32],
+    pub depth: &'a mut [u32],
+    pub rows: &'a mut [u32],
+    pub painting: &'a mut [u32],
+    pub layers: &'a mut [u32],
+    pub opacities: &'a mut [f32],
+    pub paint_attrs: &'a mut [u32],
+    pub layer_attrs: &'a mut [u32],
+    pub filter_paints: &'a mut [i32],
 }
 
 // How many words are lent.
@@ -71,90 +82,54 @@ pub struct Lengths {
 pub fn is_good_room(n: u32) -> bool
     ensures { result ≡ good-room n }
 {
-    if n < 1 {
-        return false;
-    }
-    n <= MOST_ROOM
+    (1..=MOST_ROOM).contains(&n)
 }
 
 // Multiples of 4.
 fn is_in_tiles(b: Rect) -> bool
     ensures { result ≡ in-tiles (box_of b) }
 {
-    if b.x0 % 4 != 0 {
-        return false;
-    }
-    if b.y0 % 4 != 0 {
-        return false;
-    }
-    if b.x1 % 4 != 0 {
-        return false;
-    }
-    b.y1 % 4 == 0
+    b.x0 % 4 == 0 && b.y0 % 4 == 0 && b.x1 % 4 == 0 && b.y1 % 4 == 0
 }
 
+#[tactic(auto, unfolding(crate::specs::Screens::good_clip))]
 fn is_good_clip(viewport: Rect, clip: Rect, layers: u32) -> bool
-    ensures { result ≡ good-clip (box_of viewport) (box_of clip) layers }
+    ensures { result ≡ good_clip (box_of viewport) (box_of clip) layers }
 {
     if layers == 0 {
-        return clip.is_same(viewport.whole());
+        return clip == viewport.whole();
     }
-    if !is_in_tiles(clip) {
-        return false;
-    }
-    if 32768 < clip.x0 {
-        return false;
-    }
-    if 32768 < clip.y0 {
-        return false;
-    }
-    if viewport.width() < clip.x1 {
-        return false;
-    }
-    clip.y1 <= viewport.height()
+    is_in_tiles(clip)
+        && clip.x0 <= 32768
+        && clip.y0 <= 32768
+        && clip.x1 <= viewport.width()
+        && clip.y1 <= viewport.height()
 }
 
 impl Screen {
     pub fn rows(self) -> usize
         ensures { result ≡ rows_of (box_of self.viewport) }
     {
-        let viewport = self.viewport;
-        (viewport.height() / 4) as usize
+        (self.viewport.height() / 4) as usize
     }
 
     pub fn buckets(self) -> usize
         ensures { result ≡ buckets-of (bucket-tiles self.width) (box_of self.viewport) }
     {
-        let viewport = self.viewport;
-        let width = self.width;
-        width.above(viewport.width() / 4) as usize
+        self.width.above(self.viewport.width() / 4) as usize
     }
 
     // The screen's own numbers, answer 4.
+    #[tactic(auto, unfolding(crate::specs::Screens::good_screen))]
     pub fn is_good(self) -> bool
-        ensures { result ≡ good-screen self }
+        ensures { result ≡ good_screen self }
     {
-        let viewport = self.viewport;
-        let clip = self.clip_bbox;
-        if self.next_draw_id < 1 {
-            return false;
-        }
-        if 1048577 < self.next_draw_id {
-            return false;
-        }
-        if MOST_ATTRS < self.paint_attrs {
-            return false;
-        }
-        if MOST_ATTRS < self.layer_attrs {
-            return false;
-        }
-        if MOST_FILTERS < self.filter_paints {
-            return false;
-        }
-        if MOST_LAYERS < self.layers {
-            return false;
-        }
-        is_good_clip(viewport, clip, self.layers)
+        (1..=LAST_ID + 1).contains(&self.next_draw_id)
+            && self.paint_attrs <= MOST_ATTRS
+            && self.layer_attrs <= MOST_ATTRS
+            && self.filter_paints <= MOST_FILTERS
+            && self.layers <= MOST_LAYERS
+            && is_good_clip(self.viewport, self.clip_bbox, self.layers)
     }
 }
 
@@ -163,67 +138,28 @@ pub fn is_good_rooms(n: usize, c: u32, d: u32, render: usize, fills: usize) -> b
     requires { n ≤ most-rows }
     ensures { result ≡ good-rooms n c d render fills }
 {
-    if !is_good_room(c) {
-        return false;
-    }
-    if !is_good_room(d) {
-        return false;
-    }
-    if render != n * (4 * (c as usize)) {
-        return false;
-    }
-    fills == n * (2 * (d as usize))
+    is_good_room(c)
+        && is_good_room(d)
+        && render == n * (4 * c as usize)
+        && fills == n * (2 * d as usize)
 }
 
-// 2, then 1, then 4, or 0: the screen's numbers, and how many words of it are lent.
-pub fn judge_screen(screen: Screen, rows: usize, render: usize, fills: usize) -> u32
-    ensures { result ≡ judged screen rows render fills }
+// 2, then 1, then 4: the screen's numbers, and how many words of it are lent.
+#[tactic(auto, unfolding(crate::specs::Judging::judged))]
+pub fn judge_screen(screen: Screen, rows: usize, render: usize, fills: usize) -> Result<(), Refusal>
+    ensures { answer_number result ≡ judged screen rows render fills }
 {
-    let viewport = screen.viewport;
-    if !viewport.is_good_viewport() {
-        return BAD_VIEWPORT;
+    if !screen.viewport.is_good_viewport() {
+        return Err(Refusal::BadViewport);
     }
     let n = screen.rows();
     if !is_good_rooms(n, screen.c, screen.d, render, fills) {
-        return BAD_ARENA;
+        return Err(Refusal::BadArena);
     }
-    if rows != n * ROW {
-        return BAD_RECORD;
+    if rows != n * ROW || !screen.is_good() {
+        return Err(Refusal::BadRecord);
     }
-    if !screen.is_good() {
-        return BAD_RECORD;
-    }
-    DONE
-}
-
-pub fn clear(words: &mut [u32])
-    ensures { words.new ≡ zeros 0 words.old }
-{
-    let mut i = 0;
-    while i < words.len() {
-        words[i] = 0;
-        i += 1;
-    }
-}
-
-pub fn clear_signed(words: &mut [i32])
-    ensures { words.new ≡ zeros (pos 0) words.old }
-{
-    let mut i = 0;
-    while i < words.len() {
-        words[i] = 0;
-        i += 1;
-    }
-}
-
-pub fn clear_floats(words: &mut [f32])
-    ensures { words.new ≡ zeros float-0 words.old }
-{
-    let mut i = 0;
-    while i < words.len() {
-        words[i] = 0.0;
-        i += 1;
-    }
+    Ok(())
 }
 
 // A screen with nothing on it.
@@ -250,102 +186,76 @@ impl Lengths {
     fn is_good_fixed(self) -> bool
         ensures { result ≡ good-fixed self }
     {
-        if self.layers != OPEN_TABLE {
-            return false;
-        }
-        if self.opacities != OPACITIES {
-            return false;
-        }
-        if self.paint_attrs != PAINT_TABLE {
-            return false;
-        }
-        if self.layer_attrs != LAYER_TABLE {
-            return false;
-        }
-        self.filter_paints == FILTER_TABLE
+        self.layers == OPEN_TABLE
+            && self.opacities == OPACITIES
+            && self.paint_attrs == PAINT_TABLE
+            && self.layer_attrs == LAYER_TABLE
+            && self.filter_paints == FILTER_TABLE
     }
 }
 
-// 1, then 4, or 0: how many words a reset is lent for a screen of a good viewport.
-fn judge_reset(screen: Screen, lent: Lengths) -> u32
-    requires { good-viewport (box_of screen.viewport) ≡ true }
-    ensures { result ≡ judged-reset (frame-of screen) lent }
+// 1, then 4: how many words a reset is lent for a screen of a good viewport.
+#[tactic(auto, unfolding(crate::specs::Judging::judged_reset))]
+fn judge_reset(screen: Screen, lent: Lengths) -> Result<(), Refusal>
+    requires { good_viewport (box_of screen.viewport) ≡ true }
+    ensures { answer_number result ≡ judged_reset (frame-of screen) lent }
 {
     let n = screen.rows();
-    if !is_good_rooms(n, screen.c, screen.d, lent.render, lent.fills) {
-        return BAD_ARENA;
+    if !is_good_rooms(n, screen.c, screen.d, lent.render, lent.fills)
+        || lent.depth != n * screen.buckets()
+    {
+        return Err(Refusal::BadArena);
     }
-    if lent.depth != n * screen.buckets() {
-        return BAD_ARENA;
+    if lent.rows != n * ROW || lent.painting != n * 2 || !lent.is_good_fixed() {
+        return Err(Refusal::BadRecord);
     }
-    if lent.rows != n * ROW {
-        return BAD_RECORD;
-    }
-    if lent.painting != n * 2 {
-        return BAD_RECORD;
-    }
-    if !lent.is_good_fixed() {
-        return BAD_RECORD;
-    }
-    DONE
+    Ok(())
 }
 
-// Rule 1.
-pub fn reset(
-    screen: Screen,
-    viewport: Rect,
-    setup: Setup,
-    render: &mut [u32],
-    fills: &mut [u32],
-    depth: &mut [u32],
-    rows: &mut [u32],
-    painting: &mut [u32],
-    layers: &mut [u32],
-    opacities: &mut [f32],
-    paint_attrs: &mut [u32],
-    layer_attrs: &mut [u32],
-    filter_paints: &mut [i32],
-) -> Built
-    ensures { answer result.number (lent result.screen (tables render.new fills.new depth.new rows.new painting.new layers.new opacities.new paint_attrs.new layer_attrs.new filter_paints.new))
-        ≡ reset-to (frame setup viewport) (lent screen (tables render.old fills.old depth.old rows.old painting.old layers.old opacities.old paint_attrs.old layer_attrs.old filter_paints.old)) }
+impl Lent<'_> {
+    fn lengths(&self) -> Lengths
+        ensures { result ≡ lengths (tables_in self.now) }
+    {
+        Lengths {
+            render: self.render.len(),
+            fills: self.fills.len(),
+            depth: self.depth.len(),
+            rows: self.rows.len(),
+            painting: self.painting.len(),
+            layers: self.layers.len(),
+            opacities: self.opacities.len(),
+            paint_attrs: self.paint_attrs.len(),
+            layer_attrs: self.layer_attrs.len(),
+            filter_paints: self.filter_paints.len(),
+        }
+    }
+
+    // Every word becomes 0, as a reset leaves it.
+    pub fn clear(&mut self)
+        ensures same { SameLent self.old self.new }
+        ensures zeroed { tables_in self.new ≡ zeroed (tables_in self.old) }
+    {
+        self.render.fill(0);
+        self.fills.fill(0);
+        self.depth.fill(0);
+        self.rows.fill(0);
+        self.painting.fill(0);
+        self.layers.fill(0);
+        self.opacities.fill(0.0);
+        self.paint_attrs.fill(0);
+        self.layer_attrs.fill(0);
+        self.filter_paints.fill(0);
+    }
+}
+
+// Rule 1: the screen that it begins; refused, every word stays.
+pub fn reset(viewport: Rect, setup: Setup, lent: &mut Lent<'_>) -> Result<Screen, Refusal>
+    ensures same { SameLent lent.old lent.new }
+    ensures reset { (screen : Screen) → answer_of screen result (tables_in lent.new) ≡ reset_to (frame setup viewport) (whole screen lent.old) }
 {
-    let mode = setup.mode;
-    let Viewport::Good(seen) = viewport.viewport_in(mode) else {
-        return Built {
-            number: BAD_VIEWPORT,
-            screen,
-        };
-    };
-    let width = setup.width;
-    let begun = fresh(seen, setup.c, setup.d, width);
-    let lent = Lengths {
-        render: render.len(),
-        fills: fills.len(),
-        depth: depth.len(),
-        rows: rows.len(),
-        painting: painting.len(),
-        layers: layers.len(),
-        opacities: opacities.len(),
-        paint_attrs: paint_attrs.len(),
-        layer_attrs: layer_attrs.len(),
-        filter_paints: filter_paints.len(),
-    };
-    let n = judge_reset(begun, lent);
-    if n != DONE {
-        return Built { number: n, screen };
-    }
-    clear(render);
-    clear(fills);
-    clear(depth);
-    clear(rows);
-    clear(painting);
-    clear(layers);
-    clear_floats(opacities);
-    clear(paint_attrs);
-    clear(layer_attrs);
-    clear_signed(filter_paints);
-    Built {
-        number: DONE,
-        screen: begun,
-    }
+    let seen = viewport.viewport_in(setup.mode)?;
+    let screen = fresh(seen, setup.c, setup.d, setup.width);
+    judge_reset(screen, lent.lengths())?;
+    lent.clear();
+    Ok(screen)
 }

@@ -1,15 +1,16 @@
 -- Laws of the table of open layers, for this crate and its callers. Assumes nothing.
-use mathlib.Core.Path.{◌≡◌, refl, sym, ◌∙◌}
+use mathlib.Core.Path.{◌≡◌, refl, sym, ap, ◌∙◌}
 use mathlib.Core.Bool.{Bool, true, false}
-use mathlib.Core.List.{List}
-use mathlib.Core.Option.{Option, none, some}
-use Prim.Native.Nat.{ℕ, suc, ◌≤◌, ◌<◌, ◌+◌, ◌-◌, ◌*◌, ◌%◌}
+use mathlib.Core.List.{List, ◌++◌}
+use Rattle.std.specs.Prelude.{Option, None, Some}
+use Prim.Native.Nat.{ℕ, ◌≤◌, ◌<◌, ◌+◌, ◌-◌, ◌*◌, ◌%◌}
 use native.Mathlib.Omega.{arith}
 use lib.Dec.{leb, ltb, eqb}
-use lib.ListN.{length, get_or, set, replicate, length-set}
-use lib.Seq.{sets, sets-eq}
-use lib.Ieee as ieee
-use lib.Ieee.{Float, inf, fin, binary32, up, down, eq, ne, is_nan}
+use lib.ListN.{length, get_or, replicate, take, drop}
+use borrow.Rule.Slice.PartMut.{put_mid}
+use Rattle.std.proofs.lemmas.List.{drop-drop}
+use Rattle.std.proofs.Common.{append_assoc, length-drop, length-take-le}
+use lib.Ieee.{Float, binary32, is_nan}
 use lib.Ieee.Bits.{nan_bits_above}
 use borrow.Author.Tests.{eq-eqb, leb-true, leb-false}
 use Rattle.sizes.specs.Sizes.{most-layers, open-layer-size, open-layer-table}
@@ -19,32 +20,18 @@ use Rattle.cmd.specs.Attrs.{words-at}
 use Rattle.cmd.proofs.Tables.{length_at, at-inside, at-below, at_after}
 use Rattle.screen_layers.specs.Layers.{good-pattern, layer-words, no_words, layer-word, box_in, clip-in, layer-at, open_at}
 
--- the loop over a layer's words, at word i
-pub record Dropping (xs : List ℕ) (at : ℕ) (ys : List ℕ) (i : ℕ) : Type 0 where
-  pub long : length ys ≡ length xs
-  pub rest : sets ys (at + i) (replicate (open-layer-size - i) 0) ≡ sets xs at no_words
+-- the words of a layer all 0
+n_words : (at n : ℕ) → at + n - at ≡ n
+n_words at n = omega arith
 
-pub plus_none : (at : ℕ) → at + 0 ≡ at
-plus_none at = omega arith
+part-length : (xs : List ℕ) (at n : ℕ) → at + n ≤ length xs → length (take (at + n - at) (drop at xs)) ≡ n
+part-length xs at n h = rw (n_words at n) (length-take-le n (drop at xs) (omega (arith, length-drop at xs)))
 
-next : (at i : ℕ) → suc (at + i) ≡ at + (i + 1)
-next at i = omega arith
-
-one_less : (i : ℕ) → i < open-layer-size → open-layer-size - i ≡ suc (open-layer-size - (i + 1))
-one_less i h = omega arith
-
-none_left : (i : ℕ) → open-layer-size ≤ i → open-layer-size - i ≡ 0
-none_left i h = omega arith
-
-pub begun : (xs : List ℕ) (at : ℕ) → Dropping xs at xs 0
-begun xs at = record { long = refl; rest = rw (plus_none at) }
-
-module _ {xs : List ℕ} {at : ℕ} {ys : List ℕ} {i : ℕ} (v : Dropping xs at ys i) where
-  pub again : i < open-layer-size → Dropping xs at (set ys (at + i) 0) (i + 1)
-  again h = record { long = length-set ys (at + i) 0 ∙ v.long; rest = rw (← next at i) (rw (one_less i h) at v.rest) }
-
-  pub dropped : open-layer-size ≤ i → at + open-layer-size ≤ length xs → ys ≡ words-at xs at no_words
-  dropped h g = (rw (none_left i h) at v.rest) ∙ sets-eq no_words xs at g
+pub dropped : (xs ys : List ℕ) (at : ℕ) → at + open-layer-size ≤ length xs → ys ≡ replicate (length (take (at + open-layer-size - at) (drop at xs))) 0
+    → put_mid at (at + open-layer-size - at) xs ys ≡ words-at xs at no_words
+dropped xs ys at h e =
+    rw (e, part-length xs at open-layer-size h, n_words at open-layer-size)
+    (sym (append_assoc (take at xs) no_words _) ∙ ap (λ (t : List ℕ). take at xs ++ no_words ++ t) (drop-drop open-layer-size at xs))
 
 -- what the table keeps of a layer: all but its opacity
 abbrev pub kept : Layer → Option Clip → Layer
@@ -55,8 +42,8 @@ pub words-length : (l : Layer) (nan : ℕ) → length (layer-words l nan) ≡ op
 words-length l nan = by l.props.clip
   where
     by : (o : Option Clip) → length (layer-words (kept l o) nan) ≡ open-layer-size
-    by none = refl
-    by (some c) = refl
+    by None = refl
+    by (Some c) = refl
 
 -- the words ws of layer k stored
 module _ (t : List ℕ) (k : ℕ) (h : k < most-layers) (l : length t ≡ open-layer-table) (ws : List ℕ) (m : length ws ≡ open-layer-size) where
@@ -127,69 +114,60 @@ module _ (t : List ℕ) (k : ℕ) (h : k < most-layers) (e : length t ≡ open-l
   back o = same_word t k h e (layer-words (kept l o) nan) (words-length (kept l o) nan)
 
   with-clip : (o : Option Clip) → layer-at (words-at t (open-layer-size * k) (layer-words (kept l o) nan)) k ≡ kept l o
-  with-clip none =
+  with-clip None =
       rw (
-        back none 0 (omega arith),
-        back none 1 (omega arith),
-        back none 2 (omega arith),
-        back none 3 (omega arith),
-        back none 11 (omega arith),
-        back none 12 (omega arith),
-        back none 13 (omega arith),
-        back none 14 (omega arith),
-        back none 16 (omega arith),
+        back None 0 (omega arith),
+        back None 1 (omega arith),
+        back None 2 (omega arith),
+        back None 3 (omega arith),
+        back None 11 (omega arith),
+        back None 12 (omega arith),
+        back None 13 (omega arith),
+        back None 14 (omega arith),
+        back None 16 (omega arith),
       )
-  with-clip (some c) =
+  with-clip (Some c) =
       rw (
-        back (some c) 0 (omega arith),
-        back (some c) 1 (omega arith),
-        back (some c) 2 (omega arith),
-        back (some c) 3 (omega arith),
-        back (some c) 4 (omega arith),
-        back (some c) 5 (omega arith),
-        back (some c) 6 (omega arith),
-        back (some c) 7 (omega arith),
-        back (some c) 8 (omega arith),
-        back (some c) 9 (omega arith),
-        back (some c) 10 (omega arith),
-        back (some c) 11 (omega arith),
-        back (some c) 12 (omega arith),
-        back (some c) 13 (omega arith),
-        back (some c) 14 (omega arith),
-        back (some c) 16 (omega arith),
+        back (Some c) 0 (omega arith),
+        back (Some c) 1 (omega arith),
+        back (Some c) 2 (omega arith),
+        back (Some c) 3 (omega arith),
+        back (Some c) 4 (omega arith),
+        back (Some c) 5 (omega arith),
+        back (Some c) 6 (omega arith),
+        back (Some c) 7 (omega arith),
+        back (Some c) 8 (omega arith),
+        back (Some c) 9 (omega arith),
+        back (Some c) 10 (omega arith),
+        back (Some c) 11 (omega arith),
+        back (Some c) 12 (omega arith),
+        back (Some c) 13 (omega arith),
+        back (Some c) 14 (omega arith),
+        back (Some c) 16 (omega arith),
       )
 
   pub layer-back : layer-at (words-at t (open-layer-size * k) (layer-words l nan)) k ≡ kept l l.props.clip
   layer-back = with-clip l.props.clip
 
   nan-word : (o : Option Clip) → get_or (layer-words (kept l o) nan) 15 0 ≡ nan
-  nan-word none = refl
-  nan-word (some c) = refl
+  nan-word None = refl
+  nan-word (Some c) = refl
 
   pub nan-back : (open_at (words-at t (open-layer-size * k) (layer-words l nan)) k).nan ≡ nan
   nan-back = back l.props.clip 15 (omega arith) ∙ nan-word l.props.clip
 
 -- what a pop reads is the rules' layer
 module _ (t : List ℕ) (k : ℕ) where
-  pub without-clip : (open_at t k).flag ≡ 0 → (layer-at t k).props.clip ≡ none
+  pub without-clip : (open_at t k).flag ≡ 0 → (layer-at t k).props.clip ≡ None
   without-clip f = rw (eq-eqb _ _ f)
 
-  pub has-clip : (open_at t k).flag ≡ 1 → (layer-at t k).props.clip ≡ some (clip-in t k)
+  pub has-clip : (open_at t k).flag ≡ 1 → (layer-at t k).props.clip ≡ Some (clip-in t k)
   has-clip f = rw f
-
--- what differs from itself is a NaN
-pub nan-by-itself : (o : Float) → ne o o ≡ is_nan o
-unfolding ne eq is_nan
-nan-by-itself ieee.nan = refl
-nan-by-itself (inf true) = refl
-nan-by-itself (inf false) = refl
-nan-by-itself (fin true m e) = rw (eq-eqb (m * up e * down e) (m * up e * down e) refl)
-nan-by-itself (fin false m e) = rw (eq-eqb (m * up e * down e) (m * up e * down e) refl)
 
 -- the two ways through the test of a pattern
 module _ (o : Float) (n : ℕ) where
-  pub nan_pattern : ne o o ≡ true → ltb 2139095040 (n % 2147483648) ≡ good-pattern o n
-  nan_pattern h = rw (sym (nan-by-itself o) ∙ h) (sym (nan_bits_above binary32 n))
+  pub nan_pattern : is_nan o ≡ true → ltb 2139095040 (n % 2147483648) ≡ good-pattern o n
+  nan_pattern h = rw h (sym (nan_bits_above binary32 n))
 
-  pub plain-pattern : ne o o ≡ false → eqb n 0 ≡ good-pattern o n
-  plain-pattern h = rw (sym (nan-by-itself o) ∙ h)
+  pub plain_pattern : is_nan o ≡ false → eqb n 0 ≡ good-pattern o n
+  plain_pattern h = rw h

@@ -1,8 +1,8 @@
 -- An open layer's words in their table, the code's properties and layers as the rules', and what is judged of them (answer 4).
-use Rattle.std.specs.Prelude.{ℕ, ◌+◌, ◌*◌, Bool, ◌&&◌, cond, List, [], ◌∷◌, ◌++◌, get_or, replicate, leb, ltb, eqb, Float}
-use Rattle.std.proofs.Math.Option.{Option, none, some}
+use Rattle.std.specs.Prelude.{ℕ, ◌+◌, ◌*◌, Bool, ◌&&◌, cond, List, [], ◌∷◌, ◌++◌, get_or, replicate, leb, eqb, Float}
+use Rattle.std.specs.Prelude.{Option, None, Some}
 use Rattle.std.specs.Float.{binary32}
-use Rattle.std.specs.Float.Ieee.{is_nan, nan_bits}
+use Rattle.std.specs.Float.Ieee.{is_nan, nan_bits, of_bits}
 use Rattle.sizes.specs.Sizes.{open-layer-size}
 use Rattle.rules.specs.Boxes.{Box, box, width, height, by_4}
 use Rattle.rules.specs.Blends.{good-blend}
@@ -13,15 +13,13 @@ use Rattle.cmd.specs.Blends.{blend_of}
 use Rattle.rect.specs.declared.Rect.{Rect}
 use Rattle.rect.specs.Rects.{box_of}
 use Rattle.screen_layers.specs.declared.Clip.{Clip}
-use Rattle.screen_layers.specs.declared.LayerClip.{LayerClip}
-use Rattle.screen_layers.specs.declared.LayerClip.TheVariants.{Absent, Present}
 use Rattle.screen_layers.specs.declared.LayerProps.{LayerProps}
 use Rattle.screen_layers.specs.declared.FlatClip.{FlatClip}
 use Rattle.screen_layers.specs.declared.OpenLayer.{OpenLayer}
 
-abbrev pub clip-of : LayerClip → Option rule.Clip
-clip-of Absent = none
-clip-of (Present c) = some (record { bounds = box_of c.bbox; start = c.start; end = c.end; thread = c.thread })
+abbrev pub clip-of : Option Clip → Option rule.Clip
+clip-of None = None
+clip-of (Some c) = Some (record { bounds = box_of c.bbox; start = c.start; end = c.end; thread = c.thread })
 
 -- the opacity is 0 here: it stands apart, as an f32
 abbrev pub props-of : LayerProps → Props
@@ -43,8 +41,8 @@ box-words b = b.x0 ∷ b.y0 ∷ b.x1 ∷ b.y1 ∷ []
 
 -- flag, box, segment start and end, thread
 abbrev pub clip-words : Option rule.Clip → List ℕ
-clip-words none = 0 ∷ 0 ∷ 0 ∷ 0 ∷ 0 ∷ 0 ∷ 0 ∷ 0 ∷ []
-clip-words (some c) = 1 ∷ box-words c.bounds ++ (c.start ∷ c.end ∷ c.thread ∷ [])
+clip-words None = 0 ∷ 0 ∷ 0 ∷ 0 ∷ 0 ∷ 0 ∷ 0 ∷ 0 ∷ []
+clip-words (Some c) = 1 ∷ box-words c.bounds ++ (c.start ∷ c.end ∷ c.thread ∷ [])
 
 abbrev pub flat-words : FlatClip → List ℕ
 flat-words f = f.flag ∷ box-words (box_of f.bbox) ++ (f.start ∷ f.end ∷ f.thread ∷ [])
@@ -57,6 +55,9 @@ layer-words l nan =
 -- those of a layer that is not open
 abbrev pub no_words : List ℕ
 no_words = replicate open-layer-size 0
+
+abbrev pub no_opacity : Float
+no_opacity = of_bits binary32 0
 
 -- word i of layer k
 abbrev pub layer-word : List ℕ → ℕ → ℕ → ℕ
@@ -83,7 +84,7 @@ layer-at ws k =
             blend = record { mix = layer-word ws k 0; compose = layer-word ws k 1 };
             opacity = 0;
             mask = layer-word ws k 2;
-            clip = cond (eqb (layer-word ws k 3) 0) none (some (clip-in ws k));
+            clip = cond (eqb (layer-word ws k 3) 0) None (Some (clip-in ws k));
             panel = layer-word ws k 16;
           };
       bounds = box_of (box_in ws k);
@@ -104,8 +105,8 @@ open_at ws k =
       panel = layer-word ws k 16;
     }
 
-unfoldable pub good-layer : OpenLayer → Bool
-good-layer l =
+unfoldable pub good_layer : OpenLayer → Bool
+good_layer l =
     good-blend (blend_of l.blend)
     && good-handle l.mask
     && leb l.flag 1
@@ -114,8 +115,8 @@ good-layer l =
     && good-panel l.panel
 
 -- the box b of an open layer in the viewport v
-unfoldable pub good-own-box : Box → Box → Bool
-good-own-box v b =
+unfoldable pub good_own_box : Box → Box → Bool
+good_own_box v b =
     by_4 b.x0
     && by_4 b.y0
     && by_4 b.x1

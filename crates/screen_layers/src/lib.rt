@@ -2,13 +2,14 @@
 // box, NaN pattern, panel. Zeros for an absent clip. An opacity stands apart, as an f32. Parts: callers have judged what a `requires` asks.
 #![tactic(auto)]
 
-ghost use Rattle.std.specs.Prelude.{◌≡◌, ◌*◌, ◌<◌, length};
-ghost use Rattle.sizes.specs.Sizes.{most-layers, open-layer-size, open-layer-table};
+ghost use Rattle.std.specs.Prelude.{◌≡◌, ◌*◌, ◌<◌, length, set};
+ghost use Rattle.sizes.specs.Sizes.{most-layers, open-layer-size, open-layer-table, opacity-count};
 ghost use Rattle.rules.specs.Inputs.{all-good};
 ghost use Rattle.rules.specs.Plans.{layer-box};
 ghost use Rattle.rect.specs.Rects.{box_of};
 ghost use Rattle.cmd.specs.Attrs.{words-at};
-ghost use Rattle.screen_layers.specs.Layers.{clip-of, good-pattern, good-given, layer-of, clip-words, flat-words, layer-words, no_words, open_at, box_in, good-layer, good-own-box};
+ghost use Rattle.screen_layers.specs.Lent.{SameLayers};
+ghost use Rattle.screen_layers.specs.Layers.{clip-of, good-pattern, good-given, layer-of, clip-words, flat-words, layer-words, no_words, open_at, box_in, good_layer, good_own_box, no_opacity};
 
 use cmd::blend::Blend;
 use rect::{NOWHERE, Rect};
@@ -23,12 +24,6 @@ pub struct Clip {
     pub thread: u32,
 }
 
-#[derive(Clone, Copy)]
-pub enum LayerClip {
-    Absent,
-    Present(Clip),
-}
-
 // nan: the pattern of a NaN opacity, else 0.
 #[derive(Clone, Copy)]
 pub struct LayerProps {
@@ -36,7 +31,7 @@ pub struct LayerProps {
     pub opacity: f32,
     pub nan: u32,
     pub mask: u32,
-    pub clip: LayerClip,
+    pub clip: Option<Clip>,
     pub panel: u32,
 }
 
@@ -54,6 +49,13 @@ pub struct OpenLayer {
     pub panel: u32,
 }
 
+// The open layers, lent: their words, and the opacities, which those of the attributes follow.
+#[derive(Drop)]
+pub struct Layers<'a> {
+    pub table: &'a mut [u32],
+    pub opacities: &'a mut [f32],
+}
+
 // A clip as it stands in the table.
 #[derive(Clone, Copy)]
 struct FlatClip {
@@ -64,112 +66,120 @@ struct FlatClip {
     thread: u32,
 }
 
-fn flat(clip: LayerClip) -> FlatClip
+fn flat(clip: Option<Clip>) -> FlatClip
     ensures { flat-words result ≡ clip-words (clip-of clip) }
 {
     match clip {
-        LayerClip::Absent => FlatClip {
+        None => FlatClip {
             flag: 0,
             bbox: NOWHERE,
             start: 0,
             end: 0,
             thread: 0,
         },
-        LayerClip::Present(c) => {
-            let bbox = c.bbox;
-            FlatClip {
-                flag: 1,
-                bbox,
-                start: c.start,
-                end: c.end,
-                thread: c.thread,
-            }
-        }
+        Some(c) => FlatClip {
+            flag: 1,
+            bbox: c.bbox,
+            start: c.start,
+            end: c.end,
+            thread: c.thread,
+        },
     }
 }
 
 // Answer 4: a clip's own numbers.
-fn is_good_clip(clip: LayerClip) -> bool
+fn is_good_clip(clip: Option<Clip>) -> bool
     ensures { result ≡ all-good (clip-of clip) }
 {
     match clip {
-        LayerClip::Absent => true,
-        LayerClip::Present(c) => {
-            let bbox = c.bbox;
-            if !bbox.is_good() {
-                return false;
-            }
-            if c.end < c.start {
-                return false;
-            }
-            c.thread < THREAD_END
-        }
+        None => true,
+        Some(c) => c.bbox.is_good() && c.start <= c.end && c.thread < THREAD_END,
     }
 }
 
 // Answer 4: a NaN opacity has a NaN's pattern beside it, any other 0.
+#[tactic(auto, using(crate::proofs::Laws::nan_pattern, crate::proofs::Laws::plain_pattern))]
 fn is_good_pattern(opacity: f32, nan: u32) -> bool
     ensures { result ≡ good-pattern opacity nan }
 {
-    if opacity != opacity {
-        return 2139095040 < nan % 2147483648;
+    if opacity.is_nan() {
+        2139095040 < nan % 2147483648
+    } else {
+        nan == 0
     }
-    nan == 0
 }
 
-// Answer 4: what a push is given.
-pub fn is_good_props(props: LayerProps) -> bool
-    ensures { result ≡ good-given props }
-{
-    let blend = props.blend;
-    let clip = props.clip;
-    if !is_good_pattern(props.opacity, props.nan) {
-        return false;
+impl LayerProps {
+    // Answer 4: what a push is given.
+    pub fn is_good(self) -> bool
+        ensures { result ≡ good-given self }
+    {
+        is_good_pattern(self.opacity, self.nan)
+            && self.blend.is_good()
+            && self.mask < HANDLE_END
+            && is_good_clip(self.clip)
+            && self.panel < PANEL_END
     }
-    if !blend.is_good() {
-        return false;
+}
+
+impl OpenLayer {
+    // Answer 4: what a pop reads of a layer.
+    #[tactic(auto, unfolding(crate::specs::Layers::good_layer))]
+    pub fn is_good(self) -> bool
+        ensures { result ≡ good_layer self }
+    {
+        self.blend.is_good()
+            && self.mask < HANDLE_END
+            && self.flag <= 1
+            && self.start <= self.end
+            && self.thread < THREAD_END
+            && self.panel < PANEL_END
     }
-    if HANDLE_END <= props.mask {
-        return false;
-    }
-    if !is_good_clip(clip) {
-        return false;
-    }
-    props.panel < PANEL_END
 }
 
 // Rule 8: the box of a layer whose parent's box is given.
-pub fn layer_box(viewport: Rect, parent: Rect, clip: LayerClip) -> Rect
+pub fn layer_box(viewport: Rect, parent: Rect, clip: Option<Clip>) -> Rect
     ensures { box_of result ≡ layer-box (box_of viewport) (box_of parent) (clip-of clip) }
 {
     match clip {
-        LayerClip::Absent => parent,
-        LayerClip::Present(c) => {
-            let bbox = c.bbox;
-            bbox.relative_to_origin(viewport.x0, viewport.y0)
-                .intersect(parent)
-        }
+        None => parent,
+        Some(c) => c
+            .bbox
+            .relative_to_origin(viewport.x0, viewport.y0)
+            .intersect(parent),
     }
 }
 
+// Answer 4: the own box of an open layer, in a viewport.
+#[tactic(auto, unfolding(crate::specs::Layers::good_own_box))]
+pub fn is_good_own_box(viewport: Rect, bbox: Rect) -> bool
+    ensures { result ≡ good_own_box (box_of viewport) (box_of bbox) }
+{
+    bbox.x0 % 4 == 0
+        && bbox.y0 % 4 == 0
+        && bbox.x1 % 4 == 0
+        && bbox.y1 % 4 == 0
+        && bbox.x0 <= 32768
+        && bbox.y0 <= 32768
+        && bbox.x1 <= viewport.width()
+        && bbox.y1 <= viewport.height()
+}
+
 // The words of layer k.
-pub fn put_layer(layers: &mut [u32], k: u32, props: LayerProps, bbox: Rect)
+fn put_layer(layers: &mut [u32], k: u32, props: LayerProps, bbox: Rect)
     requires { (k < most-layers) × (length layers.old ≡ open-layer-table) }
     ensures { layers.new ≡ words-at layers.old (open-layer-size * k) (layer-words (layer-of props bbox) props.nan) }
 {
-    let at = OPEN_LAYER * (k as usize);
-    let blend = props.blend;
-    let given = props.clip;
-    let clip = flat(given);
-    let b = clip.bbox;
-    layers[at] = blend.mix;
-    layers[at + 1] = blend.compose;
+    let at = OPEN_LAYER * k as usize;
+    let clip = flat(props.clip);
+    layers[at] = props.blend.mix;
+    layers[at + 1] = props.blend.compose;
     layers[at + 2] = props.mask;
     layers[at + 3] = clip.flag;
-    layers[at + 4] = b.x0;
-    layers[at + 5] = b.y0;
-    layers[at + 6] = b.x1;
-    layers[at + 7] = b.y1;
+    layers[at + 4] = clip.bbox.x0;
+    layers[at + 5] = clip.bbox.y0;
+    layers[at + 6] = clip.bbox.x1;
+    layers[at + 7] = clip.bbox.y1;
     layers[at + 8] = clip.start;
     layers[at + 9] = clip.end;
     layers[at + 10] = clip.thread;
@@ -181,104 +191,71 @@ pub fn put_layer(layers: &mut [u32], k: u32, props: LayerProps, bbox: Rect)
     layers[at + 16] = props.panel;
 }
 
-// The own box of layer k.
-pub fn box_at(layers: &[u32], k: u32) -> Rect
-    requires { (k < most-layers) × (length layers.now ≡ open-layer-table) }
-    ensures { result ≡ box_in layers.now k }
-{
-    let at = OPEN_LAYER * (k as usize);
-    Rect {
-        x0: layers[at + 11],
-        y0: layers[at + 12],
-        x1: layers[at + 13],
-        y1: layers[at + 14],
-    }
-}
-
-// Layer k as it stands in the table.
-pub fn open_layer(layers: &[u32], k: u32) -> OpenLayer
-    requires { (k < most-layers) × (length layers.now ≡ open-layer-table) }
-    ensures { result ≡ open_at layers.now k }
-{
-    let at = OPEN_LAYER * (k as usize);
-    let bbox = box_at(layers, k);
-    let blend = Blend {
-        mix: layers[at],
-        compose: layers[at + 1],
-    };
-    OpenLayer {
-        blend,
-        mask: layers[at + 2],
-        flag: layers[at + 3],
-        start: layers[at + 8],
-        end: layers[at + 9],
-        thread: layers[at + 10],
-        bbox,
-        nan: layers[at + 15],
-        panel: layers[at + 16],
-    }
-}
-
 // Every word of layer k is 0.
-pub fn drop_layer(layers: &mut [u32], k: u32)
+fn drop_layer(layers: &mut [u32], k: u32)
     requires { (k < most-layers) × (length layers.old ≡ open-layer-table) }
     ensures { layers.new ≡ words-at layers.old (open-layer-size * k) no_words }
 {
-    let at = OPEN_LAYER * (k as usize);
-    let mut i = 0;
-    while i < OPEN_LAYER {
-        layers[at + i] = 0;
-        i += 1;
-    }
+    let at = OPEN_LAYER * k as usize;
+    layers[at..at + OPEN_LAYER].fill(0);
 }
 
-// Answer 4: what a pop reads of a layer.
-pub fn is_good_layer(layer: OpenLayer) -> bool
-    ensures { result ≡ good-layer layer }
-{
-    let blend = layer.blend;
-    if !blend.is_good() {
-        return false;
+impl Layers<'_> {
+    // Layer k, with its opacity bit for bit.
+    pub fn put(&mut self, k: u32, props: LayerProps, bbox: Rect)
+        requires { (k < most-layers) × (length self.old.table.now ≡ open-layer-table) × (length self.old.opacities.now ≡ opacity-count) }
+        ensures same { SameLayers self.old self.new }
+        ensures table { self.new.table.now ≡ words-at self.old.table.now (open-layer-size * k) (layer-words (layer-of props bbox) props.nan) }
+        ensures opacities { self.new.opacities.now ≡ set self.old.opacities.now k props.opacity }
+    {
+        put_layer(self.table, k, props, bbox);
+        self.opacities[k as usize] = props.opacity;
     }
-    if HANDLE_END <= layer.mask {
-        return false;
-    }
-    if 1 < layer.flag {
-        return false;
-    }
-    if layer.end < layer.start {
-        return false;
-    }
-    if THREAD_END <= layer.thread {
-        return false;
-    }
-    layer.panel < PANEL_END
-}
 
-// Answer 4: the own box of an open layer, in a viewport.
-pub fn is_good_own_box(viewport: Rect, bbox: Rect) -> bool
-    ensures { result ≡ good-own-box (box_of viewport) (box_of bbox) }
-{
-    if bbox.x0 % 4 != 0 {
-        return false;
+    // Nothing stands in layer k's place.
+    pub fn drop_at(&mut self, k: u32)
+        requires { (k < most-layers) × (length self.old.table.now ≡ open-layer-table) × (length self.old.opacities.now ≡ opacity-count) }
+        ensures same { SameLayers self.old self.new }
+        ensures table { self.new.table.now ≡ words-at self.old.table.now (open-layer-size * k) no_words }
+        ensures opacities { self.new.opacities.now ≡ set self.old.opacities.now k no_opacity }
+    {
+        drop_layer(self.table, k);
+        self.opacities[k as usize] = 0.0;
     }
-    if bbox.y0 % 4 != 0 {
-        return false;
+
+    // The own box of layer k.
+    pub fn box_at(&self, k: u32) -> Rect
+        requires { (k < most-layers) × (length self.now.table.now ≡ open-layer-table) }
+        ensures { result ≡ box_in self.now.table.now k }
+    {
+        let at = OPEN_LAYER * k as usize;
+        Rect {
+            x0: self.table[at + 11],
+            y0: self.table[at + 12],
+            x1: self.table[at + 13],
+            y1: self.table[at + 14],
+        }
     }
-    if bbox.x1 % 4 != 0 {
-        return false;
+
+    // Layer k as it stands in the table.
+    pub fn open_at(&self, k: u32) -> OpenLayer
+        requires { (k < most-layers) × (length self.now.table.now ≡ open-layer-table) }
+        ensures { result ≡ open_at self.now.table.now k }
+    {
+        let at = OPEN_LAYER * k as usize;
+        OpenLayer {
+            blend: Blend {
+                mix: self.table[at],
+                compose: self.table[at + 1],
+            },
+            mask: self.table[at + 2],
+            flag: self.table[at + 3],
+            start: self.table[at + 8],
+            end: self.table[at + 9],
+            thread: self.table[at + 10],
+            bbox: self.box_at(k),
+            nan: self.table[at + 15],
+            panel: self.table[at + 16],
+        }
     }
-    if bbox.y1 % 4 != 0 {
-        return false;
-    }
-    if 32768 < bbox.x0 {
-        return false;
-    }
-    if 32768 < bbox.y0 {
-        return false;
-    }
-    if viewport.width() < bbox.x1 {
-        return false;
-    }
-    bbox.y1 <= viewport.height()
 }

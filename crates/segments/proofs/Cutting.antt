@@ -2,13 +2,13 @@
 use mathlib.Core.Path.{◌≡◌, refl}
 use mathlib.Core.Bool.{Bool, true, false, cond}
 use mathlib.Core.List.{[], ◌∷◌}
-use mathlib.Core.Option.{none, some}
+use Rattle.std.specs.Prelude.{None, Some}
 use Prim.Native.Nat.{ℕ, ◌-◌, ◌/◌, ◌≤◌, ◌<◌}
 use native.Mathlib.Omega.{arith}
 use lib.Dec.{ltb}
 use borrow.Author.Tests.{lt-ltb, le-ltb, le-leb, lt-leb, ltb-true}
 use Rattle.rules.specs.Boxes.{Box}
-use Rattle.rules.specs.Spans.{Span, span, common, meeting, Stretch, moved, shifted, cut_at, cut-when, cut-to}
+use Rattle.rules.specs.Spans.{Span, span, common, meeting, Stretch, moved, shifted, cut_at, cut-when, cut_to}
 use Rattle.rules.specs.Segments.{Segment, stretch-of, cut_in}
 
 -- what is left of the stretch s inside the span b
@@ -33,7 +33,7 @@ module _ (b : Span) (s k : Stretch) where
       }
 
   by-test : (t : Bool) → ltb (common s.tiles b).first (common s.tiles b).end ≡ t
-      → some k ≡ cut-when s (cond t (some (common s.tiles b)) none) → Left b s k
+      → Some k ≡ cut-when s (cond t (Some (common s.tiles b)) None) → Left b s k
   by-test true q e =
       let h : k ≡ cut_at s (common s.tiles b) = cc in
       rw h (left_at (ltb-true _ _ q))
@@ -41,8 +41,8 @@ module _ (b : Span) (s k : Stretch) where
       let z : ◌≡◌ {A = ℕ} 0 1 = cc in
       absurd (omega arith)
 
-  pub left_in : some k ≡ cut-to b s → Left b s k
-  unfolding cut-to meeting
+  pub left_in : Some k ≡ cut_to b s → Left b s k
+  unfolding cut_to meeting
   left_in e = by-test _ refl e
 
 module _ (v b : Box) (s : Segment) where
@@ -55,11 +55,11 @@ module _ (v b : Box) (s : Segment) where
   below h g = rw (le-leb b.y0 s.row h, le-ltb s.row b.y1 g)
 
   module _ (h : b.y0 ≤ s.row) (g : s.row < b.y1) where
-    pub beside : none ≡ cut-to (span b.x0 b.x1) (stretch-of s) → [] ≡ cut_in v b s
+    pub beside : None ≡ cut_to (span b.x0 b.x1) (stretch-of s) → [] ≡ cut_in v b s
     unfolding cut_in
     beside e = rw (le-leb b.y0 s.row h, lt-ltb s.row b.y1 g, ← e)
 
-    pub across : (k : Stretch) → some k ≡ cut-to (span b.x0 b.x1) (stretch-of s)
+    pub across : (k : Stretch) → Some k ≡ cut_to (span b.x0 b.x1) (stretch-of s)
         → record { row = s.row - v.y0 / 4; stretch = shifted (v.x0 / 4) k } ∷ [] ≡ cut_in v b s
     unfolding cut_in
     across k e = rw (le-leb b.y0 s.row h, lt-ltb s.row b.y1 g, ← e)

@@ -2,39 +2,13 @@
 use mathlib.Core.Path.{◌≡◌, refl, sym, ap, ◌∙◌}
 use mathlib.Core.Bool.{Bool, true, false, ◌&&◌, not, cond}
 use mathlib.Core.List.{List, [], ◌∷◌}
-use Prim.Native.Nat.{ℕ, ◌+◌, ◌-◌, ◌*◌, ◌≤◌, ◌<◌}
+use Prim.Native.Nat.{ℕ, ◌+◌, ◌-◌, ◌≤◌, ◌<◌}
 use native.Mathlib.Omega.{arith}
-use lib.Dec.{leb, ltb, eqb}
-use borrow.Author.Tests.{lt-ltb, le-ltb, le-leb, eq-eqb, ne_eqb, leb-true, leb-false, eqb-true, not-true, not-false}
 use Rattle.rules.specs.Lists.{every}
 use Rattle.rules.specs.Answers.{Done, BadRecord, BadOrder}
 use Rattle.rules.specs.Segments.{Segment, good-segment, follows, ordered-after, ordered, judge-segments}
 use Rattle.segments.specs.Segs.{seg-at, segs}
 use Rattle.segments.proofs.Laws.{segs-first, segs-end}
-
--- that a solid segment's index is 0 says all that there is to ask of its sum
-solid-test : (a x : ℕ) (t : Bool) → x < 4294967296 → eqb a 0 ≡ t → t ≡ (t && ltb (a + x) 4294967296)
-solid-test a x true h q = let e = eqb-true a 0 q in sym (lt-ltb (a + x) 4294967296 (omega arith))
-solid-test a x false h q = refl
-
--- that a sum is below the limit, tested without the sum
-sum-test : (a x : ℕ) (t : Bool) → x ≤ 4294967295 → leb a (4294967295 - x) ≡ t → t ≡ ltb (a + x) 4294967296
-sum-test a x true h q = let e = leb-true a (4294967295 - x) q in sym (lt-ltb (a + x) 4294967296 (omega arith))
-sum-test a x false h q = let e = leb-false a (4294967295 - x) q in sym (le-ltb (a + x) 4294967296 (omega arith))
-
-one : (k : ℕ) → k ≤ 1 → (k ≡ 0 → ⊥) → k ≡ 1
-one k h z = omega arith
-
-module _ (s : Segment) (k : s.kind ≤ 1) (r : s.row < 8192) (o : s.first < s.end) (e : s.end ≤ 8192) where
-  pub solid-good : s.kind ≡ 0 → eqb s.alpha 0 ≡ good-segment s
-  solid-good z =
-      rw (le-leb s.kind 1 k, lt-ltb s.row 8192 r, lt-ltb s.first s.end o, le-leb s.end 8192 e, ne_eqb s.kind 1 (λ q. omega arith))
-      (solid-test s.alpha (16 * (s.end - s.first)) _ (omega arith) refl)
-
-  pub alpha-good : (s.kind ≡ 0 → ⊥) → leb s.alpha (4294967295 - 16 * (s.end - s.first)) ≡ good-segment s
-  alpha-good z =
-      rw (le-leb s.kind 1 k, lt-ltb s.row 8192 r, lt-ltb s.first s.end o, le-leb s.end 8192 e, eq-eqb s.kind 1 (one s.kind k z))
-      (sum-test s.alpha (16 * (s.end - s.first)) _ (omega arith) refl)
 
 -- what is still to be judged after the segment s; ok: the order was not broken yet
 unfoldable pub judging : Segment → Bool → List Segment → ℕ
@@ -43,14 +17,6 @@ judging s ok ss = cond (not (every good-segment ss)) BadRecord (cond (not (ok &&
 pub judge-none : 0 ≡ judge-segments false []
 unfolding judge-segments ordered
 judge-none = refl
-
-and-false : (x : Bool) → false ≡ (x && false)
-and-false true = refl
-and-false false = refl
-
-and-true : (x : Bool) → x ≡ (x && true)
-and-true true = refl
-and-true false = refl
 
 and_assoc : (x y z : Bool) → (x && (y && z)) ≡ ((x && y) && z)
 and_assoc true y z = refl
@@ -117,9 +83,9 @@ module _ {ws : List ℕ} {a n i : ℕ} {s : Segment} {ok : Bool} (v : AtPlace ws
     pub again : {ok' : Bool} → good-segment t ≡ true → ok' ≡ (ok && follows s t) → AtPlace ws a n t ok' (i + 1)
     again g q = record { before = omega arith; rest = rw q (judging-more t _ s ok g ∙ here) }
 
--- the order so far, after a segment that does not follow and after one that does
-pub broken : (ok : Bool) {ok' f r : Bool} → r ≡ f → not r ≡ true → ok' ≡ false → ok' ≡ (ok && f)
-broken ok {ok'} {f} {r} p q e = rw (e, ← p, not-true r q) (and-false ok)
+-- the order so far, where it was kept and where it was broken
+pub kept : {ok ok' f : Bool} → ok ≡ true → ok' ≡ f → ok' ≡ (ok && f)
+kept p q = rw p q
 
-pub kept : (ok : Bool) {ok' f r : Bool} → r ≡ f → not r ≡ false → ok' ≡ ok → ok' ≡ (ok && f)
-kept ok {ok'} {f} {r} p q e = rw (e, ← p, not-false r q) (and-true ok)
+pub broken : {ok ok' : Bool} (f : Bool) → ok ≡ false → ok' ≡ false → ok' ≡ (ok && f)
+broken f p q = rw p q

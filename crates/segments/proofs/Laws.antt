@@ -2,21 +2,19 @@
 use mathlib.Core.Path.{◌≡◌, refl, sym, ap, ◌∙◌}
 use mathlib.Core.Bool.{Bool, true, false, ◌&&◌, ◌||◌, not, cond}
 use mathlib.Core.List.{List, [], ◌∷◌, ◌++◌}
-use mathlib.Core.Option.{Option, none, some}
-use Prim.Native.Nat.{ℕ, zero, suc, ◌+◌, ◌-◌, ◌*◌, ◌/◌, ◌%◌, ◌≤◌, ◌<◌}
+use Rattle.std.specs.Prelude.{Option, None, Some}
+use Prim.Native.Nat.{ℕ, zero, suc, ◌+◌, ◌-◌, ◌*◌, ◌/◌, ◌≤◌, ◌<◌}
 use native.Mathlib.Omega.{arith}
 use lib.Dec.{leb, ltb, eqb}
 use lib.ListN.{length, take, drop}
-use borrow.Author.Tests.{leb-true, ltb-true, eqb-true}
+use borrow.Author.Tests.{leb-true, ltb-true}
 use Rattle.rules.specs.Lists.{every, slice}
 use Rattle.rules.specs.Answers.{Done, BadRecord, BadOrder}
-use Rattle.rules.specs.Boxes.{Box, box, width, height, bounded, good-viewport, by_4, rows_of, scene-tiles}
-use Rattle.rules.specs.Spans.{span, Stretch, moved, shifted, cut-to}
+use Rattle.rules.specs.Boxes.{Box, box, width, height, good_viewport, rows_of, scene-tiles}
+use Rattle.rules.specs.Spans.{span, Stretch, moved, shifted, cut_to}
 use Rattle.rules.specs.Segments.{Segment, good-segment, ordered, judge-segments, alpha-of, stretch-of, Cut, localised, on_row, cut_in, cuts}
 use Rattle.rules.proofs.All.{both}
-use Rattle.span.specs.declared.Alpha.{Alpha}
-use Rattle.span.specs.declared.Alpha.TheVariants.{Solid, At}
-use Rattle.span.specs.Spans.{alpha, Moves}
+use Rattle.span.specs.Spans.{Moves}
 use Rattle.segments.specs.declared.Scene.{Scene}
 use Rattle.rect.proofs.Boxes.{View, view}
 use Rattle.segments.specs.Segs.{seg-at, segs, segs-of, origin, bounds, Starts, SceneOf}
@@ -125,12 +123,12 @@ starts v c = record { left = omega arith; top = omega arith }
 
 -- of the viewport only its origin matters
 local_by : (v : Box) (r : ℕ) (m : Option Stretch) → localised (box v.x0 v.y0 0 0) r m ≡ localised v r m
-local_by v r none = refl
-local_by v r (some k) = refl
+local_by v r None = refl
+local_by v r (Some k) = refl
 
 by-origin : (v b : Box) (s : Segment) → cut_in (box v.x0 v.y0 0 0) b s ≡ cut_in v b s
 unfolding cut_in
-by-origin v b s = local_by v s.row (on_row b s (cut-to (span b.x0 b.x1) (stretch-of s)))
+by-origin v b s = local_by v s.row (on_row b s (cut_to (span b.x0 b.x1) (stretch-of s)))
 
 module _ {v c : Box} {s : Scene} (o : SceneOf v c s) where
   pub scene-starts : Starts (origin s) (bounds s)
@@ -159,12 +157,12 @@ cuts_first v c s ss = refl
 
 -- an alpha index that n tiles on is still a u32
 abbrev pub Index : Option ℕ → ℕ → Type 0
-Index none n = Unit
-Index (some a) n = a + 16 * n < 4294967296
+Index None n = Unit
+Index (Some a) n = a + 16 * n < 4294967296
 
-pub index-moves : (a : Alpha) (n : ℕ) → Index (alpha a) n → Moves a n
-index-moves Solid n p = tt
-index-moves (At a) n p = p
+pub index-moves : (a : Option ℕ) (n : ℕ) → Index a n → Moves a n
+index-moves None n p = tt
+index-moves (Some a) n p = p
 
 -- a cut segment: its row and its tiles lie in the scene tiles b, seen from the origin of v
 pub record Landed (v b : Box) (k : Cut) : Type 0 where
@@ -174,7 +172,7 @@ pub record Landed (v b : Box) (k : Cut) : Type 0 where
   pub right : k.stretch.tiles.end ≤ b.x1 - v.x0 / 4
   pub index : Index k.stretch.alpha (k.stretch.tiles.end - k.stretch.tiles.first)
 
-index_at : (t : Bool) (a n : ℕ) → a + 16 * n < 4294967296 → Index (cond t none (some a)) n
+index_at : (t : Bool) (a n : ℕ) → a + 16 * n < 4294967296 → Index (cond t None (Some a)) n
 index_at true a n h = tt
 index_at false a n h = h
 
@@ -183,8 +181,8 @@ segment-index s g = index_at (eqb s.kind 0) s.alpha (s.end - s.first) g.index
 
 -- from a to b; cut to x, y
 index-cut : (o : Option ℕ) (a b x y : ℕ) → a ≤ x → x < y → y ≤ b → Index o (b - a) → Index (moved o (x - a)) (y - x)
-index-cut none a b x y h i j p = tt
-index-cut (some n) a b x y h i j p = omega arith
+index-cut None a b x y h i j p = tt
+index-cut (Some n) a b x y h i j p = omega arith
 
 module _ (v b : Box) (s : Segment) (k : Cut) (g : Good s) (o : Starts v b) where
   landed_at : (j : Stretch) → b.y0 ≤ s.row → s.row < b.y1 → Left (span b.x0 b.x1) (stretch-of s) j
@@ -203,14 +201,14 @@ module _ (v b : Box) (s : Segment) (k : Cut) (g : Good s) (o : Starts v b) where
   none_left e = let z : ◌≡◌ {A = ℕ} 1 0 = ap length e in absurd (omega arith)
 
   by_rows : (t : Bool) → (leb b.y0 s.row && ltb s.row b.y1) ≡ t
-      → (m : Option Stretch) → m ≡ cut-to (span b.x0 b.x1) (stretch-of s)
-      → k ∷ [] ≡ localised v s.row (cond t m none) → Landed v b k
-  by_rows true q (some j) p e =
+      → (m : Option Stretch) → m ≡ cut_to (span b.x0 b.x1) (stretch-of s)
+      → k ∷ [] ≡ localised v s.row (cond t m None) → Landed v b k
+  by_rows true q (Some j) p e =
       let h = both (leb b.y0 s.row) (ltb s.row b.y1) q in
       let l = left_in (span b.x0 b.x1) (stretch-of s) j p in
       let i : k ≡ record { row = s.row - v.y0 / 4; stretch = shifted (v.x0 / 4) j } = cc in
       rw i (landed_at j (leb-true _ _ h.0) (ltb-true _ _ h.1) l)
-  by_rows true q none p e = none_left e
+  by_rows true q None p e = none_left e
   by_rows false q m p e = none_left e
 
   by-cut : k ∷ [] ≡ cut_in v b s → Landed v b k
@@ -230,6 +228,6 @@ unfolding scene-tiles
 landed-on v c k w x y l = record { row = omega arith; right = omega arith }
 
 -- what is cut to a clip box on the screen lies there
-pub on-screen : (v c : Box) (s : Segment) (k : Cut) → good-viewport v ≡ true → c.x1 ≤ width v → c.y1 ≤ height v
+pub on-screen : (v c : Box) (s : Segment) (k : Cut) → good_viewport v ≡ true → c.x1 ≤ width v → c.y1 ≤ height v
     → good-segment s ≡ true → k ∷ [] ≡ cut_in v (scene-tiles v c) s → OnScreen v k
 on-screen v c s k w x y g e = landed-on v c k (view v w) x y (landed v (scene-tiles v c) s k g (starts v c) e)

@@ -1,5 +1,5 @@
 -- Segments as words, five each, and the code's segments, scenes and cut segments as the rules'.
-use Rattle.std.specs.Prelude.{◌≡◌, List, [], ◌∷◌, ℕ, zero, suc, ◌+◌, ◌*◌, ◌/◌, ◌≤◌, length, get_or}
+use Rattle.std.specs.Prelude.{Option, None, Some, ◌≡◌, List, [], ◌∷◌, ℕ, zero, suc, ◌+◌, ◌*◌, ◌/◌, ◌≤◌, length, get_or}
 use Rattle.rules.specs.Boxes.{Box, box, scene-tiles}
 use Rattle.rules.specs.Segments as rule
 use Rattle.rules.specs.Segments.{Cut}
@@ -7,7 +7,6 @@ use Rattle.span.specs.Spans.{stretch}
 use Rattle.segments.specs.declared.Segment.{Segment}
 use Rattle.segments.specs.declared.Scene.{Scene}
 use Rattle.segments.specs.declared.Placed.{Placed}
-use Rattle.segments.specs.declared.Placed.TheVariants.{Nothing, On}
 
 abbrev pub segment-of : Segment → rule.Segment
 segment-of s = record { kind = s.kind; row = s.row; first = s.first; end = s.end; alpha = s.alpha }
@@ -39,9 +38,9 @@ abbrev pub bounds : Scene → Box
 bounds s = box s.columns.first s.rows.first s.columns.end s.rows.end
 
 -- what is left of a segment: nothing or one
-abbrev pub placed_of : Placed → List Cut
-placed_of Nothing = []
-placed_of (On r s) = record { row = r; stretch = stretch s } ∷ []
+abbrev pub placed_of : Option Placed → List Cut
+placed_of None = []
+placed_of (Some p) = record { row = p.row; stretch = stretch p.stretch } ∷ []
 
 -- the scene tiles b begin at or after the origin of v
 pub record Starts (v b : Box) : Type 0 where

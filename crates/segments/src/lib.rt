@@ -4,14 +4,14 @@
 
 ghost use Rattle.std.specs.Prelude.{◌≡◌, true, false, ◌+◌, ◌-◌, ◌*◌, ◌≤◌, length};
 ghost use Rattle.rules.specs.Segments.{good-segment, follows, judge-segments, alpha-of, cut_in};
-ghost use Rattle.span.specs.Spans.{alpha};
+ghost use Rattle.sizes.specs.Refusals.{answer_number};
 ghost use Rattle.rect.specs.Rects.{box_of, Small};
 ghost use Rattle.segments.specs.Segs.{segment-of, seg-at, segs, placed_of, origin, bounds, Starts, SceneOf};
 
 use rect::Rect;
-use sizes::answers::{BAD_ORDER, BAD_RECORD, DONE};
+use sizes::answers::Refusal;
 use sizes::{TILE_ALPHAS, TILE_END};
-use span::{Alpha, Cut, Stretch, TileSpan};
+use span::{Stretch, TileSpan};
 
 // Kind 0 is solid, 1 has an alpha index, that of its first tile.
 #[derive(Clone, Copy)]
@@ -52,74 +52,60 @@ impl Segment {
     pub fn is_good(self) -> bool
         ensures { result ≡ good-segment (segment-of self) }
     {
-        if 1 < self.kind {
-            return false;
-        }
-        if TILE_END <= self.row {
-            return false;
-        }
-        if self.end <= self.first {
-            return false;
-        }
-        if TILE_END < self.end {
-            return false;
-        }
-        if self.kind == 0 {
-            return self.alpha == 0;
-        }
-        self.alpha <= 4294967295 - TILE_ALPHAS * (self.end - self.first)
+        self.kind <= 1
+            && self.row < TILE_END
+            && self.first < self.end
+            && self.end <= TILE_END
+            && if self.kind == 0 {
+                self.alpha == 0
+            } else {
+                self.alpha
+                    .checked_add(TILE_ALPHAS * (self.end - self.first))
+                    .is_some()
+            }
     }
 
     // Answer 5: this one may stand right before `next` in a list.
     pub fn precedes(self, next: Segment) -> bool
         ensures { result ≡ follows (segment-of self) (segment-of next) }
     {
-        if self.row < next.row {
-            return true;
-        }
-        if self.row == next.row {
-            return self.end <= next.first;
-        }
-        false
+        self.row < next.row || self.row == next.row && self.end <= next.first
     }
 
     // Its alpha index, if it has one.
-    pub fn alpha(self) -> Alpha
-        ensures { alpha result ≡ alpha-of (segment-of self) }
+    pub fn alpha(self) -> Option<u32>
+        ensures { result ≡ alpha-of (segment-of self) }
     {
-        if self.kind == 0 {
-            return Alpha::Solid;
-        }
-        Alpha::At(self.alpha)
+        (self.kind != 0).then_some(self.alpha)
     }
 }
 
-// Of the segments from start to end: 4 if one of them is bad, then 5 if their order is broken, else 0.
-pub fn judge_segments(list: &[u32], start: usize, end: usize) -> u32
+// Of the segments from start to end: 4 if one of them is bad, then 5 if their order is broken.
+pub fn judge_segments(list: &[u32], start: usize, end: usize) -> Result<(), Refusal>
     requires { (start ≤ «end») × (5 * «end» ≤ length list.now) }
-    ensures { result ≡ judge-segments false (segs list.now start («end» - start)) }
+    ensures { answer_number result ≡ judge-segments false (segs list.now start («end» - start)) }
 {
     if end <= start {
-        return DONE;
+        return Ok(());
     }
     let mut last = segment_at(list, start);
     if !last.is_good() {
-        return BAD_RECORD;
+        return Err(Refusal::BadRecord);
     }
     let mut ordered = true;
-    let mut i = start + 1;
-    while i < end {
+    for i in start + 1..end {
         let next = segment_at(list, i);
         if !next.is_good() {
-            return BAD_RECORD;
+            return Err(Refusal::BadRecord);
         }
-        if !last.precedes(next) {
-            ordered = false;
-        }
+        ordered = ordered && last.precedes(next);
         last = next;
-        i += 1;
     }
-    if ordered { DONE } else { BAD_ORDER }
+    if ordered {
+        Ok(())
+    } else {
+        Err(Refusal::BadOrder)
+    }
 }
 
 // The viewport's origin in pixels, and the clip box in scene tiles.
@@ -152,23 +138,18 @@ pub fn scene_of(viewport: Rect, clip: Rect) -> Scene
 
 // What is left of a segment, on a row of the screen.
 #[derive(Clone, Copy)]
-pub enum Placed {
-    Nothing,
-    On(u32, Stretch),
+pub struct Placed {
+    pub row: u32,
+    pub stretch: Stretch,
 }
 
 // A segment cut to the scene's tiles and made local; a cut at the left moves its alpha index.
-pub fn place(segment: Segment, scene: Scene) -> Placed
+pub fn place(segment: Segment, scene: Scene) -> Option<Placed>
     requires { (good-segment (segment-of segment) ≡ true) × Starts (origin scene) (bounds scene) }
     ensures { placed_of result ≡ cut_in (origin scene) (bounds scene) (segment-of segment) }
 {
-    let rows = scene.rows;
-    let columns = scene.columns;
-    if segment.row < rows.first {
-        return Placed::Nothing;
-    }
-    if rows.end <= segment.row {
-        return Placed::Nothing;
+    if segment.row < scene.rows.first || scene.rows.end <= segment.row {
+        return None;
     }
     let stretch = Stretch {
         tiles: TileSpan {
@@ -177,22 +158,16 @@ pub fn place(segment: Segment, scene: Scene) -> Placed
         },
         alpha: segment.alpha(),
     };
-    match stretch.cut_to(columns) {
-        Cut::Nothing => Placed::Nothing,
-        Cut::Left(left) => {
-            let tiles = left.tiles;
-            let alpha = left.alpha;
-            let x = scene.x / 4;
-            Placed::On(
-                segment.row - scene.y / 4,
-                Stretch {
-                    tiles: TileSpan {
-                        first: tiles.first - x,
-                        end: tiles.end - x,
-                    },
-                    alpha,
-                },
-            )
-        }
-    }
+    let left = stretch.cut_to(scene.columns)?;
+    let x = scene.x / 4;
+    Some(Placed {
+        row: segment.row - scene.y / 4,
+        stretch: Stretch {
+            tiles: TileSpan {
+                first: left.tiles.first - x,
+                end: left.tiles.end - x,
+            },
+            alpha: left.alpha,
+        },
+    })
 }

@@ -1,7 +1,9 @@
 // How wide a depth bucket is, and all arithmetic with it. But for `NARROWEST`, no other source line knows how many tiles a bucket has.
 ghost use Rattle.std.specs.Prelude.{◌≡◌, ◌+◌, ◌-◌, ◌*◌, ◌/◌, ◌%◌, ◌≤◌};
 ghost use Rattle.sizes.specs.Sizes.{tile-end};
-ghost use Rattle.sizes.specs.Widths.{bucket-tiles, width_of, width_read};
+ghost use Rattle.sizes.specs.Widths.{bucket-tiles, width_of};
+
+use crate::answers::Refusal;
 
 // 64, 128 or 256 pixels, which are 16, 32 or 64 tiles.
 #[derive(Clone, Copy)]
@@ -11,27 +13,20 @@ pub enum Width {
     W256,
 }
 
-// What a number of pixels asks for.
-#[derive(Clone, Copy)]
-pub enum ReadWidth {
-    Bad,
-    Good(Width),
-}
+// No other number of pixels is a width: answer 2.
+impl TryFrom<u32> for Width {
+    type Error = Refusal;
 
-// No other number is a width.
-pub fn read_width(pixels: u32) -> ReadWidth
-    ensures { width_read result ≡ width_of pixels }
-{
-    if pixels == 64 {
-        return ReadWidth::Good(Width::W64);
+    ghost try_from_gives = { λ pixels r. r ≡ width_of pixels };
+
+    fn try_from(pixels: u32) -> Result<Width, Refusal> {
+        match pixels {
+            64 => Ok(Width::W64),
+            128 => Ok(Width::W128),
+            256 => Ok(Width::W256),
+            _ => Err(Refusal::BadViewport),
+        }
     }
-    if pixels == 128 {
-        return ReadWidth::Good(Width::W128);
-    }
-    if pixels == 256 {
-        return ReadWidth::Good(Width::W256);
-    }
-    ReadWidth::Bad
 }
 
 // Each arm has its own constant, so that it is compiled to a shift or a mask.

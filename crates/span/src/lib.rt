@@ -1,13 +1,12 @@
 // Spans of tiles (span.rs). Parts: where a function asks for tile numbers, its callers have judged them.
 #![tactic(auto)]
 
-ghost use Rattle.std.specs.Prelude.{◌≡◌, ◌+◌, ◌-◌, ◌*◌, ◌/◌, ◌≤◌, min, max};
-ghost use Rattle.rules.specs.Spans.{span, hull, meeting, moved, cut-to};
+ghost use Rattle.std.specs.Prelude.{◌≡◌, ◌+◌, ◌-◌, ◌*◌, ◌≤◌, option_map};
+ghost use Rattle.rules.specs.Spans.{span, hull, meeting, moved, cut_to};
 ghost use Rattle.rules.specs.Depth.{tiles-of};
-ghost use Rattle.std.proofs.Math.Option.{some};
 ghost use Rattle.sizes.specs.Sizes.{tile-end};
 ghost use Rattle.sizes.specs.Widths.{bucket-tiles};
-ghost use Rattle.span.specs.Spans.{tiles, buckets, meeting-of, alpha, Moves, stretch, cut_of};
+ghost use Rattle.span.specs.Spans.{tiles, buckets, Moves, stretch};
 
 use sizes::TILE_ALPHAS;
 use sizes::width::Width;
@@ -27,44 +26,11 @@ pub struct BucketRange {
     pub end: u32,
 }
 
-// What two spans have in common.
-#[derive(Clone, Copy)]
-pub enum Meeting {
-    Nothing,
-    Tiles(TileSpan),
-}
-
-// A solid fill has no alpha index; another has that of its first tile.
-#[derive(Clone, Copy)]
-pub enum Alpha {
-    Solid,
-    At(u32),
-}
-
-// Tiles of one row, with the alpha index of the first of them.
+// Tiles of one row, with the alpha index of the first of them, if the fill has one; a solid fill has none.
 #[derive(Clone, Copy)]
 pub struct Stretch {
     pub tiles: TileSpan,
-    pub alpha: Alpha,
-}
-
-// What is left of a stretch inside some bounds.
-#[derive(Clone, Copy)]
-pub enum Cut {
-    Nothing,
-    Left(Stretch),
-}
-
-pub fn smaller(a: u32, b: u32) -> u32
-    ensures { result ≡ min a b }
-{
-    if a < b { a } else { b }
-}
-
-pub fn larger(a: u32, b: u32) -> u32
-    ensures { result ≡ max a b }
-{
-    if a < b { b } else { a }
+    pub alpha: Option<u32>,
 }
 
 impl TileSpan {
@@ -94,11 +60,7 @@ impl TileSpan {
     pub fn tile_count(self) -> u32
         ensures { result ≡ self.end - self.first }
     {
-        if self.first <= self.end {
-            self.end - self.first
-        } else {
-            0
-        }
+        self.end.saturating_sub(self.first)
     }
 
     // The first tile's first pixel. A tile is 4 pixels wide.
@@ -118,25 +80,22 @@ impl TileSpan {
 
     // The smallest span that holds both.
     pub fn extend(self, other: TileSpan) -> TileSpan
-        ensures { tiles result ≡ hull (some (tiles self)) (tiles other) }
+        ensures { tiles result ≡ hull (Some (tiles self)) (tiles other) }
     {
         TileSpan {
-            first: smaller(self.first, other.first),
-            end: larger(self.end, other.end),
+            first: self.first.min(other.first),
+            end: self.end.max(other.end),
         }
     }
 
     // The tiles of both; nothing where they only touch.
-    pub fn intersect(self, other: TileSpan) -> Meeting
-        ensures { meeting-of result ≡ meeting (tiles self) (tiles other) }
+    #[tactic(auto, unfolding(rules::specs::Spans::meeting))]
+    pub fn intersect(self, other: TileSpan) -> Option<TileSpan>
+        ensures { option_map tiles result ≡ meeting (tiles self) (tiles other) }
     {
-        let first = larger(self.first, other.first);
-        let end = smaller(self.end, other.end);
-        if first < end {
-            Meeting::Tiles(TileSpan { first, end })
-        } else {
-            Meeting::Nothing
-        }
+        let first = self.first.max(other.first);
+        let end = self.end.min(other.end);
+        (first < end).then_some(TileSpan { first, end })
     }
 }
 
@@ -153,36 +112,25 @@ impl BucketRange {
     }
 }
 
-impl Alpha {
-    // The index that stands some tiles further right, 16 a tile.
-    pub fn moved(self, tiles: u32) -> Alpha
-        requires { Moves self tiles }
-        ensures { alpha result ≡ moved (alpha self) tiles }
-    {
-        match self {
-            Alpha::Solid => Alpha::Solid,
-            Alpha::At(index) => Alpha::At(index + TILE_ALPHAS * tiles),
-        }
-    }
+// The alpha index that stands some tiles further right, 16 a tile.
+pub fn moved(alpha: Option<u32>, tiles: u32) -> Option<u32>
+    requires { Moves alpha tiles }
+    ensures { result ≡ moved alpha tiles }
+{
+    alpha.map(|index| index + TILE_ALPHAS * tiles)
 }
 
 impl Stretch {
     // The part inside the bounds; a cut at the left moves the alpha index.
-    pub fn cut_to(self, bounds: TileSpan) -> Cut
+    #[tactic(auto, using(crate::proofs::Laws::within, crate::proofs::Laws::moves_within), unfolding(rules::specs::Spans::cut_to))]
+    pub fn cut_to(self, bounds: TileSpan) -> Option<Stretch>
         requires { Moves self.alpha (self.tiles.end - self.tiles.first) }
-        ensures { cut_of result ≡ cut-to (tiles bounds) (stretch self) }
+        ensures { option_map stretch result ≡ cut_to (tiles bounds) (stretch self) }
     {
-        let tiles = self.tiles;
-        let alpha = self.alpha;
-        match tiles.intersect(bounds) {
-            Meeting::Nothing => Cut::Nothing,
-            Meeting::Tiles(left) => {
-                let shifted = alpha.moved(left.first - tiles.first);
-                Cut::Left(Stretch {
-                    tiles: left,
-                    alpha: shifted,
-                })
-            }
-        }
+        let tiles = self.tiles.intersect(bounds)?;
+        Some(Stretch {
+            tiles,
+            alpha: moved(self.alpha, tiles.first - self.tiles.first),
+        })
     }
 }

@@ -25,11 +25,11 @@ use Rattle.cmd.specs.declared.attrs.PaintFillAttrs.{PaintFillAttrs}
 use Rattle.row.specs.Words.{Words, word, word-ops}
 use Rattle.row_screen.specs.Arena.{sizes, lay}
 use Rattle.row_screen.proofs.Laws.{lay-cut}
-use Rattle.row_judge.specs.Building.{rows_at, screen-at, good-rows, step-number}
+use Rattle.row_judge.specs.Building.{rows_at, screen-at, good_rows, step_number}
 use Rattle.rect.specs.Rects.{box_of}
 use Rattle.screen.specs.declared.Screen.{Screen}
 use Rattle.screen.specs.Screens.{frame-of, state-of, screen-after, counted}
-use Rattle.screen.proofs.Laws.{few-rows, same-layers, paint-count, layer-attr-count, filter-count}
+use Rattle.screen.proofs.Laws.{few_rows, same-layers, paint-count, layer-attr-count, filter-count}
 use Rattle.segments.specs.Segs as segs
 use Rattle.segments.specs.Segs.{segs-of}
 use Rattle.segments.proofs.Laws as listed
@@ -39,14 +39,14 @@ use Rattle.step_fill_judge.specs.Tallies.{cuts-of}
 use Rattle.step_fill_judge.proofs.Rising.{rising}
 use Rattle.step_fill_judge.proofs.Judged.{all-landed, roomy-judged}
 use Rattle.step_fill.specs.declared.Draw.{Draw}
-use Rattle.step_fill.specs.Fills.{draw-of, paints-of, job_of, Passing, FillLent, lent, fill-plan, first-of-lent, fill-number, fill_done, filled}
+use Rattle.step_fill.specs.Fills.{draw-of, paints-of, job_of, Passing, FillLent, lent, fill-plan, first-of-lent, fill_number, fill_done, filled}
 use Rattle.step_fill.proofs.Inputs.{GoodDraw, draw-facts}
 use Rattle.step_fill.proofs.Planned.{state-frame, state-next, plan-layers, plan-next, refused-bad, refused-are, puts-are, rows_are, attrs-same, attrs-more, full-attrs, paints-more, filters-same}
 use Rattle.step_fill.proofs.Numbers.{passing, long, rowed, good-are}
 
 module _ (l : FillLent) (ps ss : List ℕ) (d : Draw) where
   -- what is refused alters nothing
-  pub refused : {n : ℕ} → n ≡ fill-number l ps ss d → (n ≡ 0 → ⊥) → answer n l ≡ filled l ps ss d
+  pub refused : {n : ℕ} → n ≡ fill_number l ps ss d → (n ≡ 0 → ⊥) → answer n l ≡ filled l ps ss d
   refused {n} e h = rw (← e, ne_eqb n 0 h)
 
 -- the number 0
@@ -98,14 +98,14 @@ pub record Zero (l : FillLent) (ps ss : List ℕ) (d : Draw) : Type 0 where
   pub ready : FillReady (job_of l.screen ps d) (rows_of (box_of l.screen.viewport)) ss d.start d.end l.words
 
 module _ (l : FillLent) (ps ss : List ℕ) (d : Draw) where
-  parts : fill-number l ps ss d ≡ 0 → (first-of-lent l ps ss ≡ 0)
-      × (good-rows (frame-of l.screen) l.screen.layers (fill-plan l.screen ps ss d).puts (screen-at (state-of l.screen) l.words).rows ≡ true)
+  parts : fill_number l ps ss d ≡ 0 → (first-of-lent l ps ss ≡ 0)
+      × (good_rows (frame-of l.screen) l.screen.layers (fill-plan l.screen ps ss d).puts (screen-at (state-of l.screen) l.words).rows ≡ true)
       × (refusal Words word-ops (fill-plan l.screen ps ss d) (done Words word-ops (fill-plan l.screen ps ss d) (screen-at (state-of l.screen) l.words)) ≡ 0)
-  unfolding fill-number step-number
+  unfolding fill_number step_number
   parts h =
       let p = fill-plan l.screen ps ss d in
       let t = screen-at (state-of l.screen) l.words in
-      said-no (first-of-lent l ps ss) (good-rows (frame-of l.screen) l.screen.layers p.puts t.rows) (refusal Words word-ops p (done Words word-ops p t)) h
+      said-no (first-of-lent l ps ss) (good_rows (frame-of l.screen) l.screen.layers p.puts t.rows) (refusal Words word-ops p (done Words word-ops p t)) h
 
   done-frame : (done Words word-ops (fill-plan l.screen ps ss d) (screen-at (state-of l.screen) l.words)).state.frame ≡ frame-of l.screen
   unfolding done
@@ -119,7 +119,7 @@ module _ (l : FillLent) (ps ss : List ℕ) (d : Draw) where
       go true h = h
       go false h = let z : ◌≡◌ {A = ℕ} 4 0 = sym (refused-bad l.screen ps ss d h) ∙ e in absurd (omega arith)
 
-  pub zero-says : fill-number l ps ss d ≡ 0 → Zero l ps ss d
+  pub zero-says : fill_number l ps ss d ≡ 0 → Zero l ps ss d
   zero-says h =
       let a = parts h in
       let t = tests (fill-plan l.screen ps ss d) (done Words word-ops (fill-plan l.screen ps ss d) (screen-at (state-of l.screen) l.words)) a.2 in
@@ -129,7 +129,7 @@ module _ (l : FillLent) (ps ss : List ℕ) (d : Draw) where
       let j = listed.judged (segs.segs ss d.start (d.end - d.start)) e in
       let o = rowed l ps ss d a.0 in
       let p = passing l ps ss d a.0 in
-      let n = few-rows (box_of l.screen.viewport) p.view in
+      let n = few_rows (box_of l.screen.viewport) p.view in
       record {
         first = a.0;
         draw = q;
@@ -201,7 +201,7 @@ module _ (l : FillLent) (ps ss : List ℕ) (d : Draw) (z : Zero l ps ss d) where
         let e : drop l.screen.paint_attrs (state-of l.screen).attrs.paints ≡ [] = ap (λ (n : ℕ). drop n (state-of l.screen).attrs.paints) (sym (paint-count l.screen)) ∙ drop-length (state-of l.screen).attrs.paints in
         rw (attrs-same l.screen ps ss d good u, e) (no_words l.paint-attrs (paint-attr-size * l.screen.paint_attrs))
 
-    pub done-empty : {s : Screen} → 0 ≡ fill-number l ps ss d
+    pub done-empty : {s : Screen} → 0 ≡ fill_number l ps ss d
         → s ≡ counted l.screen (l.screen.next_draw_id + 1) (l.screen.paint_attrs + 0) l.screen.layer_attrs l.screen.filter_paints
         → answer 0 (lent s l.words l.paint-attrs) ≡ filled l ps ss d
     unfolding fill_done
@@ -223,7 +223,7 @@ module _ (l : FillLent) (ps ss : List ℕ) (d : Draw) (z : Zero l ps ss d) where
         go true e = ltb-true l.screen.paint_attrs 1024 e
         go false e = never (sym (full-attrs l.screen fine d (ltb-false l.screen.paint_attrs 1024 e)) ∙ (rw (attrs-more l.screen ps ss d good u) at z.attrs))
 
-    pub done-some : {s : Screen} {w : Words} {t : List ℕ} → 0 ≡ fill-number l ps ss d
+    pub done-some : {s : Screen} {w : Words} {t : List ℕ} → 0 ≡ fill_number l ps ss d
         → s ≡ counted l.screen (l.screen.next_draw_id + 1) (l.screen.paint_attrs + 1) l.screen.layer_attrs l.screen.filter_paints
         → w ≡ lay (filling.done (job_of l.screen ps d) (puts_of (job_of l.screen ps d) (cuts-of (job_of l.screen ps d) ss d.start d.end)) (rows_at (frame-of l.screen) l.words))
         → t ≡ put-paint l.paint-attrs l.screen.paint_attrs (attr-of l.screen d)

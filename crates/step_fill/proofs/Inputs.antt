@@ -1,14 +1,16 @@
 -- The inputs of a fill: paints as words, and the scene of a judged screen. Assumes nothing.
-use mathlib.Core.Path.{◌≡◌, refl, ap}
-use mathlib.Core.Bool.{true, ◌&&◌}
+use mathlib.Core.Path.{◌≡◌, refl, sym, ap, ◌∙◌}
+use mathlib.Core.Bool.{Bool, true, false, ◌&&◌}
 use mathlib.Core.List.{List}
-use Prim.Native.Nat.{ℕ, zero, suc, ◌+◌, ◌/◌, ◌≤◌, ◌<◌}
+use Prim.Native.Nat.{ℕ, zero, suc, ◌+◌, ◌*◌, ◌/◌, ◌≤◌, ◌<◌}
 use native.Mathlib.Omega.{arith}
-use lib.Dec.{leb, ltb}
+use lib.Dec.{leb, ltb, eqb}
 use lib.ListN.{length, get_or}
 use borrow.Author.Tests.{leb-true, ltb-true}
 use Rattle.rules.specs.Boxes.{Box, scene-tiles}
-use Rattle.rules.specs.Blends.{good-blend}
+use Rattle.rules.specs.Spans.{good-range}
+use Rattle.rules.specs.Blends.{good-blend, is-default}
+use Rattle.rules.specs.Plans.{eligible}
 use Rattle.rules.specs.Inputs.{Paint, good-paint, good-handle, good-thread, good-panel, few-paints, good-draw, good-fill, draw-paint}
 use Rattle.rules.proofs.All.{both}
 use Rattle.rect.specs.Rects.{box_of, Small}
@@ -19,7 +21,7 @@ use Rattle.segments.specs.declared.Scene.{Scene}
 use Rattle.segments.specs.Segs.{segs-of, SceneOf}
 use Rattle.segments.proofs.Laws.{segs-count}
 use Rattle.step_fill.specs.declared.Draw.{Draw}
-use Rattle.step_fill.specs.Fills.{draw-of, paint-at, paints, paints-of, scene-at, Passing}
+use Rattle.step_fill.specs.Fills.{draw-of, paint-at, paints, paints-of, good-fill-at, scene-at, Passing}
 
 module _ (ws : List ℕ) where
   paints-length : (i k : ℕ) → length (paints ws i k) ≡ k
@@ -38,6 +40,28 @@ module _ (ws : List ℕ) where
 
   pub paint-there : (z : Paint) (x : ℕ) → x < length ws / 4 → get_or (paints-of ws) x z ≡ paint-at ws x
   paint-there z x h = there z 0 (length ws / 4) x x h (omega arith)
+
+-- what a fill is told, at the words
+module _ (ps ss : List ℕ) (d : Draw) where
+  paint_at : (x y z w v b : Bool) → ltb d.paint (length ps / 4) ≡ b
+      → (x && b && good-paint (paint-at ps d.paint) && y && z && w) ≡ (x && b && good-paint (draw-paint (paints-of ps) (draw-of d)) && y && z && w)
+  paint_at x y z w v true e = rw (paint-there ps (record { opaque = 0; handle = 0 }) d.paint (ltb-true _ _ e))
+  paint_at true y z w v false e = refl
+  paint_at false y z w v false e = refl
+
+  fill_at : good-fill-at ps ss d ≡ good-fill (paints-of ps) (segs-of ss) (draw-of d)
+  fill_at =
+      rw (paints-count ps, segs-count ss)
+      (ap (λ (t : Bool). few-paints (length ps / 4) && t)
+      (paint_at (good-thread d.thread && good-range d.start d.end (length ss / 5)) (good-blend (draw-of d).blend) (good-handle d.mask) (good-panel d.panel) true
+      (ltb d.paint (length ps / 4)) refl))
+
+  pub fill-told : {r b : Bool} → r ≡ good-fill-at ps ss d → r ≡ b → good-fill (paints-of ps) (segs-of ss) (draw-of d) ≡ b
+  fill-told p q = sym fill_at ∙ sym p ∙ q
+
+  -- rule 6, at the words
+  pub eligible_at : d.paint < length ps / 4 → (o : Bool) → (o && is-default (draw-of d).blend && eqb d.mask 0 && eqb (get_or ps (4 * d.paint) 0) 1) ≡ eligible o (draw-paint (paints-of ps) (draw-of d)) (draw-of d)
+  eligible_at h o = rw (paint-there ps (record { opaque = 0; handle = 0 }) d.paint h)
 
 -- a good draw's range and paint
 pub record GoodDraw (ps ss : List ℕ) (d : Draw) : Type 0 where

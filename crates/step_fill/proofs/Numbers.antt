@@ -1,8 +1,8 @@
 -- A fill's number, for each way through its judge. Assumes nothing.
 use mathlib.Core.Path.{◌≡◌, refl, sym, ap, ◌∙◌}
-use mathlib.Core.Bool.{Bool, true, false, ◌&&◌, not, cond}
+use mathlib.Core.Bool.{Bool, true, false, ◌&&◌, ◌||◌, not, cond}
 use mathlib.Core.List.{List}
-use mathlib.Core.Option.{Option, none, some}
+use Rattle.std.specs.Prelude.{Option, None, Some}
 use Prim.Native.Nat.{ℕ, ◌+◌, ◌-◌, ◌*◌, ◌%◌, ◌≤◌, ◌<◌}
 use native.Mathlib.Omega.{arith}
 use lib.Dec.{ltb, eqb}
@@ -16,16 +16,16 @@ use Rattle.rules.specs.Segments.{Segment, good-segment, ordered, judge-segments}
 use Rattle.rules.specs.Inputs.{good-fill}
 use Rattle.rules.specs.Attributes.{attrs-full}
 use Rattle.rules.specs.Steps.{done, passes, refusal}
-use Rattle.rules.proofs.All.{both}
+use Rattle.rules.proofs.All.{both, never}
 use Rattle.row.specs.Words.{Words, word, word-ops}
 use Rattle.row_screen.specs.Arena.{sizes, Long, count-rows}
-use Rattle.row_judge.specs.Building.{rows_at, screen-at, good-rows, step-number}
+use Rattle.row_judge.specs.Building.{rows_at, screen-at, good_rows, step_number}
 use Rattle.rect.specs.Rects.{box_of}
 use Rattle.screen.specs.Screens.{frame-of, state-of}
 use Rattle.screen.specs.Judging.{judged}
 use Rattle.screen.proofs.Laws as laws
 use Rattle.rect.proofs.Boxes.{view}
-use Rattle.screen.proofs.Laws.{few-rows, clip, good-clip-of, layer-count}
+use Rattle.screen.proofs.Laws.{few_rows, clip, good-clip-of, layer-count}
 use Rattle.screen.proofs.Passed.{Passed, passed}
 use Rattle.segments.specs.Segs as segs
 use Rattle.segments.specs.Segs.{segs-of}
@@ -34,12 +34,12 @@ use Rattle.segments.proofs.Laws.{scene-starts}
 use Rattle.step_fill_rows.specs.Filling as filling
 use Rattle.row_screen.proofs.Laws.{rows-counted}
 use Rattle.step_fill_rows.specs.Filling.{puts_of}
-use Rattle.step_fill_judge.specs.Tallies.{Tally, tally-cuts, verdict, cuts-of, none_yet, Rowed, list-number}
+use Rattle.step_fill_judge.specs.Tallies.{Tally, tally_cuts, verdict, cuts-of, none_yet, Rowed, list-number}
 use Rattle.step_fill_judge.proofs.Hands.{bad-either}
 use Rattle.step_fill_judge.proofs.Rising.{rising}
 use Rattle.step_fill_judge.proofs.Judged.{run, flags, verdict-any, verdict-is, all-landed}
 use Rattle.step_fill.specs.declared.Draw.{Draw}
-use Rattle.step_fill.specs.Fills.{draw-of, paints-of, job_of, Passing, FillLent, fill-plan, good-lists, first-number, first-of-lent, fill-number}
+use Rattle.step_fill.specs.Fills.{draw-of, paints-of, job_of, Passing, FillLent, fill-plan, good-lists, first_number, first-of-lent, fill_number}
 use Rattle.step_fill.proofs.Inputs.{GoodDraw, draw-facts, scene-of-it}
 use Rattle.step_fill.proofs.Planned.{good-unless, state-frame, plan-layers, plan-next, refused-bad, refused-are, puts-are, rows_are, attrs-same, attrs-more, not_full, full-attrs, room-for-one}
 
@@ -54,7 +54,7 @@ opened j g h = go (eqb j Done) g refl h
 
 module _ (l : FillLent) (ps ss : List ℕ) where
   pub right-lengths : first-of-lent l ps ss ≡ 0 → Passed l.screen (length l.words.state) (length l.words.render) (length l.words.fills) (rows_of (box_of l.screen.viewport)) × (length l.paint-attrs ≡ paint-attr-table)
-  unfolding first-number
+  unfolding first_number
   right-lengths z =
       let t = eqb (length l.paint-attrs) paint-attr-table in
       let p = eqb (length ps % 4) 0 in
@@ -88,8 +88,8 @@ zero-else ss = go (every good-segment ss) (ordered ss)
     go false y f g = absurd (f refl)
 
 never-five : (o : Option Tally) → verdict o ≡ 5 → ⊥
-never-five none e = omega arith
-never-five (some t) e = go t.full t.deep e
+never-five None e = omega arith
+never-five (Some t) e = go t.full t.deep e
   where
     go : (a b : Bool) → ◌≡◌ {A = ℕ} (cond a 10 (cond b 11 0)) 5 → ⊥
     go true b e = omega arith
@@ -125,6 +125,10 @@ module _ (a v : ℕ) where
   rows-number : a ≡ 0 → (v ≡ 4 → ⊥) → list-number a v ≡ v
   rows-number e k = ap (λ (x : ℕ). list-number x v) e ∙ rw (ne_eqb v 4 k)
 
+or-true : (x : Bool) → (x || true) ≡ true
+or-true true = refl
+or-true false = refl
+
 either_way : (g : Bool) {n : ℕ} → n ≡ 4 → 4 ≡ cond g n 4
 either_way true e = sym e
 either_way false e = refl
@@ -132,14 +136,14 @@ either_way false e = refl
 module _ (l : FillLent) (ps ss : List ℕ) (d : Draw) where
   -- the records of the rows that are put on are good
   abbrev pub good-records : Bool
-  good-records = good-rows (frame-of l.screen) l.screen.layers (fill-plan l.screen ps ss d).puts (screen-at (state-of l.screen) l.words).rows
+  good-records = good_rows (frame-of l.screen) l.screen.layers (fill-plan l.screen ps ss d).puts (screen-at (state-of l.screen) l.words).rows
 
   -- the rules' refusal
   abbrev pub rules-number : ℕ
   rules-number = refusal Words word-ops (fill-plan l.screen ps ss d) (done Words word-ops (fill-plan l.screen ps ss d) (screen-at (state-of l.screen) l.words))
 
-  pub by_first : {n : ℕ} → n ≡ first-of-lent l ps ss → (n ≡ 0 → ⊥) → n ≡ fill-number l ps ss d
-  unfolding fill-number step-number
+  pub by_first : {n : ℕ} → n ≡ first-of-lent l ps ss → (n ≡ 0 → ⊥) → n ≡ fill_number l ps ss d
+  unfolding fill_number step_number
   by_first {n} e h = rw (← e, ne_eqb n 0 h)
 
   own-number : ((fill-plan l.screen ps ss d).refused ≡ 0 → ⊥) → rules-number ≡ (fill-plan l.screen ps ss d).refused
@@ -147,15 +151,15 @@ module _ (l : FillLent) (ps ss : List ℕ) (d : Draw) where
   own-number h = rw (ne_eqb (fill-plan l.screen ps ss d).refused 0 h)
 
   module _ (z : first-of-lent l ps ss ≡ 0) where
-    pub after_first : fill-number l ps ss d ≡ cond good-records rules-number 4
-    unfolding fill-number step-number
+    pub after_first : fill_number l ps ss d ≡ cond good-records rules-number 4
+    unfolding fill_number step_number
     after_first = rw z
 
     -- refused by 4 for its own inputs
-    own-four : (fill-plan l.screen ps ss d).refused ≡ 4 → 4 ≡ fill-number l ps ss d
+    own-four : (fill-plan l.screen ps ss d).refused ≡ 4 → 4 ≡ fill_number l ps ss d
     own-four e = either_way good-records (own-number (λ h. omega arith) ∙ e) ∙ sym after_first
 
-    pub bad-draw : good-fill (paints-of ps) (segs-of ss) (draw-of d) ≡ false → 4 ≡ fill-number l ps ss d
+    pub bad-draw : good-fill (paints-of ps) (segs-of ss) (draw-of d) ≡ false → 4 ≡ fill_number l ps ss d
     bad-draw h = own-four (refused-bad l.screen ps ss d h)
 
     pub passing : Passing l.screen
@@ -176,7 +180,7 @@ module _ (l : FillLent) (ps ss : List ℕ) (d : Draw) where
           starts = scene-starts (scene-of-it (box_of l.screen.viewport) (box_of l.screen.clip_bbox));
           bottom = omega (arith, k.bottom, v.y0-by-4);
           long = o.row_words;
-          few = few-rows (box_of l.screen.viewport) o.view;
+          few = few_rows (box_of l.screen.viewport) o.view;
         }
 
     module _ (q : good-fill (paints-of ps) (segs-of ss) (draw-of d) ≡ true) where
@@ -186,11 +190,11 @@ module _ (l : FillLent) (ps ss : List ℕ) (d : Draw) where
       pub list-asked : Rowed (job_of l.screen ps d) (count-rows l.words.state) l.words.state × (d.start ≤ d.end) × (5 * d.end ≤ length ss)
       list-asked = (rw (rows-counted l.words.state (rows_of (box_of l.screen.viewport)) rowed.long) rowed, drawn.range, omega (arith, drawn.ends))
 
-      bad-list : judge-segments false (segs.segs ss d.start (d.end - d.start)) ≡ 4 → 4 ≡ fill-number l ps ss d
+      bad-list : judge-segments false (segs.segs ss d.start (d.end - d.start)) ≡ 4 → 4 ≡ fill_number l ps ss d
       bad-list e = own-four (refused-are l.screen ps ss d drawn q ∙ e)
 
       pub good-are : good-records
-          ≡ good-rows (frame-of l.screen) l.screen.layers (puts_of (job_of l.screen ps d) (cuts-of (job_of l.screen ps d) ss d.start d.end)) (rows_at (frame-of l.screen) l.words)
+          ≡ good_rows (frame-of l.screen) l.screen.layers (puts_of (job_of l.screen ps d) (cuts-of (job_of l.screen ps d) ss d.start d.end)) (rows_at (frame-of l.screen) l.words)
       good-are = rw (puts-are l.screen ps ss d drawn passing, state-frame l.screen)
 
       module _ (h : judge-segments false (segs.segs ss d.start (d.end - d.start)) ≡ 4 → ⊥) where
@@ -198,24 +202,24 @@ module _ (l : FillLent) (ps ss : List ℕ) (d : Draw) where
         all-good = good-unless _ h
 
         -- 4 exactly if a record is bad
-        any-verdict : verdict (tally-cuts (job_of l.screen ps d) l.words.state none_yet (cuts-of (job_of l.screen ps d) ss d.start d.end))
+        any-verdict : verdict (tally_cuts (job_of l.screen ps d) l.words.state none_yet (cuts-of (job_of l.screen ps d) ss d.start d.end))
             ≡ cond good-records (flags (run (job_of l.screen ps d) l.words.state none_yet (cuts-of (job_of l.screen ps d) ss d.start d.end))) 4
         any-verdict =
             rw good-are
             (verdict-any (job_of l.screen ps d) (box_of l.screen.viewport) (rows_of (box_of l.screen.viewport)) l.words rowed.layers long
             (all-landed rowed (segs.segs ss d.start (d.end - d.start)) all-good))
 
-        bad-record : verdict (tally-cuts (job_of l.screen ps d) l.words.state none_yet (cuts-of (job_of l.screen ps d) ss d.start d.end)) ≡ 4 → 4 ≡ fill-number l ps ss d
+        bad-record : verdict (tally_cuts (job_of l.screen ps d) l.words.state none_yet (cuts-of (job_of l.screen ps d) ss d.start d.end)) ≡ 4 → 4 ≡ fill_number l ps ss d
         bad-record e = rw (after_first, four good-records (run (job_of l.screen ps d) l.words.state none_yet (cuts-of (job_of l.screen ps d) ss d.start d.end)) (sym any-verdict ∙ e))
 
-        module _ (k : verdict (tally-cuts (job_of l.screen ps d) l.words.state none_yet (cuts-of (job_of l.screen ps d) ss d.start d.end)) ≡ 4 → ⊥) where
+        module _ (k : verdict (tally_cuts (job_of l.screen ps d) l.words.state none_yet (cuts-of (job_of l.screen ps d) ss d.start d.end)) ≡ 4 → ⊥) where
           records : good-records ≡ true
           records = not-four good-records (run (job_of l.screen ps d) l.words.state none_yet (cuts-of (job_of l.screen ps d) ss d.start d.end)) (λ e. k (any-verdict ∙ e))
 
-          by-rules : fill-number l ps ss d ≡ rules-number
+          by-rules : fill_number l ps ss d ≡ rules-number
           by-rules = after_first ∙ rw records
 
-          bad-order : {n : ℕ} → n ≡ judge-segments false (segs.segs ss d.start (d.end - d.start)) → (n ≡ 0 → ⊥) → n ≡ fill-number l ps ss d
+          bad-order : {n : ℕ} → n ≡ judge-segments false (segs.segs ss d.start (d.end - d.start)) → (n ≡ 0 → ⊥) → n ≡ fill_number l ps ss d
           bad-order {n} e f =
               let r : (fill-plan l.screen ps ss d).refused ≡ n = refused-are l.screen ps ss d drawn q ∙ sym e in
               sym r ∙ sym (own-number (λ t. f (sym r ∙ t))) ∙ sym by-rules
@@ -225,12 +229,12 @@ module _ (l : FillLent) (ps ss : List ℕ) (d : Draw) where
             not-refused = refused-are l.screen ps ss d drawn q ∙ e
 
             -- the tally's verdict is the rules' last two tests
-            last-tests : verdict (tally-cuts (job_of l.screen ps d) l.words.state none_yet (cuts-of (job_of l.screen ps d) ss d.start d.end))
+            last-tests : verdict (tally_cuts (job_of l.screen ps d) l.words.state none_yet (cuts-of (job_of l.screen ps d) ss d.start d.end))
                 ≡ cond (passes Words word-ops (word 0) l.screen.c (puts_of (job_of l.screen ps d) (cuts-of (job_of l.screen ps d) ss d.start d.end)) (filling.done (job_of l.screen ps d) (puts_of (job_of l.screen ps d) (cuts-of (job_of l.screen ps d) ss d.start d.end)) (rows_at (frame-of l.screen) l.words))) 10
                 (cond (passes Words word-ops (word 1) l.screen.d (puts_of (job_of l.screen ps d) (cuts-of (job_of l.screen ps d) ss d.start d.end)) (filling.done (job_of l.screen ps d) (puts_of (job_of l.screen ps d) (cuts-of (job_of l.screen ps d) ss d.start d.end)) (rows_at (frame-of l.screen) l.words))) 11 0)
             last-tests =
                 verdict-is (job_of l.screen ps d) (box_of l.screen.viewport) (rows_of (box_of l.screen.viewport)) l.words rowed.layers long
-                (few-rows (box_of l.screen.viewport) passing.view) (all-landed rowed (segs.segs ss d.start (d.end - d.start)) all-good)
+                (few_rows (box_of l.screen.viewport) passing.view) (all-landed rowed (segs.segs ss d.start (d.end - d.start)) all-good)
                 (rising (segs.origin (job_of l.screen ps d).scene) (segs.bounds (job_of l.screen ps d).scene) (segs.segs ss d.start (d.end - d.start)) (listed.judged (segs.segs ss d.start (d.end - d.start)) e).order)
                 ∙ rw (sym good-are ∙ records)
 
@@ -238,7 +242,7 @@ module _ (l : FillLent) (ps ss : List ℕ) (d : Draw) where
             unfolding done
             done-c = state-frame l.screen
 
-            tests : rules-number ≡ cond (ltb 1048577 (l.screen.next_draw_id + 1)) 8 (cond (attrs-full (fill-plan l.screen ps ss d).attrs) 9 (verdict (tally-cuts (job_of l.screen ps d) l.words.state none_yet (cuts-of (job_of l.screen ps d) ss d.start d.end))))
+            tests : rules-number ≡ cond (ltb 1048577 (l.screen.next_draw_id + 1)) 8 (cond (attrs-full (fill-plan l.screen ps ss d).attrs) 9 (verdict (tally_cuts (job_of l.screen ps d) l.words.state none_yet (cuts-of (job_of l.screen ps d) ss d.start d.end))))
             unfolding refusal
             tests =
                 rw (
@@ -253,60 +257,74 @@ module _ (l : FillLent) (ps ss : List ℕ) (d : Draw) where
                   plan-next l.screen ps ss d,
                 )
 
-            number_is : fill-number l ps ss d ≡ cond (ltb 1048577 (l.screen.next_draw_id + 1)) 8 (cond (attrs-full (fill-plan l.screen ps ss d).attrs) 9 (verdict (tally-cuts (job_of l.screen ps d) l.words.state none_yet (cuts-of (job_of l.screen ps d) ss d.start d.end))))
+            number_is : fill_number l ps ss d ≡ cond (ltb 1048577 (l.screen.next_draw_id + 1)) 8 (cond (attrs-full (fill-plan l.screen ps ss d).attrs) 9 (verdict (tally_cuts (job_of l.screen ps d) l.words.state none_yet (cuts-of (job_of l.screen ps d) ss d.start d.end))))
             number_is = by-rules ∙ tests
 
-            no-id : 1048576 < l.screen.next_draw_id → 8 ≡ fill-number l ps ss d
+            no-id : 1048576 < l.screen.next_draw_id → 8 ≡ fill_number l ps ss d
             no-id f = rw (number_is, lt-ltb 1048577 (l.screen.next_draw_id + 1) (omega arith))
 
             module _ (f : l.screen.next_draw_id ≤ 1048576) where
               an-id : ltb 1048577 (l.screen.next_draw_id + 1) ≡ false
               an-id = le-ltb 1048577 (l.screen.next_draw_id + 1) (omega arith)
 
-              no-attr : (d.start ≡ d.end → ⊥) → 1024 ≤ l.screen.paint_attrs → 9 ≡ fill-number l ps ss d
+              no-attr : (d.start ≡ d.end → ⊥) → 1024 ≤ l.screen.paint_attrs → 9 ≡ fill_number l ps ss d
               no-attr u v = rw (number_is, an-id, attrs-more l.screen ps ss d drawn u, full-attrs l.screen passing d v)
 
               by-tally : (d.start ≡ d.end → ⊥) → l.screen.paint_attrs < 1024
-                  → verdict (tally-cuts (job_of l.screen ps d) l.words.state none_yet (cuts-of (job_of l.screen ps d) ss d.start d.end)) ≡ fill-number l ps ss d
+                  → verdict (tally_cuts (job_of l.screen ps d) l.words.state none_yet (cuts-of (job_of l.screen ps d) ss d.start d.end)) ≡ fill_number l ps ss d
               by-tally u v = rw (number_is, an-id, attrs-more l.screen ps ss d drawn u, room-for-one l.screen passing d v)
 
-              empty-done : d.start ≡ d.end → 0 ≡ fill-number l ps ss d
-              unfolding tally-cuts
+              empty-done : d.start ≡ d.end → 0 ≡ fill_number l ps ss d
+              unfolding tally_cuts
               empty-done u = rw (number_is, an-id, attrs-same l.screen ps ss d drawn u, not_full l.screen passing, listed.segs-end ss d.start d.end (omega arith))
 
       -- by the number of the one pass
-      module _ {n : ℕ} (w : n ≡ list-number (judge-segments false (segs.segs ss d.start (d.end - d.start))) (verdict (tally-cuts (job_of l.screen ps d) l.words.state none_yet (cuts-of (job_of l.screen ps d) ss d.start d.end)))) where
+      module _ {n : ℕ} (w : n ≡ list-number (judge-segments false (segs.segs ss d.start (d.end - d.start))) (verdict (tally_cuts (job_of l.screen ps d) l.words.state none_yet (cuts-of (job_of l.screen ps d) ss d.start d.end)))) where
         abbrev of-list : ℕ
         of-list = judge-segments false (segs.segs ss d.start (d.end - d.start))
 
         abbrev of-rows : ℕ
-        of-rows = verdict (tally-cuts (job_of l.screen ps d) l.words.state none_yet (cuts-of (job_of l.screen ps d) ss d.start d.end))
+        of-rows = verdict (tally_cuts (job_of l.screen ps d) l.words.state none_yet (cuts-of (job_of l.screen ps d) ss d.start d.end))
 
-        pub list-four : n ≡ 4 → 4 ≡ fill-number l ps ss d
+        list-four : n ≡ 4 → 4 ≡ fill_number l ps ss d
         list-four e = four-by of-list of-rows (sym w ∙ e) bad-list bad-record
 
-        pub list-five : n ≡ 5 → 5 ≡ fill-number l ps ss d
+        list-five : n ≡ 5 → 5 ≡ fill_number l ps ss d
         list-five e =
             let o = not-bad of-list of-rows (λ f. omega (arith, e, w, f)) in
-            let f = five-by of-list of-rows (sym w ∙ e) (never-five (tally-cuts (job_of l.screen ps d) l.words.state none_yet (cuts-of (job_of l.screen ps d) ss d.start d.end))) in
+            let f = five-by of-list of-rows (sym w ∙ e) (never-five (tally_cuts (job_of l.screen ps d) l.words.state none_yet (cuts-of (job_of l.screen ps d) ss d.start d.end))) in
             bad-order o.0 o.1 (sym f) (λ z. omega arith)
 
-        module _ (f : n ≡ 4 → ⊥) (g : n ≡ 5 → ⊥) where
+        pub list-first : (eqb n 4 || eqb n 5) ≡ true → n ≡ fill_number l ps ss d
+        list-first e = go (eqb n 4) refl (eqb n 5) refl e
+          where
+            go : (x : Bool) → eqb n 4 ≡ x → (y : Bool) → eqb n 5 ≡ y → (x || y) ≡ true → n ≡ fill_number l ps ss d
+            go true p y q e = let z = eqb-true n 4 p in z ∙ list-four z
+            go false p true q e = let z = eqb-true n 5 q in z ∙ list-five z
+            go false p false q e = never (sym e)
+
+        module _ (h : (eqb n 4 || eqb n 5) ≡ false) where
+          f : n ≡ 4 → ⊥
+          f e = never ((rw (eq-eqb n 4 e) at h))
+
+          g : n ≡ 5 → ⊥
+          g e = never (sym (or-true (eqb n 4)) ∙ (rw (eq-eqb n 5 e) at h))
+
           sound : (of-list ≡ 4 → ⊥) × (of-rows ≡ 4 → ⊥)
           sound = not-bad of-list of-rows (λ e. f (w ∙ e))
 
           in_order : of-list ≡ 0
           in_order = zero-else (segs.segs ss d.start (d.end - d.start)) sound.0 (not_five of-list of-rows (λ e. f (w ∙ e)) (λ e. g (w ∙ e)))
 
-          pub list-no-id : 1048576 < l.screen.next_draw_id → 8 ≡ fill-number l ps ss d
+          pub list-no-id : 1048576 < l.screen.next_draw_id → 8 ≡ fill_number l ps ss d
           list-no-id = no-id sound.0 sound.1 in_order
 
           module _ (i : l.screen.next_draw_id ≤ 1048576) where
-            pub list-empty : d.start ≡ d.end → 0 ≡ fill-number l ps ss d
+            pub list-empty : d.start ≡ d.end → 0 ≡ fill_number l ps ss d
             list-empty = empty-done sound.0 sound.1 in_order i
 
-            pub list-no-attr : (d.start ≡ d.end → ⊥) → 1024 ≤ l.screen.paint_attrs → 9 ≡ fill-number l ps ss d
+            pub list-no-attr : (d.start ≡ d.end → ⊥) → 1024 ≤ l.screen.paint_attrs → 9 ≡ fill_number l ps ss d
             list-no-attr = no-attr sound.0 sound.1 in_order i
 
-            pub list-rows : (d.start ≡ d.end → ⊥) → l.screen.paint_attrs < 1024 → n ≡ fill-number l ps ss d
+            pub list-rows : (d.start ≡ d.end → ⊥) → l.screen.paint_attrs < 1024 → n ≡ fill_number l ps ss d
             list-rows u v = w ∙ rows-number of-list of-rows in_order sound.1 ∙ by-tally sound.0 sound.1 in_order i u v

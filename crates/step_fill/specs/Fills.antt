@@ -1,10 +1,12 @@
 -- A fill at a screen's words: its number, and every lent word afterwards.
-use Rattle.std.specs.Prelude.{ℕ, zero, suc, ◌+◌, ◌*◌, ◌/◌, ◌%◌, ◌≡◌, Bool, true, ◌&&◌, cond, List, [], ◌∷◌, eqb, get_or, length, drop}
+use Rattle.std.specs.Prelude.{ℕ, zero, suc, ◌+◌, ◌*◌, ◌/◌, ◌%◌, ◌≡◌, Bool, true, ◌&&◌, cond, List, [], ◌∷◌, eqb, get_or, length, drop, ltb}
 use Rattle.sizes.specs.Sizes.{paint-attr-size, paint-attr-table}
 use Rattle.rules.specs.Lists.{join}
 use Rattle.rules.specs.Answers.{Answer, settle, Done, BadRecord}
-use Rattle.rules.specs.Boxes.{Box, good-viewport}
-use Rattle.rules.specs.Inputs.{Paint, draw-paint}
+use Rattle.rules.specs.Boxes.{Box, good_viewport}
+use Rattle.rules.specs.Blends.{good-blend}
+use Rattle.rules.specs.Spans.{good-range}
+use Rattle.rules.specs.Inputs.{Paint, draw-paint, good-thread, good-paint, good-handle, good-panel, few-paints}
 use Rattle.rules.specs.Inputs as rule
 use Rattle.screen.specs.Attributes.{paint-attr-words}
 use Rattle.rules.specs.Plans.{Plan, eligible, plan-fill}
@@ -13,10 +15,10 @@ use Rattle.cmd.specs.Blends.{blend_of}
 use Rattle.cmd.specs.Attrs.{words-at}
 use Rattle.row.specs.Words.{Words, word-ops}
 use Rattle.row_screen.specs.Arena.{lay}
-use Rattle.row_judge.specs.Building.{screen-at, good-rows, step-number}
+use Rattle.row_judge.specs.Building.{screen-at, good_rows, step_number}
 use Rattle.rect.specs.Rects.{box_of}
 use Rattle.screen.specs.declared.Screen.{Screen}
-use Rattle.screen.specs.Screens.{frame-of, state-of, screen-after, good-screen}
+use Rattle.screen.specs.Screens.{frame-of, state-of, screen-after, good_screen}
 use Rattle.screen.specs.Judging.{judged}
 use Rattle.segments.specs.declared.Scene.{Scene}
 use Rattle.segments.specs.Segs.{segs-of}
@@ -47,6 +49,20 @@ paints ws i (suc k) = paint-at ws i ∷ paints ws (i + 1) k
 abbrev pub paints-of : List ℕ → List Paint
 paints-of ws = paints ws 0 (length ws / 4)
 
+-- answer 4 for what a fill is told, at the words
+abbrev pub good-draw-at : List ℕ → List ℕ → Draw → Bool
+good-draw-at ps ss d =
+    good-thread d.thread
+    && good-range d.start d.end (length ss / 5)
+    && ltb d.paint (length ps / 4)
+    && good-paint (paint-at ps d.paint)
+    && good-blend (blend_of d.blend)
+    && good-handle d.mask
+    && good-panel d.panel
+
+abbrev pub good-fill-at : List ℕ → List ℕ → Draw → Bool
+good-fill-at ps ss d = few-paints (length ps / 4) && good-draw-at ps ss d
+
 -- the scene of the viewport v and the clip box c
 abbrev pub scene-at : Box → Box → Scene
 scene-at v c =
@@ -73,8 +89,8 @@ job_of s ps d =
 
 -- a screen that is judged: its numbers are good
 pub record Passing (s : Screen) : Type 0 where
-  pub view : good-viewport (box_of s.viewport) ≡ true
-  pub screen : good-screen s ≡ true
+  pub view : good_viewport (box_of s.viewport) ≡ true
+  pub screen : good_screen s ≡ true
 
 -- a screen and the words that a fill writes
 pub record FillLent : Type 0 where
@@ -94,21 +110,21 @@ abbrev pub good-lists : ℕ → ℕ → ℕ → Bool
 good-lists table ps ss = eqb table paint-attr-table && eqb (ps % 4) 0 && eqb (ss % 5) 0
 
 -- what the screen and the lengths say: 2, 1, 4 or 0
-unfoldable pub first-number : Screen → ℕ → ℕ → ℕ → ℕ → ℕ → ℕ → ℕ
-first-number s rows render fills table ps ss =
+unfoldable pub first_number : Screen → ℕ → ℕ → ℕ → ℕ → ℕ → ℕ → ℕ
+first_number s rows render fills table ps ss =
     let n = judged s rows render fills in
     cond (eqb n Done) (cond (good-lists table ps ss) Done BadRecord) n
 
 -- .. of what is lent
 abbrev pub first-of-lent : FillLent → List ℕ → List ℕ → ℕ
-first-of-lent l ps ss = first-number l.screen (length l.words.state) (length l.words.render) (length l.words.fills) (length l.paint-attrs) (length ps) (length ss)
+first-of-lent l ps ss = first_number l.screen (length l.words.state) (length l.words.render) (length l.words.fills) (length l.paint-attrs) (length ps) (length ss)
 
 -- a fill's number
-unfoldable pub fill-number : FillLent → List ℕ → List ℕ → Draw → ℕ
-fill-number l ps ss d =
+unfoldable pub fill_number : FillLent → List ℕ → List ℕ → Draw → ℕ
+fill_number l ps ss d =
     let p = fill-plan l.screen ps ss d in
     let s = screen-at (state-of l.screen) l.words in
-    step-number (first-of-lent l ps ss) (good-rows (frame-of l.screen) l.screen.layers p.puts s.rows) p s
+    step_number (first-of-lent l ps ss) (good_rows (frame-of l.screen) l.screen.layers p.puts s.rows) p s
 
 -- done without limits: the rows after, and the words of the attribute that is new
 unfoldable pub fill_done : FillLent → List ℕ → List ℕ → Draw → FillLent
@@ -120,4 +136,4 @@ fill_done l ps ss d =
 
 -- a fill: what is refused alters nothing
 abbrev pub filled : FillLent → List ℕ → List ℕ → Draw → Answer FillLent
-filled l ps ss d = settle (fill-number l ps ss d) l (fill_done l ps ss d)
+filled l ps ss d = settle (fill_number l ps ss d) l (fill_done l ps ss d)

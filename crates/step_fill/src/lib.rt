@@ -1,21 +1,23 @@
 // A fill (rules 3 to 7): judged, then done. `fill` is a public call.
 #![tactic(auto)]
 
-ghost use Rattle.std.specs.Prelude.{◌≡◌, ◌+◌, ◌/◌, ◌≤◌, ◌<◌, eqb, length};
+ghost use Rattle.std.specs.Prelude.{◌≡◌, ◌||◌, ◌+◌, ◌/◌, ◌≤◌, ◌<◌, eqb, length};
 ghost use Rattle.sizes.specs.Sizes.{most-attrs, last-id};
-ghost use Rattle.rules.specs.Answers.{answer};
-ghost use Rattle.rules.specs.Inputs.{good-draw, good-fill, draw-paint};
+ghost use Rattle.sizes.specs.Refusals.{answer_number};
+ghost use Rattle.rules.specs.Answers.{answer, BadRecord, BadOrder};
+ghost use Rattle.rules.specs.Inputs.{good-paint, draw-paint};
+ghost use Rattle.rules.specs.Spans.{good-range};
 ghost use Rattle.rules.specs.Plans.{eligible};
-ghost use Rattle.row.specs.Words.{words};
+ghost use Rattle.row_screen.specs.Rows.{all-held, SameRows};
 ghost use Rattle.screen.specs.Screens.{counted};
-ghost use Rattle.segments.specs.Segs.{segs-of};
-ghost use Rattle.step_fill.specs.Fills.{draw-of, paints-of, job_of, lent, first-number, fill-number, filled, Passing};
+ghost use Rattle.step_fill.specs.Fills.{draw-of, paint-at, paints-of, good-draw-at, good-fill-at, job_of, lent, first_number, fill_number, filled, Passing};
 
 use cmd::attrs::{PaintFillAttrs, put_paint_attrs};
 use cmd::blend::Blend;
-use screen::{Built, Screen, judge_screen};
+use row_screen::Rows;
+use screen::{Screen, judge_screen};
 use segments::scene_of;
-use sizes::answers::{BAD_ORDER, BAD_RECORD, DONE, FULL_ATTRS, IDS};
+use sizes::answers::Refusal;
 use sizes::{HANDLE_END, LAST_ID, MOST_ATTRS, MOST_RECORDS, PAINT_TABLE, PANEL_END, THREAD_END};
 use step_fill_judge::judge_list;
 use step_fill_rows::{Job, fill_rows};
@@ -32,89 +34,67 @@ pub struct Draw {
     pub panel: u32,
 }
 
+fn is_range(start: usize, end: usize, count: usize) -> bool
+    ensures { result ≡ good-range start «end» count }
+{
+    start <= end && end <= count
+}
+
+// A paint's opaque flag and handle.
+fn is_good_paint(paints: &[u32], paint: usize) -> bool
+    requires { paint < length paints.now / 4 }
+    ensures { result ≡ good-paint (paint-at paints.now paint) }
+{
+    paints[4 * paint] <= 1 && paints[4 * paint + 1] < HANDLE_END
+}
+
 // Answer 4: the draw's own fields, and the paint that it names.
 fn is_good_draw(paints: &[u32], segments: &[u32], draw: Draw) -> bool
-    ensures { result ≡ good-draw (paints-of paints.now) (segs-of segments.now) (draw-of draw) }
+    ensures { result ≡ good-draw-at paints.now segments.now draw }
 {
-    let blend = draw.blend;
-    if THREAD_END <= draw.thread {
-        return false;
-    }
-    if draw.end < draw.start {
-        return false;
-    }
-    if segments.len() / 5 < draw.end {
-        return false;
-    }
-    let paint = draw.paint as usize;
-    if paints.len() / 4 <= paint {
-        return false;
-    }
-    if 1 < paints[4 * paint] {
-        return false;
-    }
-    if HANDLE_END <= paints[4 * paint + 1] {
-        return false;
-    }
-    if !blend.is_good() {
-        return false;
-    }
-    if HANDLE_END <= draw.mask {
-        return false;
-    }
-    draw.panel < PANEL_END
+    draw.thread < THREAD_END
+        && is_range(draw.start, draw.end, segments.len() / 5)
+        && (draw.paint as usize) < paints.len() / 4
+        && is_good_paint(paints, draw.paint as usize)
+        && draw.blend.is_good()
+        && draw.mask < HANDLE_END
+        && draw.panel < PANEL_END
 }
 
 // The same, and how many paints are lent.
 fn is_good_fill(paints: &[u32], segments: &[u32], draw: Draw) -> bool
-    ensures { result ≡ good-fill (paints-of paints.now) (segs-of segments.now) (draw-of draw) }
+    ensures { result ≡ good-fill-at paints.now segments.now draw }
 {
-    if MOST_RECORDS < paints.len() / 4 {
-        return false;
-    }
-    is_good_draw(paints, segments, draw)
+    paints.len() / 4 <= MOST_RECORDS && is_good_draw(paints, segments, draw)
 }
 
 // Rule 6, for the solid segments of a draw.
+#[tactic(auto, using(crate::proofs::Inputs::eligible_at))]
 pub fn is_eligible(layers: u32, paints: &[u32], draw: Draw) -> bool
     requires { draw.paint < length paints.now / 4 }
     ensures { result ≡ eligible (eqb layers 0) (draw-paint (paints-of paints.now) (draw-of draw)) (draw-of draw) }
 {
-    let blend = draw.blend;
-    let paint = draw.paint as usize;
-    if layers != 0 {
-        return false;
-    }
-    if !blend.is_default() {
-        return false;
-    }
-    if draw.mask != 0 {
-        return false;
-    }
-    paints[4 * paint] == 1
+    layers == 0 && draw.blend.is_default() && draw.mask == 0 && paints[4 * draw.paint as usize] == 1
 }
 
 fn job_of(screen: Screen, paints: &[u32], draw: Draw) -> Job
     requires { Passing screen × (draw.paint < length paints.now / 4) }
     ensures { result ≡ job_of screen paints.now draw }
 {
-    let viewport = screen.viewport;
-    let clip = screen.clip_bbox;
-    let scene = scene_of(viewport, clip);
-    let width = screen.width;
     Job {
-        scene,
+        scene: scene_of(screen.viewport, screen.clip_bbox),
         c: screen.c,
         d: screen.d,
         layers: screen.layers,
         eligible: is_eligible(screen.layers, paints, draw),
         attr: screen.paint_attrs,
         id: screen.next_draw_id,
-        width,
+        width: screen.width,
     }
 }
 
-// What the screen and the lengths say: 2, then 1, then 4, or 0.
+// What the screen and the lengths say: 2, then 1, then 4.
+#[tactic(auto, unfolding(crate::specs::Fills::first_number))]
 fn judge_lent(
     screen: Screen,
     rows: usize,
@@ -123,150 +103,104 @@ fn judge_lent(
     table: usize,
     paints: usize,
     segments: usize,
-) -> u32
-    ensures { result ≡ first-number screen rows render fills table paints segments }
+) -> Result<(), Refusal>
+    ensures { answer_number result ≡ first_number screen rows render fills table paints segments }
 {
-    let n = judge_screen(screen, rows, render, fills);
-    if n != DONE {
-        return n;
+    judge_screen(screen, rows, render, fills)?;
+    if table != PAINT_TABLE || paints % 4 != 0 || segments % 5 != 0 {
+        return Err(Refusal::BadRecord);
     }
-    if table != PAINT_TABLE {
-        return BAD_RECORD;
-    }
-    if paints % 4 != 0 {
-        return BAD_RECORD;
-    }
-    if segments % 5 != 0 {
-        return BAD_RECORD;
-    }
-    DONE
+    Ok(())
 }
 
-// A fill's number, before anything is done.
+// A list's answer that comes before those of ids and attributes.
+fn comes_first(judged: Result<(), Refusal>) -> bool
+    ensures { result ≡ (eqb (answer_number judged) BadRecord || eqb (answer_number judged) BadOrder) }
+{
+    matches!(judged, Err(Refusal::BadRecord | Refusal::BadOrder))
+}
+
+// A fill, before anything is done.
 fn judge_fill(
     screen: Screen,
-    rows: &[u32],
-    render: &[u32],
-    fills: &[u32],
+    rows: &Rows<'_>,
     paint_attrs: &[u32],
     paints: &[u32],
     segments: &[u32],
     draw: Draw,
-) -> u32
-    ensures { result ≡ fill-number (lent screen (words rows.now render.now fills.now) paint_attrs.now) paints.now segments.now draw }
+) -> Result<(), Refusal>
+    ensures { answer_number result ≡ fill_number (lent screen (all-held rows.now) paint_attrs.now) paints.now segments.now draw }
 {
-    let first = judge_lent(
+    judge_lent(
         screen,
-        rows.len(),
-        render.len(),
-        fills.len(),
+        rows.state.len(),
+        rows.render.len(),
+        rows.fills.len(),
         paint_attrs.len(),
         paints.len(),
         segments.len(),
-    );
-    if first != DONE {
-        return first;
-    }
+    )?;
     if !is_good_fill(paints, segments, draw) {
-        return BAD_RECORD;
+        return Err(Refusal::BadRecord);
     }
-    let start = draw.start;
-    let end = draw.end;
     let job = job_of(screen, paints, draw);
-    let n = judge_list(rows, segments, start, end, job);
-    if n == BAD_RECORD {
-        return BAD_RECORD;
-    }
-    if n == BAD_ORDER {
-        return BAD_ORDER;
+    let listed = judge_list(rows.state, segments, draw.start, draw.end, job);
+    if comes_first(listed) {
+        return listed;
     }
     if LAST_ID < screen.next_draw_id {
-        return IDS;
+        return Err(Refusal::Ids);
     }
-    if start == end {
-        return DONE;
+    if draw.start == draw.end {
+        return Ok(());
     }
     if MOST_ATTRS <= screen.paint_attrs {
-        return FULL_ATTRS;
+        return Err(Refusal::FullAttrs);
     }
-    n
+    listed
 }
 
-// The screen after a fill: one id more, and `more` attributes. Field by field: a changed copy takes more instructions in every fill.
-fn taken(screen: Screen, more: u32) -> Screen
-    requires { (screen.next_draw_id ≤ last-id) × (screen.paint_attrs ≤ most-attrs) × (more ≤ 1) }
-    ensures { result ≡ counted screen (screen.next_draw_id + 1) (screen.paint_attrs + more) screen.layer_attrs screen.filter_paints }
+// A fill takes an id, and `more` attributes.
+fn take(screen: &mut Screen, more: u32)
+    requires { (screen.old.next_draw_id ≤ last-id) × (screen.old.paint_attrs ≤ most-attrs) × (more ≤ 1) }
+    ensures { screen.new ≡ counted screen.old (screen.old.next_draw_id + 1) (screen.old.paint_attrs + more) screen.old.layer_attrs screen.old.filter_paints }
 {
-    let viewport = screen.viewport;
-    let clip_bbox = screen.clip_bbox;
-    let width = screen.width;
-    Screen {
-        viewport,
-        clip_bbox,
-        c: screen.c,
-        d: screen.d,
-        next_draw_id: screen.next_draw_id + 1,
-        paint_attrs: screen.paint_attrs + more,
-        layer_attrs: screen.layer_attrs,
-        filter_paints: screen.filter_paints,
-        layers: screen.layers,
-        painting: false,
-        width,
-    }
+    screen.next_draw_id += 1;
+    screen.paint_attrs += more;
+    screen.painting = false;
 }
 
-// Rules 3 to 7.
+// Rules 3 to 7. Refused, the screen and every lent word stay.
 pub fn fill(
-    screen: Screen,
-    rows: &mut [u32],
-    render: &mut [u32],
-    fills: &mut [u32],
+    screen: &mut Screen,
+    rows: &mut Rows<'_>,
     paint_attrs: &mut [u32],
     paints: &[u32],
     segments: &[u32],
     draw: Draw,
-) -> Built
-    ensures { answer result.number (lent result.screen (words rows.new render.new fills.new) paint_attrs.new)
-        ≡ filled (lent screen (words rows.old render.old fills.old) paint_attrs.old) paints.now segments.now draw }
+) -> Result<(), Refusal>
+    ensures same { SameRows rows.old rows.new }
+    ensures filled { answer (answer_number result) (lent screen.new (all-held rows.new) paint_attrs.new)
+        ≡ filled (lent screen.old (all-held rows.old) paint_attrs.old) paints.now segments.now draw }
 {
-    let n = judge_fill(
-        screen,
-        rows,
-        render,
-        fills,
-        paint_attrs,
-        paints,
-        segments,
-        draw,
-    );
-    if n != DONE {
-        return Built { number: n, screen };
+    judge_fill(*screen, rows, paint_attrs, paints, segments, draw)?;
+    if draw.start == draw.end {
+        take(screen, 0);
+        return Ok(());
     }
-    let start = draw.start;
-    let end = draw.end;
-    if start == end {
-        return Built {
-            number: DONE,
-            screen: taken(screen, 0),
-        };
-    }
-    let job = job_of(screen, paints, draw);
-    let viewport = screen.viewport;
-    let blend = draw.blend;
     let attrs = PaintFillAttrs {
         paint: draw.paint,
-        blend,
+        blend: draw.blend,
         mask: draw.mask,
         draw_id: screen.next_draw_id,
         thread_idx: draw.thread,
-        origin_x: viewport.x0,
-        origin_y: viewport.y0,
+        origin_x: screen.viewport.x0,
+        origin_y: screen.viewport.y0,
         panel: draw.panel,
     };
+    let job = job_of(*screen, paints, draw);
     put_paint_attrs(paint_attrs, screen.paint_attrs as usize, attrs);
-    fill_rows(rows, render, fills, segments, start, end, job);
-    Built {
-        number: DONE,
-        screen: taken(screen, 1),
-    }
+    fill_rows(rows, segments, draw.start, draw.end, job);
+    take(screen, 1);
+    Ok(())
 }

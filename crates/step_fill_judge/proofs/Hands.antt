@@ -2,7 +2,7 @@
 use mathlib.Core.Path.{◌≡◌, refl, sym, ap, ◌∙◌}
 use mathlib.Core.Bool.{Bool, true, false, ◌&&◌, ◌||◌, cond}
 use mathlib.Core.List.{List, [], ◌∷◌, ◌++◌}
-use mathlib.Core.Option.{Option, none, some}
+use Rattle.std.specs.Prelude.{Option, None, Some}
 use Prim.Native.Nat.{ℕ, zero, suc, ◌+◌, ◌-◌, ◌*◌, ◌≤◌, ◌<◌}
 use native.Mathlib.Omega.{arith}
 use lib.Dec.{leb, ltb, eqb}
@@ -11,7 +11,7 @@ use borrow.Author.Tests.{eqb-true, eqb-false, eq-eqb, ne_eqb, lt-ltb, le-leb}
 use Rattle.rules.specs.Spans.{Span}
 use Rattle.rules.specs.Segments.{Segment, good-segment, follows, ordered-after, ordered, judge-segments, Cut, cut_in}
 use Rattle.row_counts.specs.Counts.{Counts, counts}
-use Rattle.row_judge.specs.Building.{good-row}
+use Rattle.row_judge.specs.Building.{good_row}
 use Rattle.segments.specs.Segs.{seg-at, segs, origin, bounds}
 use Rattle.segments.proofs.Laws.{segs-end, segs-first}
 use Rattle.segments.proofs.Judging as list
@@ -19,10 +19,9 @@ use Rattle.segments.proofs.Judging.{AtPlace, judging}
 use Rattle.step_fill_rows.specs.declared.Job.{Job}
 use Rattle.step_fill_rows.proofs.Runs.{at_most_one}
 use Rattle.row_room.specs.declared.Limits.{Limits}
-use Rattle.row_room.specs.declared.Hand.{Hand}
-use Rattle.row_room.specs.Room.{record-at, hand_of, loaded, turned-to, noted, added-to, Low}
+use Rattle.row_room.specs.Room.{record-at, Counted, hand_of, loaded, noted, added_to, Low}
 use Rattle.row_room.proofs.Laws.{good-small}
-use Rattle.step_fill_judge.specs.Tallies.{Tally, job-adds, known, tallied, tally-cuts, verdict, cuts-of, none_yet, Rowed, list-number, marked_by, limits_of, stretched, counted-cut, hand-cuts}
+use Rattle.step_fill_judge.specs.Tallies.{Tally, job-adds, known, tallied, tally_cuts, verdict, cuts-of, none_yet, Rowed, list-number, marked_by, limits_of, stretched, counted_cut, hand_cuts}
 use Rattle.step_fill_judge.proofs.Laws.{turned, Fits, took-none, took-bad, took-good, tally-more, tally-stop, fits_after, lands}
 
 -- the number for an order that is kept if ok, and for rows that are full or deep
@@ -58,23 +57,23 @@ noted-is true false false false true = refl
 noted-is true false false false false = refl
 
 -- the hand h has the tally t, and an order that is kept if ok
-pub record Holds (j : Job) (rows : List ℕ) (h : Hand) (ok : Bool) (t : Tally) : Type 0 where
+pub record Holds (j : Job) (rows : List ℕ) (h : Counted) (ok : Bool) (t : Tally) : Type 0 where
   pub row : h.row ≡ t.row
   pub renders : h.renders ≡ t.renders
   pub depths : h.depths ≡ t.depths
   pub code : h.code ≡ code_of ok t.full t.deep
   pub levels : t.row ≤ 8191 → t.levels ≡ j.layers
-  pub good : t.row ≤ 8191 → good-row j.c j.d j.layers (record-at rows t.row) ≡ true
+  pub good : t.row ≤ 8191 → good_row j.c j.d j.layers (record-at rows t.row) ≡ true
 
 -- row r is at hand, with all its layers
-record Turned (j : Job) (u : Hand) (n r : ℕ) (k : Counts) : Type 0 where
+record Turned (j : Job) (u : Counted) (n r : ℕ) (k : Counts) : Type 0 where
   row : u.row ≡ r
   renders : u.renders ≡ k.renders + (j.layers - k.levels)
   depths : u.depths ≡ k.depths
   code : u.code ≡ n
   levels : k.levels ≤ j.layers
 
-module _ (j : Job) (rows : List ℕ) (h : Hand) (ok : Bool) (t : Tally) (o : Holds j rows h ok t) where
+module _ (j : Job) (rows : List ℕ) (h : Counted) (ok : Bool) (t : Tally) (o : Holds j rows h ok t) where
   pub marks : (f : Bool) → Holds j rows (marked_by h f) (ok && f) t
   marks true = record { row = o.row; renders = o.renders; depths = o.depths; code = o.code ∙ code-kept ok t.full t.deep; levels = o.levels; good = o.good }
   marks false = record { row = o.row; renders = o.renders; depths = o.depths; code = code-broken ok t.full t.deep; levels = o.levels; good = o.good }
@@ -84,7 +83,7 @@ module _ (j : Job) (rows : List ℕ) (h : Hand) (ok : Bool) (t : Tally) (o : Hol
 
   -- what the row of a cut segment has before it: at hand, or by its record
   module _ (r : ℕ) (b : r ≤ 8191) where
-    good-held : h.row ≡ r → good-row j.c j.d j.layers (record-at rows r) ≡ true
+    good-held : h.row ≡ r → good_row j.c j.d j.layers (record-at rows r) ≡ true
     good-held p = let e : t.row ≡ r = sym o.row ∙ p in rw e at (o.good (omega arith))
 
     held-is : h.row ≡ r → Turned j h h.code r (known t (record-at rows r) r)
@@ -94,16 +93,16 @@ module _ (j : Job) (rows : List ℕ) (h : Hand) (ok : Bool) (t : Tally) (o : Hol
         let l : t.levels ≡ j.layers = o.levels (omega arith) in
         rw (eq-eqb t.row r e) (record { row = p; renders = omega (arith, o.renders); depths = o.depths; code = refl; levels = omega arith })
 
-    loaded-is : (h.row ≡ r → ⊥) → good-row j.c j.d j.layers (record-at rows r) ≡ true → Turned j (loaded (limits_of j) (record-at rows r) h.code r) h.code r (known t (record-at rows r) r)
+    loaded-is : (h.row ≡ r → ⊥) → good_row j.c j.d j.layers (record-at rows r) ≡ true → Turned j (loaded (limits_of j) (record-at rows r) h.code r) h.code r (known t (record-at rows r) r)
     unfolding known
     loaded-is p g =
         rw (ne_eqb t.row r (λ e. p (o.row ∙ e)))
         (record { row = refl; renders = omega arith; depths = refl; code = refl; levels = (good-small j.c j.d j.layers (record-at rows r) g).levels })
 
   -- one more cut segment, on a row whose record is good
-  module _ (k : Cut) (g : good-row j.c j.d j.layers (record-at rows k.row) ≡ true) {u : Hand} (v : Turned j u h.code k.row (known t (record-at rows k.row) k.row)) where
+  module _ (k : Cut) (g : good_row j.c j.d j.layers (record-at rows k.row) ≡ true) {u : Counted} (v : Turned j u h.code k.row (known t (record-at rows k.row) k.row)) where
     more-held : Holds j rows (stretched j u k.stretch.tiles k.stretch.alpha) ok (tallied j (record-at rows k.row) t k)
-    unfolding stretched added-to
+    unfolding stretched added_to
     more-held =
         rw (← turned j (record-at rows k.row) t k (known t (record-at rows k.row) k.row) refl v.levels)
         (record {
@@ -116,87 +115,87 @@ module _ (j : Job) (rows : List ℕ) (h : Hand) (ok : Bool) (t : Tally) (o : Hol
         })
 
 -- a cut segment was counted in the hand u, or its row's record is bad
-data Told : Job → List ℕ → Bool → Tally → Cut → Hand → Type 0 where
-  bad : {j : Job} {rows : List ℕ} {ok : Bool} {t : Tally} {k : Cut} {u : Hand}
-      → good-row j.c j.d j.layers (record-at rows k.row) ≡ false → u.code ≡ 4 → Told j rows ok t k u
-  fine : {j : Job} {rows : List ℕ} {ok : Bool} {t : Tally} {k : Cut} {u : Hand}
-      → good-row j.c j.d j.layers (record-at rows k.row) ≡ true → Holds j rows u ok (tallied j (record-at rows k.row) t k) → Told j rows ok t k u
+data Told : Job → List ℕ → Bool → Tally → Cut → Counted → Type 0 where
+  bad : {j : Job} {rows : List ℕ} {ok : Bool} {t : Tally} {k : Cut} {u : Counted}
+      → good_row j.c j.d j.layers (record-at rows k.row) ≡ false → u.code ≡ 4 → Told j rows ok t k u
+  fine : {j : Job} {rows : List ℕ} {ok : Bool} {t : Tally} {k : Cut} {u : Counted}
+      → good_row j.c j.d j.layers (record-at rows k.row) ≡ true → Holds j rows u ok (tallied j (record-at rows k.row) t k) → Told j rows ok t k u
 
-module _ (j : Job) (rows : List ℕ) (h : Hand) (ok : Bool) (t : Tally) (o : Holds j rows h ok t) where
-  told-cut : (k : Cut) → k.row ≤ 8191 → Told j rows ok t k (counted-cut j rows h k)
-  unfolding counted-cut turned-to
-  told-cut k b = go (eqb h.row k.row) refl (good-row j.c j.d j.layers (record-at rows k.row)) refl
+module _ (j : Job) (rows : List ℕ) (h : Counted) (ok : Bool) (t : Tally) (o : Holds j rows h ok t) where
+  told-cut : (k : Cut) → k.row ≤ 8191 → Told j rows ok t k (counted_cut j rows h k)
+  unfolding counted_cut
+  told-cut k b = go (eqb h.row k.row) refl (good_row j.c j.d j.layers (record-at rows k.row)) refl
     where
-      own : Hand
+      own : Counted
       own = loaded (limits_of j) (record-at rows k.row) h.code k.row
 
-      go : (x : Bool) → eqb h.row k.row ≡ x → (g : Bool) → good-row j.c j.d j.layers (record-at rows k.row) ≡ g
+      go : (x : Bool) → eqb h.row k.row ≡ x → (g : Bool) → good_row j.c j.d j.layers (record-at rows k.row) ≡ g
           → Told j rows ok t k (cond x (stretched j h k.stretch.tiles k.stretch.alpha)
-          (cond (eqb (cond g own (hand_of 0 0 k.row 4)).code 4) (cond g own (hand_of 0 0 k.row 4)) (stretched j (cond g own (hand_of 0 0 k.row 4)) k.stretch.tiles k.stretch.alpha)))
+          (cond g (stretched j own k.stretch.tiles k.stretch.alpha) (hand_of 0 0 k.row 4)))
       go true p g q =
           let e = eqb-true h.row k.row p in
           let y = good-held j rows h ok t o k.row b e in
           fine y (more-held j rows h ok t o k y (held-is j rows h ok t o k.row b e))
       go false p true q =
-          rw (ne_eqb h.code 4 (not-four j rows h ok t o))
-          (fine q (more-held j rows h ok t o k q (loaded-is j rows h ok t o k.row b (eqb-false h.row k.row p) q)))
+          fine q (more-held j rows h ok t o k q (loaded-is j rows h ok t o k.row b (eqb-false h.row k.row p) q))
       go false p false q = bad q refl
 
   -- what is left of a segment: nothing or one
-  bad-cuts : (ks : List Cut) → length ks ≤ 1 → ((k : Cut) → k ∷ [] ≡ ks → k.row ≤ 8191) → (hand-cuts j rows h ks).code ≡ 4 → none ≡ tally-cuts j rows t ks
-  unfolding hand-cuts
+  bad-cuts : (ks : List Cut) → length ks ≤ 1 → ((k : Cut) → k ∷ [] ≡ ks → k.row ≤ 8191) → (hand_cuts j rows h ks).code ≡ 4 → None ≡ tally_cuts j rows t ks
+  unfolding hand_cuts
   bad-cuts [] l b e = absurd (not-four j rows h ok t o e)
   bad-cuts (k ∷ []) l b e = by (told-cut k (b k refl)) e
     where
-      by : {u : Hand} → Told j rows ok t k u → u.code ≡ 4 → none ≡ tally-cuts j rows t (k ∷ [])
+      by : {u : Counted} → Told j rows ok t k u → u.code ≡ 4 → None ≡ tally_cuts j rows t (k ∷ [])
       by (bad g q) e = took-bad j rows t (k ∷ []) k refl g
       by (fine g m) e = absurd (never-four ok (tallied j (record-at rows k.row) t k).full (tallied j (record-at rows k.row) t k).deep (sym m.code ∙ e))
   bad-cuts (k ∷ m ∷ ks) l b e = absurd (omega arith)
 
-as-hand : {j : Job} {rows : List ℕ} {u w : Hand} {ok : Bool} {t : Tally} → u ≡ w → Holds j rows w ok t → Holds j rows u ok t
+as-hand : {j : Job} {rows : List ℕ} {u w : Counted} {ok : Bool} {t : Tally} → u ≡ w → Holds j rows w ok t → Holds j rows u ok t
 as-hand e o = rw e o
 
 -- the tally after the cut segments ks, in the hand u
-pub record Held (j : Job) (rows : List ℕ) (ok : Bool) (t : Tally) (ks : List Cut) (u : Hand) : Type 0 where
+pub record Held (j : Job) (rows : List ℕ) (ok : Bool) (t : Tally) (ks : List Cut) (u : Counted) : Type 0 where
   pub tally : Tally
-  pub taken : some tally ≡ tally-cuts j rows t ks
+  pub taken : Some tally ≡ tally_cuts j rows t ks
   pub holds : Holds j rows u ok tally
 
-module _ (j : Job) (rows : List ℕ) (h : Hand) (ok : Bool) (t : Tally) (o : Holds j rows h ok t) where
-  held-cuts : (ks : List Cut) → length ks ≤ 1 → ((k : Cut) → k ∷ [] ≡ ks → k.row ≤ 8191) → ((hand-cuts j rows h ks).code ≡ 4 → ⊥) → Held j rows ok t ks (hand-cuts j rows h ks)
-  unfolding hand-cuts
+module _ (j : Job) (rows : List ℕ) (h : Counted) (ok : Bool) (t : Tally) (o : Holds j rows h ok t) where
+  held-cuts : (ks : List Cut) → length ks ≤ 1 → ((k : Cut) → k ∷ [] ≡ ks → k.row ≤ 8191) → ((hand_cuts j rows h ks).code ≡ 4 → ⊥) → Held j rows ok t ks (hand_cuts j rows h ks)
+  unfolding hand_cuts
   held-cuts [] l b n = record { tally = t; taken = took-none j rows t [] refl; holds = o }
   held-cuts (k ∷ []) l b n = by (told-cut j rows h ok t o k (b k refl)) n
     where
-      by : {u : Hand} → Told j rows ok t k u → (u.code ≡ 4 → ⊥) → Held j rows ok t (k ∷ []) u
+      by : {u : Counted} → Told j rows ok t k u → (u.code ≡ 4 → ⊥) → Held j rows ok t (k ∷ []) u
       by (bad g q) n = absurd (n q)
       by (fine g m) n = record { tally = tallied j (record-at rows k.row) t k; taken = took-good j rows t (k ∷ []) k refl (tallied j (record-at rows k.row) t k) g refl; holds = m }
   held-cuts (k ∷ m ∷ ks) l b n = absurd (omega arith)
 
 -- a stretch, as the code adds it
-pub stretch-is : (j : Job) (h : Hand) (s : Span) (a : Option ℕ) {l : Limits} {x y : ℕ} {w : Hand} → l ≡ limits_of j → counts x y 0 ≡ job-adds j s a → w ≡ added-to l h x y → w ≡ stretched j h s a
+pub stretch-is : (j : Job) (h : Counted) (s : Span) (a : Option ℕ) {l : Limits} {x y : ℕ} {w : Counted} → l ≡ limits_of j → counts x y 0 ≡ job-adds j s a → w ≡ added_to l h x y → w ≡ stretched j h s a
 unfolding stretched
 stretch-is j h s a p q e = rw (← q, ← p) e
 
 -- what is left of a segment, as the code takes it
-module _ (j : Job) (rows : List ℕ) (h : Hand) {ks : List Cut} where
-  pub took-nothing : [] ≡ ks → h ≡ hand-cuts j rows h ks
-  unfolding hand-cuts
+module _ (j : Job) (rows : List ℕ) (h : Counted) {ks : List Cut} where
+  pub took-nothing : [] ≡ ks → h ≡ hand_cuts j rows h ks
+  unfolding hand_cuts
   took-nothing e = rw (← e)
 
   module _ (k : Cut) (e : k ∷ [] ≡ ks) where
-    pub took-held : {w : Hand} → h.row ≡ k.row → w ≡ stretched j h k.stretch.tiles k.stretch.alpha → w ≡ hand-cuts j rows h ks
-    unfolding hand-cuts counted-cut
+    pub took-held : {w : Counted} → h.row ≡ k.row → w ≡ stretched j h k.stretch.tiles k.stretch.alpha → w ≡ hand_cuts j rows h ks
+    unfolding hand_cuts counted_cut
     took-held p q = rw (← e, eq-eqb h.row k.row p, q)
 
-    module _ (n : h.row ≡ k.row → ⊥) {u : Hand} (p : u ≡ turned-to (limits_of j) (record-at rows k.row) h.code k.row) where
-      pub took-four : u.code ≡ 4 → u ≡ hand-cuts j rows h ks
-      unfolding hand-cuts counted-cut
-      took-four c = rw (← e, ne_eqb h.row k.row n, ← p, eq-eqb u.code 4 c)
+    module _ (n : h.row ≡ k.row → ⊥) where
+      pub took-four : good_row j.c j.d j.layers (record-at rows k.row) ≡ false → (hand_cuts j rows h ks).code ≡ 4
+      unfolding hand_cuts counted_cut
+      took-four g = rw (← e, ne_eqb h.row k.row n, g)
 
-      pub took_one : {w : Hand} → (u.code ≡ 4 → ⊥) → w ≡ stretched j u k.stretch.tiles k.stretch.alpha → w ≡ hand-cuts j rows h ks
-      unfolding hand-cuts counted-cut
-      took_one c q = rw (← e, ne_eqb h.row k.row n, ← p, ne_eqb u.code 4 c, q)
+      module _ (g : good_row j.c j.d j.layers (record-at rows k.row) ≡ true) {u : Counted} (p : u ≡ loaded (limits_of j) (record-at rows k.row) h.code k.row) where
+        pub took_one : {w : Counted} → w ≡ stretched j u k.stretch.tiles k.stretch.alpha → w ≡ hand_cuts j rows h ks
+        unfolding hand_cuts counted_cut
+        took_one q = rw (← e, ne_eqb h.row k.row n, g, q, p)
 
 -- numbers of the whole list
 pub bad-either : (a : ℕ) → 4 ≡ list-number a 4
@@ -216,10 +215,10 @@ all_told false false false = refl
 
 -- the number of the segments from a to b
 abbrev whole : Job → List ℕ → List ℕ → ℕ → ℕ → ℕ
-whole j rows ws a b = list-number (judge-segments false (segs ws a (b - a))) (verdict (tally-cuts j rows none_yet (cuts-of j ws a b)))
+whole j rows ws a b = list-number (judge-segments false (segs ws a (b - a))) (verdict (tally_cuts j rows none_yet (cuts-of j ws a b)))
 
 -- the pass over the segments from a to b, at segment i, after the segment s
-pub record Passing (j : Job) (n : ℕ) (rows ws : List ℕ) (a b : ℕ) (s : Segment) (h : Hand) (i : ℕ) : Type 0 where
+pub record Passing (j : Job) (n : ℕ) (rows ws : List ℕ) (a b : ℕ) (s : Segment) (h : Counted) (i : ℕ) : Type 0 where
   pub rowed : Rowed j n rows
   pub within : 5 * b ≤ length ws
   pub ok : Bool
@@ -227,7 +226,7 @@ pub record Passing (j : Job) (n : ℕ) (rows ws : List ℕ) (a b : ℕ) (s : Seg
   pub place : AtPlace ws a b s ok i
   pub holds : Holds j rows h ok tally
   pub fits : Fits j i tally
-  pub rest : verdict (tally-cuts j rows tally (cuts-of j ws i b)) ≡ verdict (tally-cuts j rows none_yet (cuts-of j ws a b))
+  pub rest : verdict (tally_cuts j rows tally (cuts-of j ws i b)) ≡ verdict (tally_cuts j rows none_yet (cuts-of j ws a b))
 
 -- every list follows a segment that ends at tile 0 of row 0
 abbrev pub nowhere : Segment
@@ -260,14 +259,14 @@ begun {ws = ws} {a = a} {b = b} o h l =
       rest = refl;
     }
 
-module _ {j : Job} {n : ℕ} {rows ws : List ℕ} {a b : ℕ} {s : Segment} {h : Hand} {i : ℕ} (v : Passing j n rows ws a b s h i) where
+module _ {j : Job} {n : ℕ} {rows ws : List ℕ} {a b : ℕ} {s : Segment} {h : Counted} {i : ℕ} (v : Passing j n rows ws a b s h i) where
   module _ (l : b ≤ i) where
     order-told : (x : Bool) → v.ok ≡ x → cond x 0 5 ≡ judge-segments false (segs ws a (b - a))
     order-told true e = list.all-ordered v.place l e
     order-told false e = list.some-broken v.place l e
 
-    rows_told : cond v.tally.full 10 (cond v.tally.deep 11 0) ≡ verdict (tally-cuts j rows none_yet (cuts-of j ws a b))
-    unfolding tally-cuts
+    rows_told : cond v.tally.full 10 (cond v.tally.deep 11 0) ≡ verdict (tally_cuts j rows none_yet (cuts-of j ws a b))
+    unfolding tally_cuts
     rows_told = rw (segs-end ws i b l) at v.rest
 
     pub told-at-last : h.code ≡ whole j rows ws a b
@@ -283,7 +282,7 @@ module _ {j : Job} {n : ℕ} {rows ws : List ℕ} {a b : ℕ} {s : Segment} {h :
 
   module _ {g : Segment} (l : i < b) (e : g ≡ seg-at ws i) where
     pub bad-here : good-segment g ≡ false → 4 ≡ whole j rows ws a b
-    bad-here q = ap (λ (x : ℕ). list-number x (verdict (tally-cuts j rows none_yet (cuts-of j ws a b)))) (list.bad-here v.place l e q)
+    bad-here q = ap (λ (x : ℕ). list-number x (verdict (tally_cuts j rows none_yet (cuts-of j ws a b)))) (list.bad-here v.place l e q)
 
     split-cuts : cuts-of j ws i b ≡ cut_in (origin j.scene) (bounds j.scene) g ++ cuts-of j ws (i + 1) b
     split-cuts = rw (segs-first ws i b l, ← e)
@@ -291,7 +290,7 @@ module _ {j : Job} {n : ℕ} {rows ws : List ℕ} {a b : ℕ} {s : Segment} {h :
     on-a-row : good-segment g ≡ true → (k : Cut) → k ∷ [] ≡ cut_in (origin j.scene) (bounds j.scene) g → k.row ≤ 8191
     on-a-row q k p = omega (arith, (lands j n rows g k v.rowed q p).0, v.rowed.few)
 
-    module _ (q : good-segment g ≡ true) (f : Bool) {u : Hand} (m : u ≡ hand-cuts j rows (marked_by h f) (cut_in (origin j.scene) (bounds j.scene) g)) where
+    module _ (q : good-segment g ≡ true) (f : Bool) {u : Counted} (m : u ≡ hand_cuts j rows (marked_by h f) (cut_in (origin j.scene) (bounds j.scene) g)) where
       pub bad-record : u.code ≡ 4 → 4 ≡ whole j rows ws a b
       bad-record c =
           let o = marks j rows h v.ok v.tally v.holds f in

@@ -2,7 +2,7 @@
 use mathlib.Core.Path.{◌≡◌, refl, sym, ap, ◌∙◌}
 use mathlib.Core.Bool.{Bool, true, false, ◌&&◌, ◌||◌, cond}
 use mathlib.Core.List.{List, [], ◌∷◌}
-use mathlib.Core.Option.{Option, none, some}
+use Rattle.std.specs.Prelude.{Option, None, Some}
 use Prim.Native.Nat.{ℕ, zero, suc, ◌*◌, ◌≤◌, ◌<◌}
 use native.Mathlib.Omega.{arith}
 use lib.Dec.{ltb, eqb}
@@ -22,13 +22,13 @@ use Rattle.row_screen.specs.Arena.{nowhere, sizes, cut, Long}
 use Rattle.row_screen.proofs.Laws.{cut-length, cut_at, at-state, at-render, at-fills}
 use Rattle.row_counts.specs.Counts.{count}
 use Rattle.row_counts.proofs.Laws.{Sane, any, counted}
-use Rattle.row_judge.specs.Building.{good-row, good-at, good-rows}
+use Rattle.row_judge.specs.Building.{good_row, good-at, good_rows}
 use Rattle.segments.specs.Segs.{origin, bounds}
 use Rattle.step_fill_rows.specs.declared.Job.{Job}
 use Rattle.step_fill_rows.specs.Filling.{draws, puts_of, done, Roomy, none-put, one_more}
 use Rattle.row_room.specs.Room.{record-at}
 use Rattle.row_room.proofs.Laws.{good-small}
-use Rattle.step_fill_judge.specs.Tallies.{Tally, stored, known, drawn-counts, tally-of, tallied, tally-cuts, verdict, none_yet, Rowed}
+use Rattle.step_fill_judge.specs.Tallies.{Tally, stored, known, drawn-counts, tally-of, tallied, tally_cuts, verdict, none_yet, Rowed}
 use Rattle.step_fill_rows.proofs.Runs.{at_most_one}
 use Rattle.step_fill_judge.proofs.Laws.{lands}
 use Rattle.step_fill_judge.proofs.Running.{full_at, running, SaneAt, sane-after, runs, passes-are}
@@ -45,10 +45,10 @@ flags t = cond t.full 10 (cond t.deep 11 0)
 -- a fill's act on counts
 act-ok : (e : Bool) (i id : ℕ) (k : Cut) (a : Option ℕ) → ActOk any (draw-act e i id k.stretch.tiles a)
 unfolding draw-act
-act-ok true i id k none = splits tt
-act-ok true i id k (some x) = paints tt
-act-ok false i id k none = paints tt
-act-ok false i id k (some x) = paints tt
+act-ok true i id k None = splits tt
+act-ok true i id k (Some x) = paints tt
+act-ok false i id k None = paints tt
+act-ok false i id k (Some x) = paints tt
 
 or_assoc : (a b c : Bool) → (a || b || c) ≡ (a || (b || c))
 or_assoc true b c = refl
@@ -126,24 +126,24 @@ module _ (j : Job) (v : Box) (n : ℕ) (w : Words) (m : j.layers ≤ 16) (l : Lo
   state-is : (x : ℕ) → x < n → (get_or (cut (sizes j.c j.d) n w) x nowhere).state ≡ record-at w.state x
   state-is x h = ap (λ (u : Words). u.state) (cut_at (sizes j.c j.d) n x w nowhere h)
 
-  good-there : (f : Frame) (o i : ℕ) (rs : List Words) → i < length rs → good-at f o i rs ≡ good-row f.c f.d o (get_or rs i nowhere).state
+  good-there : (f : Frame) (o i : ℕ) (rs : List Words) → i < length rs → good-at f o i rs ≡ good_row f.c f.d o (get_or rs i nowhere).state
   good-there f o i [] h = absurd (omega arith)
   good-there f o zero (r ∷ rs) h = refl
   good-there f o (suc i) (r ∷ rs) h = good-there f o i rs (omega arith)
 
-  good-here : (x : ℕ) → x < n → good-at (frame_at j v) j.layers x (cut (sizes j.c j.d) n w) ≡ good-row j.c j.d j.layers (record-at w.state x)
+  good-here : (x : ℕ) → x < n → good-at (frame_at j v) j.layers x (cut (sizes j.c j.d) n w) ≡ good_row j.c j.d j.layers (record-at w.state x)
   good-here x h =
       good-there (frame_at j v) j.layers x (cut (sizes j.c j.d) n w) (rw (cut-length (sizes j.c j.d) n w) h)
-      ∙ ap (good-row j.c j.d j.layers) (state-is x h)
+      ∙ ap (good_row j.c j.d j.layers) (state-is x h)
 
-  if-both : (a b : Bool) (t : Tally) → cond a (cond b (some t) none) none ≡ cond (a && b) (some t) none
+  if-both : (a b : Bool) (t : Tally) → cond a (cond b (Some t) None) None ≡ cond (a && b) (Some t) None
   if-both true b t = refl
   if-both false b t = refl
 
   -- whatever the order: 4 exactly if a record is bad
   pub tally-is : (t : Tally) {ks : List Cut} → All (λ (k : Cut). k.row < n) ks
-      → tally-cuts j w.state t ks ≡ cond (good-rows (frame_at j v) j.layers (puts_of j ks) (cut (sizes j.c j.d) n w)) (some (run j w.state t ks)) none
-  unfolding tally-cuts good-rows draw-puts
+      → tally_cuts j w.state t ks ≡ cond (good_rows (frame_at j v) j.layers (puts_of j ks) (cut (sizes j.c j.d) n w)) (Some (run j w.state t ks)) None
+  unfolding tally_cuts good_rows draw-puts
   tally-is t nil = refl
   tally-is t (cons {x = k} {xs = ks} h a) =
       rw (tally-is (tallied j (record-at w.state k.row) t k) a, ← good-here k.row h)
@@ -153,15 +153,15 @@ module _ (j : Job) (v : Box) (n : ℕ) (w : Words) (m : j.layers ≤ 16) (l : Lo
 
   -- 4 first, then what the flags say
   pub verdict-any : {ks : List Cut} → All (λ (k : Cut). k.row < n) ks
-      → verdict (tally-cuts j w.state none_yet ks) ≡ cond (good-rows (frame_at j v) j.layers (puts_of j ks) (cut (sizes j.c j.d) n w)) (flags (run j w.state none_yet ks)) 4
-  verdict-any {ks} a = ap verdict (tally-is none_yet a) ∙ either (good-rows (frame_at j v) j.layers (puts_of j ks) (cut (sizes j.c j.d) n w)) (run j w.state none_yet ks)
+      → verdict (tally_cuts j w.state none_yet ks) ≡ cond (good_rows (frame_at j v) j.layers (puts_of j ks) (cut (sizes j.c j.d) n w)) (flags (run j w.state none_yet ks)) 4
+  verdict-any {ks} a = ap verdict (tally-is none_yet a) ∙ either (good_rows (frame_at j v) j.layers (puts_of j ks) (cut (sizes j.c j.d) n w)) (run j w.state none_yet ks)
     where
-      either : (b : Bool) (t : Tally) → verdict (cond b (some t) none) ≡ cond b (flags t) 4
+      either : (b : Bool) (t : Tally) → verdict (cond b (Some t) None) ≡ cond b (flags t) 4
       either true t = refl
       either false t = refl
 
   -- what good records say
-  sane-at : (x : ℕ) → x < n → good-row j.c j.d j.layers (record-at w.state x) ≡ true → Sane (get_or (cut (sizes j.c j.d) n w) x nowhere)
+  sane-at : (x : ℕ) → x < n → good_row j.c j.d j.layers (record-at w.state x) ≡ true → Sane (get_or (cut (sizes j.c j.d) n w) x nowhere)
   sane-at x h g =
       let e = cut_at (sizes j.c j.d) n x w nowhere h in
       let s = good-small j.c j.d j.layers (record-at w.state x) g in
@@ -170,8 +170,8 @@ module _ (j : Job) (v : Box) (n : ℕ) (w : Words) (m : j.layers ≤ 16) (l : Lo
         levels = omega (arith, s.levels, m, ap (λ (y : List ℕ). get_or y 5 0) (state-is x h));
       }
 
-  all-fine : {ks : List Cut} → All (λ (k : Cut). k.row < n) ks → good-rows (frame_at j v) j.layers (puts_of j ks) (cut (sizes j.c j.d) n w) ≡ true → All (Fine n (cut (sizes j.c j.d) n w)) ks
-  unfolding good-rows draw-puts
+  all-fine : {ks : List Cut} → All (λ (k : Cut). k.row < n) ks → good_rows (frame_at j v) j.layers (puts_of j ks) (cut (sizes j.c j.d) n w) ≡ true → All (Fine n (cut (sizes j.c j.d) n w)) ks
+  unfolding good_rows draw-puts
   all-fine nil e = nil
   all-fine (cons {x = k} {xs = ks} h a) e =
       let b = both (good-at (frame_at j v) j.layers k.row (cut (sizes j.c j.d) n w)) (every (λ (p : Put). good-at (frame_at j v) j.layers p.row (cut (sizes j.c j.d) n w)) (puts_of j ks)) e in
@@ -192,7 +192,7 @@ module _ (j : Job) (v : Box) (n : ℕ) (w : Words) (m : j.layers ≤ 16) (l : Lo
       }
 
   module _ (q : n ≤ 512) {ks : List Cut} (a : All (λ (k : Cut). k.row < n) ks) (r : Rising 0 ks)
-      (g : good-rows (frame_at j v) j.layers (puts_of j ks) (cut (sizes j.c j.d) n w) ≡ true) where
+      (g : good_rows (frame_at j v) j.layers (puts_of j ks) (cut (sizes j.c j.d) n w) ≡ true) where
     fine : All (Fine n (cut (sizes j.c j.d) n w)) ks
     fine = all-fine a g
 
@@ -249,14 +249,14 @@ module _ (j : Job) (v : Box) (n : ℕ) (w : Words) (m : j.layers ≤ 16) (l : Lo
 
   -- the law: on an ordered list the verdict is 4 for a bad record, then the rules' 10 and 11
   pub verdict-is : n ≤ 512 → {ks : List Cut} → All (λ (k : Cut). k.row < n) ks → Rising 0 ks
-      → verdict (tally-cuts j w.state none_yet ks)
-      ≡ cond (good-rows (frame_at j v) j.layers (puts_of j ks) (cut (sizes j.c j.d) n w))
+      → verdict (tally_cuts j w.state none_yet ks)
+      ≡ cond (good_rows (frame_at j v) j.layers (puts_of j ks) (cut (sizes j.c j.d) n w))
       (cond (passes Words word-ops (word 0) j.c (puts_of j ks) (done j (puts_of j ks) (cut (sizes j.c j.d) n w))) 10
       (cond (passes Words word-ops (word 1) j.d (puts_of j ks) (done j (puts_of j ks) (cut (sizes j.c j.d) n w))) 11 0))
       4
-  verdict-is q {ks} a r = verdict-any a ∙ go (good-rows (frame_at j v) j.layers (puts_of j ks) (cut (sizes j.c j.d) n w)) refl
+  verdict-is q {ks} a r = verdict-any a ∙ go (good_rows (frame_at j v) j.layers (puts_of j ks) (cut (sizes j.c j.d) n w)) refl
     where
-      go : (b : Bool) → good-rows (frame_at j v) j.layers (puts_of j ks) (cut (sizes j.c j.d) n w) ≡ b
+      go : (b : Bool) → good_rows (frame_at j v) j.layers (puts_of j ks) (cut (sizes j.c j.d) n w) ≡ b
           → cond b (flags (run j w.state none_yet ks)) 4
           ≡ cond b
           (cond (passes Words word-ops (word 0) j.c (puts_of j ks) (done j (puts_of j ks) (cut (sizes j.c j.d) n w))) 10

@@ -1,8 +1,8 @@
 -- What a stretch adds to the counts of a row, and the tally's turns. Assumes nothing.
-use mathlib.Core.Path.{◌≡◌, refl, ap, ◌∙◌}
+use mathlib.Core.Path.{◌≡◌, refl, sym, ap, ◌∙◌}
 use mathlib.Core.Bool.{Bool, true, false, ◌||◌, cond}
 use mathlib.Core.List.{List, [], ◌∷◌, ◌++◌, foldl}
-use mathlib.Core.Option.{Option, none, some}
+use Rattle.std.specs.Prelude.{Option, None, Some}
 use Prim.Native.Nat.{ℕ, zero, suc, ◌+◌, ◌-◌, ◌*◌, ◌/◌, ◌%◌, ◌≤◌, ◌<◌}
 use native.Mathlib.Nat.{mul-le-mul_right, mul-lt-mul_of_pos_right}
 use native.Mathlib.Omega.{arith}
@@ -18,14 +18,16 @@ use Rattle.rules.specs.Steps.{do-act, put-part, ensure}
 use Rattle.rules.proofs.laws.Widths.{bucket-some, raised-off, lowered-off}
 use Rattle.sizes.specs.declared.width.Width.{Width}
 use Rattle.sizes.specs.Widths.{bucket-tiles}
+use Rattle.rules.proofs.All.{never}
+use Rattle.row_acts.specs.Acts.{unsplit}
 use Rattle.row_counts.specs.Counts.{Counts, counts, count-ops}
 use Rattle.step_fill_rows.specs.declared.Job.{Job}
-use Rattle.row_judge.specs.Building.{good-row}
+use Rattle.row_judge.specs.Building.{good_row}
 use Rattle.segments.specs.Segs.{origin, bounds}
 use Rattle.segments.proofs.Laws.{landed}
 use Rattle.row_room.specs.Room.{record-at}
 use Rattle.row_room.proofs.Laws.{good-small}
-use Rattle.step_fill_judge.specs.Tallies.{Tally, edge_count, added, job-adds, stored, known, tallied, tally-cuts, Rowed}
+use Rattle.step_fill_judge.specs.Tallies.{Tally, edge_count, added, job-adds, stored, known, tallied, tally_cuts, Rowed}
 
 -- the parts of a split span: how many are regular, and how many are depth fills
 abbrev regulars : List Part → ℕ
@@ -73,23 +75,23 @@ module _ (v n i id : ℕ) (s : Span) (k : Counts) where
   pub counts-drawn : (e : Bool) (a : Option ℕ) → do-act Counts count-ops v n (draw-act e i id s a) k
       ≡ counts (k.renders + (n - k.levels) + (added v e s a).renders) (k.depths + (added v e s a).depths) (k.levels + (n - k.levels))
   unfolding do-act draw-act added
-  counts-drawn true none = split_parts ∙ rw (parts_add v 0 0 (split v s) (counts 0 0 0)) (sums _ _ _ _ (k.levels + (n - k.levels)) (omega arith) (omega arith))
-  counts-drawn true (some x) = one-command (some x)
-  counts-drawn false none = one-command none
-  counts-drawn false (some x) = one-command (some x)
+  counts-drawn true None = split_parts ∙ rw (parts_add v 0 0 (split v s) (counts 0 0 0)) (sums _ _ _ _ (k.levels + (n - k.levels)) (omega arith) (omega arith))
+  counts-drawn true (Some x) = one-command (Some x)
+  counts-drawn false None = one-command None
+  counts-drawn false (Some x) = one-command (Some x)
 
 -- what a stretch adds, by cases
 module _ (v : ℕ) (s : Span) where
-  pub added-alpha : (e : Bool) (a : ℕ) → added v e s (some a) ≡ counts 1 0 0
+  pub added-alpha : (e : Bool) (a : ℕ) → added v e s (Some a) ≡ counts 1 0 0
   unfolding do-act draw-act added
   added-alpha true a = refl
   added-alpha false a = refl
 
-  pub added-plain : added v false s none ≡ counts 1 0 0
+  pub added-plain : added v false s None ≡ counts 1 0 0
   unfolding do-act draw-act added
   added-plain = refl
 
-  pub added-one : lowered v s.end ≤ raised v s.first → added v true s none ≡ counts 1 0 0
+  pub added-one : lowered v s.end ≤ raised v s.first → added v true s None ≡ counts 1 0 0
   unfolding do-act draw-act added split
   added-one h = rw (le-leb _ _ h)
 
@@ -102,7 +104,7 @@ module _ (v : ℕ) (s : Span) where
   sides false false a b x y = refl
 
   pub added_more : raised v s.first < lowered v s.end
-      → added v true s none ≡ counts (edge_count s.first (raised v s.first) + edge_count (lowered v s.end) s.end) 1 0
+      → added v true s None ≡ counts (edge_count s.first (raised v s.first) + edge_count (lowered v s.end) s.end) 1 0
   unfolding do-act draw-act added split
   added_more h =
       let a = raised v s.first in
@@ -111,13 +113,38 @@ module _ (v : ℕ) (s : Span) where
 
   -- .. by the span's whole buckets, from a to b
   module _ (a b : ℕ) (e₁ : a ≡ (s.first + (v - 1)) / v) (e₂ : b ≡ s.end / v) where
-    pub found-one : b ≤ a → added v true s none ≡ counts 1 0 0
+    found-one : b ≤ a → added v true s None ≡ counts 1 0 0
     found-one h = added-one (rw (← e₁, ← e₂) (mul-le-mul_right v h))
 
-pub found-more : (w : Width) (s : Span) (a b : ℕ) → a ≡ (s.first + (bucket-tiles w - 1)) / bucket-tiles w → b ≡ s.end / bucket-tiles w → a < b
-    → added (bucket-tiles w) true s none ≡ counts (edge_count 0 (s.first % bucket-tiles w) + edge_count 0 (s.end % bucket-tiles w)) 1 0
+found-more : (w : Width) (s : Span) (a b : ℕ) → a ≡ (s.first + (bucket-tiles w - 1)) / bucket-tiles w → b ≡ s.end / bucket-tiles w → a < b
+    → added (bucket-tiles w) true s None ≡ counts (edge_count 0 (s.first % bucket-tiles w) + edge_count 0 (s.end % bucket-tiles w)) 1 0
 found-more w s a b e₁ e₂ h =
     added_more (bucket-tiles w) s (rw (← e₁, ← e₂) (mul-lt-mul_of_pos_right h (bucket-some w))) ∙ rw (raised-off w s.first, lowered-off w s.end)
+
+-- .. as the code finds it
+module _ (w : Width) (s : Span) (e : Bool) (a : Option ℕ) where
+  pub found-unsplit : unsplit e a ≡ true → counts 1 0 0 ≡ added (bucket-tiles w) e s a
+  found-unsplit t = go e a t
+    where
+      go : (e : Bool) (a : Option ℕ) → unsplit e a ≡ true → counts 1 0 0 ≡ added (bucket-tiles w) e s a
+      go e (Some a) t = sym (added-alpha (bucket-tiles w) s e a)
+      go false None t = sym (added-plain (bucket-tiles w) s)
+      go true None t = never (sym t)
+
+  is-split : unsplit e a ≡ false → added (bucket-tiles w) true s None ≡ added (bucket-tiles w) e s a
+  is-split t = go e a t
+    where
+      go : (e : Bool) (a : Option ℕ) → unsplit e a ≡ false → added (bucket-tiles w) true s None ≡ added (bucket-tiles w) e s a
+      go e (Some a) t = never t
+      go false None t = never t
+      go true None t = refl
+
+  module _ (t : unsplit e a ≡ false) {x y : ℕ} (p : x ≡ (s.first + (bucket-tiles w - 1)) / bucket-tiles w) (q : y ≡ s.end / bucket-tiles w) where
+    pub found-whole : y ≤ x → counts 1 0 0 ≡ added (bucket-tiles w) e s a
+    found-whole h = sym (found-one (bucket-tiles w) s x y p q h) ∙ is-split t
+
+    pub found-pieces : x < y → counts (edge_count 0 (s.first % bucket-tiles w) + edge_count 0 (s.end % bucket-tiles w)) 1 0 ≡ added (bucket-tiles w) e s a
+    found-pieces h = sym (found-more w s x y p q h) ∙ is-split t
 
 pub edge-small : (a b : ℕ) → edge_count a b ≤ 1
 edge-small a b = go (ltb a b)
@@ -128,11 +155,11 @@ edge-small a b = go (ltb a b)
 
 -- .. which is little
 few-added : (v : ℕ) (e : Bool) (s : Span) (a : Option ℕ) → ((added v e s a).renders ≤ 2) × ((added v e s a).depths ≤ 1)
-few-added v e s (some a) = rw (added-alpha v s e a) (omega arith, omega arith)
-few-added v false s none = rw (added-plain v s) (omega arith, omega arith)
-few-added v true s none = go (leb (lowered v s.end) (raised v s.first)) refl
+few-added v e s (Some a) = rw (added-alpha v s e a) (omega arith, omega arith)
+few-added v false s None = rw (added-plain v s) (omega arith, omega arith)
+few-added v true s None = go (leb (lowered v s.end) (raised v s.first)) refl
   where
-    go : (t : Bool) → leb (lowered v s.end) (raised v s.first) ≡ t → ((added v true s none).renders ≤ 2) × ((added v true s none).depths ≤ 1)
+    go : (t : Bool) → leb (lowered v s.end) (raised v s.first) ≡ t → ((added v true s None).renders ≤ 2) × ((added v true s None).depths ≤ 1)
     go true h = rw (added-one v s (leb-true _ _ h)) (omega arith, omega arith)
     go false h = rw (added_more v s (leb-false _ _ h)) (omega (arith, edge-small s.first (raised v s.first), edge-small (lowered v s.end) s.end), omega arith)
 
@@ -156,7 +183,7 @@ pub record Fits (j : Job) (i : ℕ) (t : Tally) : Type 0 where
 
 -- one turn
 module _ (j : Job) (s : List ℕ) (t : Tally) where
-  module _ (i r : ℕ) (f : Fits j i t) (c : j.c ≤ 1024) (d : j.d ≤ 1024) (l : j.layers ≤ 16) (g : good-row j.c j.d j.layers s ≡ true) where
+  module _ (i r : ℕ) (f : Fits j i t) (c : j.c ≤ 1024) (d : j.d ≤ 1024) (l : j.layers ≤ 16) (g : good_row j.c j.d j.layers s ≡ true) where
     near : ((known t s r).levels ≤ j.layers) × ((known t s r).renders + (j.layers - (known t s r).levels) ≤ 1040 + 2 * i) × ((known t s r).depths ≤ 1024 + i)
     unfolding known
     near = go (eqb t.row r)
@@ -182,7 +209,7 @@ module _ (j : Job) (s : List ℕ) (t : Tally) where
         rw (← e, counts-drawn (bucket-tiles j.width) j.layers j.attr j.id k.stretch.tiles c j.eligible k.stretch.alpha, l)
 
   -- the counts at hand stay small
-  fits-turned : (k : Cut) (i : ℕ) → Fits j i t → j.c ≤ 1024 → j.d ≤ 1024 → j.layers ≤ 16 → good-row j.c j.d j.layers s ≡ true → Fits j (i + 1) (tallied j s t k)
+  fits-turned : (k : Cut) (i : ℕ) → Fits j i t → j.c ≤ 1024 → j.d ≤ 1024 → j.layers ≤ 16 → good_row j.c j.d j.layers s ≡ true → Fits j (i + 1) (tallied j s t k)
   fits-turned k i f c d l g =
       let o = near i k.row f c d l g in
       rw (← turned k (known t s k.row) refl o.0)
@@ -194,60 +221,60 @@ module _ (j : Job) (s : List ℕ) (t : Tally) where
 
 -- one cut segment, and then more
 after : {A B : Type 0} → Option A → (A → Option B) → Option B
-after none f = none
-after (some x) f = f x
+after None f = None
+after (Some x) f = f x
 
-after-if : {A B : Type 0} (g : Bool) (m : Option A) (f : A → Option B) → cond g (after m f) none ≡ after (cond g m none) f
+after-if : {A B : Type 0} (g : Bool) (m : Option A) (f : A → Option B) → cond g (after m f) None ≡ after (cond g m None) f
 unfolding after
 after-if true m f = refl
 after-if false m f = refl
 
 module _ (j : Job) (rows : List ℕ) where
-  tally-append : (t : Tally) (ks ls : List Cut) → tally-cuts j rows t (ks ++ ls) ≡ after (tally-cuts j rows t ks) (λ (u : Tally). tally-cuts j rows u ls)
-  unfolding tally-cuts after
+  tally-append : (t : Tally) (ks ls : List Cut) → tally_cuts j rows t (ks ++ ls) ≡ after (tally_cuts j rows t ks) (λ (u : Tally). tally_cuts j rows u ls)
+  unfolding tally_cuts after
   tally-append t [] ls = refl
   tally-append t (k ∷ ks) ls =
       rw (tally-append (tallied j (record-at rows k.row) t k) ks ls)
-      (after-if (good-row j.c j.d j.layers (record-at rows k.row)) (tally-cuts j rows (tallied j (record-at rows k.row) t k) ks) (λ (u : Tally). tally-cuts j rows u ls))
+      (after-if (good_row j.c j.d j.layers (record-at rows k.row)) (tally_cuts j rows (tallied j (record-at rows k.row) t k) ks) (λ (u : Tally). tally_cuts j rows u ls))
 
-  pub tally-more : (t u : Tally) (ks ls : List Cut) → some u ≡ tally-cuts j rows t ks → tally-cuts j rows t (ks ++ ls) ≡ tally-cuts j rows u ls
+  pub tally-more : (t u : Tally) (ks ls : List Cut) → Some u ≡ tally_cuts j rows t ks → tally_cuts j rows t (ks ++ ls) ≡ tally_cuts j rows u ls
   unfolding after
   tally-more t u ks ls e = rw (tally-append t ks ls, ← e)
 
-  pub tally-stop : (t : Tally) (ks ls : List Cut) → none ≡ tally-cuts j rows t ks → tally-cuts j rows t (ks ++ ls) ≡ none
+  pub tally-stop : (t : Tally) (ks ls : List Cut) → None ≡ tally_cuts j rows t ks → tally_cuts j rows t (ks ++ ls) ≡ None
   unfolding after
   tally-stop t ks ls e = rw (tally-append t ks ls, ← e)
 
 -- a cut segment as the code takes it
 module _ (j : Job) (rows : List ℕ) (t : Tally) (ks : List Cut) where
-  pub took-none : [] ≡ ks → some t ≡ tally-cuts j rows t ks
-  unfolding tally-cuts
+  pub took-none : [] ≡ ks → Some t ≡ tally_cuts j rows t ks
+  unfolding tally_cuts
   took-none e = rw (← e)
 
   module _ (k : Cut) (e : k ∷ [] ≡ ks) where
-    pub took-bad : good-row j.c j.d j.layers (record-at rows k.row) ≡ false → none ≡ tally-cuts j rows t ks
-    unfolding tally-cuts
+    pub took-bad : good_row j.c j.d j.layers (record-at rows k.row) ≡ false → None ≡ tally_cuts j rows t ks
+    unfolding tally_cuts
     took-bad g = rw (← e, g)
 
-    pub took-good : (u : Tally) → good-row j.c j.d j.layers (record-at rows k.row) ≡ true → u ≡ tallied j (record-at rows k.row) t k → some u ≡ tally-cuts j rows t ks
-    unfolding tally-cuts
+    pub took-good : (u : Tally) → good_row j.c j.d j.layers (record-at rows k.row) ≡ true → u ≡ tallied j (record-at rows k.row) t k → Some u ≡ tally_cuts j rows t ks
+    unfolding tally_cuts
     took-good u g h = rw (← e, g, h)
 
 module _ (j : Job) (rows : List ℕ) (t u : Tally) (i : ℕ) (f : Fits j i t) (c : j.c ≤ 1024) (d : j.d ≤ 1024) (l : j.layers ≤ 16) where
   later : t ≡ u → Fits j (i + 1) u
   later e = rw (← e) (record { levels = f.levels; renders = omega (arith, f.renders); depths = omega (arith, f.depths) })
 
-  told : (k : Cut) (g : Bool) → good-row j.c j.d j.layers (record-at rows k.row) ≡ g
-      → some u ≡ cond g (some (tallied j (record-at rows k.row) t k)) none → Fits j (i + 1) u
+  told : (k : Cut) (g : Bool) → good_row j.c j.d j.layers (record-at rows k.row) ≡ g
+      → Some u ≡ cond g (Some (tallied j (record-at rows k.row) t k)) None → Fits j (i + 1) u
   told k true q e =
       let p : u ≡ tallied j (record-at rows k.row) t k = cc in
       rw p (fits-turned j (record-at rows k.row) t k i f c d l q)
   told k false q e = let z : ◌≡◌ {A = ℕ} 0 1 = cc in absurd (omega arith)
 
-  pub fits_after : (ks : List Cut) → length ks ≤ 1 → some u ≡ tally-cuts j rows t ks → Fits j (i + 1) u
-  unfolding tally-cuts
+  pub fits_after : (ks : List Cut) → length ks ≤ 1 → Some u ≡ tally_cuts j rows t ks → Fits j (i + 1) u
+  unfolding tally_cuts
   fits_after [] h e = later (cc)
-  fits_after (k ∷ []) h e = told k (good-row j.c j.d j.layers (record-at rows k.row)) refl e
+  fits_after (k ∷ []) h e = told k (good_row j.c j.d j.layers (record-at rows k.row)) refl e
   fits_after (k ∷ m ∷ ks) h e = absurd (omega arith)
 
 -- what is left of a good segment lies on a row

@@ -2,14 +2,14 @@
 use mathlib.Core.Path.{◌≡◌, refl}
 use mathlib.Core.Bool.{Bool, true, false, ◌&&◌, ◌||◌}
 use mathlib.Core.List.{List, [], ◌∷◌, ◌++◌}
-use mathlib.Core.Option.{Option, none, some}
+use Rattle.std.specs.Prelude.{Option, None, Some}
 use Prim.Native.Nat.{ℕ, ◌-◌, ◌/◌, ◌≤◌}
 use native.Mathlib.Omega.{arith}
 use lib.Dec.{leb, ltb, eqb}
 use borrow.Author.Tests.{ltb-true, eqb-true}
 use Rattle.rules.specs.Lists.{join}
 use Rattle.rules.specs.Boxes.{Box}
-use Rattle.rules.specs.Spans.{span, Stretch, cut-to}
+use Rattle.rules.specs.Spans.{span, Stretch, cut_to}
 use Rattle.rules.specs.Segments.{Segment, follows, ordered-after, ordered, Cut, localised, on_row, stretch-of, cut_in}
 use Rattle.rules.proofs.All.{both}
 
@@ -32,12 +32,12 @@ not-below s t e = go (ltb s.row t.row) refl e
 
 module _ (v b : Box) where
   at_row : {r : ℕ} (row : ℕ) (m : Option Stretch) {ls : List Cut} → r ≤ row - v.y0 / 4 → Rising (row - v.y0 / 4) ls → Rising r (localised v row m ++ ls)
-  at_row row none h a = lower h a
-  at_row row (some k) h a = then h a
+  at_row row None h a = lower h a
+  at_row row (Some k) h a = then h a
 
   on-top : {r : ℕ} (s : Segment) {ls : List Cut} → r ≤ s.row - v.y0 / 4 → Rising (s.row - v.y0 / 4) ls → Rising r (cut_in v b s ++ ls)
   unfolding cut_in
-  on-top s h a = at_row s.row (on_row b s (cut-to (span b.x0 b.x1) (stretch-of s))) h a
+  on-top s h a = at_row s.row (on_row b s (cut_to (span b.x0 b.x1) (stretch-of s))) h a
 
   rises : (s : Segment) (ss : List Segment) → ordered-after s ss ≡ true → Rising (s.row - v.y0 / 4) (join (cut_in v b) ss)
   rises s [] e = no_more

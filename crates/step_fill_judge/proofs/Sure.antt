@@ -1,30 +1,54 @@
 -- A sure look: upper bounds of a row's counts that stay within its limits keep the tally's flags down. Assumes nothing.
 use mathlib.Core.Path.{◌≡◌, refl, sym, ap, ◌∙◌}
-use mathlib.Core.Bool.{Bool, true, false, ◌||◌, cond}
+use mathlib.Core.Bool.{Bool, true, false, ◌&&◌, ◌||◌, cond}
 use mathlib.Core.List.{List, [], ◌∷◌, ◌++◌}
-use mathlib.Core.Option.{none, some}
+use Rattle.std.specs.Prelude.{None, Some}
 use Prim.Native.Nat.{ℕ, ◌+◌, ◌-◌, ◌*◌, ◌/◌, ◌≤◌, ◌<◌}
 use native.Mathlib.Omega.{arith}
-use lib.Dec.{eqb}
+use lib.Dec.{eqb, leb, ltb}
 use lib.ListN.{length, get_or}
-use borrow.Author.Tests.{eqb-true, eq-eqb, ne_eqb, lt-ltb, le-ltb, le-leb}
+use borrow.Author.Tests.{eqb-true, eq-eqb, ne_eqb, lt-ltb, le-ltb, le-leb, leb-true, leb-false}
 use Rattle.rules.specs.Spans.{Span, moved}
 use Rattle.rules.specs.Segments.{Segment, good-segment, follows, judge-segments, Cut, cut_in}
 use Rattle.sizes.specs.Widths.{bucket-tiles}
 use Rattle.row_counts.specs.Counts.{Counts, counts}
-use Rattle.row_judge.specs.Building.{good-row}
+use Rattle.row_judge.specs.Building.{good_row}
 use Rattle.row_room.specs.Room.{record-at}
 use Rattle.row_room.proofs.Laws.{good-small}
 use Rattle.segments.specs.Segs.{seg-at, segs, origin, bounds}
 use Rattle.segments.proofs.Laws.{segs-end, segs-first}
 use Rattle.segments.proofs.Judging as list
-use Rattle.segments.proofs.Judging.{AtPlace, solid-good, alpha-good}
+use Rattle.segments.proofs.Judging.{AtPlace}
 use Rattle.step_fill_rows.specs.declared.Job.{Job}
 use Rattle.step_fill_rows.proofs.Runs.{piece, at_most_one}
-use Rattle.step_fill_judge.specs.Tallies.{Tally, added, job-adds, known, stored, tallied, tally-cuts, verdict, cuts-of, none_yet, Rowed}
+use Rattle.step_fill_judge.specs.Tallies.{Tally, added, job-adds, known, stored, tallied, tally_cuts, verdict, cuts-of, none_yet, Rowed}
 use Rattle.step_fill_judge.specs.Sure.{Few, Roomed, RoomAt, number_in}
 use Rattle.step_fill_judge.proofs.Laws.{few-commands, few-depths, added-alpha, added-plain, turned, took-none, took-good, tally-more}
 use Rattle.step_fill_judge.proofs.Hands.{nowhere, first-follows, none_before}
+
+-- that a solid segment's index is 0 says all that there is to ask of its sum
+solid-test : (a x : ℕ) (t : Bool) → x < 4294967296 → eqb a 0 ≡ t → t ≡ (t && ltb (a + x) 4294967296)
+solid-test a x true h q = let e = eqb-true a 0 q in sym (lt-ltb (a + x) 4294967296 (omega arith))
+solid-test a x false h q = refl
+
+-- that a sum is below the limit, tested without the sum
+sum-test : (a x : ℕ) (t : Bool) → x ≤ 4294967295 → leb a (4294967295 - x) ≡ t → t ≡ ltb (a + x) 4294967296
+sum-test a x true h q = let e = leb-true a (4294967295 - x) q in sym (lt-ltb (a + x) 4294967296 (omega arith))
+sum-test a x false h q = let e = leb-false a (4294967295 - x) q in sym (le-ltb (a + x) 4294967296 (omega arith))
+
+one : (k : ℕ) → k ≤ 1 → (k ≡ 0 → ⊥) → k ≡ 1
+one k h z = omega arith
+
+module _ (s : Segment) (k : s.kind ≤ 1) (r : s.row < 8192) (o : s.first < s.end) (e : s.end ≤ 8192) where
+  solid-good : s.kind ≡ 0 → eqb s.alpha 0 ≡ good-segment s
+  solid-good z =
+      rw (le-leb s.kind 1 k, lt-ltb s.row 8192 r, lt-ltb s.first s.end o, le-leb s.end 8192 e, ne_eqb s.kind 1 (λ q. omega arith))
+      (solid-test s.alpha (16 * (s.end - s.first)) _ (omega arith) refl)
+
+  alpha-good : (s.kind ≡ 0 → ⊥) → leb s.alpha (4294967295 - 16 * (s.end - s.first)) ≡ good-segment s
+  alpha-good z =
+      rw (le-leb s.kind 1 k, lt-ltb s.row 8192 r, lt-ltb s.first s.end o, le-leb s.end 8192 e, eq-eqb s.kind 1 (one s.kind k z))
+      (sum-test s.alpha (16 * (s.end - s.first)) _ (omega arith) refl)
 
 -- n, where solids may be split
 abbrev pub split_off : Bool → ℕ → ℕ
@@ -47,10 +71,10 @@ pub data Ran (e : Bool) (ws : List ℕ) (row a : ℕ) : ℕ → ℕ → ℕ → 
 -- at most one command, and for a solid that may be split one more and a depth fill
 module _ (v : ℕ) (s : Span) (n a x : ℕ) where
   at_most : (e t : Bool) → eqb n 0 ≡ t
-      → ((added v e s (moved (cond t none (some a)) x)).renders ≤ 1 + split_off e (1 - n)) × ((added v e s (moved (cond t none (some a)) x)).depths ≤ split_off e (1 - n))
+      → ((added v e s (moved (cond t None (Some a)) x)).renders ≤ 1 + split_off e (1 - n)) × ((added v e s (moved (cond t None (Some a)) x)).depths ≤ split_off e (1 - n))
   at_most e false q = rw (added-alpha v s e (a + 16 * x)) (omega arith, omega arith)
   at_most false true q = rw (added-plain v s) (omega arith, omega arith)
-  at_most true true q = let z = eqb-true n 0 q in (omega (arith, few-commands v true s none), omega (arith, few-depths v true s none))
+  at_most true true q = let z = eqb-true n 0 q in (omega (arith, few-commands v true s None), omega (arith, few-depths v true s None))
 
 known_same : (t : Tally) (s : List ℕ) (r : ℕ) → t.row ≡ r → known t s r ≡ counts t.renders t.depths t.levels
 unfolding known
@@ -104,7 +128,7 @@ record On (j : Job) (rows ws : List ℕ) (a b r i e x y : ℕ) : Type 0 where
   deep : tally.deep ≡ false
   top : tally.row ≤ 8191 → tally.row + j.scene.y / 4 ≤ r
   near : j.scene.rows.first ≤ r → r < j.scene.rows.end → Near j (known tally (record-at rows (r - j.scene.y / 4)) (r - j.scene.y / 4)) x y
-  rest : verdict (tally-cuts j rows tally (cuts-of j ws i b)) ≡ verdict (tally-cuts j rows none_yet (cuts-of j ws a b))
+  rest : verdict (tally_cuts j rows tally (cuts-of j ws i b)) ≡ verdict (tally_cuts j rows none_yet (cuts-of j ws a b))
 
 same_row : (s g : Segment) (r : ℕ) → s.row ≡ r → g.row ≡ r → s.end ≤ g.first → follows s g ≡ true
 same_row s g r p q h = rw (le-ltb s.row g.row (omega arith), eq-eqb s.row g.row (omega arith), le-leb s.end g.first h)
@@ -118,12 +142,12 @@ module _ {j : Job} {n : ℕ} {rows ws : List ℕ} {a b r i e x y : ℕ} (w : Row
   next_place : AtPlace ws a b (seg-at ws i) true (i + 1)
   next_place = list.again o.place l refl g (sym (o.follow (seg-at ws i) p f))
 
-  next-rest : (u : Tally) → some u ≡ tally-cuts j rows o.tally (cut_in (origin j.scene) (bounds j.scene) (seg-at ws i))
-      → verdict (tally-cuts j rows u (cuts-of j ws (i + 1) b)) ≡ verdict (tally-cuts j rows none_yet (cuts-of j ws a b))
+  next-rest : (u : Tally) → Some u ≡ tally_cuts j rows o.tally (cut_in (origin j.scene) (bounds j.scene) (seg-at ws i))
+      → verdict (tally_cuts j rows u (cuts-of j ws (i + 1) b)) ≡ verdict (tally_cuts j rows none_yet (cuts-of j ws a b))
   next-rest u z = rw (split-cuts, tally-more j rows o.tally u (cut_in (origin j.scene) (bounds j.scene) (seg-at ws i)) (cuts-of j ws (i + 1) b) z) at o.rest
 
   module _ (x' y' : ℕ) (h : x + 1 + split_off j.eligible (1 - (seg-at ws i).kind) ≤ x') (k : y + split_off j.eligible (1 - (seg-at ws i).kind) ≤ y')
-      (m : j.scene.rows.first ≤ r → r < j.scene.rows.end → (good-row j.c j.d j.layers (record-at rows (r - j.scene.y / 4)) ≡ true) × (x' ≤ j.c) × (y' ≤ j.d)) where
+      (m : j.scene.rows.first ≤ r → r < j.scene.rows.end → (good_row j.c j.d j.layers (record-at rows (r - j.scene.y / 4)) ≡ true) × (x' ≤ j.c) × (y' ≤ j.d)) where
     by-cuts : (ks : List Cut) → ks ≡ cut_in (origin j.scene) (bounds j.scene) (seg-at ws i) → length ks ≤ 1 → On j rows ws a b r (i + 1) (seg-at ws i).end x' y'
     by-cuts [] q v =
         record {
@@ -176,7 +200,7 @@ pub record Sure (j : Job) (n : ℕ) (rows ws : List ℕ) (a b q i : ℕ) : Type 
   pub full : tally.full ≡ false
   pub deep : tally.deep ≡ false
   pub fresh : tally.row ≤ 8191 → tally.row + j.scene.y / 4 < q
-  pub rest : verdict (tally-cuts j rows tally (cuts-of j ws i b)) ≡ verdict (tally-cuts j rows none_yet (cuts-of j ws a b))
+  pub rest : verdict (tally_cuts j rows tally (cuts-of j ws i b)) ≡ verdict (tally_cuts j rows none_yet (cuts-of j ws a b))
 
 sure-so-far : {j : Job} {n : ℕ} {rows ws : List ℕ} {a b : ℕ} → Rowed j n rows → a ≤ b → Sure j n rows ws a b 0 a
 sure-so-far {ws = ws} {a = a} {b = b} o h =
@@ -195,10 +219,10 @@ sure-so-far {ws = ws} {a = a} {b = b} o h =
 
 module _ {j : Job} {n : ℕ} {rows ws : List ℕ} {a b q i : ℕ} (v : Sure j n rows ws a b q i) where
   surely : b ≤ i → number_in j rows ws a b ≡ 0
-  unfolding tally-cuts
+  unfolding tally_cuts
   surely l =
       let e : 0 ≡ judge-segments false (segs ws a (b - a)) = list.all-ordered v.place l refl in
-      let f : 0 ≡ verdict (tally-cuts j rows none_yet (cuts-of j ws a b)) = rw (segs-end ws i b l, v.full, v.deep) at v.rest in
+      let f : 0 ≡ verdict (tally_cuts j rows none_yet (cuts-of j ws a b)) = rw (segs-end ws i b l, v.full, v.deep) at v.rest in
       rw (← e, ← f)
 
   module _ (r : ℕ) (h : q ≤ r) where
@@ -315,5 +339,5 @@ module _ {j : Job} {n : ℕ} {rows ws : List ℕ} {a b r f e m i : ℕ} (v : Wal
         o (rw t (split-none j.eligible)) (omega arith))
 
 -- a record with room, as the code tests it
-pub room-found : (j : Job) (s : List ℕ) (m n : ℕ) → good-row j.c j.d j.layers s ≡ true → get_or s 1 0 + n ≤ j.d → get_or s 0 0 + j.layers + m + n ≤ j.c + get_or s 5 0 → Roomed j s m n
+pub room-found : (j : Job) (s : List ℕ) (m n : ℕ) → good_row j.c j.d j.layers s ≡ true → get_or s 1 0 + n ≤ j.d → get_or s 0 0 + j.layers + m + n ≤ j.c + get_or s 5 0 → Roomed j s m n
 room-found j s m n g d h = record { good = g; renders = omega (arith, (good-small _ _ _ _ g).levels); depths = d }

@@ -1,6 +1,6 @@
 -- A running tally over the cut segments of a list: the counts of the row at hand, loaded from its record when the row changes.
 use Rattle.std.specs.Prelude.{ℕ, ◌+◌, ◌-◌, ◌*◌, ◌/◌, ◌≤◌, ◌≡◌, Bool, false, ◌||◌, cond, List, [], ◌∷◌, ltb, eqb, get_or, length}
-use Rattle.std.proofs.Math.Option.{Option, none, some}
+use Rattle.std.specs.Prelude.{Option, None, Some, Result, Ok, Err}
 use Rattle.sizes.specs.Sizes.{tile-end, most-layers, most-room, most-rows, row-size, renders-at, depths-at, levels-at}
 use Rattle.rules.specs.Lists.{join}
 use Rattle.rules.specs.Answers.{Done, BadRecord, BadOrder, FullRow, FullDepth}
@@ -11,12 +11,14 @@ use Rattle.rules.specs.Steps.{do-act}
 use Rattle.sizes.specs.Widths.{bucket-tiles}
 use Rattle.row_counts.specs.Counts as count
 use Rattle.row_counts.specs.Counts.{counts, count-ops}
-use Rattle.row_judge.specs.Building.{good-row}
+use Rattle.row_judge.specs.Building.{good_row}
 use Rattle.segments.specs.Segs.{segs, origin, bounds, Starts}
 use Rattle.step_fill_rows.specs.declared.Job.{Job}
 use Rattle.row_room.specs.declared.Limits.{Limits}
 use Rattle.row_room.specs.declared.Hand.{Hand}
-use Rattle.row_room.specs.Room.{record-at, limits, turned-to, added-to}
+use Rattle.sizes.specs.declared.answers.Refusal.{Refusal}
+use Rattle.sizes.specs.declared.answers.Refusal.TheVariants as refusal
+use Rattle.row_room.specs.Room.{record-at, limits, Counted, hand_of, at-hand, loaded, added_to}
 
 -- the counts of the row at hand, and whether a row has passed its room so far
 pub record Tally : Type 0 where
@@ -62,16 +64,16 @@ unfoldable pub tallied : Job → List ℕ → Tally → Cut → Tally
 tallied j s t k = tally-of j t k.row (drawn-counts j k (known t s k.row))
 
 -- none where a row's record is bad
-unfoldable pub tally-cuts : Job → List ℕ → Tally → List Cut → Option Tally
-tally-cuts j rows t [] = some t
-tally-cuts j rows t (k ∷ ks) =
+unfoldable pub tally_cuts : Job → List ℕ → Tally → List Cut → Option Tally
+tally_cuts j rows t [] = Some t
+tally_cuts j rows t (k ∷ ks) =
     let s = record-at rows k.row in
-    let more = tally-cuts j rows (tallied j s t k) ks in
-    cond (good-row j.c j.d j.layers s) more none
+    let more = tally_cuts j rows (tallied j s t k) ks in
+    cond (good_row j.c j.d j.layers s) more None
 
 abbrev pub verdict : Option Tally → ℕ
-verdict none = BadRecord
-verdict (some t) = cond t.full FullRow (cond t.deep FullDepth Done)
+verdict None = BadRecord
+verdict (Some t) = cond t.full FullRow (cond t.deep FullDepth Done)
 
 -- what is left of the segments from a to b
 abbrev pub cuts-of : Job → List ℕ → ℕ → ℕ → List Cut
@@ -96,7 +98,7 @@ abbrev pub list-number : ℕ → ℕ → ℕ
 list-number a v = cond (eqb a BadRecord) BadRecord (cond (eqb v BadRecord) BadRecord (cond (eqb a Done) v a))
 
 -- the same hand, and 5 from here on unless the order is kept
-abbrev pub marked_by : Hand → Bool → Hand
+abbrev pub marked_by : Counted → Bool → Counted
 marked_by h follows = cond follows h (record { row = h.row; renders = h.renders; depths = h.depths; code = BadOrder })
 
 -- what its rows have room for
@@ -108,18 +110,23 @@ abbrev pub job-adds : Job → Span → Option ℕ → count.Counts
 job-adds j s a = added (bucket-tiles j.width) j.eligible s a
 
 -- one more stretch on the row at hand
-unfoldable pub stretched : Job → Hand → Span → Option ℕ → Hand
-stretched j h s a = added-to (limits_of j) h (job-adds j s a).renders (job-adds j s a).depths
+unfoldable pub stretched : Job → Counted → Span → Option ℕ → Counted
+stretched j h s a = added_to (limits_of j) h (job-adds j s a).renders (job-adds j s a).depths
 
 -- one more cut segment: on the row at hand, or on its own, whose record is judged
-unfoldable pub counted-cut : Job → List ℕ → Hand → Cut → Hand
-counted-cut j rows h k =
-    let u = turned-to (limits_of j) (record-at rows k.row) h.code k.row in
-    let more = stretched j u k.stretch.tiles k.stretch.alpha in
+unfoldable pub counted_cut : Job → List ℕ → Counted → Cut → Counted
+counted_cut j rows h k =
+    let s = record-at rows k.row in
     let held = stretched j h k.stretch.tiles k.stretch.alpha in
-    cond (eqb h.row k.row) held (cond (eqb u.code BadRecord) u more)
+    let more = stretched j (loaded (limits_of j) s h.code k.row) k.stretch.tiles k.stretch.alpha in
+    cond (eqb h.row k.row) held (cond (good_row j.c j.d j.layers s) more (hand_of 0 0 k.row BadRecord))
 
 -- what is left of a segment: nothing, or one cut segment more
-unfoldable pub hand-cuts : Job → List ℕ → Hand → List Cut → Hand
-hand-cuts j rows h [] = h
-hand-cuts j rows h (k ∷ ks) = hand-cuts j rows (counted-cut j rows h k) ks
+unfoldable pub hand_cuts : Job → List ℕ → Counted → List Cut → Counted
+hand_cuts j rows h [] = h
+hand_cuts j rows h (k ∷ ks) = hand_cuts j rows (counted_cut j rows h k) ks
+
+-- what taking what is left of a segment gives: 4 where `told` has 4, which is by a bad record, else `told`
+abbrev pub Took : Counted → Result Hand Refusal → Type 0
+Took told (Ok h) = at-hand h ≡ told
+Took told (Err x) = (x ≡ refusal.BadRecord) × (told.code ≡ BadRecord)

@@ -2,7 +2,7 @@
 use mathlib.Core.Path.{◌≡◌, refl, sym, ap, ◌∙◌}
 use mathlib.Core.Bool.{Bool, true, false}
 use mathlib.Core.List.{List, [], ◌∷◌, ◌++◌}
-use mathlib.Core.Option.{Option, none, some}
+use Rattle.std.specs.Prelude.{Option, None, Some}
 use Prim.Native.Nat.{ℕ, ◌+◌, ◌-◌, ◌≤◌, ◌<◌}
 use native.Mathlib.Omega.{arith}
 use lib.ListN.{length, get_or}
@@ -15,9 +15,9 @@ use Rattle.rules.specs.Spans.{Span}
 use Rattle.rules.specs.Commands.{paint-fill}
 use Rattle.rules.proofs.All.{never}
 use Rattle.sizes.specs.Widths.{bucket-tiles}
-use Rattle.row.specs.Words.{Words, words, word, put-command, word-ops, Room, Grown}
+use Rattle.row.specs.Words.{Words, words, word, put_command, word-ops, Room, Grown}
 use Rattle.row.proofs.Laws.{room-first, grown-refl}
-use Rattle.row_acts.specs.Acts.{ensured, acted, drawn}
+use Rattle.row_acts.specs.Acts.{ensured, acted, unsplit, drawn}
 use Rattle.row_acts.proofs.Laws.{drawn-alpha, drawn_plain, drawn-sound, Sound, sound-trans, room_after, acted-sound}
 use Rattle.row_screen.specs.Arena.{nowhere, Sizes, sizes, cut, lay, Long}
 use Rattle.row_screen.proofs.Laws.{cut-length, lay-cut}
@@ -27,17 +27,17 @@ use Rattle.segments.specs.declared.Placed.{Placed}
 use Rattle.segments.specs.Segs.{seg-at, segs, origin, bounds, placed_of}
 use Rattle.segments.proofs.Laws.{segs-end, segs-first, good-first, good-rest, landed}
 use Rattle.step_fill_rows.specs.declared.Job.{Job}
-use Rattle.step_fill_rows.specs.Filling.{draws, puts_of, one-put, puts, done, unsplit, Roomy, none-put, one_more, Fits, FillReady}
+use Rattle.step_fill_rows.specs.Filling.{draws, puts_of, one-put, puts, done, Roomy, none-put, one_more, Fits, FillReady}
 
 -- one command, on a row that has its layers
 module _ (v n : ℕ) (s : Span) (i id : ℕ) (w : Words) (h : word 5 w ≡ n) where
   all_there : ensured n w ≡ w
   all_there = let z : n - word 5 w ≡ 0 = omega arith in rw z
 
-  pub drawn-once : (e : Bool) (a : Option ℕ) → unsplit e a ≡ true → drawn v n e s a i id w ≡ put-command (paint-fill s a i) w
-  drawn-once e (some a) u = drawn-alpha v n s i id w e a ∙ ap (put-command (paint-fill s (some a) i)) all_there
-  drawn-once false none u = drawn_plain v n s i id w ∙ ap (put-command (paint-fill s none i)) all_there
-  drawn-once true none u = never (sym u)
+  pub drawn-once : (e : Bool) (a : Option ℕ) → unsplit e a ≡ true → drawn v n e s a i id w ≡ put_command (paint-fill s a i) w
+  drawn-once e (Some a) u = drawn-alpha v n s i id w e a ∙ ap (put_command (paint-fill s (Some a) i)) all_there
+  drawn-once false None u = drawn_plain v n s i id w ∙ ap (put_command (paint-fill s None i)) all_there
+  drawn-once true None u = never (sym u)
 
 -- drawing grows a row that has room for it
 pub draws-grow : (j : Job) (s : Span) (a : Option ℕ) (w : Words) → j.layers ≤ 16 → Room w (draws j s a w) → Grown w (draws j s a w)
@@ -64,7 +64,7 @@ module _ (j : Job) (g : Segment) (rs : List Words) where
     one-room h m = room_of (rw (one-some, ← e) at m) h
 
 -- a segment as the code has placed it
-pub placed_at : (s : Scene) {p q : Placed} {g h : Segment} → p ≡ q → placed_of p ≡ cut_in (origin s) (bounds s) g → g ≡ h → placed_of q ≡ cut_in (origin s) (bounds s) h
+pub placed_at : (s : Scene) {p q : Option Placed} {g h : Segment} → p ≡ q → placed_of p ≡ cut_in (origin s) (bounds s) g → g ≡ h → placed_of q ≡ cut_in (origin s) (bounds s) h
 placed_at s e a b = rw (← e, ← b) a
 
 -- what is left of a good segment lies on a row, which has room for it

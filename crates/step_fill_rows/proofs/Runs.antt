@@ -2,7 +2,7 @@
 use mathlib.Core.Path.{◌≡◌, refl, sym, ap, ◌∙◌}
 use mathlib.Core.Bool.{Bool, true, false, ◌&&◌, cond}
 use mathlib.Core.List.{List, [], ◌∷◌, ◌++◌, append_assoc}
-use mathlib.Core.Option.{Option, none, some}
+use Rattle.std.specs.Prelude.{Option, None, Some}
 use Prim.Native.Nat.{ℕ, zero, suc, ◌+◌, ◌-◌, ◌*◌, ◌/◌, ◌≤◌, ◌<◌}
 use native.Mathlib.Omega.{arith}
 use lib.Dec.{leb, ltb, eqb}
@@ -11,7 +11,7 @@ use borrow.Rule.Slice.PartMut.{put_mid}
 use borrow.Author.Tests.{leb-true, ltb-true, ltb-false, ne_eqb, eqb-true, eqb-false}
 use Rattle.rules.specs.Lists.{join, every, change, times}
 use Rattle.rules.specs.Boxes.{Box}
-use Rattle.rules.specs.Spans.{span, Stretch, moved, shifted, cut-to}
+use Rattle.rules.specs.Spans.{span, Stretch, moved, shifted, cut_to}
 use Rattle.rules.specs.Segments.{Segment, Cut, good-segment, alpha-of, stretch-of, localised, on_row, cut_in}
 use Rattle.rules.specs.Commands.{paint-fill}
 use Rattle.rules.specs.Plans.{Put, draw-puts}
@@ -19,11 +19,11 @@ use Rattle.rules.specs.Steps.{do-puts}
 use Rattle.rules.proofs.All.{All, nil, cons, all_append, both}
 use Rattle.rules.proofs.laws.Changes.{change-same}
 use Rattle.sizes.specs.Widths.{bucket-tiles}
-use Rattle.row.specs.Words.{Words, words, word, put-buf, put-command, Room, Grown}
+use Rattle.row.specs.Words.{Words, words, word, put_buf, put_command, Room, Grown}
 use Rattle.row.specs.Cmds.{Short}
 use Rattle.row.proofs.Laws.{cmd-levels, buf-levels, buf-grown, grown-trans}
 use Rattle.row_acts.specs.Acts.{ensured}
-use Rattle.row_acts.proofs.Laws.{Sound, sound-trans, same-sound, room_after, ensured-sound, first-room, drawn-sound, drawn-alpha}
+use Rattle.row_acts.proofs.Laws.{Sound, sound-trans, same-sound, room_after, ensured-sound, first_room, drawn-sound, drawn-alpha}
 use Rattle.row_screen.specs.declared.Place.{Place}
 use Rattle.row_screen.specs.Arena.{nowhere, sizes, cut, Long, Stands}
 use Rattle.row_screen.proofs.Laws.{cut-length, lent, back}
@@ -47,13 +47,13 @@ module _ (v b : Box) (g : Segment) (k : Cut) where
   none_left e = let z : ◌≡◌ {A = ℕ} 1 0 = ap length e in absurd (omega arith)
 
   by_rows : (t : Bool) → (leb b.y0 g.row && ltb g.row b.y1) ≡ t
-      → (m : Option Stretch) → m ≡ cut-to (span b.x0 b.x1) (stretch-of g)
-      → k ∷ [] ≡ localised v g.row (cond t m none) → Piece v b g k
-  by_rows true q (some l) p e =
+      → (m : Option Stretch) → m ≡ cut_to (span b.x0 b.x1) (stretch-of g)
+      → k ∷ [] ≡ localised v g.row (cond t m None) → Piece v b g k
+  by_rows true q (Some l) p e =
       let h = both (leb b.y0 g.row) (ltb g.row b.y1) q in
       let i : k ≡ record { row = g.row - v.y0 / 4; stretch = shifted (v.x0 / 4) l } = cc in
       rw i (record { row = refl; low = leb-true _ _ h.0; high = ltb-true _ _ h.1; shift = l.tiles.first - g.first; alpha = (left_in (span b.x0 b.x1) (stretch-of g) l p).index })
-  by_rows true q none p e = none_left e
+  by_rows true q None p e = none_left e
   by_rows false q m p e = none_left e
 
   pub piece : k ∷ [] ≡ cut_in v b g → Piece v b g k
@@ -63,7 +63,7 @@ module _ (v b : Box) (g : Segment) (k : Cut) where
 -- of a segment that is not solid, an alpha index is left
 record Indexed (k : Cut) : Type 0 where
   at : ℕ
-  is : k.stretch.alpha ≡ some at
+  is : k.stretch.alpha ≡ Some at
 
 index-left : (v b : Box) (g : Segment) (k : Cut) → (g.kind ≡ 0 → ⊥) → k ∷ [] ≡ cut_in v b g → Indexed k
 index-left v b g k n e =
@@ -108,11 +108,11 @@ module _ (j : Job) where
       sound-trans s (draw-sound m cs (draws j c.stretch.tiles c.stretch.alpha w) (s.grown.state ∙ l) s.levels)
 
 -- the layers that a row lacks
-bufs-level : (i : ℕ) (w : Words) → length w.state ≡ 54 → word 5 w + i ≤ 16 → word 5 (times i put-buf w) ≡ word 5 w + i
+bufs-level : (i : ℕ) (w : Words) → length w.state ≡ 54 → word 5 w + i ≤ 16 → word 5 (times i put_buf w) ≡ word 5 w + i
 bufs-level zero w l h = omega arith
 bufs-level (suc i) w l h =
     let e = buf-levels w l (omega arith) in
-    bufs-level i (put-buf w) ((buf-grown w l (omega arith)).state ∙ l) (omega arith) ∙ omega (arith, e)
+    bufs-level i (put_buf w) ((buf-grown w l (omega arith)).state ∙ l) (omega arith) ∙ omega (arith, e)
 
 all-layers : (n : ℕ) (w : Words) → n ≤ 16 → length w.state ≡ 54 → word 5 w ≤ 16 → n ≤ word 5 (ensured n w)
 all-layers n w m l k = omega (arith, bufs-level (n - word 5 w) w l (omega arith))
@@ -122,12 +122,12 @@ no_more n w h = let z : n - word 5 w ≡ 0 = omega arith in rw z
 
 -- rule 4 leaves at most one
 one_left : (v : Box) (r : ℕ) (m : Option Stretch) → length (localised v r m) ≤ 1
-one_left v r none = omega arith
-one_left v r (some k) = omega arith
+one_left v r None = omega arith
+one_left v r (Some k) = omega arith
 
 pub at_most_one : (v b : Box) (g : Segment) → length (cut_in v b g) ≤ 1
 unfolding cut_in
-at_most_one v b g = one_left v g.row (on_row b g (cut-to (span b.x0 b.x1) (stretch-of g)))
+at_most_one v b g = one_left v g.row (on_row b g (cut_to (span b.x0 b.x1) (stretch-of g)))
 
 -- the segments of a list in two parts
 join-append : (f : Segment → List Cut) (xs ys : List Segment) → join f (xs ++ ys) ≡ join f xs ++ join f ys
@@ -197,22 +197,22 @@ module _ (j : Job) (ws : List ℕ) where
 
 -- an alpha index, on a row that has its layers and on one that gets them
 module _ (j : Job) (k : Cut) (x : Indexed k) (w : Words) where
-  indexed-draw : draws j k.stretch.tiles k.stretch.alpha w ≡ put-command (paint-fill k.stretch.tiles k.stretch.alpha j.attr) (ensured j.layers w)
+  indexed-draw : draws j k.stretch.tiles k.stretch.alpha w ≡ put_command (paint-fill k.stretch.tiles k.stretch.alpha j.attr) (ensured j.layers w)
   indexed-draw = rw x.is (drawn-alpha (bucket-tiles j.width) j.layers k.stretch.tiles j.attr j.id w j.eligible x.at)
 
-  drawn-there : j.layers ≤ word 5 w → draws j k.stretch.tiles k.stretch.alpha w ≡ put-command (paint-fill k.stretch.tiles k.stretch.alpha j.attr) w
-  drawn-there h = indexed-draw ∙ ap (put-command (paint-fill k.stretch.tiles k.stretch.alpha j.attr)) (no_more j.layers w h)
+  drawn-there : j.layers ≤ word 5 w → draws j k.stretch.tiles k.stretch.alpha w ≡ put_command (paint-fill k.stretch.tiles k.stretch.alpha j.attr) w
+  drawn-there h = indexed-draw ∙ ap (put_command (paint-fill k.stretch.tiles k.stretch.alpha j.attr)) (no_more j.layers w h)
 
   drawn-layered : j.layers ≤ word 5 (ensured j.layers w)
       → draws j k.stretch.tiles k.stretch.alpha (ensured j.layers w) ≡ draws j k.stretch.tiles k.stretch.alpha w
   drawn-layered h = rw (indexed-draw) (drawn-alone h)
     where
       drawn-alone : j.layers ≤ word 5 (ensured j.layers w)
-          → draws j k.stretch.tiles k.stretch.alpha (ensured j.layers w) ≡ put-command (paint-fill k.stretch.tiles k.stretch.alpha j.attr) (ensured j.layers w)
+          → draws j k.stretch.tiles k.stretch.alpha (ensured j.layers w) ≡ put_command (paint-fill k.stretch.tiles k.stretch.alpha j.attr) (ensured j.layers w)
       drawn-alone h =
           rw x.is
           (drawn-alpha (bucket-tiles j.width) j.layers k.stretch.tiles j.attr j.id (ensured j.layers w) j.eligible x.at
-          ∙ ap (put-command (paint-fill k.stretch.tiles (some x.at) j.attr)) (no_more j.layers (ensured j.layers w) h))
+          ∙ ap (put_command (paint-fill k.stretch.tiles (Some x.at) j.attr)) (no_more j.layers (ensured j.layers w) h))
 
 -- a run that begins with an alpha index gives its row its layers
 module _ {j : Job} {ws : List ℕ} {row a b : ℕ} {w : Words} (v : RunReady j ws row a b w) where
@@ -231,7 +231,7 @@ module _ {j : Job} {ws : List ℕ} {row a b : ℕ} {w : Words} (v : RunReady j w
   pub layers-room : Room w (ensured j.layers w)
   layers-room =
       let o = own_room in
-      first-room (bucket-tiles j.width) j.layers j.attr j.id v.first.stretch.tiles w o.state o.levels v.layers j.eligible v.first.stretch.alpha o
+      first_room (bucket-tiles j.width) j.layers j.attr j.id v.first.stretch.tiles w o.state o.levels v.layers j.eligible v.first.stretch.alpha o
 
   layered : Sound w (ensured j.layers w)
   layered = ensured-sound j.layers w v.layers own_room.state own_room.levels
@@ -320,17 +320,17 @@ module _ {j : Job} {ws : List ℕ} {row a b : ℕ} {w₀ : Words} {i : ℕ} {w :
           record { ready = v.ready; start = omega (arith, v.start); stop = omega arith; same = on-to; is = v.is ∙ sym (run-nothing j ws a i v.start w₀ e); there = v.there }
 
       module _ (n : (seg-at ws i).kind ≡ 0 → ⊥) (k : Cut) (e : k ∷ [] ≡ cut_in (origin j.scene) (bounds j.scene) (seg-at ws i)) where
-        painted : run_of j ws a (i + 1) w₀ ≡ put-command (paint-fill k.stretch.tiles k.stretch.alpha j.attr) w
+        painted : run_of j ws a (i + 1) w₀ ≡ put_command (paint-fill k.stretch.tiles k.stretch.alpha j.attr) w
         painted =
             run-one j ws a i v.start w₀ k e ∙ ap (draws j k.stretch.tiles k.stretch.alpha) (sym v.is)
             ∙ drawn-there j k (index-left (origin j.scene) (bounds j.scene) (seg-at ws i) k n e) w v.there
 
-        pub paint-asks : Short k.stretch.tiles × Room w (put-command (paint-fill k.stretch.tiles k.stretch.alpha j.attr) w)
+        pub paint-asks : Short k.stretch.tiles × Room w (put_command (paint-fill k.stretch.tiles k.stretch.alpha j.attr) w)
         paint-asks =
             let l = landed (origin j.scene) (bounds j.scene) (seg-at ws i) k good-next v.ready.starts e in
             ((omega (arith, l.order, l.ends), l.ends), rw painted at (room_after run_sound (v.ready.room (i + 1) (omega (arith, v.start)) (omega arith) on-to)))
 
-        pub runs_on : {u : Words} → u ≡ put-command (paint-fill k.stretch.tiles k.stretch.alpha j.attr) w → Running j ws row a b w₀ (i + 1) u
+        pub runs_on : {u : Words} → u ≡ put_command (paint-fill k.stretch.tiles k.stretch.alpha j.attr) w → Running j ws row a b w₀ (i + 1) u
         runs_on q =
             rw q
             (record {

@@ -1,6 +1,6 @@
 -- The doing half of a fill: the rules' puts at rows of words, and what the judging half has shown.
-use Rattle.std.specs.Prelude.{ℕ, ◌+◌, ◌-◌, ◌*◌, ◌/◌, ◌≤◌, ◌<◌, ◌≡◌, Bool, true, not, List, [], ◌∷◌, get_or, length}
-use Rattle.std.proofs.Math.Option.{Option, none, some}
+use Rattle.std.specs.Prelude.{ℕ, ◌+◌, ◌-◌, ◌*◌, ◌/◌, ◌≤◌, ◌<◌, ◌≡◌, true, List, [], ◌∷◌, get_or, length}
+use Rattle.std.specs.Prelude.{Option}
 use Rattle.sizes.specs.Sizes.{most-layers}
 use Rattle.rules.specs.Lists.{join, every}
 use Rattle.rules.specs.Spans.{Span}
@@ -17,11 +17,6 @@ use Rattle.step_fill_rows.specs.declared.Job.{Job}
 -- rules 5 to 7 on one row
 abbrev pub draws : Job → Span → Option ℕ → Words → Words
 draws j s a w = drawn (bucket-tiles j.width) j.layers j.eligible s a j.attr j.id w
-
--- rule 6: a stretch with alpha index a becomes one command; e says that the draw is eligible
-abbrev pub unsplit : Bool → Option ℕ → Bool
-unsplit e none = not e
-unsplit e (some a) = true
 
 -- rule 4: a cut segment's acts
 abbrev pub puts_of : Job → List Cut → List Put

@@ -2,7 +2,7 @@
 use mathlib.Core.Path.{◌≡◌}
 use mathlib.Core.Bool.{true, false}
 use mathlib.Core.List.{List}
-use mathlib.Core.Option.{none, get_or}
+use Rattle.std.specs.Prelude.{None, unwrap_or}
 use Prim.Native.Nat.{ℕ, ◌+◌, ◌/◌, ◌≤◌, ◌<◌}
 use native.Mathlib.Omega.{arith}
 use lib.IntN.{ℤ}
@@ -47,7 +47,7 @@ module _ {g : FilterGiven} {s : Screen} {w : Words} {ps : List ℕ} {fs : List �
   pub attrs-needs : (g.count ≤ 4096) × (s.filter_paints ≤ 256)
   attrs-needs = (fine.count, omega (arith, room.paint))
 
-  pub put-paint-needs : (s.filter_paints < 256) × (length fs ≡ filter-paint-table) × (get_or g.pixmap 0 < 2147483648)
+  pub put-paint-needs : (s.filter_paints < 256) × (length fs ≡ filter-paint-table) × (unwrap_or g.pixmap 0 < 2147483648)
   put-paint-needs = (room.paint, able.paints, fine.pixmap)
 
   pub put-attrs-needs : (s.paint_attrs < 1024) × (length ps ≡ paint-attr-table)
@@ -57,7 +57,7 @@ module _ {g : FilterGiven} {s : Screen} {w : Words} {ps : List ℕ} {fs : List �
   bottom = bottom-small g s w able.zero b q.bounds
 
   pub rows-needs : (t : Span) → t ≡ span_of (box_of b)
-      → Short t × OnRows s s.layers (acted (bucket-tiles s.width) s.layers (paint t none s.paint_attrs)) (b.y0 / 4) ((b.y1 + 3) / 4) w
+      → Short t × OnRows s s.layers (acted (bucket-tiles s.width) s.layers (paint t None s.paint_attrs)) (b.y0 / 4) ((b.y1 + 3) / 4) w
   rows-needs t = paint-asked g s w ps fs q.number draws b t q.bounds
 
   pub counts-needs : (1 ≤ 1) × (s.next_draw_id ≤ 1048577) × (s.paint_attrs ≤ 1024) × (s.filter_paints ≤ 256)
@@ -65,8 +65,8 @@ module _ {g : FilterGiven} {s : Screen} {w : Words} {ps : List ℕ} {fs : List �
 
   pub leaves : (x : Screen) (ws : Words) (t : Span) → t ≡ span_of (box_of b)
       → x ≡ counted s (s.next_draw_id + 1) (s.paint_attrs + 1) s.layer_attrs (s.filter_paints + 1)
-      → ws ≡ lay (each (acted (bucket-tiles s.width) s.layers (paint t none s.paint_attrs)) (range (b.y0 / 4) ((b.y1 + 3) / 4)) (rows_at (frame-of s) w))
-      → lent x ws (put-paint ps s.paint_attrs (attrs-of s g.count g.panel)) (put-filter fs s.filter_paints (paint-from g.placement.dest g.placement.source_x g.placement.source_y (get_or g.pixmap 0))) ≡ after g (lent s w ps fs)
+      → ws ≡ lay (each (acted (bucket-tiles s.width) s.layers (paint t None s.paint_attrs)) (range (b.y0 / 4) ((b.y1 + 3) / 4)) (rows_at (frame-of s) w))
+      → lent x ws (put-paint ps s.paint_attrs (attrs-of s g.count g.panel)) (put-filter fs s.filter_paints (paint-from g.placement.dest g.placement.source_x g.placement.source_y (unwrap_or g.pixmap 0))) ≡ after g (lent s w ps fs)
   leaves x ws t = after-drawn g s w ps fs able draws x ws t b q.bounds
 
 -- where nothing is drawn

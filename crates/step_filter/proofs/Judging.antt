@@ -12,7 +12,7 @@ use Rattle.row.specs.Words.{Words}
 use Rattle.rect.specs.declared.Rect.{Rect}
 use Rattle.rect.specs.Rects.{box_of}
 use Rattle.screen.specs.declared.Screen.{Screen}
-use Rattle.step_rows.specs.Band.{band-number}
+use Rattle.step_rows.specs.Band.{band_number}
 use Rattle.step_filter.specs.Filter.{FilterGiven, filter-of, good-given, lent, filter-number, own-box}
 use Rattle.step_filter.proofs.Laws as laws
 use Rattle.step_filter.proofs.Laws.{judged-at, told-by, number-of-rows}
@@ -22,7 +22,7 @@ module _ (g : FilterGiven) (s : Screen) (w : Words) (ps : List ℕ) (fs : List �
   pub nothing-number : draws-nothing (filter-of g) (box_of b) ≡ true → 0 ≡ filter-number g (lent s w ps fs)
   nothing-number d = laws.nothing-number g s w ps fs z e f h (told-by g s b true x d)
 
-  module _ (d : draws-nothing (filter-of g) (box_of b) ≡ false) (k : ℕ) (r : k ≡ band-number s.c s.d s.layers w.state (range (b.y0 / 4) ((b.y1 + 3) / 4))) where
+  module _ (d : draws-nothing (filter-of g) (box_of b) ≡ false) (k : ℕ) (r : k ≡ band_number s.c s.d s.layers w.state (range (b.y0 / 4) ((b.y1 + 3) / 4))) where
     drawn : draws-nothing (filter-of g) (own-box g s) ≡ false
     drawn = told-by g s b false x d
 

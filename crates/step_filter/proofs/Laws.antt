@@ -2,8 +2,8 @@
 use mathlib.Core.Path.{◌≡◌, refl, sym, ap, ◌∙◌}
 use mathlib.Core.Bool.{Bool, true, false, ◌&&◌, ◌||◌, cond}
 use mathlib.Core.List.{List, [], ◌∷◌, map, append-nil}
-use mathlib.Core.Option.{Option, none, some, get_or}
-use Prim.Native.Nat.{ℕ, zero, suc, ◌+◌, ◌-◌, ◌*◌, ◌/◌, ◌≤◌, ◌<◌}
+use Rattle.std.specs.Prelude.{Option, None, Some, unwrap_or}
+use Prim.Native.Nat.{ℕ, suc, ◌+◌, ◌-◌, ◌*◌, ◌/◌, ◌≤◌, ◌<◌}
 use native.Mathlib.Nat.{min-le_right}
 use native.Mathlib.Omega.{arith}
 use lib.Dec.{eqb, ltb, leb}
@@ -15,7 +15,7 @@ use Rattle.sizes.specs.Sizes.{paint-attr-size, paint-attr-table, filter-paint-si
 use Rattle.rules.specs.Lists.{range, join, is_none}
 use Rattle.rules.specs.Inputs.{good-pixmap, good-filter, few-paints, good-panel}
 use Rattle.rules.specs.Answers.{answer}
-use Rattle.rules.specs.Boxes.{Box, width, height, rows_of, empty-box, span_of, good-dest, good-viewport}
+use Rattle.rules.specs.Boxes.{Box, width, height, rows_of, empty-box, span_of, good-dest, good_viewport}
 use Rattle.rules.specs.Spans.{Span}
 use Rattle.rules.specs.Attributes.{attrs-full}
 use Rattle.screen.specs.Attributes.{paint-attr-words}
@@ -31,17 +31,17 @@ use Rattle.row_screen.specs.Arena.{sizes, lay}
 use Rattle.row_screen.proofs.Laws.{lay-cut}
 use Rattle.sizes.specs.Widths.{bucket-tiles}
 use Rattle.row_acts.specs.Acts.{acted}
-use Rattle.row_judge.specs.Building.{Whole, rows_at, screen-at, good-rows, step-number}
+use Rattle.row_judge.specs.Building.{Whole, rows_at, screen-at, good_rows, step_number}
 use Rattle.rect.specs.declared.Rect.{Rect}
 use Rattle.rect.specs.Rects.{box_of}
 use Rattle.screen.specs.declared.Screen.{Screen}
-use Rattle.screen.specs.Screens.{frame-of, state-of, screen-after, good-screen, counted}
+use Rattle.screen.specs.Screens.{frame-of, state-of, screen-after, good_screen, counted}
 use Rattle.screen.specs.Judging.{judged}
 use Rattle.rect.proofs.Boxes.{view}
 use Rattle.screen.proofs.Laws.{bounds, clip, good-clip-of, clip-of, same-layers, paint-count, layer-attr-count, filter-count, layer-count}
 use Rattle.screen.proofs.Passed.{Passed, passed}
 use Rattle.row_room.specs.Room.{rows_told}
-use Rattle.step_rows.specs.Band.{band-number, each, OnRows}
+use Rattle.step_rows.specs.Band.{band_number, each, OnRows}
 use Rattle.step_rows.proofs.Laws.{puts-each}
 use Rattle.step_rows.proofs.Numbers.{band-answer, band-step, band-room, paint-adds, run-told}
 use Rattle.step_rows.proofs.Passing.{passed-whole, rows-within, decide, surely, below}
@@ -61,7 +61,7 @@ module _ (g : FilterGiven) (s : Screen) where
   unfolding plan-filter
   plan-bad h = rw h
 
-  module _ (k : good-screen s ≡ true) (h : good-given g ≡ true) where
+  module _ (k : good_screen s ≡ true) (h : good-given g ≡ true) where
     box-is : plans.filter-box (state-of s).frame.viewport (plans.box_of (state-of s)) (filter-of g) ≡ own-box g s
     box-is = rw (clip-of s k, frame_is s)
 
@@ -80,10 +80,10 @@ module _ (g : FilterGiven) (s : Screen) where
 
 -- what a fill puts on a row of its box
 abbrev pub own-act : FilterGiven → Screen → Act
-own-act g s = paint (span_of (own-box g s)) none s.paint_attrs
+own-act g s = paint (span_of (own-box g s)) None s.paint_attrs
 
 -- the counts of a plan that draws nothing, and of one that draws
-module _ (s : Screen) (k : good-screen s ≡ true) where
+module _ (s : Screen) (k : good_screen s ≡ true) where
   same_full : attrs-full (state-of s).attrs ≡ false
   same_full =
       let b = bounds s k in
@@ -122,7 +122,7 @@ module _ (s : Screen) (k : good-screen s ≡ true) where
     drawn-fine = refl
 
 -- the box lies on the screen
-module _ (g : FilterGiven) (s : Screen) (k : good-screen s ≡ true) (v : good-viewport (box_of s.viewport) ≡ true) where
+module _ (g : FilterGiven) (s : Screen) (k : good_screen s ≡ true) (v : good_viewport (box_of s.viewport) ≡ true) where
   pub box-bottom : (own-box g s).y1 ≤ height (box_of s.viewport)
   box-bottom = omega (arith, min-le_right (g.placement.dest.y1 - s.viewport.y0) s.clip_bbox.y1, (clip (box_of s.viewport) (box_of s.clip_bbox) s.layers v (good-clip-of s k)).bottom)
 
@@ -138,16 +138,16 @@ judged-at s w = judged s (length w.state) (length w.render) (length w.fills)
 
 module _ (g : FilterGiven) (s : Screen) (w : Words) (ps : List ℕ) (fs : List ℤ) where
   pub bad-screen : (judged-at s w ≡ 0 → ⊥) → judged-at s w ≡ filter-number g (lent s w ps fs)
-  unfolding filter-number step-number
+  unfolding filter-number step_number
   bad-screen h = rw (ne_eqb (judged-at s w) 0 h, ne_eqb (judged-at s w) 0 h)
 
   module _ (z : judged-at s w ≡ 0) where
     pub bad-attrs : (length ps ≡ paint-attr-table → ⊥) → 4 ≡ filter-number g (lent s w ps fs)
-    unfolding filter-number step-number
+    unfolding filter-number step_number
     bad-attrs h = rw (z, ne_eqb _ _ h)
 
     pub bad-paints : length ps ≡ paint-attr-table → (length fs ≡ filter-paint-table → ⊥) → 4 ≡ filter-number g (lent s w ps fs)
-    unfolding filter-number step-number
+    unfolding filter-number step_number
     bad-paints e h = rw (z, eq-eqb _ _ e, ne_eqb _ _ h)
 
     -- the screen's own facts
@@ -164,14 +164,14 @@ module _ (g : FilterGiven) (s : Screen) (w : Words) (ps : List ℕ) (fs : List �
       either_way r false = refl
 
       pub bad-given : good-given g ≡ false → 4 ≡ filter-number g (lent s w ps fs)
-      unfolding filter-number step-number
+      unfolding filter-number step_number
       bad-given h =
           rw (z, eq-eqb _ _ e, eq-eqb _ _ f)
-          (either_way (ap (λ (p : Plan). p.refused) (plan-bad g s h)) (good-rows (frame-of s) s.layers (plan-of g s).puts (rows_at (frame-of s) w)))
+          (either_way (ap (λ (p : Plan). p.refused) (plan-bad g s h)) (good_rows (frame-of s) s.layers (plan-of g s).puts (rows_at (frame-of s) w)))
 
       -- of the rows x to b
       number_is : (x b : ℕ) → b ≤ rows_of (box_of s.viewport) → (plan-of g s).refused ≡ 0 → (plan-of g s).puts ≡ map (on (own-act g s)) (range x b) → length (plan-of g s).layers ≡ s.layers
-          → filter-number g (lent s w ps fs) ≡ band-answer (band-number s.c s.d s.layers w.state (range x b)) (plan-of g s)
+          → filter-number g (lent s w ps fs) ≡ band-answer (band_number s.c s.d s.layers w.state (range x b)) (plan-of g s)
       unfolding filter-number
       number_is x b m r q n =
           rw (z, eq-eqb _ _ e, eq-eqb _ _ f)
@@ -180,7 +180,7 @@ module _ (g : FilterGiven) (s : Screen) (w : Words) (ps : List ℕ) (fs : List �
 
       module _ (h : good-given g ≡ true) where
         pub nothing-number : draws-nothing (filter-of g) (own-box g s) ≡ true → 0 ≡ filter-number g (lent s w ps fs)
-        unfolding band-answer band-number rows_told
+        unfolding band-answer band_number rows_told
         nothing-number d =
             let q = plan-nothing g s fit.screen h d in
             let b = bounds s fit.screen in
@@ -193,7 +193,7 @@ module _ (g : FilterGiven) (s : Screen) (w : Words) (ps : List ℕ) (fs : List �
           is-drawn = plan-drawn g s fit.screen h d
 
           abbrev pub rows-number : ℕ
-          rows-number = band-number s.c s.d s.layers w.state (range ((own-box g s).y0 / 4) (((own-box g s).y1 + 3) / 4))
+          rows-number = band_number s.c s.d s.layers w.state (range ((own-box g s).y0 / 4) (((own-box g s).y1 + 3) / 4))
 
           drawn-number : filter-number g (lent s w ps fs) ≡ band-answer rows-number (drawn-plan s fit.screen g)
           drawn-number =
@@ -281,17 +281,17 @@ module _ (g : FilterGiven) (s : Screen) (w : Words) (z : judged-at s w ≡ 0) (b
       let o = passed-whole s w ok in
       ((bounds s ok.screen).deep, o.c, omega (arith, o.rows), omega (arith, ok.row_words))
 
-  pub number-of-rows : (k : ℕ) → k ≡ band-number s.c s.d s.layers w.state (range (b.y0 / 4) ((b.y1 + 3) / 4))
-      → k ≡ band-number s.c s.d s.layers w.state (range ((own-box g s).y0 / 4) (((own-box g s).y1 + 3) / 4))
+  pub number-of-rows : (k : ℕ) → k ≡ band_number s.c s.d s.layers w.state (range (b.y0 / 4) ((b.y1 + 3) / 4))
+      → k ≡ band_number s.c s.d s.layers w.state (range ((own-box g s).y0 / 4) (((own-box g s).y1 + 3) / 4))
   number-of-rows k h = rw (top-is, bottom-is) at h
 
-handle-small : (o : Option ℕ) → good-pixmap o ≡ true → get_or o 0 < 2147483648
-handle-small none q = omega arith
-handle-small (some h) q = ltb-true _ _ q
+handle-small : (o : Option ℕ) → good-pixmap o ≡ true → unwrap_or o 0 < 2147483648
+handle-small None q = omega arith
+handle-small (Some h) q = ltb-true _ _ q
 
 -- what was given, judged good
 pub record Sound (g : FilterGiven) : Type 0 where
-  pub pixmap : get_or g.pixmap 0 < 2147483648
+  pub pixmap : unwrap_or g.pixmap 0 < 2147483648
   pub left : g.placement.dest.x0 ≤ 32768
   pub top : g.placement.dest.y0 ≤ 32768
   pub across : g.placement.source_x ≤ 32768
@@ -383,7 +383,7 @@ nothing-at : {A : Type 0} (xs : List A) (at : ℕ) → words-at xs at [] ≡ xs
 nothing-at xs at = let e : at + 0 ≡ at = omega arith in rw (e, append-nil) (take-append-drop at xs)
 
 module _ (g : FilterGiven) (s : Screen) (w : Words) (ps : List ℕ) (fs : List ℤ) (y : FilterReady g s w ps fs) where
-  ok-screen : good-screen s ≡ true
+  ok-screen : good_screen s ≡ true
   ok-screen = (fit g s w ps fs y.zero).screen
 
   no-paints-more : drop s.paint_attrs (state-of s).attrs.paints ≡ []
@@ -439,14 +439,14 @@ module _ (g : FilterGiven) (s : Screen) (w : Words) (ps : List ℕ) (fs : List �
     drawn-attr = rw (drop_at (state-of s).attrs.paints _ s.paint_attrs (paint-count s), filter-count s, next-is s, frame_is s)
 
     drawn-paint : join filter-paint-words (drop s.filter_paints drawn.attrs.filters)
-        ≡ pos 0 ∷ pos (get_or g.pixmap 0) ∷ sub_ℕ g.placement.source_x g.placement.dest.x0 ∷ sub_ℕ g.placement.source_y g.placement.dest.y0 ∷ []
+        ≡ pos 0 ∷ pos (unwrap_or g.pixmap 0) ∷ sub_ℕ g.placement.source_x g.placement.dest.x0 ∷ sub_ℕ g.placement.source_y g.placement.dest.y0 ∷ []
     unfolding plan-filter-in
     drawn-paint = rw (drop_at (state-of s).attrs.filters _ s.filter_paints (filter-count s))
 
     pub after-drawn : (x : Screen) (ws : Words) (t : Span) (b : Rect) → box_of b ≡ own-box g s → t ≡ span_of (box_of b)
         → x ≡ counted s (s.next_draw_id + 1) (s.paint_attrs + 1) s.layer_attrs (s.filter_paints + 1)
-        → ws ≡ lay (each (acted (bucket-tiles s.width) s.layers (paint t none s.paint_attrs)) (range (b.y0 / 4) ((b.y1 + 3) / 4)) (rows_at (frame-of s) w))
-        → lent x ws (put-paint ps s.paint_attrs (attrs-of s g.count g.panel)) (put-filter fs s.filter_paints (paint-from g.placement.dest g.placement.source_x g.placement.source_y (get_or g.pixmap 0))) ≡ after g (lent s w ps fs)
+        → ws ≡ lay (each (acted (bucket-tiles s.width) s.layers (paint t None s.paint_attrs)) (range (b.y0 / 4) ((b.y1 + 3) / 4)) (rows_at (frame-of s) w))
+        → lent x ws (put-paint ps s.paint_attrs (attrs-of s g.count g.panel)) (put-filter fs s.filter_paints (paint-from g.placement.dest g.placement.source_x g.placement.source_y (unwrap_or g.pixmap 0))) ≡ after g (lent s w ps fs)
     unfolding after
     after-drawn x ws t b e f h i =
         rw (
@@ -469,7 +469,7 @@ told-by g s b t e h = sym (ap (λ (x : Box). draws-nothing (filter-of g) x) e) �
 -- what painting its rows asks
 pub paint-asked : (g : FilterGiven) (s : Screen) (w : Words) (ps : List ℕ) (fs : List ℤ) (q : filter-number g (lent s w ps fs) ≡ 0) (d : draws-nothing (filter-of g) (own-box g s) ≡ false)
     (b : Rect) (t : Span) → box_of b ≡ own-box g s → t ≡ span_of (box_of b)
-    → Short t × OnRows s s.layers (acted (bucket-tiles s.width) s.layers (paint t none s.paint_attrs)) (b.y0 / 4) ((b.y1 + 3) / 4) w
+    → Short t × OnRows s s.layers (acted (bucket-tiles s.width) s.layers (paint t None s.paint_attrs)) (b.y0 / 4) ((b.y1 + 3) / 4) w
 paint-asked g s w ps fs q d b t e f =
     let z = (ready g s w ps fs q).zero in
     rw (f ∙ ap span_of e, top-is g s w z b e, bottom-is g s w z b e) (short g s w ps fs q d, (free g s w ps fs q d).on)

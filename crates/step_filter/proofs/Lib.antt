@@ -1,4 +1,3 @@
-pub mod Difference
 pub mod Laws
 pub mod Judging
 pub mod Doing

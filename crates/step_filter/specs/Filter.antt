@@ -1,6 +1,6 @@
 -- A filter fill at a screen's words: its number, and every lent word afterwards (rule 11).
 use Rattle.std.specs.Prelude.{ℕ, ◌+◌, ◌*◌, ◌≡◌, Bool, false, ◌&&◌, cond, List, [], ◌∷◌, length, drop, eqb, ℤ, pos}
-use Rattle.std.proofs.Math.Option.{Option, none, some}
+use Rattle.std.specs.Prelude.{Option}
 use Rattle.std.proofs.Math.IntN.{sub_ℕ}
 use Rattle.sizes.specs.Sizes.{paint-attr-size, paint-attr-table, filter-paint-size, filter-paint-table}
 use Rattle.rules.specs.Lists.{join}
@@ -16,19 +16,14 @@ use Rattle.cmd.specs.declared.attrs.FilterPaint as cmd
 use Rattle.cmd.specs.declared.attrs.PaintFillAttrs.{PaintFillAttrs}
 use Rattle.row.specs.Words.{Words, word-ops}
 use Rattle.row_screen.specs.Arena.{lay}
-use Rattle.row_judge.specs.Building.{rows_at, screen-at, good-rows, step-number}
+use Rattle.row_judge.specs.Building.{rows_at, screen-at, good_rows, step_number}
 use Rattle.rect.specs.declared.Rect.{Rect}
 use Rattle.rect.specs.Rects.{box_of}
 use Rattle.screen.specs.declared.Screen.{Screen}
 use Rattle.screen.specs.Screens.{frame-of, state-of, screen-after}
 use Rattle.screen.specs.Judging.{judged}
-use Rattle.step_filter.specs.declared.Pixmap.{Pixmap}
-use Rattle.step_filter.specs.declared.Pixmap.TheVariants.{Absent, Present}
 use Rattle.step_filter.specs.declared.Placement.{Placement}
-
-abbrev pub picture-of : Pixmap → Option ℕ
-picture-of Absent = none
-picture-of (Present h) = some h
+use Rattle.step_filter.specs.declared.FilterFill.{FilterFill}
 
 -- what a filter fill is given: placement, a picture's handle or none, the paint list's length, its layer's panel
 pub record FilterGiven : Type 0 where
@@ -39,6 +34,9 @@ pub record FilterGiven : Type 0 where
 
 abbrev pub given : Placement → Option ℕ → ℕ → ℕ → FilterGiven
 given p m n q = record { placement = p; pixmap = m; count = n; panel = q }
+
+abbrev pub given_of : FilterFill → FilterGiven
+given_of f = given f.placement f.pixmap f.paint_count f.panel
 
 abbrev pub filter-of : FilterGiven → Filter
 filter-of g =
@@ -92,7 +90,7 @@ first-number l =
 unfoldable pub filter-number : FilterGiven → FilterLent → ℕ
 filter-number g l =
     let s = l.screen in
-    step-number (first-number l) (good-rows (frame-of s) s.layers (plan-of g s).puts (rows_at (frame-of s) l.words)) (plan-of g s)
+    step_number (first-number l) (good_rows (frame-of s) s.layers (plan-of g s).puts (rows_at (frame-of s) l.words)) (plan-of g s)
     (screen-at (state-of s) l.words)
 
 -- flag 0, pixmap, shift

@@ -1,21 +1,20 @@
 -- What a number 0 gives the doing half, and what it leaves. Assumes nothing.
 use mathlib.Core.Path.{◌≡◌, refl, sym, ap, ◌∙◌, subst}
-use mathlib.Core.Bool.{Bool, true, false, ◌&&◌, ◌||◌, not, cond}
-use mathlib.Core.List.{List, [], ◌∷◌, ◌++◌, map}
-use mathlib.Core.Option.{Option, none, some}
-use Prim.Native.Nat.{ℕ, zero, suc, ◌+◌, ◌-◌, ◌*◌, ◌/◌, ◌≤◌, ◌<◌}
+use mathlib.Core.Bool.{Bool, true, false, ◌&&◌, ◌||◌}
+use mathlib.Core.List.{List, [], ◌++◌, map}
+use Rattle.std.specs.Prelude.{None, Some}
+use Prim.Native.Nat.{ℕ, zero, suc, ◌+◌, ◌-◌, ◌/◌, ◌≤◌, ◌<◌}
 use native.Mathlib.Omega.{arith}
-use lib.Dec.{leb, ltb, eqb}
+use lib.Dec.{ltb, eqb}
 use lib.ListN.{length}
 use borrow.Author.Tests.{eqb-true, eqb-false, ltb-true, ltb-false}
 use Rattle.sizes.specs.Widths.{bucket-tiles}
-use Rattle.rules.specs.Lists.{some_of, every, join, range, slice}
-use Rattle.rules.specs.Boxes.{Box, box, rows_of, rows_in, span_of, scene-tiles}
-use Rattle.rules.specs.Spans.{Span}
-use Rattle.rules.specs.Segments.{Segment, good-segment, judge-segments, Cut, cut_in, cuts}
-use Rattle.rules.specs.Plans.{Layer, Plan, Put, on, close, pop, clip-box, closing, close-puts}
-use Rattle.rules.specs.Steps.{do-puts, done}
-use Rattle.rules.proofs.All.{both, never}
+use Rattle.rules.specs.Lists.{join, range}
+use Rattle.rules.specs.Boxes.{Box, rows_of, rows_in, span_of, scene-tiles}
+use Rattle.rules.specs.Segments.{judge-segments, Cut, cut_in}
+use Rattle.rules.specs.Plans.{Layer, Put, on, close, pop, clip-box, closing, close-puts}
+use Rattle.rules.specs.Steps.{done}
+use Rattle.rules.proofs.All.{both}
 use Rattle.row.specs.Words.{Words, word-ops}
 use Rattle.row.specs.Cmds.{Short}
 use Rattle.row_screen.specs.Arena.{lay}
@@ -28,17 +27,17 @@ use Rattle.span.specs.Spans.{tiles}
 use Rattle.screen.specs.declared.Screen as code
 use Rattle.screen.specs.Screens.{frame-of}
 use Rattle.segments.specs.declared.Scene.{Scene}
-use Rattle.segments.specs.Segs.{segs, segs-of, origin, bounds, SceneOf, Starts}
+use Rattle.segments.specs.Segs.{segs, origin, bounds, SceneOf}
 use Rattle.segments.proofs.Laws.{scene-starts, judged as judged-list}
 use Rattle.row_judge.specs.Building.{rows_at, Whole, screen-at}
 use Rattle.screen_layers.specs.declared.OpenLayer.{OpenLayer}
-use Rattle.screen_layers.specs.Layers.{layer-at, clip-in, open_at, good-layer, good-own-box}
+use Rattle.screen_layers.specs.Layers.{layer-at, clip-in, open_at, good_layer, good_own_box}
 use Rattle.screen_layers.proofs.Laws.{without-clip, has-clip}
-use Rattle.step_pop_rows.specs.Closing.{row_of, touched-in, good-pops, full_by, runs-full, done-puts, clip-puts, Roomy, Fillable, Poppable, Each, Clips}
+use Rattle.step_pop_rows.specs.Closing.{touched-in, good-pops, full_by, runs-full, done-puts, clip-puts, Roomy, Fillable, Poppable, Each, Clips}
 use Rattle.step_pop_rows.proofs.Running.{cuts-sorted}
-use Rattle.step_pop.specs.Pop.{PopLent, lent, layers-in, good-open, late, state-in, pop-plan, number-after, Judged, closing-puts, words-after}
-use Rattle.step_pop.proofs.Ready.{Closeable, Fits, fits, full-plain, full-clip, full-test, ready-fill, ready-puts, ready-pop, closed-words}
-use Rattle.step_pop.proofs.Numbers.{Screened, screened, layers-length, open-first, plan-is, plain-closeable, clip-closeable, number-plain, number-long, number-clip, the-list, listed-is, cuts-is, Passed, late-zero}
+use Rattle.step_pop.specs.Pop.{lent, layers-in, state-in, pop-plan, Judged, closing-puts, words-after}
+use Rattle.step_pop.proofs.Ready.{Closeable, Fits, fits, full-plain, full-clip, ready-fill, ready-puts, ready-pop, closed-words}
+use Rattle.step_pop.proofs.Numbers.{Screened, screened, layers-length, open-first, plan-is, plain-closeable, clip-closeable, number-plain, number-long, number-clip, cuts-is, Passed, late-zero}
 use Rattle.step_pop.proofs.Opening.{OwnBox, own-facts, Ranged, layer-facts, last_row, own-span, own-small}
 
 -- the rows can be closed and popped, and an id and an attribute are left
@@ -64,11 +63,11 @@ module _ {s : code.Screen} {t ws : List ℕ} {w : Words} (j : Judged s t ws w) w
   abbrev xs : List ℕ
   xs = touched-in s.layers (rows_at (frame-of s) w) (rows_in (layer-at t (s.layers - 1)).bounds)
 
-  tests : (good-layer (open_at t (s.layers - 1)) ≡ true) × (good-own-box view layer.bounds ≡ true) × (good-own-box view parent ≡ true)
+  tests : (good_layer (open_at t (s.layers - 1)) ≡ true) × (good_own_box view layer.bounds ≡ true) × (good_own_box view parent ≡ true)
   tests =
       let g = sym (open-first t view s.layers j.some) ∙ j.layer in
-      let a = both (good-layer (open_at t (s.layers - 1)) && good-own-box view layer.bounds) (good-own-box view parent) g in
-      let b = both (good-layer (open_at t (s.layers - 1))) (good-own-box view layer.bounds) a.0 in
+      let a = both (good_layer (open_at t (s.layers - 1)) && good_own_box view layer.bounds) (good_own_box view parent) g in
+      let b = both (good_layer (open_at t (s.layers - 1))) (good_own_box view layer.bounds) a.0 in
       (b.0, b.1, a.1)
 
   own-box : OwnBox view layer.bounds
@@ -89,8 +88,8 @@ module _ {s : code.Screen} {t ws : List ℕ} {w : Words} (j : Judged s t ws w) w
       (small-viewport view seen.view, own-small (own-facts view parent tests.2) f.wide f.high)
 
   -- without a clip
-  module _ (c : (layer-at t (s.layers - 1)).props.clip ≡ none) where
-    pub plain-puts : closing-puts s t ws w ≡ map (on (close (span_of (layer-at t (s.layers - 1)).bounds) none s.layer_attrs)) xs
+  module _ (c : (layer-at t (s.layers - 1)).props.clip ≡ None) where
+    pub plain-puts : closing-puts s t ws w ≡ map (on (close (span_of (layer-at t (s.layers - 1)).bounds) None s.layer_attrs)) xs
     unfolding closing
     plain-puts = rw c
 
@@ -100,13 +99,13 @@ module _ {s : code.Screen} {t ws : List ℕ} {w : Words} (j : Judged s t ws w) w
         let v = plain-closeable s (lent w t [] []) ws j.some seen bottom p.good (span_of layer.bounds) s.layer_attrs in
         record {
           rows = rw plain-puts v;
-          room = rw plain-puts (fits (frame-of s) s.layers (layer.bounds.y0 / 4) ((layer.bounds.y1 + 3) / 4) (map (on (close (span_of layer.bounds) none s.layer_attrs)) xs) w (full-plain v (span_of layer.bounds) s.layer_attrs refl ∙ p.room));
+          room = rw plain-puts (fits (frame-of s) s.layers (layer.bounds.y0 / 4) ((layer.bounds.y1 + 3) / 4) (map (on (close (span_of layer.bounds) None s.layer_attrs)) xs) w (full-plain v (span_of layer.bounds) s.layer_attrs refl ∙ p.room));
           ids = p.ids;
           attrs = p.attrs;
         }
 
   -- with one: its range lies in the list, which is good
-  module _ (c : (layer-at t (s.layers - 1)).props.clip ≡ some (clip-in t (s.layers - 1))) where
+  module _ (c : (layer-at t (s.layers - 1)).props.clip ≡ Some (clip-in t (s.layers - 1))) where
     pub clip-within : (clip-in t (s.layers - 1)).end ≤ length ws / 5
     clip-within = go (ltb (length ws / 5) (clip-in t (s.layers - 1)).end) refl
       where
@@ -163,10 +162,10 @@ module _ {s : code.Screen} {t ws : List ℕ} {w : Words} (j : Judged s t ws w) w
   one (suc zero) h g = refl
   one (suc (suc n)) h g = absurd (omega arith)
 
-  pub flag-none : (open_at t (s.layers - 1)).flag ≡ 0 → (layer-at t (s.layers - 1)).props.clip ≡ none
+  pub flag-none : (open_at t (s.layers - 1)).flag ≡ 0 → (layer-at t (s.layers - 1)).props.clip ≡ None
   flag-none z = without-clip t (s.layers - 1) z
 
-  pub flag-some : ((open_at t (s.layers - 1)).flag ≡ 0 → ⊥) → (layer-at t (s.layers - 1)).props.clip ≡ some (clip-in t (s.layers - 1))
+  pub flag-some : ((open_at t (s.layers - 1)).flag ≡ 0 → ⊥) → (layer-at t (s.layers - 1)).props.clip ≡ Some (clip-in t (s.layers - 1))
   flag-some z = has-clip t (s.layers - 1) (one (open_at t (s.layers - 1)).flag ranged.flag z)
 
   pub ready : Set s t ws w
@@ -194,15 +193,15 @@ module _ {s : code.Screen} {t ws : List ℕ} {w : Words} (j : Judged s t ws w) w
       span-is : tiles p ≡ span_of (layer-at t (s.layers - 1)).bounds
       span-is = k ∙ ap (λ (z : OpenLayer). span_of (box_of z.bbox)) e
 
-      no-clip : (layer-at t (s.layers - 1)).props.clip ≡ none
+      no-clip : (layer-at t (s.layers - 1)).props.clip ≡ None
       no-clip = flag-none (sym flag_is ∙ f)
 
       pub plain-requires : Whole (frame-of s) w × (b ≤ rows_of (box_of s.viewport)) × Short (tiles p)
-          × Each (Fillable (tiles p) none s.layer_attrs) (rows_at (frame-of s) w) (touched-in s.layers (rows_at (frame-of s) w) (range a b))
+          × Each (Fillable (tiles p) None s.layer_attrs) (rows_at (frame-of s) w) (touched-in s.layers (rows_at (frame-of s) w) (range a b))
       plain-requires =
-          (seen.whole, b-bottom, subst Short (sym span-is) short-span, rw (a-is, b-is) (ready-fill ready.rows ready.room (tiles p) none s.layer_attrs))
+          (seen.whole, b-bottom, subst Short (sym span-is) short-span, rw (a-is, b-is) (ready-fill ready.rows ready.room (tiles p) None s.layer_attrs))
 
-      pub plain_done : {rs : List Words} → rs ≡ done-puts (bucket-tiles s.width) (s.layers - 1) (map (on (close (tiles p) none s.layer_attrs)) (touched-in s.layers (rows_at (frame-of s) w) (range a b))) (rows_at (frame-of s) w)
+      pub plain_done : {rs : List Words} → rs ≡ done-puts (bucket-tiles s.width) (s.layers - 1) (map (on (close (tiles p) None s.layer_attrs)) (touched-in s.layers (rows_at (frame-of s) w) (range a b))) (rows_at (frame-of s) w)
           → rs ≡ done-puts (bucket-tiles s.width) (s.layers - 1) (closing-puts s t ws w) (rows_at (frame-of s) w)
       plain_done h = h ∙ rw (a-is, b-is, span-is) (ap (λ (ps : List Put). done-puts (bucket-tiles s.width) (s.layers - 1) ps (rows_at (frame-of s) w)) (sym (plain-puts no-clip)))
 
@@ -214,7 +213,7 @@ module _ {s : code.Screen} {t ws : List ℕ} {w : Words} (j : Judged s t ws w) w
       end_is : z ≡ (clip-in t (s.layers - 1)).end
       end_is = ez ∙ ap (λ (k : OpenLayer). k.«end») e
 
-      a-clip : (layer-at t (s.layers - 1)).props.clip ≡ some (clip-in t (s.layers - 1))
+      a-clip : (layer-at t (s.layers - 1)).props.clip ≡ Some (clip-in t (s.layers - 1))
       a-clip = flag-some (λ (i : (open_at t (s.layers - 1)).flag ≡ 0). f (flag_is ∙ i))
 
       scene-is : SceneOf (box_of s.viewport) (clip-box (box_of s.viewport) (layers-in t (s.layers - 1))) d

@@ -2,49 +2,48 @@
 use mathlib.Core.Path.{◌≡◌, refl, sym, ap, ◌∙◌}
 use mathlib.Core.Bool.{Bool, true, false, ◌&&◌, ◌||◌, not, cond}
 use mathlib.Core.List.{List, [], ◌∷◌, ◌++◌, map}
-use mathlib.Core.Option.{Option, none, some}
+use Rattle.std.specs.Prelude.{None, Some}
 use Prim.Native.Nat.{ℕ, zero, suc, ◌+◌, ◌-◌, ◌*◌, ◌/◌, ◌%◌, ◌≤◌, ◌<◌}
 use native.Mathlib.Omega.{arith}
 use lib.Dec.{leb, ltb, eqb}
-use lib.ListN.{length, get_or, length-append}
-use borrow.Author.Tests.{eq-eqb, ne_eqb, eqb-true, eqb-false, le-ltb, lt-ltb, le-leb, lt-leb, ltb-true, ltb-false, leb-true, leb-false}
+use lib.ListN.{length, length-append}
+use borrow.Author.Tests.{ne_eqb, eqb-true, eqb-false, le-ltb, lt-ltb, le-leb, lt-leb, ltb-true, ltb-false, leb-true, leb-false}
 use Rattle.sizes.specs.Widths.{bucket-tiles}
-use Rattle.rules.specs.Lists.{some_of, join, slice, range}
+use Rattle.rules.specs.Lists.{some_of, join, slice}
 use Rattle.rules.specs.Answers.{first_of}
-use Rattle.rules.specs.Boxes.{Box, width, height, rows_of, rows_in, span_of, good-viewport, scene-tiles}
+use Rattle.rules.specs.Boxes.{Box, rows_of, rows_in, span_of, good_viewport, scene-tiles}
 use Rattle.rules.specs.Spans.{Span}
-use Rattle.rules.specs.Segments.{Segment, good-segment, ordered, judge-segments, Cut, cut_in, cuts}
+use Rattle.rules.specs.Segments.{Segment, ordered, judge-segments, Cut, cut_in, cuts}
 use Rattle.rules.specs.Inputs.{Clip}
 use Rattle.sizes.specs.Sizes.{open-layer-table, opacity-count, layer-attr-table}
 use Rattle.rules.specs.Attributes.{attrs-full}
-use Rattle.rules.specs.Plans.{Frame, bucket, Layer, State, Act, close, pop, Put, on, Plan, clip-box, clip-segments, clip-fits, close-puts, closing, with-layer, plan-pop}
-use Rattle.rules.specs.Steps.{Screen, do-puts, done, passes, refusal}
+use Rattle.rules.specs.Plans.{bucket, Layer, close, pop, Put, on, Plan, clip-box, clip-segments, clip-fits, close-puts, closing, with-layer, plan-pop}
+use Rattle.rules.specs.Steps.{Screen, done, passes, refusal}
 use Rattle.rules.specs.Walk.{good-room}
-use Rattle.rules.proofs.All.{All, nil, cons, all_map, all-mapped, all-over, both, never}
+use Rattle.rules.proofs.All.{All, all-over, both}
 use Rattle.row.specs.Words.{Words, word, word-ops}
-use Rattle.row_screen.specs.Arena.{sizes}
 use Rattle.rect.specs.Rects.{box_of}
 use Rattle.screen.specs.declared.Screen as code
-use Rattle.screen.specs.Screens.{frame-of, state-of, good-screen}
+use Rattle.screen.specs.Screens.{frame-of, state-of, good_screen}
 use Rattle.screen.specs.Judging.{good-rooms, judged}
 use Rattle.screen.proofs.Laws as screens
-use Rattle.screen.proofs.Laws.{Bounds, bounds, few-rows, paint-count, layer-attr-count, filter-count}
+use Rattle.screen.proofs.Laws.{Bounds, bounds, few_rows, paint-count, layer-attr-count, filter-count}
 use Rattle.segments.specs.declared.Scene.{Scene}
 use Rattle.segments.specs.Segs.{segs, segs-of, origin, bounds as scene-bounds, SceneOf}
 use Rattle.segments.proofs.Laws.{segs-slice, segs-count, cut-in-scene, judged as judged-list}
-use Rattle.row_judge.specs.Building.{rows_at, Whole, screen-at, step-number}
-use Rattle.screen_layers.specs.Layers.{layer-at, open_at, good-layer, good-own-box}
-use Rattle.step_pop_rows.specs.Closing.{row_of, touched-in, good-pops, full_by, pops-number, runs-full, done-puts}
-use Rattle.step_pop_rows.proofs.Closed.{Close, Closing, closing as a-closing, members}
-use Rattle.step_pop_rows.proofs.Running.{Sorted, cuts-sorted}
+use Rattle.row_judge.specs.Building.{rows_at, Whole, screen-at, step_number}
+use Rattle.screen_layers.specs.Layers.{layer-at, open_at, good_layer, good_own_box}
+use Rattle.step_pop_rows.specs.Closing.{touched-in, good-pops, full_by, pops-number, runs-full, done-puts}
+use Rattle.step_pop_rows.proofs.Closed.{Close, closing as a-closing, members}
+use Rattle.step_pop_rows.proofs.Running.{cuts-sorted}
 use Rattle.step_pop_rows.proofs.Rooms.{touched-inside}
 use Rattle.step_pop_rows.proofs.Clipping.{close-all, close-in}
-use Rattle.step_pop.specs.Pop.{PopLent, lent, layers-in, own-rows, good-open, good-lengths, late, first, state-in, own, touched-own, pop-plan, number-after, number, Judged}
-use Rattle.step_pop.proofs.Ready.{Closeable, all-fine, full_is, deep_is, full-plain, full-clip, full-test}
+use Rattle.step_pop.specs.Pop.{PopLent, lent, layers-in, own-rows, good-open, good_lengths, late, first, state-in, pop-plan, number-after, number, Judged}
+use Rattle.step_pop.proofs.Ready.{Closeable, all-fine, full_is, deep_is, full-plain, full-clip}
 
 -- 2, 1 and 4 are not given: a good viewport, the words of its rows, good counts
 pub record Screened (s : code.Screen) (w : Words) : Type 0 where
-  pub view : good-viewport (box_of s.viewport) ≡ true
+  pub view : good_viewport (box_of s.viewport) ≡ true
   pub whole : Whole (frame-of s) w
   pub bounds : Bounds s
 
@@ -65,7 +64,7 @@ module _ (s : code.Screen) (w : Words) where
       let a = length w.state in
       let r = length w.render in
       let i = length w.fills in
-      let t = three (good-viewport (box_of s.viewport)) (good-rooms n s.c s.d r i) (eqb a (n * 54) && good-screen s) e in
+      let t = three (good_viewport (box_of s.viewport)) (good-rooms n s.c s.d r i) (eqb a (n * 54) && good_screen s) e in
       let gc = good-room s.c in
       let gd = good-room s.d in
       let er = eqb r (n * (4 * s.c)) in
@@ -73,12 +72,12 @@ module _ (s : code.Screen) (w : Words) where
       let h3 = both (gc && gd && er) ef t.1 in
       let h2 = both (gc && gd) er h3.0 in
       let h1 = both gc gd h2.0 in
-      let k = both (eqb a (n * 54)) (good-screen s) t.2 in
+      let k = both (eqb a (n * 54)) (good_screen s) t.2 in
       record {
         view = t.0;
         whole =
             record {
-              rows = few-rows (box_of s.viewport) t.0;
+              rows = few_rows (box_of s.viewport) t.0;
               c = (screens.room s.c h1.0).few;
               d = (screens.room s.d h1.1).few;
               long = record { state = eqb-true a (n * 54) k.0; render = eqb-true r (n * (4 * s.c)) h2.1; fills = eqb-true i (n * (2 * s.d)) h3.1 };
@@ -103,7 +102,7 @@ module _ (t : List ℕ) where
   own_first n h = rw (layers-first n h)
 
   pub open-first : (v : Box) (n : ℕ) → 1 ≤ n
-      → good-open v t n ≡ (good-layer (open_at t (n - 1)) && good-own-box v (layer-at t (n - 1)).bounds && good-own-box v (clip-box v (layers-in t (n - 1))))
+      → good-open v t n ≡ (good_layer (open_at t (n - 1)) && good_own_box v (layer-at t (n - 1)).bounds && good_own_box v (clip-box v (layers-in t (n - 1))))
   unfolding good-open
   open-first v zero h = absurd (omega arith)
   open-first v (suc n) h = let e : suc n - 1 ≡ n = omega arith in rw e
@@ -111,7 +110,7 @@ module _ (t : List ℕ) where
 -- the tests before the rows
 module _ (s : code.Screen) (l : PopLent) (ws : List ℕ) where
   abbrev lens : Bool
-  lens = good-lengths (length l.layers) (length l.opacities) (length l.attrs) (length ws)
+  lens = good_lengths (length l.layers) (length l.opacities) (length l.attrs) (length ws)
 
   abbrev opened : Bool
   opened = good-open (box_of s.viewport) l.layers s.layers
@@ -120,7 +119,7 @@ module _ (s : code.Screen) (l : PopLent) (ws : List ℕ) where
   numbered = judged s (length l.words.state) (length l.words.render) (length l.words.fills)
 
   by_first : {k : ℕ} → first s l ws ≡ k → (k ≡ 0 → ⊥) → k ≡ number s l ws
-  unfolding number-after step-number
+  unfolding number-after step_number
   by_first {k} e h = rw (e, ne_eqb k 0 h)
 
   pub by-screen : {k : ℕ} → k ≡ numbered → (k ≡ 0 → ⊥) → k ≡ number s l ws
@@ -144,7 +143,7 @@ module _ (s : code.Screen) (l : PopLent) (ws : List ℕ) where
   open_none h = rw h
 
   pub by-none : numbered ≡ 0 → lens ≡ true → s.layers ≡ 0 → 7 ≡ number s l ws
-  unfolding number-after step-number own-rows layers-in plan-pop refusal good-pops
+  unfolding number-after step_number own-rows layers-in plan-pop refusal good-pops
   by-none e g h = rw (all_first e g (open_none h), h)
 
 -- the tests after it
@@ -173,8 +172,8 @@ module _ (p : Plan) (scr : Screen Words) (next a : ℕ) (few : length p.layers �
   late_of : (good full : Bool)
       → (good ≡ true → p.refused ≡ 0 → passes Words word-ops (word 0) scr.state.frame.c p.puts rows-after ≡ full)
       → (good ≡ true → p.refused ≡ 0 → passes Words word-ops (word 1) scr.state.frame.d p.puts rows-after ≡ false)
-      → step-number 0 good p scr ≡ late good p.refused next a full
-  unfolding step-number refusal done late
+      → step_number 0 good p scr ≡ late good p.refused next a full
+  unfolding step_number refusal done late
   late_of false full f g = refl
   late_of true full f g = go (eqb p.refused 0) refl
     where
@@ -254,7 +253,7 @@ module _ (s : code.Screen) (l : PopLent) (ws : List ℕ) (low : 1 ≤ s.layers) 
 
     module _ (y : good ≡ true) where
       -- without a clip
-      pub plain-closeable : (t : Span) (i : ℕ) → Closeable (frame-of s) s.layers top end_row (map (on (close t none i)) xs) l.words
+      pub plain-closeable : (t : Span) (i : ℕ) → Closeable (frame-of s) s.layers top end_row (map (on (close t None i)) xs) l.words
       plain-closeable t i =
           record {
             whole = o.whole;
@@ -262,11 +261,11 @@ module _ (s : code.Screen) (l : PopLent) (ws : List ℕ) (low : 1 ≤ s.layers) 
             deep = o.bounds.deep;
             bottom = bottom;
             fine = all-fine s.c s.d s.layers low rs (rows_in layer.bounds) y;
-            closes = all-over (on (close t none i)) (λ (x : ℕ) (h : x < length rs). one x h) low_rows;
-            found = all-over (on (close t none i)) (λ (x : ℕ) (h : some_of (eqb x) xs ≡ true). h) (members xs);
+            closes = all-over (on (close t None i)) (λ (x : ℕ) (h : x < length rs). one x h) low_rows;
+            found = all-over (on (close t None i)) (λ (x : ℕ) (h : some_of (eqb x) xs ≡ true). h) (members xs);
           }
         where
-          one : (x : ℕ) → x < length rs → Close (length rs) (on (close t none i) x)
+          one : (x : ℕ) → x < length rs → Close (length rs) (on (close t None i) x)
           one x h = record { row = h; act = a-closing }
 
       -- with one
@@ -282,15 +281,15 @@ module _ (s : code.Screen) (l : PopLent) (ws : List ℕ) (low : 1 ≤ s.layers) 
             found = close-in i xs ks;
           }
 
-    pub puts_plain : layer.props.clip ≡ none → puts ≡ map (on (close (span_of layer.bounds) none s.layer_attrs)) xs ++ map (on pop) xs
+    pub puts_plain : layer.props.clip ≡ None → puts ≡ map (on (close (span_of layer.bounds) None s.layer_attrs)) xs ++ map (on pop) xs
     unfolding closing
     puts_plain c = rw c
 
-    no-list : layer.props.clip ≡ none → listed ≡ 0
+    no-list : layer.props.clip ≡ None → listed ≡ 0
     unfolding judge-segments ordered
     no-list c = rw c
 
-    pub number-plain : layer.props.clip ≡ none → late good 0 s.next_draw_id s.layer_attrs (full_by s.c 2 rs xs) ≡ number-after s l ws 0
+    pub number-plain : layer.props.clip ≡ None → late good 0 s.next_draw_id s.layer_attrs (full_by s.c 2 rs xs) ≡ number-after s l ws 0
     number-plain c =
         ap (λ (k : ℕ). late good k s.next_draw_id s.layer_attrs (full_by s.c 2 rs xs)) (sym (no-list c))
         ∙ number-late (full_by s.c 2 rs xs)
@@ -299,7 +298,7 @@ module _ (s : code.Screen) (l : PopLent) (ws : List ℕ) (low : 1 ≤ s.layers) 
         (λ y z. let v = plain-closeable y (span_of layer.bounds) s.layer_attrs in
         rw (puts_plain c) (deep_is v (length (layers-in l.layers (s.layers - 1)))))
 
-    module _ (c : Clip) (e : layer.props.clip ≡ some c) where
+    module _ (c : Clip) (e : layer.props.clip ≡ Some c) where
       pub puts-clip : puts ≡ close-puts s.layer_attrs xs (cuts view parent (slice c.start c.end (segs-of ws))) ++ map (on pop) xs
       unfolding closing
       puts-clip = rw e
@@ -362,17 +361,17 @@ zero-first s l ws e = go (eqb (first s l ws) 0) refl
 
 module _ (s : code.Screen) (l : PopLent) (ws : List ℕ) (e : first s l ws ≡ 0) where
   pub zero-tests : (judged s (length l.words.state) (length l.words.render) (length l.words.fills) ≡ 0)
-      × (good-lengths (length l.layers) (length l.opacities) (length l.attrs) (length ws) ≡ true) × (good-open (box_of s.viewport) l.layers s.layers ≡ true)
+      × (good_lengths (length l.layers) (length l.opacities) (length l.attrs) (length ws) ≡ true) × (good-open (box_of s.viewport) l.layers s.layers ≡ true)
   unfolding first
   zero-tests = go (eqb (judged s (length l.words.state) (length l.words.render) (length l.words.fills)) 0) refl _ refl _ refl e
     where
       n : ℕ
       n = judged s (length l.words.state) (length l.words.render) (length l.words.fills)
 
-      go : (a : Bool) → eqb n 0 ≡ a → (b : Bool) → good-lengths (length l.layers) (length l.opacities) (length l.attrs) (length ws) ≡ b
+      go : (a : Bool) → eqb n 0 ≡ a → (b : Bool) → good_lengths (length l.layers) (length l.opacities) (length l.attrs) (length ws) ≡ b
           → (c : Bool) → good-open (box_of s.viewport) l.layers s.layers ≡ c
           → cond (not a) n (cond (not b) 4 (cond (not c) 4 0)) ≡ 0
-          → (n ≡ 0) × (good-lengths (length l.layers) (length l.opacities) (length l.attrs) (length ws) ≡ true) × (good-open (box_of s.viewport) l.layers s.layers ≡ true)
+          → (n ≡ 0) × (good_lengths (length l.layers) (length l.opacities) (length l.attrs) (length ws) ≡ true) × (good-open (box_of s.viewport) l.layers s.layers ≡ true)
       go true p true q true r z = (eqb-true n 0 p, q, r)
       go true p true q false r z = absurd (omega arith)
       go true p false q c r z = absurd (omega arith)
@@ -437,6 +436,15 @@ module _ (c d n x : ℕ) (rs : List Words) (is : List ℕ) {k : ℕ} (e : k ≡ 
         go true false p h = refl
         go false f p h = absurd (p refl)
 
+    pub rows-ten : (k ≡ 0 → ⊥) → k ≡ 10
+    unfolding pops-number
+    rows-ten h = e ∙ go (good-pops c d n rs is) (full_by c x rs (touched-in n rs is)) (λ z. p (e ∙ z)) (λ z. h (e ∙ z))
+      where
+        go : (g f : Bool) → (◌≡◌ {A = ℕ} (cond g (cond f 10 0) 4) 4 → ⊥) → (◌≡◌ {A = ℕ} (cond g (cond f 10 0) 4) 0 → ⊥) → ◌≡◌ {A = ℕ} (cond g (cond f 10 0) 4) 10
+        go true true p h = refl
+        go true false p h = absurd (h refl)
+        go false f p h = absurd (p refl)
+
     -- nothing comes between
     pub rows_last : (next attrs : ℕ) → next ≤ 1048576 → attrs < 1024 → k ≡ late (good-pops c d n rs is) 0 next attrs (full_by c x rs (touched-in n rs is))
     unfolding pops-number late
@@ -478,8 +486,8 @@ either-two a b e i = rw (e, i)
 pub either-none : (a b : Bool) → a ≡ false → b ≡ false → (a || b) ≡ false
 either-none a b e i = rw (e, i)
 
-pub lengths-facts : (t o a w : ℕ) → good-lengths t o a w ≡ true → (t ≡ open-layer-table) × (o ≡ opacity-count) × (a ≡ layer-attr-table)
-unfolding good-lengths
+pub lengths-facts : (t o a w : ℕ) → good_lengths t o a w ≡ true → (t ≡ open-layer-table) × (o ≡ opacity-count) × (a ≡ layer-attr-table)
+unfolding good_lengths
 lengths-facts t o a w g =
     let h3 = both (eqb t open-layer-table && eqb o opacity-count && eqb a layer-attr-table) (eqb (w % 5) 0) g in
     let h2 = both (eqb t open-layer-table && eqb o opacity-count) (eqb a layer-attr-table) h3.0 in
@@ -497,7 +505,7 @@ module _ (s : code.Screen) (l : PopLent) (ws : List ℕ) where
   less-lent = refl
 
   pub by-opened : judged s (length l.words.state) (length l.words.render) (length l.words.fills) ≡ 0
-      → good-lengths (length l.layers) (length l.opacities) (length l.attrs) (length ws) ≡ true
+      → good_lengths (length l.layers) (length l.opacities) (length l.attrs) (length ws) ≡ true
       → cond (good-open (box_of s.viewport) l.layers s.layers) (number-after s (lent l.words l.layers [] []) ws 0) 4 ≡ number s l ws
   by-opened e h = go (good-open (box_of s.viewport) l.layers s.layers) refl
     where

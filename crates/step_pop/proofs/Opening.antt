@@ -1,21 +1,19 @@
 -- The innermost layer as the code reads it: its box, its parent's, its clip. Assumes nothing.
 use mathlib.Core.Path.{◌≡◌, refl, sym, ap, ◌∙◌}
 use mathlib.Core.Bool.{Bool, true, false, ◌&&◌, ◌||◌, not, cond}
-use mathlib.Core.List.{List, [], ◌∷◌, ◌++◌}
-use mathlib.Core.Option.{Option, none, some}
-use Prim.Native.Nat.{ℕ, zero, suc, ◌+◌, ◌-◌, ◌*◌, ◌/◌, ◌%◌, ◌≤◌, ◌<◌}
+use mathlib.Core.List.{List, []}
+use Prim.Native.Nat.{ℕ, zero, suc, ◌+◌, ◌-◌, ◌/◌, ◌%◌, ◌≤◌, ◌<◌}
 use native.Mathlib.Omega.{arith}
-use lib.Dec.{leb, ltb, eqb}
+use lib.Dec.{leb, eqb}
 use lib.ListN.{length}
 use borrow.Author.Tests.{eqb-true, leb-true, leb-false}
 use Rattle.rules.specs.Lists.{join, range}
 use Rattle.rules.specs.Boxes.{Box, width, height, by_4, empty-box, rows_of, span_of, whole}
-use Rattle.rules.specs.Spans.{Span}
 use Rattle.rules.specs.Blends.{good-blend}
 use Rattle.rules.specs.Inputs.{good-handle, good-thread, good-panel}
 use Rattle.rules.specs.Segments.{judge-segments, cut_in}
 use Rattle.rules.specs.Plans.{clip-box}
-use Rattle.rules.proofs.All.{both, never}
+use Rattle.rules.proofs.All.{both}
 use Rattle.row.specs.Words.{Words}
 use Rattle.row.specs.Cmds.{Short}
 use Rattle.rect.specs.declared.Rect.{Rect}
@@ -30,11 +28,11 @@ use Rattle.segments.specs.Segs.{segs, origin, bounds, SceneOf, Starts}
 use Rattle.segments.proofs.Laws.{scene-starts}
 use Rattle.row_judge.specs.Building.{rows_at}
 use Rattle.screen_layers.specs.declared.OpenLayer.{OpenLayer}
-use Rattle.screen_layers.specs.Layers.{layer-at, box_in, clip-in, open_at, good-layer, good-own-box}
+use Rattle.screen_layers.specs.Layers.{layer-at, box_in, clip-in, open_at, good_layer, good_own_box}
 use Rattle.screen_layers.proofs.Laws.{without-clip, has-clip}
 use Rattle.step_pop_rows.specs.Closing.{touched-in, good-pops, full_by, runs-full}
 use Rattle.step_pop_rows.proofs.Judging.{not-true, not-false}
-use Rattle.step_pop.specs.Pop.{PopLent, lent, layers-in, good-open, late, number-after}
+use Rattle.step_pop.specs.Pop.{lent, layers-in, good-open, late, number-after}
 use Rattle.step_pop.proofs.Numbers.{Screened, layers-first, open-first, number-plain, number-long, number-clip}
 
 -- an open layer's box, as facts
@@ -45,8 +43,8 @@ pub record OwnBox (v b : Box) : Type 0 where
   pub right : b.x1 ≤ width v
   pub bottom : b.y1 ≤ height v
 
-pub own-facts : (v b : Box) → good-own-box v b ≡ true → OwnBox v b
-unfolding good-own-box
+pub own-facts : (v b : Box) → good_own_box v b ≡ true → OwnBox v b
+unfolding good_own_box
 own-facts v b g =
     let t1 = by_4 b.x0 in
     let t2 = by_4 b.y0 in
@@ -72,8 +70,8 @@ pub record Ranged (l : OpenLayer) : Type 0 where
   pub flag : l.flag ≤ 1
   pub range : l.start ≤ l.«end»
 
-pub layer-facts : (l : OpenLayer) → good-layer l ≡ true → Ranged l
-unfolding good-layer
+pub layer-facts : (l : OpenLayer) → good_layer l ≡ true → Ranged l
+unfolding good_layer
 layer-facts l g =
     let t1 = good-blend (blend_of l.blend) in
     let t2 = good-handle l.mask in
@@ -127,7 +125,7 @@ module _ (s : code.Screen) (w : Words) (t ws : List ℕ) (low : 1 ≤ s.layers) 
   view = box_of s.viewport
 
   abbrev test : Bool
-  test = good-layer y && good-own-box (box_of s.viewport) (box_of y.bbox) && good-own-box (box_of s.viewport) (box_of q)
+  test = good_layer y && good_own_box (box_of s.viewport) (box_of y.bbox) && good_own_box (box_of s.viewport) (box_of q)
 
   abbrev all : ℕ
   all = cond (good-open (box_of s.viewport) t s.layers) (number-after s (lent w t [] []) ws 0) 4
@@ -142,10 +140,10 @@ module _ (s : code.Screen) (w : Words) (t ws : List ℕ) (low : 1 ≤ s.layers) 
     opened : good-open view t s.layers ≡ true
     opened = sym test-is ∙ sym i ∙ not-false r j
 
-    tests : (good-layer y ≡ true) × (good-own-box view (box_of y.bbox) ≡ true) × (good-own-box view (box_of q) ≡ true)
+    tests : (good_layer y ≡ true) × (good_own_box view (box_of y.bbox) ≡ true) × (good_own_box view (box_of q) ≡ true)
     tests =
-        let a = both (good-layer y && good-own-box view (box_of y.bbox)) (good-own-box view (box_of q)) (sym i ∙ not-false r j) in
-        let b = both (good-layer y) (good-own-box view (box_of y.bbox)) a.0 in
+        let a = both (good_layer y && good_own_box view (box_of y.bbox)) (good_own_box view (box_of q)) (sym i ∙ not-false r j) in
+        let b = both (good_layer y) (good_own_box view (box_of y.bbox)) a.0 in
         (b.0, b.1, a.1)
 
     is_all : number-after s (lent w t [] []) ws 0 ≡ all

@@ -2,32 +2,27 @@
 use mathlib.Core.Path.{◌≡◌, refl, ap}
 use mathlib.Core.Bool.{Bool, true, false, cond}
 use mathlib.Core.List.{List}
-use mathlib.Core.Option.{none, some}
-use Prim.Native.Nat.{ℕ, ◌+◌, ◌-◌, ◌*◌}
-use lib.ListN.{set, get_or, length-append}
+use Rattle.std.specs.Prelude.{None, Some}
+use Prim.Native.Nat.{ℕ, ◌+◌, ◌-◌}
+use lib.ListN.{get_or, length-append}
 use lib.Seq.{drop_at}
 use lib.Ieee.{Float, nan}
 use borrow.Author.Tests.{ne_eqb}
-use Rattle.sizes.specs.Sizes.{open-layer-size}
 use Rattle.rules.specs.Inputs.{Clip}
 use Rattle.rules.specs.Plans.{clip-box, clip-thread}
-use Rattle.rules.specs.Steps.{Screen}
 use Rattle.row.specs.Words.{Words}
 use Rattle.row_screen.specs.Arena.{nowhere}
 use Rattle.rect.specs.declared.Rect.{Rect}
 use Rattle.rect.specs.Rects.{box_of}
-use Rattle.cmd.specs.declared.attrs.LayerFillAttrs.{LayerFillAttrs}
-use Rattle.cmd.specs.Attrs.{words-at, layer-words, layer-tables, put-layer}
+use Rattle.cmd.specs.Attrs.{layer-words}
 use Rattle.screen.specs.declared.Screen as code
 use Rattle.screen.specs.Screens.{frame-of, state-of, screen-in, screen-after}
-use Rattle.screen.specs.Tables.{float-0}
 use Rattle.screen.proofs.Laws.{paint-count, layer-attr-count, filter-count}
-use Rattle.screen_layers.specs.Layers.{no_words}
 use Rattle.step_pop.specs.Pop.{PopLent, lent, out, layers-in, number, pop-plan, new-words, popped, Judged, words-after, attr-of, tables_after}
 use Rattle.step_pop.proofs.Numbers.{Screened, plan-is, layers-length}
 use Rattle.step_pop.proofs.Doing.{seen}
 
-thread-is : (b : Bool) (c : Clip) → clip-thread (cond b none (some c)) ≡ cond b 0 c.thread
+thread-is : (b : Bool) (c : Clip) → clip-thread (cond b None (Some c)) ≡ cond b 0 c.thread
 thread-is true c = refl
 thread-is false c = refl
 
@@ -65,12 +60,3 @@ module _ (s : code.Screen) (l : PopLent) (ws : List ℕ) (j : Judged s l.layers 
 pub refused-out : (s : code.Screen) (l : PopLent) (ws : List ℕ) {k : ℕ} → k ≡ number s l ws → (k ≡ 0 → ⊥) → out k s l ≡ popped s l ws
 unfolding popped
 refused-out s l ws {k} e h = rw (← e, ne_eqb k 0 h)
-
--- the tables as the code leaves them
-module _ (s : code.Screen) (t : List ℕ) (x : List Float) (a : List ℕ) {y : LayerFillAttrs} {i k : ℕ} (e : y ≡ attr-of s t (get_or x k nan)) (p : i ≡ s.layer_attrs) (q : k ≡ s.layers - 1) where
-  pub tables-done : {t' a' : List ℕ} {x' x'' : List Float} → t' ≡ words-at t (open-layer-size * (s.layers - 1)) no_words
-      → layer-tables a' x' ≡ put-layer (layer-tables a x) i y → x'' ≡ set x' k float-0 → lent nowhere t' x'' a' ≡ tables_after s (lent nowhere t x a)
-  tables-done {t'} {a'} {x'} {x''} f g z =
-      let u : a' ≡ (put-layer (layer-tables a x) i y).words = ap (λ r. r.words) g in
-      let v : x' ≡ (put-layer (layer-tables a x) i y).opacities = ap (λ r. r.opacities) g in
-      rw (f, z, v, u, p, e, q)

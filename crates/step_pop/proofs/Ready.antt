@@ -1,30 +1,30 @@
 -- What judging a closing layer's rows gives the doing half, and answers 10 and 11 by counting. Assumes nothing.
 use mathlib.Core.Path.{◌≡◌, refl, sym, ap, ◌∙◌}
-use mathlib.Core.Bool.{Bool, true, false, ◌&&◌, ◌||◌, cond}
-use mathlib.Core.List.{List, [], ◌∷◌, ◌++◌, map}
-use mathlib.Core.Option.{Option, none}
-use Prim.Native.Nat.{ℕ, zero, suc, ◌+◌, ◌-◌, ◌*◌, ◌≤◌, ◌<◌}
+use mathlib.Core.Bool.{Bool, true, false, ◌&&◌, ◌||◌}
+use mathlib.Core.List.{List, ◌++◌, map}
+use Rattle.std.specs.Prelude.{Option, None}
+use Prim.Native.Nat.{ℕ, ◌+◌, ◌-◌, ◌*◌, ◌≤◌, ◌<◌}
 use native.Mathlib.Omega.{arith}
 use lib.Dec.{ltb, eqb}
 use lib.ListN.{length, get_or}
 use borrow.Author.Tests.{eq-eqb, ne_eqb, le-ltb, ltb-false}
-use Rattle.rules.specs.Lists.{some_of, every, range}
+use Rattle.rules.specs.Lists.{some_of, range}
 use Rattle.rules.specs.Boxes.{rows_of}
 use Rattle.rules.specs.Spans.{Span}
 use Rattle.rules.specs.Commands.{layer-fill}
-use Rattle.rules.specs.Segments.{Segment, Cut, ordered}
+use Rattle.rules.specs.Segments.{Cut}
 use Rattle.rules.specs.Plans.{Frame, bucket, Act, close, pop, Put, on, close-puts}
-use Rattle.rules.specs.Steps.{do-puts, passes}
-use Rattle.rules.proofs.All.{All, nil, cons, all_map, all_both, every-all, none_of, both}
+use Rattle.rules.specs.Steps.{passes}
+use Rattle.rules.proofs.All.{All, all_map, all_both, every-all, none_of, both}
 use Rattle.rules.proofs.laws.Changes.{puts-append, puts-length}
-use Rattle.row.specs.Words.{Words, word, put-command, ended, end-buf, word-ops, Room, Ends}
+use Rattle.row.specs.Words.{Words, word, put_command, end_buf, word-ops, Room, Ends}
 use Rattle.row.proofs.Laws.{cmd-renders, cmd-depths, end-renders, ended-depths}
 use Rattle.row_screen.specs.Arena.{nowhere, sizes, lay, cut, Arenas}
 use Rattle.row_screen.proofs.Laws.{cut_at, at-render, at-fills, lay-cut}
-use Rattle.row_judge.specs.Building.{rows_at, Whole, good-row}
+use Rattle.row_judge.specs.Building.{rows_at, Whole, good_row}
 use Rattle.step_pop_rows.specs.Closing.{row_of, touched-in, good-pop, good-pops, full_by, runs-full, done-puts, Roomy, Fillable, Poppable, Each}
-use Rattle.step_pop_rows.proofs.Touched.{all-range, all-touched, touched-same}
-use Rattle.step_pop_rows.proofs.Closed.{Records, count-on, Closed, Popped, Closing, closing, Close, closes-row, closes-records, pops-row, count-touched, members, some-equal, passes-touched}
+use Rattle.step_pop_rows.proofs.Touched.{all-touched, touched-same}
+use Rattle.step_pop_rows.proofs.Closed.{count-on, Closed, Popped, Close, closes-row, closes-records, pops-row, count-touched, members, some-equal, passes-touched}
 use Rattle.step_pop_rows.proofs.Running.{Sorted, at-found, some-none, running-is}
 use Rattle.step_pop_rows.proofs.Rooms.{rows-count, records, touched-inside}
 use Rattle.step_pop_rows.proofs.Judging.{good-touched}
@@ -40,8 +40,8 @@ module _ (c d n : ℕ) (low : 1 ≤ n) where
   fine : (w : Words) → good-pop c d n w ≡ true → word 5 w ≡ n → Fine c d n w
   unfolding good-pop
   fine w g e =
-      let p : (good-row c d n w.state && eqb (get_or w.render (4 * word (3 + 3 * n) w) 0) 5) ≡ true = rw (eq-eqb (word 5 w) n e) at g in
-      let t = good-touched c d n w.state (both (good-row c d n w.state) (eqb (get_or w.render (4 * word (3 + 3 * n) w) 0) 5) p).0 e low in
+      let p : (good_row c d n w.state && eqb (get_or w.render (4 * word (3 + 3 * n) w) 0) 5) ≡ true = rw (eq-eqb (word 5 w) n e) at g in
+      let t = good-touched c d n w.state (both (good_row c d n w.state) (eqb (get_or w.render (4 * word (3 + 3 * n) w) 0) 5) p).0 e low in
       record { level = e; commands = t.commands; depths = t.depths; ends = record { levels = omega (arith, e, low); place = rw e t.place } }
 
   pub all-fine : (rs : List Words) (is : List ℕ) → good-pops c d n rs is ≡ true → All (λ (x : ℕ). Fine c d n (row_of rs x)) (touched-in n rs is)
@@ -80,19 +80,19 @@ module _ {cs ds rows : ℕ} {w : Words} (o : Arenas cs ds rows w) (x : ℕ) (h :
   fillable : (s : Span) (a : Option ℕ) (i : ℕ) → word 5 (row_of (cut (sizes cs ds) rows w) x) ≤ 16 → word 0 (row_of (cut (sizes cs ds) rows w) x) + 1 ≤ cs → word 1 (row_of (cut (sizes cs ds) rows w) x) ≤ ds
       → Fillable s a i (row_of (cut (sizes cs ds) rows w) x)
   fillable s a i l p q =
-      room_by (put-command (layer-fill s a i) (row_of (cut (sizes cs ds) rows w) x)) l
+      room_by (put_command (layer-fill s a i) (row_of (cut (sizes cs ds) rows w) x)) l
       (omega (arith, cmd-renders (row_of (cut (sizes cs ds) rows w) x) row-state (layer-fill s a i), p))
       (omega (arith, cmd-depths (row_of (cut (sizes cs ds) rows w) x) row-state (layer-fill s a i), q))
 
-  end-depths : (u : Words) → length u.state ≡ 54 → 0 < word 5 u → word 1 (end-buf u) ≡ word 1 u
-  unfolding end-buf
+  end-depths : (u : Words) → length u.state ≡ 54 → 0 < word 5 u → word 1 (end_buf u) ≡ word 1 u
+  unfolding end_buf
   end-depths u l k = rw (ne_eqb (word 5 u) 0 (λ (z : word 5 u ≡ 0). omega arith)) (ended-depths u l)
 
   poppable : Ends (row_of (cut (sizes cs ds) rows w) x) → word 5 (row_of (cut (sizes cs ds) rows w) x) ≤ 16 → word 0 (row_of (cut (sizes cs ds) rows w) x) + 1 ≤ cs → word 1 (row_of (cut (sizes cs ds) rows w) x) ≤ ds
       → Poppable (row_of (cut (sizes cs ds) rows w) x)
   poppable e l p q = (
     e,
-    room_by (end-buf (row_of (cut (sizes cs ds) rows w) x)) l
+    room_by (end_buf (row_of (cut (sizes cs ds) rows w) x)) l
         (omega (arith, end-renders (row_of (cut (sizes cs ds) rows w) x) row-state e.levels, p))
         (omega (arith, end-depths (row_of (cut (sizes cs ds) rows w) x) row-state e.levels, q)),
   )
@@ -175,11 +175,11 @@ module _ {f : Frame} {n a b : ℕ} {ps : List Put} {w : Words} (v : Closeable f 
         (all_both lasts v.fine))
 
   -- without a clip two commands, with one those of its cut segments
-  pub full-plain : (s : Span) (i : ℕ) → ps ≡ map (on (close s none i)) xs → some_of (full-test f ps w) xs ≡ full_by f.c 2 rs xs
+  pub full-plain : (s : Span) (i : ℕ) → ps ≡ map (on (close s None i)) xs → some_of (full-test f ps w) xs ≡ full_by f.c 2 rs xs
   unfolding full_by
   full-plain s i e =
       some-equal (full-test f ps w) (λ (x : ℕ). ltb f.c (word 0 (row_of rs x) + 2))
-      (all_map (λ (x : ℕ) (p : count-on x (map (on (close s none i)) xs) ≡ 1). two x (ap (count-on x) e ∙ p)) (once (close s none i)))
+      (all_map (λ (x : ℕ) (p : count-on x (map (on (close s None i)) xs) ≡ 1). two x (ap (count-on x) e ∙ p)) (once (close s None i)))
     where
       two : (x : ℕ) → count-on x ps ≡ 1 → full-test f ps w x ≡ ltb f.c (word 0 (row_of rs x) + 2)
       two x p = ap (ltb f.c) (omega (arith, p))

@@ -1,6 +1,6 @@
 -- A pop (rules 9 and 10) on a screen's words, the tables that are lent to it, and a list of segments' words: its number, and what stands
 -- afterwards. The plan, and what it does to rows, are the rules'.
-use Rattle.std.specs.Prelude.{ℕ, zero, suc, ◌+◌, ◌-◌, ◌*◌, ◌%◌, ◌≤◌, Bool, true, false, ◌&&◌, not, cond, ◌≡◌, List, [], ◌∷◌, length, get_or, set, drop, leb, ltb, eqb, Float}
+use Rattle.std.specs.Prelude.{ℕ, zero, suc, ◌+◌, ◌-◌, ◌*◌, ◌%◌, ◌≤◌, Bool, true, ◌&&◌, not, cond, ◌≡◌, List, [], ◌∷◌, length, get_or, set, drop, leb, ltb, eqb, Float}
 use Rattle.std.specs.Float.{nan}
 use Rattle.sizes.specs.Sizes.{most-layers, most-attrs, last-id, open-layer-size, open-layer-table, opacity-count, layer-attr-size, layer-attr-table}
 use Rattle.rules.specs.Lists.{join}
@@ -20,8 +20,9 @@ use Rattle.screen.specs.declared.Screen.{Screen}
 use Rattle.screen.specs.Screens.{frame-of, state-of, screen-after}
 use Rattle.screen.specs.Judging.{judged}
 use Rattle.screen.specs.Tables.{float-0}
-use Rattle.row_judge.specs.Building.{rows_at, screen-at, step-number}
-use Rattle.screen_layers.specs.Layers.{layer-at, open_at, no_words, good-layer, good-own-box}
+use Rattle.row_judge.specs.Building.{rows_at, screen-at, step_number}
+use Rattle.screen_layers.specs.declared.OpenLayer.{OpenLayer}
+use Rattle.screen_layers.specs.Layers.{layer-at, open_at, no_words, good_layer, good_own_box}
 use Rattle.step_pop_rows.specs.Closing.{touched-in, good-pops}
 
 -- What is lent: a screen's words, the table of open layers, opacities, layer attributes.
@@ -60,11 +61,11 @@ own-rows (l ∷ ls) = rows_in l.bounds
 -- answer 4: what a pop reads of the innermost layer, its box, and its parent's box in the viewport v
 unfoldable pub good-open : Box → List ℕ → ℕ → Bool
 good-open v t zero = true
-good-open v t (suc n) = good-layer (open_at t n) && good-own-box v (layer-at t n).bounds && good-own-box v (clip-box v (layers-in t n))
+good-open v t (suc n) = good_layer (open_at t n) && good_own_box v (layer-at t n).bounds && good_own_box v (clip-box v (layers-in t n))
 
 -- how many words are lent: the table of layers, opacities, layer attributes, the list
-unfoldable pub good-lengths : ℕ → ℕ → ℕ → ℕ → Bool
-good-lengths t o a ws = eqb t open-layer-table && eqb o opacity-count && eqb a layer-attr-table && eqb (ws % 5) 0
+unfoldable pub good_lengths : ℕ → ℕ → ℕ → ℕ → Bool
+good_lengths t o a ws = eqb t open-layer-table && eqb o opacity-count && eqb a layer-attr-table && eqb (ws % 5) 0
 
 -- the numbers after these tests: 4 for a row's record, then 4 or 5 for the list, 8, 9 and 10
 unfoldable pub late : Bool → ℕ → ℕ → ℕ → Bool → ℕ
@@ -78,7 +79,7 @@ module _ (s : Screen) (l : PopLent) (ws : List ℕ) where
       let n = judged s (length l.words.state) (length l.words.render) (length l.words.fills) in
       first_of
       ((not (eqb n Done), n)
-      ∷ (not (good-lengths (length l.layers) (length l.opacities) (length l.attrs) (length ws)), BadRecord)
+      ∷ (not (good_lengths (length l.layers) (length l.opacities) (length l.attrs) (length ws)), BadRecord)
       ∷ (not (good-open (box_of s.viewport) l.layers s.layers), BadRecord)
       ∷ [])
 
@@ -95,7 +96,7 @@ module _ (s : Screen) (l : PopLent) (ws : List ℕ) where
   -- the number where the tests before have said k: 4 for the records of the box's rows, then what the plan is refused by
   unfoldable pub number-after : ℕ → ℕ
   number-after k =
-      step-number k (good-pops s.c s.d s.layers (rows_at (frame-of s) l.words) own) pop-plan
+      step_number k (good-pops s.c s.d s.layers (rows_at (frame-of s) l.words) own) pop-plan
       (screen-at (state-in s l.layers) l.words)
 
   abbrev pub number : ℕ
@@ -138,10 +139,9 @@ closing-puts s t ws w =
 abbrev pub words-after : Screen → List ℕ → List ℕ → Words → Words
 words-after s t ws w = lay (done Words word-ops (pop-plan s (lent w t [] []) ws) (screen-at (state-in s t) w)).rows
 
--- the innermost layer's attribute, with the opacity x: the next id, its clip's thread, its own panel
-abbrev pub attr-of : Screen → List ℕ → Float → LayerFillAttrs
-attr-of s t x =
-    let y = open_at t (s.layers - 1) in
+-- the attribute of the layer y, with the opacity x: the next id, its clip's thread, its own panel
+abbrev pub attr_by : Screen → OpenLayer → Float → LayerFillAttrs
+attr_by s y x =
     record {
       blend = y.blend;
       opacity = x;
@@ -151,6 +151,10 @@ attr-of s t x =
       thread_idx = cond (eqb y.flag 0) 0 y.thread;
       panel = y.panel;
     }
+
+-- the innermost layer's
+abbrev pub attr-of : Screen → List ℕ → Float → LayerFillAttrs
+attr-of s t x = attr_by s (open_at t (s.layers - 1)) x
 
 -- the tables after it
 abbrev pub tables_after : Screen → PopLent → PopLent

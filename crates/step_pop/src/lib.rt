@@ -1,9 +1,9 @@
-// A pop's two halves, judged and done (bucketer.rs, pop_layer; rules 9 and 10). Parts: where a function asks something, its callers have judged it.
+// A pop (bucketer.rs, pop_layer; rules 9 and 10): judged, then done, or refused with nothing changed. `pop_layer` is a public call; the others
+// are parts of it: where one asks something, its callers have judged it.
 #![tactic(auto)]
 
 ghost use Rattle.std.specs.Prelude.{◌≡◌, true, false, ◌&&◌, ◌||◌, cond, [], map, ◌++◌, ◌+◌, ◌-◌, ◌*◌, ◌/◌, ◌≤◌, ◌<◌, length, eqb};
-ghost use Rattle.std.proofs.Math.Option.{none};
-ghost use Rattle.sizes.specs.Sizes.{most-layers, most-attrs, open-layer-table, opacity-count, layer-attr-table};
+ghost use Rattle.sizes.specs.Sizes.{most-layers, most-attrs, last-id, open-layer-table, opacity-count, layer-attr-table};
 ghost use Rattle.sizes.specs.Widths.{bucket-tiles};
 ghost use Rattle.rules.specs.Lists.{join, range, every};
 ghost use Rattle.rules.specs.Boxes.{rows_of};
@@ -12,279 +12,229 @@ ghost use Rattle.rules.specs.Plans.{on, close, pop, clip-box};
 ghost use Rattle.span.specs.Spans.{tiles};
 ghost use Rattle.rect.specs.Rects.{box_of};
 ghost use Rattle.cmd.specs.Attrs.{words-at};
-ghost use Rattle.screen.specs.Screens.{frame-of, screen-after};
+ghost use Rattle.screen.specs.Screens.{frame-of, screen-in};
 ghost use Rattle.screen.specs.Judging.{judged};
 ghost use Rattle.screen.specs.Tables.{float-0};
 ghost use Rattle.segments.specs.Segs.{segs, origin, bounds, Starts};
-ghost use Rattle.row.specs.Words.{words};
+ghost use Rattle.row_screen.specs.Rows.{all-held, SameRows};
+ghost use Rattle.screen_layers.specs.Lent.{SameLayers};
+ghost use Rattle.sizes.specs.Refusals.{answer_number};
 ghost use Rattle.row.specs.Cmds.{Short};
 ghost use Rattle.row_screen.specs.Arena.{nowhere};
 ghost use Rattle.row_judge.specs.Building.{rows_at, Whole};
-ghost use Rattle.screen_layers.specs.Layers.{open_at, no_words, good-layer, good-own-box};
+ghost use Rattle.screen_layers.specs.Layers.{open_at, no_words, good_layer, good_own_box};
 ghost use Rattle.step_pop_rows.specs.Closing.{touched-in, good-pops, full_by, runs-full, done-puts, clip-puts, Clips, Fillable, Each};
-ghost use Rattle.step_pop.specs.Pop.{lent, out, layers-in, good-open, good-lengths, late, number-after, number, popped, Judged, closing-puts, words-after, attr-of, tables_after};
+ghost use Rattle.step_pop.specs.Pop.{lent, out, layers-in, good-open, good_lengths, late, number-after, number, popped, Judged, closing-puts, words-after, attr_by, tables_after};
 
 use cmd::attrs::{LayerFillAttrs, put_layer_attrs};
 use rect::Rect;
+use row_screen::Rows;
 use screen::{Screen, judge_screen};
-use screen_layers::{OpenLayer, box_at, drop_layer, is_good_layer, is_good_own_box, open_layer};
-use segments::{Scene, judge_segments, scene_of};
-use sizes::answers::{BAD_RECORD, DONE, FULL_ATTRS, FULL_ROW, IDS, NO_LAYER};
-use sizes::{LAST_ID, LAYER_TABLE, MOST_ATTRS, OPACITIES, OPEN_TABLE, wide};
-use span::TileSpan;
-use step_pop_rows::{close_segments, close_spans, is_full_clip, judge_pop_rows, pop_rows};
+use screen_layers::{Layers, OpenLayer, is_good_own_box};
+use segments::{judge_segments, scene_of};
+use sizes::answers::Refusal;
+use sizes::{LAST_ID, LAYER_TABLE, MOST_ATTRS, OPACITIES, OPEN_TABLE};
+use step_pop_rows::{
+    Band, ClipPath, close_segments, close_spans, is_full_clip, judge_pop_rows, pop_rows,
+};
+use step_rows::is_bad_record;
 
-// The rows of a box, from the first to the end.
-fn first_row(bbox: Rect) -> usize
-    ensures { result ≡ bbox.y0 / 4 }
+// The rows of a box.
+fn band_of(bbox: Rect) -> Band
+    ensures { (result.a ≡ bbox.y0 / 4) × (result.b ≡ (bbox.y1 + 3) / 4) }
 {
-    (bbox.y0 / 4) as usize
-}
-
-fn end_row(bbox: Rect) -> usize
-    ensures { result ≡ (bbox.y1 + 3) / 4 }
-{
-    (wide(bbox.y1) + 3) / 4
+    Band {
+        a: (bbox.y0 / 4) as usize,
+        b: (bbox.y1 as usize + 3) / 4,
+    }
 }
 
 // The box of the innermost layer's parent.
-fn parent_box(viewport: Rect, layers: &[u32], open: u32) -> Rect
-    requires { (1 ≤ «open») × («open» ≤ most-layers) × (length layers.now ≡ open-layer-table) }
-    ensures { box_of result ≡ clip-box (box_of viewport) (layers-in layers.now («open» - 1)) }
+fn parent_box(viewport: Rect, layers: &Layers<'_>, open: u32) -> Rect
+    requires { (1 ≤ «open») × («open» ≤ most-layers) × (length layers.now.table.now ≡ open-layer-table) }
+    ensures { box_of result ≡ clip-box (box_of viewport) (layers-in layers.now.table.now («open» - 1)) }
 {
     if open == 1 {
         return viewport.whole();
     }
-    box_at(layers, open - 2)
+    layers.box_at(open - 2)
 }
 
 // Answer 4: how many words are lent beside the screen's.
+#[tactic(auto, unfolding(crate::specs::Pop::good_lengths))]
 fn is_good_lengths(layers: usize, opacities: usize, attrs: usize, list: usize) -> bool
-    ensures { result ≡ good-lengths layers opacities attrs list }
+    ensures { result ≡ good_lengths layers opacities attrs list }
 {
-    if layers != OPEN_TABLE {
-        return false;
-    }
-    if opacities != OPACITIES {
-        return false;
-    }
-    if attrs != LAYER_TABLE {
-        return false;
-    }
-    list % 5 == 0
+    layers == OPEN_TABLE && opacities == OPACITIES && attrs == LAYER_TABLE && list % 5 == 0
 }
 
 // Answer 4: the layer, its box, its parent's box.
 fn is_good_open(viewport: Rect, layer: OpenLayer, parent: Rect) -> bool
-    ensures { result ≡ (good-layer layer && good-own-box (box_of viewport) (box_of layer.bbox) && good-own-box (box_of viewport) (box_of parent)) }
+    ensures { result ≡ (good_layer layer && good_own_box (box_of viewport) (box_of layer.bbox) && good_own_box (box_of viewport) (box_of parent)) }
 {
-    let bbox = layer.bbox;
-    if !is_good_layer(layer) {
-        return false;
-    }
-    if !is_good_own_box(viewport, bbox) {
-        return false;
-    }
-    is_good_own_box(viewport, parent)
+    layer.is_good() && is_good_own_box(viewport, layer.bbox) && is_good_own_box(viewport, parent)
 }
 
-// Without a clip: the rows from a to b, 8, 9 and 10.
-fn judge_plain(
-    screen: Screen,
-    rows: &[u32],
-    render: &[u32],
-    fills: &[u32],
-    a: usize,
-    b: usize,
-) -> u32
-    requires { Whole (frame-of screen) (words rows.now render.now fills.now) × (b ≤ rows_of (box_of screen.viewport)) × (1 ≤ screen.layers) × (screen.layers ≤ most-layers) }
-    ensures { result ≡ late (good-pops screen.c screen.d screen.layers (rows_at (frame-of screen) (words rows.now render.now fills.now)) (range a b)) 0 screen.next_draw_id screen.layer_attrs
-        (full_by screen.c 2 (rows_at (frame-of screen) (words rows.now render.now fills.now)) (touched-in screen.layers (rows_at (frame-of screen) (words rows.now render.now fills.now)) (range a b))) }
+// Without a clip: the rows of the band, 8, 9 and 10.
+fn judge_plain(screen: Screen, rows: &Rows<'_>, band: Band) -> Result<(), Refusal>
+    requires { Whole (frame-of screen) (all-held rows.now) × (band.b ≤ rows_of (box_of screen.viewport)) × (1 ≤ screen.layers) × (screen.layers ≤ most-layers) }
+    ensures { answer_number result ≡ late (good-pops screen.c screen.d screen.layers (rows_at (frame-of screen) (all-held rows.now)) (range band.a band.b)) 0 screen.next_draw_id screen.layer_attrs
+        (full_by screen.c 2 (rows_at (frame-of screen) (all-held rows.now)) (touched-in screen.layers (rows_at (frame-of screen) (all-held rows.now)) (range band.a band.b))) }
 {
-    let found = judge_pop_rows(screen, rows, render, fills, a, b, 1);
-    if found == BAD_RECORD {
-        return BAD_RECORD;
+    let judged = judge_pop_rows(screen, rows, band, 1);
+    if is_bad_record(judged) {
+        return judged;
     }
     if LAST_ID < screen.next_draw_id {
-        return IDS;
+        return Err(Refusal::Ids);
     }
     if MOST_ATTRS <= screen.layer_attrs {
-        return FULL_ATTRS;
+        return Err(Refusal::FullAttrs);
     }
-    found
+    judged
 }
 
-// With a clip: the rows from a to b, the segments from start to end, 8, 9 and 10.
+// With a clip: the rows of the band, its segments, 8, 9 and 10.
 fn judge_clip(
     screen: Screen,
-    rows: &[u32],
-    render: &[u32],
-    fills: &[u32],
+    rows: &Rows<'_>,
     list: &[u32],
-    start: usize,
-    end: usize,
-    scene: Scene,
-    a: usize,
-    b: usize,
-) -> u32
-    requires { Whole (frame-of screen) (words rows.now render.now fills.now) × (b ≤ rows_of (box_of screen.viewport)) × (1 ≤ screen.layers) × (screen.layers ≤ most-layers) × (start ≤ «end») × (5 * «end» ≤ length list.now) × Starts (origin scene) (bounds scene) }
-    ensures { result ≡ late (good-pops screen.c screen.d screen.layers (rows_at (frame-of screen) (words rows.now render.now fills.now)) (range a b)) (judge-segments false (segs list.now start («end» - start))) screen.next_draw_id screen.layer_attrs
-        (full_by screen.c 1 (rows_at (frame-of screen) (words rows.now render.now fills.now)) (touched-in screen.layers (rows_at (frame-of screen) (words rows.now render.now fills.now)) (range a b))
-        || runs-full screen.c (touched-in screen.layers (rows_at (frame-of screen) (words rows.now render.now fills.now)) (range a b)) (rows_at (frame-of screen) (words rows.now render.now fills.now)) 0 0 (join (cut_in (origin scene) (bounds scene)) (segs list.now start («end» - start)))) }
+    clip: ClipPath,
+    band: Band,
+) -> Result<(), Refusal>
+    requires { Whole (frame-of screen) (all-held rows.now) × (band.b ≤ rows_of (box_of screen.viewport)) × (1 ≤ screen.layers) × (screen.layers ≤ most-layers) × (clip.start ≤ clip.«end») × (5 * clip.«end» ≤ length list.now) × Starts (origin clip.scene) (bounds clip.scene) }
+    ensures { answer_number result ≡ late (good-pops screen.c screen.d screen.layers (rows_at (frame-of screen) (all-held rows.now)) (range band.a band.b)) (judge-segments false (segs list.now clip.start (clip.«end» - clip.start))) screen.next_draw_id screen.layer_attrs
+        (full_by screen.c 1 (rows_at (frame-of screen) (all-held rows.now)) (touched-in screen.layers (rows_at (frame-of screen) (all-held rows.now)) (range band.a band.b))
+        || runs-full screen.c (touched-in screen.layers (rows_at (frame-of screen) (all-held rows.now)) (range band.a band.b)) (rows_at (frame-of screen) (all-held rows.now)) 0 0 (join (cut_in (origin clip.scene) (bounds clip.scene)) (segs list.now clip.start (clip.«end» - clip.start)))) }
 {
-    let found = judge_pop_rows(screen, rows, render, fills, a, b, 0);
-    if found == BAD_RECORD {
-        return BAD_RECORD;
+    let judged = judge_pop_rows(screen, rows, band, 0);
+    if is_bad_record(judged) {
+        return judged;
     }
-    let listed = judge_segments(list, start, end);
-    if listed != DONE {
-        return listed;
-    }
+    judge_segments(list, clip.start, clip.end)?;
     if LAST_ID < screen.next_draw_id {
-        return IDS;
+        return Err(Refusal::Ids);
     }
     if MOST_ATTRS <= screen.layer_attrs {
-        return FULL_ATTRS;
+        return Err(Refusal::FullAttrs);
     }
-    if found == FULL_ROW {
-        return FULL_ROW;
+    if judged.is_err() {
+        return judged;
     }
-    if is_full_clip(screen, rows, render, fills, list, start, end, scene, a, b) {
-        return FULL_ROW;
+    if is_full_clip(screen, rows, list, clip, band) {
+        return Err(Refusal::FullRow);
     }
-    DONE
+    Ok(())
 }
 
 // With a layer open: 4 for it, then its rows and its list, 8, 9 and 10.
 fn judge_open(
     screen: Screen,
-    rows: &[u32],
-    render: &[u32],
-    fills: &[u32],
-    layers: &[u32],
+    rows: &Rows<'_>,
+    layers: &Layers<'_>,
     list: &[u32],
-) -> u32
-    requires { (judged screen (length rows.now) (length render.now) (length fills.now) ≡ 0) × (length layers.now ≡ open-layer-table) × (1 ≤ screen.layers) }
-    ensures { result ≡ cond (good-open (box_of screen.viewport) layers.now screen.layers) (number-after screen (lent (words rows.now render.now fills.now) layers.now [] []) list.now 0) 4 }
+) -> Result<(), Refusal>
+    requires { (judged screen (length rows.now.state.now) (length rows.now.render.now) (length rows.now.fills.now) ≡ 0) × (length layers.now.table.now ≡ open-layer-table) × (1 ≤ screen.layers) }
+    ensures { answer_number result ≡ cond (good-open (box_of screen.viewport) layers.now.table.now screen.layers) (number-after screen (lent (all-held rows.now) layers.now.table.now [] []) list.now 0) 4 }
 {
-    let viewport = screen.viewport;
-    let layer = open_layer(layers, screen.layers - 1);
-    let parent = parent_box(viewport, layers, screen.layers);
-    if !is_good_open(viewport, layer, parent) {
-        return BAD_RECORD;
+    let layer = layers.open_at(screen.layers - 1);
+    let parent = parent_box(screen.viewport, layers, screen.layers);
+    if !is_good_open(screen.viewport, layer, parent) {
+        return Err(Refusal::BadRecord);
     }
-    let bbox = layer.bbox;
-    let a = first_row(bbox);
-    let b = end_row(bbox);
+    let band = band_of(layer.bbox);
     if layer.flag == 0 {
-        return judge_plain(screen, rows, render, fills, a, b);
+        return judge_plain(screen, rows, band);
     }
-    let start = wide(layer.start);
-    let end = wide(layer.end);
-    if list.len() / 5 < end {
-        return BAD_RECORD;
+    if list.len() / 5 < layer.end as usize {
+        return Err(Refusal::BadRecord);
     }
-    let scene = scene_of(viewport, parent);
-    judge_clip(screen, rows, render, fills, list, start, end, scene, a, b)
+    let clip = ClipPath {
+        start: layer.start as usize,
+        end: layer.end as usize,
+        scene: scene_of(screen.viewport, parent),
+    };
+    judge_clip(screen, rows, list, clip, band)
 }
 
-// A pop's number.
-pub fn judge_pop(
+// A pop, before anything is done.
+fn judge_pop(
     screen: Screen,
-    rows: &[u32],
-    render: &[u32],
-    fills: &[u32],
-    layers: &[u32],
-    opacities: &[f32],
+    rows: &Rows<'_>,
+    layers: &Layers<'_>,
     layer_attrs: &[u32],
     list: &[u32],
-) -> u32
-    ensures { result ≡ number screen (lent (words rows.now render.now fills.now) layers.now opacities.now layer_attrs.now) list.now }
+) -> Result<(), Refusal>
+    ensures { answer_number result ≡ number screen (lent (all-held rows.now) layers.now.table.now layers.now.opacities.now layer_attrs.now) list.now }
 {
-    let first = judge_screen(screen, rows.len(), render.len(), fills.len());
-    if first != DONE {
-        return first;
-    }
-    if !is_good_lengths(layers.len(), opacities.len(), layer_attrs.len(), list.len()) {
-        return BAD_RECORD;
+    judge_screen(
+        screen,
+        rows.state.len(),
+        rows.render.len(),
+        rows.fills.len(),
+    )?;
+    if !is_good_lengths(
+        layers.table.len(),
+        layers.opacities.len(),
+        layer_attrs.len(),
+        list.len(),
+    ) {
+        return Err(Refusal::BadRecord);
     }
     if screen.layers == 0 {
-        return NO_LAYER;
+        return Err(Refusal::NoLayer);
     }
-    judge_open(screen, rows, render, fills, layers, list)
+    judge_open(screen, rows, layers, list)
 }
 
 // Rule 9: the closing LayerFills.
-fn close_rows(
-    screen: Screen,
-    rows: &mut [u32],
-    render: &mut [u32],
-    fills: &mut [u32],
-    layers: &[u32],
-    list: &[u32],
-)
-    requires { Judged screen layers.now list.now (words rows.old render.old fills.old) }
-    ensures { rows_at (frame-of screen) (words rows.new render.new fills.new)
-        ≡ done-puts (bucket-tiles screen.width) (screen.layers - 1) (closing-puts screen layers.now list.now (words rows.old render.old fills.old))
-        (rows_at (frame-of screen) (words rows.old render.old fills.old)) }
+fn close_rows(screen: Screen, rows: &mut Rows<'_>, layers: &Layers<'_>, list: &[u32])
+    requires { Judged screen layers.now.table.now list.now (all-held rows.old) }
+    ensures same { SameRows rows.old rows.new }
+    ensures rows { rows_at (frame-of screen) (all-held rows.new)
+        ≡ done-puts (bucket-tiles screen.width) (screen.layers - 1) (closing-puts screen layers.now.table.now list.now (all-held rows.old))
+        (rows_at (frame-of screen) (all-held rows.old)) }
 {
-    let viewport = screen.viewport;
-    let layer = open_layer(layers, screen.layers - 1);
-    let bbox = layer.bbox;
-    let a = first_row(bbox);
-    let b = end_row(bbox);
+    let layer = layers.open_at(screen.layers - 1);
+    let band = band_of(layer.bbox);
     if layer.flag == 0 {
-        let span = bbox.bbox_span();
-        close_spans(screen, rows, render, fills, a, b, span);
+        close_spans(screen, rows, band, layer.bbox.bbox_span());
         return;
     }
-    let parent = parent_box(viewport, layers, screen.layers);
-    let scene = scene_of(viewport, parent);
-    let start = wide(layer.start);
-    let end = wide(layer.end);
-    close_segments(screen, rows, render, fills, list, start, end, scene, a, b);
+    let parent = parent_box(screen.viewport, layers, screen.layers);
+    let clip = ClipPath {
+        start: layer.start as usize,
+        end: layer.end as usize,
+        scene: scene_of(screen.viewport, parent),
+    };
+    close_segments(screen, rows, list, clip, band);
 }
 
 // Rules 9 and 10: the closing LayerFills, then the PopBufs.
-fn do_rows(
-    screen: Screen,
-    rows: &mut [u32],
-    render: &mut [u32],
-    fills: &mut [u32],
-    layers: &[u32],
-    list: &[u32],
-)
-    requires { Judged screen layers.now list.now (words rows.old render.old fills.old) }
-    ensures { words rows.new render.new fills.new
-        ≡ words-after screen layers.now list.now (words rows.old render.old fills.old) }
+fn do_rows(screen: Screen, rows: &mut Rows<'_>, layers: &Layers<'_>, list: &[u32])
+    requires { Judged screen layers.now.table.now list.now (all-held rows.old) }
+    ensures same { SameRows rows.old rows.new }
+    ensures rows { all-held rows.new
+        ≡ words-after screen layers.now.table.now list.now (all-held rows.old) }
 {
-    close_rows(screen, rows, render, fills, layers, list);
-    let layer = open_layer(layers, screen.layers - 1);
-    let bbox = layer.bbox;
-    let a = first_row(bbox);
-    let b = end_row(bbox);
-    pop_rows(screen, rows, render, fills, a, b);
+    close_rows(screen, rows, layers, list);
+    let layer = layers.open_at(screen.layers - 1);
+    pop_rows(screen, rows, band_of(layer.bbox));
 }
 
 // A clip's thread, 0 without one.
 fn thread_of(layer: OpenLayer) -> u32
     ensures { result ≡ cond (eqb layer.flag 0) 0 layer.thread }
 {
-    if layer.flag == 0 {
-        return 0;
-    }
-    layer.thread
+    if layer.flag == 0 { 0 } else { layer.thread }
 }
 
 // Rule 9: the attribute of the innermost layer, whose opacity is given. The panel is its own.
-fn attr_of(screen: Screen, layers: &[u32], opacity: f32) -> LayerFillAttrs
-    requires { (length layers.now ≡ open-layer-table) × (1 ≤ screen.layers) × (screen.layers ≤ most-layers) }
-    ensures { result ≡ attr-of screen layers.now opacity }
+fn attr_of(screen: Screen, layer: OpenLayer, opacity: f32) -> LayerFillAttrs
+    ensures { result ≡ attr_by screen layer opacity }
 {
-    let layer = open_layer(layers, screen.layers - 1);
-    let blend = layer.blend;
     LayerFillAttrs {
-        blend,
+        blend: layer.blend,
         opacity,
         nan: layer.nan,
         mask: layer.mask,
@@ -295,44 +245,57 @@ fn attr_of(screen: Screen, layers: &[u32], opacity: f32) -> LayerFillAttrs
 }
 
 // Its attribute is stored, with its opacity; then nothing stands in the layer's place.
-fn do_tables(screen: Screen, layers: &mut [u32], opacities: &mut [f32], layer_attrs: &mut [u32])
-    requires { (length layers.old ≡ open-layer-table) × (length opacities.old ≡ opacity-count) × (length layer_attrs.old ≡ layer-attr-table) × (1 ≤ screen.layers) × (screen.layers ≤ most-layers) × (screen.layer_attrs < most-attrs) }
-    ensures { lent nowhere layers.new opacities.new layer_attrs.new
-        ≡ tables_after screen (lent nowhere layers.old opacities.old layer_attrs.old) }
+fn do_tables(screen: Screen, layers: &mut Layers<'_>, layer_attrs: &mut [u32])
+    requires { (length layers.old.table.now ≡ open-layer-table) × (length layers.old.opacities.now ≡ opacity-count) × (length layer_attrs.old ≡ layer-attr-table) × (1 ≤ screen.layers) × (screen.layers ≤ most-layers) × (screen.layer_attrs < most-attrs) }
+    ensures same { SameLayers layers.old layers.new }
+    ensures tables { lent nowhere layers.new.table.now layers.new.opacities.now layer_attrs.new
+        ≡ tables_after screen (lent nowhere layers.old.table.now layers.old.opacities.now layer_attrs.old) }
 {
     let k = screen.layers - 1;
-    let at = wide(k);
-    let opacity = opacities[at];
-    let attrs = attr_of(screen, layers, opacity);
-    put_layer_attrs(layer_attrs, opacities, wide(screen.layer_attrs), attrs);
-    opacities[at] = 0.0;
-    drop_layer(layers, k);
+    let attrs = attr_of(screen, layers.open_at(k), layers.opacities[k as usize]);
+    put_layer_attrs(
+        layer_attrs,
+        layers.opacities,
+        screen.layer_attrs as usize,
+        attrs,
+    );
+    layers.drop_at(k);
 }
 
-// A pop that is not refused.
-pub fn do_pop(
-    screen: Screen,
-    rows: &mut [u32],
-    render: &mut [u32],
-    fills: &mut [u32],
-    layers: &mut [u32],
-    opacities: &mut [f32],
+// One layer less, whose parent's box is given; it took an id and an attribute.
+fn close(screen: &mut Screen, parent: Rect)
+    requires { (1 ≤ screen.old.layers) × (screen.old.next_draw_id ≤ last-id) × (screen.old.layer_attrs < most-attrs) }
+    ensures { screen.new ≡ screen-in (frame-of screen.old) parent (screen.old.next_draw_id + 1) screen.old.paint_attrs (screen.old.layer_attrs + 1) screen.old.filter_paints (screen.old.layers - 1) false }
+{
+    screen.clip_bbox = parent;
+    screen.next_draw_id += 1;
+    screen.layer_attrs += 1;
+    screen.layers -= 1;
+    screen.painting = false;
+}
+
+// Rules 9 and 10. The list has the segments of the layer's clip. Refused, the screen and every lent word stay.
+pub fn pop_layer(
+    screen: &mut Screen,
+    rows: &mut Rows<'_>,
+    layers: &mut Layers<'_>,
     layer_attrs: &mut [u32],
     list: &[u32],
-) -> Screen
-    requires { number screen (lent (words rows.old render.old fills.old) layers.old opacities.old layer_attrs.old) list.now ≡ 0 }
-    ensures { out 0 result (lent (words rows.new render.new fills.new) layers.new opacities.new layer_attrs.new)
-        ≡ popped screen (lent (words rows.old render.old fills.old) layers.old opacities.old layer_attrs.old) list.now }
+) -> Result<(), Refusal>
+    ensures same_rows { SameRows rows.old rows.new }
+    ensures same_layers { SameLayers layers.old layers.new }
+    ensures popped { out (answer_number result) screen.new (lent (all-held rows.new) layers.new.table.now layers.new.opacities.now layer_attrs.new)
+        ≡ popped screen.old (lent (all-held rows.old) layers.old.table.now layers.old.opacities.now layer_attrs.old) list.now }
 {
-    let viewport = screen.viewport;
-    let parent = parent_box(viewport, layers, screen.layers);
-    do_rows(screen, rows, render, fills, layers, list);
-    do_tables(screen, layers, opacities, layer_attrs);
-    let mut next = screen;
-    next.clip_bbox = parent;
-    next.next_draw_id = screen.next_draw_id + 1;
-    next.layer_attrs = screen.layer_attrs + 1;
-    next.layers = screen.layers - 1;
-    next.painting = false;
-    next
+    judge_pop(*screen, rows, layers, layer_attrs, list)?;
+    let parent = parent_box(screen.viewport, layers, screen.layers);
+    let mut own = Rows {
+        state: rows.state,
+        render: rows.render,
+        fills: rows.fills,
+    };
+    do_rows(*screen, &mut own, layers, list);
+    do_tables(*screen, layers, layer_attrs);
+    close(screen, parent);
+    Ok(())
 }

@@ -1,21 +1,21 @@
 -- Closing, and counting, by a clip's segments. Assumes nothing.
 use mathlib.Core.Path.{◌≡◌, refl, sym, ap, ◌∙◌}
-use mathlib.Core.Bool.{Bool, true, false, ◌&&◌, ◌||◌, cond}
+use mathlib.Core.Bool.{Bool, true, false, ◌||◌, cond}
 use mathlib.Core.List.{List, [], ◌∷◌, ◌++◌}
-use Prim.Native.Nat.{ℕ, zero, suc, ◌+◌, ◌-◌, ◌*◌, ◌≤◌, ◌<◌}
+use Rattle.std.specs.Prelude.{Option}
+use Prim.Native.Nat.{ℕ, ◌+◌, ◌-◌, ◌≤◌, ◌<◌}
 use native.Mathlib.Omega.{arith}
 use lib.Dec.{ltb, eqb}
 use lib.ListN.{length, get_or}
 use borrow.Author.Tests.{eq-eqb, ne_eqb, le-ltb, ltb-false}
 use Rattle.rules.specs.Lists.{some_of, every, join, change, range}
-use Rattle.rules.specs.Boxes.{Box, rows_of}
 use Rattle.rules.specs.Segments.{Segment, good-segment, Cut, cut_in}
 use Rattle.rules.specs.Commands.{layer-fill}
-use Rattle.rules.specs.Plans.{Frame, bucket, Act, close, Put, on, close-puts}
+use Rattle.rules.specs.Plans.{Frame, bucket, close, Put, on, close-puts}
 use Rattle.rules.specs.Steps.{do-act, do-puts}
 use Rattle.rules.proofs.All.{All, nil, cons, head, never}
 use Rattle.rules.proofs.laws.Changes.{change-same, puts-append}
-use Rattle.row.specs.Words.{Words, words, word, word-ops, put-command, Room}
+use Rattle.row.specs.Words.{Words, word, word-ops, put_command, Room}
 use Rattle.row.specs.Cmds.{Short}
 use Rattle.row_screen.specs.Arena.{nowhere}
 use Rattle.row_judge.specs.Building.{rows_at, Whole}
@@ -23,16 +23,15 @@ use Rattle.segments.specs.declared.Scene.{Scene}
 use Rattle.segments.specs.declared.Placed.{Placed}
 use Rattle.segments.specs.Segs.{seg-at, segs, origin, bounds, placed_of, Starts}
 use Rattle.segments.proofs.Laws.{segs-end, segs-first, good-first, good-rest, landed}
-use Rattle.row_room.specs.declared.Hand.{Hand}
-use Rattle.row_room.specs.Room.{hand_of, limits, loaded, added-to}
+use Rattle.row_room.specs.Room.{Counted as Hand, hand_of, limits, loaded, added_to}
 use Rattle.step_pop_rows.specs.Closing.{row_of, touched-in, so_far, runs-full, runs_on, done-puts, Roomy, Fillable, clip-puts, Clips, Clean, Counted}
 use Rattle.step_pop_rows.proofs.Touched.{touched-same}
-use Rattle.step_pop_rows.proofs.Closed.{Records, Closing, closing, Close, closes-row}
+use Rattle.step_pop_rows.proofs.Closed.{closing, Close, closes-row}
 use Rattle.step_pop_rows.proofs.Running.{at-found}
-use Rattle.step_pop_rows.proofs.Rooms.{rows-count, records, touched-inside, room-one, room-more}
+use Rattle.step_pop_rows.proofs.Rooms.{records, touched-inside, room-one, room-more}
 
 -- a segment as the code has placed it
-pub placed_at : (s : Scene) {p q : Placed} {g h : Segment} → p ≡ q → placed_of p ≡ cut_in (origin s) (bounds s) g → g ≡ h → placed_of q ≡ cut_in (origin s) (bounds s) h
+pub placed_at : (s : Scene) {p q : Option Placed} {g h : Segment} → p ≡ q → placed_of p ≡ cut_in (origin s) (bounds s) g → g ≡ h → placed_of q ≡ cut_in (origin s) (bounds s) h
 placed_at s e a b = rw (← e, ← b) a
 
 -- .. has tiles that fit a command
@@ -50,7 +49,7 @@ module _ (v m i : ℕ) (xs : List ℕ) (rs : List Words) (cs : List Cut) where
     unfolding do-puts close-puts
     one_out h = rw (← e, h)
 
-    pub one_in : some_of (eqb k.row) xs ≡ true → done-puts v m (close-puts i xs cs) rs ≡ change (put-command (layer-fill k.stretch.tiles k.stretch.alpha i)) k.row rs
+    pub one_in : some_of (eqb k.row) xs ≡ true → done-puts v m (close-puts i xs cs) rs ≡ change (put_command (layer-fill k.stretch.tiles k.stretch.alpha i)) k.row rs
     unfolding do-puts do-act close-puts
     one_in h = rw (← e, h)
 
@@ -60,8 +59,8 @@ module _ (v m i : ℕ) (xs : List ℕ) (rs : List Words) (cs : List Cut) where
 
     pub one-fillable : some_of (eqb k.row) xs ≡ true → k.row < length rs → Roomy v m (close-puts i xs cs) rs → Fillable k.stretch.tiles k.stretch.alpha i (row_of rs k.row)
     one-fillable h g a =
-        let f = put-command (layer-fill k.stretch.tiles k.stretch.alpha i) in
-        let p : All (λ (p : Put). Room (row_of rs p.row) (row_of (change (put-command (layer-fill k.stretch.tiles k.stretch.alpha i)) k.row rs) p.row)) (on (close k.stretch.tiles k.stretch.alpha i) k.row ∷ []) = rw (one_in h, puts-in h) at a in
+        let f = put_command (layer-fill k.stretch.tiles k.stretch.alpha i) in
+        let p : All (λ (p : Put). Room (row_of rs p.row) (row_of (change (put_command (layer-fill k.stretch.tiles k.stretch.alpha i)) k.row rs) p.row)) (on (close k.stretch.tiles k.stretch.alpha i) k.row ∷ []) = rw (one_in h, puts-in h) at a in
         rw (change-same f k.row rs nowhere g) at (head p)
 
 -- a list's puts
@@ -97,9 +96,6 @@ pub record Clipping (f : Frame) (n k : ℕ) (ws : List ℕ) (start j : ℕ) (e :
   pub rest : Clips f n k ws i j e a b w
   pub all : done-puts (bucket f) (n - 1) (clip-puts k (touched-in n (rows_at f w) (range a b)) e (segs ws i (j - i))) (rows_at f w)
       ≡ done-puts (bucket f) (n - 1) (clip-puts k (touched-in n (rows_at f w₀) (range a b)) e (segs ws start (j - start))) (rows_at f w₀)
-
-pub clipping-start : {f : Frame} {n k : ℕ} {ws : List ℕ} {i j : ℕ} {e : Scene} {a b : ℕ} {w : Words} → Clips f n k ws i j e a b w → Clipping f n k ws i j e a b w i w
-clipping-start r = record { rest = r; all = refl }
 
 module _ {f : Frame} {n k : ℕ} {ws : List ℕ} {start j : ℕ} {e : Scene} {a b : ℕ} {w₀ : Words} {i : ℕ} {w : Words} (v : Clipping f n k ws start j e a b w₀ i w) where
   pub clipping-done : j ≤ i → rows_at f w ≡ done-puts (bucket f) (n - 1) (clip-puts k (touched-in n (rows_at f w₀) (range a b)) e (segs ws start (j - start))) (rows_at f w₀)
@@ -191,13 +187,13 @@ module _ (c d n : ℕ) (xs : List ℕ) (rs : List Words) (h : Hand) (o : Clean d
 
       -- one command more on the row at hand, u
       module _ {u w : Hand} (q : ℕ) (i : q ≡ so) (r : u.row ≡ k.row) (t : u.renders ≡ q + 1) (m : u.depths ≤ d) (z : u.code ≡ 0) where
-        counted-in : w ≡ added-to (limits c d n 1) u 1 0 → Counted c d xs rs h cs w
-        unfolding added-to
+        counted-in : w ≡ added_to (limits c d n 1) u 1 0 → Counted c d xs rs h cs w
+        unfolding added_to
         counted-in p =
             let v : u.depths + 0 ≤ d = omega arith in
             rw p (rw (r, t, z, le-ltb d (u.depths + 0) v) (counted-by q (u.depths + 0) i v (ltb c (q + 1 + 1)) refl))
 
-      pub counted-held : {w : Hand} → h.row ≡ k.row → w ≡ added-to (limits c d n 1) h 1 0 → Counted c d xs rs h cs w
+      pub counted-held : {w : Hand} → h.row ≡ k.row → w ≡ added_to (limits c d n 1) h 1 0 → Counted c d xs rs h cs w
       unfolding so
       counted-held r p =
           let v : 1 ≤ h.renders = o.popped (omega arith) in
@@ -213,10 +209,10 @@ module _ (c d n : ℕ) (xs : List ℕ) (rs : List Words) (h : Hand) (o : Clean d
 
       -- .. or on another, whose record is s
       pub counted-else : {u w : Hand} (s : List ℕ) → (h.row ≡ k.row → ⊥) → u ≡ loaded (limits c d n 1) s h.code k.row
-          → get_or s 0 0 ≡ word 0 (row_of rs k.row) → get_or s 5 0 ≡ n → get_or s 1 0 ≤ d → w ≡ added-to (limits c d n 1) u 1 0 → Counted c d xs rs h cs w
+          → get_or s 0 0 ≡ word 0 (row_of rs k.row) → get_or s 5 0 ≡ n → get_or s 1 0 ≤ d → w ≡ added_to (limits c d n 1) u 1 0 → Counted c d xs rs h cs w
       counted-else {u} {w} s r i x y m p =
           let t : get_or s 0 0 + (n - get_or s 5 0) + 1 ≡ get_or s 0 0 + 1 = omega arith in
-          counted-in (get_or s 0 0) (x ∙ else-so r) refl t m o.code (p ∙ ap (λ (v : Hand). added-to (limits c d n 1) v 1 0) i)
+          counted-in (get_or s 0 0) (x ∙ else-so r) refl t m o.code (p ∙ ap (λ (v : Hand). added_to (limits c d n 1) v 1 0) i)
 
 -- the counting loop over the segments from start to j, at segment i
 pub record Counting (c d : ℕ) (xs : List ℕ) (rs : List Words) (ws : List ℕ) (start j : ℕ) (e : Scene) (i : ℕ) (h : Hand) : Type 0 where
@@ -225,11 +221,6 @@ pub record Counting (c d : ℕ) (xs : List ℕ) (rs : List Words) (ws : List ℕ
   pub clean : Clean d h
   pub rest : runs_on c xs rs h (join (cut_in (origin e) (bounds e)) (segs ws i (j - i)))
       ≡ runs-full c xs rs 0 0 (join (cut_in (origin e) (bounds e)) (segs ws start (j - start)))
-
-pub counting-start : (c d : ℕ) (xs : List ℕ) (rs : List Words) (ws : List ℕ) (start j : ℕ) (e : Scene) → start ≤ j → every good-segment (segs ws start (j - start)) ≡ true
-    → Counting c d xs rs ws start j e start (hand_of 0 0 8192 0)
-counting-start c d xs rs ws start j e h g =
-    record { before = h; good = g; clean = record { renders = omega arith; depths = omega arith; code = refl; popped = λ z. absurd (omega arith) }; rest = refl }
 
 module _ {c d : ℕ} {xs : List ℕ} {rs : List Words} {ws : List ℕ} {start j : ℕ} {e : Scene} {i : ℕ} {r : Hand} (v : Counting c d xs rs ws start j e i r) where
   pub counting-done : j ≤ i → false ≡ runs-full c xs rs 0 0 (join (cut_in (origin e) (bounds e)) (segs ws start (j - start)))

@@ -1,22 +1,21 @@
 -- What closing LayerFills and PopBufs do to each row, and when they pass its room. Assumes nothing.
 use mathlib.Core.Path.{◌≡◌, refl, sym, ap, ◌∙◌}
-use mathlib.Core.Bool.{Bool, true, false, ◌&&◌, ◌||◌, cond}
+use mathlib.Core.Bool.{Bool, true, false, ◌||◌, cond}
 use mathlib.Core.List.{List, [], ◌∷◌, ◌++◌, map}
-use mathlib.Core.Option.{Option}
-use Prim.Native.Nat.{ℕ, zero, suc, ◌+◌, ◌-◌, ◌*◌, ◌≤◌, ◌<◌}
+use Rattle.std.specs.Prelude.{Option}
+use Prim.Native.Nat.{ℕ, zero, suc, ◌+◌, ◌≤◌, ◌<◌}
 use native.Mathlib.Omega.{arith}
 use lib.Dec.{ltb, eqb}
-use lib.ListN.{length, get_or}
+use lib.ListN.{length}
 use borrow.Author.Tests.{eq-eqb, ne_eqb, eqb-true, eqb-false, le-ltb}
 use Rattle.rules.specs.Lists.{some_of, keep, change, count-from}
 use Rattle.rules.specs.Spans.{Span}
 use Rattle.rules.specs.Commands.{Command, layer-fill}
-use Rattle.rules.specs.Segments.{Cut}
-use Rattle.rules.specs.Plans.{Act, close, pop, Put, on, close-puts}
+use Rattle.rules.specs.Plans.{Act, close, pop, Put, on}
 use Rattle.rules.specs.Steps.{do-act, do-puts, row-passes, passes}
 use Rattle.rules.proofs.All.{All, nil, cons, all_map, never}
-use Rattle.rules.proofs.laws.Changes.{change-length, change-same, change-else, puts-append}
-use Rattle.row.specs.Words.{Words, word, put-command, ended, end-buf, word-ops, Ends}
+use Rattle.rules.proofs.laws.Changes.{change-length, change-same, change-else}
+use Rattle.row.specs.Words.{Words, word, put_command, ended, end_buf, word-ops, Ends}
 use Rattle.row.proofs.Laws.{cmd-renders, cmd-depths, cmd-levels, cmd-ends, cmd-grown, ended-renders, ended-depths, ended-level, end-grown}
 use Rattle.row_screen.specs.Arena.{nowhere}
 use Rattle.row_acts.specs.Acts.{acted}
@@ -49,7 +48,7 @@ pub record Popped (k : ℕ) (w w' : Words) : Type 0 where
 closed_none : (w : Words) → Closed 0 w w
 closed_none w = record { renders = omega arith; depths = refl; levels = refl; ends = λ e. e; state = refl }
 
-closed-one : (w : Words) → length w.state ≡ 54 → (c : Command) → Closed 1 w (put-command c w)
+closed-one : (w : Words) → length w.state ≡ 54 → (c : Command) → Closed 1 w (put_command c w)
 closed-one w l c =
     record { renders = cmd-renders w l c; depths = cmd-depths w l c; levels = cmd-levels w l c; ends = cmd-ends w l c; state = (cmd-grown w l c).state }
 
@@ -66,11 +65,11 @@ closed-more j k p q =
 popped-none : (w : Words) → Popped 0 w w
 popped-none w = record { renders = omega arith; depths = refl; levels = omega arith; state = refl }
 
-ends_at : (w : Words) → 1 ≤ word 5 w → end-buf w ≡ ended w
-unfolding end-buf
+ends_at : (w : Words) → 1 ≤ word 5 w → end_buf w ≡ ended w
+unfolding end_buf
 ends_at w h = rw (ne_eqb (word 5 w) 0 (λ (z : word 5 w ≡ 0). omega arith))
 
-popped-one : (w : Words) → length w.state ≡ 54 → 1 ≤ word 5 w → Popped 1 w (end-buf w)
+popped-one : (w : Words) → length w.state ≡ 54 → 1 ≤ word 5 w → Popped 1 w (end_buf w)
 popped-one w l h =
     let e = ends_at w h in
     record {
@@ -91,24 +90,24 @@ popped-more j k p q =
 
 -- one row changed
 module _ (r x : ℕ) (rs : List Words) (h : r < length rs) (l : Records rs) where
-  one-close : (c : Command) → Closed (cond (eqb r x) 1 0) (row_of rs x) (row_of (change (put-command c) r rs) x)
+  one-close : (c : Command) → Closed (cond (eqb r x) 1 0) (row_of rs x) (row_of (change (put_command c) r rs) x)
   one-close c = go (eqb r x) refl
     where
-      go : (t : Bool) → eqb r x ≡ t → Closed (cond t 1 0) (row_of rs x) (row_of (change (put-command c) r rs) x)
+      go : (t : Bool) → eqb r x ≡ t → Closed (cond t 1 0) (row_of rs x) (row_of (change (put_command c) r rs) x)
       go true e =
           let i : r ≡ x = eqb-true r x e in
-          rw (← i) (rw (change-same (put-command c) r rs nowhere h) (closed-one (row_of rs r) (l r h) c))
-      go false e = rw (change-else (put-command c) r x rs nowhere (eqb-false r x e)) (closed_none (row_of rs x))
+          rw (← i) (rw (change-same (put_command c) r rs nowhere h) (closed-one (row_of rs r) (l r h) c))
+      go false e = rw (change-else (put_command c) r x rs nowhere (eqb-false r x e)) (closed_none (row_of rs x))
 
-  one-pop : cond (eqb r x) 1 0 ≤ word 5 (row_of rs x) → Popped (cond (eqb r x) 1 0) (row_of rs x) (row_of (change end-buf r rs) x)
+  one-pop : cond (eqb r x) 1 0 ≤ word 5 (row_of rs x) → Popped (cond (eqb r x) 1 0) (row_of rs x) (row_of (change end_buf r rs) x)
   one-pop = go (eqb r x) refl
     where
-      go : (t : Bool) → eqb r x ≡ t → cond t 1 0 ≤ word 5 (row_of rs x) → Popped (cond t 1 0) (row_of rs x) (row_of (change end-buf r rs) x)
+      go : (t : Bool) → eqb r x ≡ t → cond t 1 0 ≤ word 5 (row_of rs x) → Popped (cond t 1 0) (row_of rs x) (row_of (change end_buf r rs) x)
       go true e g =
           let i : r ≡ x = eqb-true r x e in
           let k : 1 ≤ word 5 (row_of rs r) = rw i g in
-          rw (← i) (rw (change-same end-buf r rs nowhere h) (popped-one (row_of rs r) (l r h) k))
-      go false e g = rw (change-else end-buf r x rs nowhere (eqb-false r x e)) (popped-none (row_of rs x))
+          rw (← i) (rw (change-same end_buf r rs nowhere h) (popped-one (row_of rs r) (l r h) k))
+      go false e g = rw (change-else end_buf r x rs nowhere (eqb-false r x e)) (popped-none (row_of rs x))
 
 -- a closing LayerFill on one of l rows
 pub data Closing : Act → Type 0 where
@@ -147,11 +146,11 @@ module _ (v m : ℕ) where
   pop-records r rs h l x g = go (eqb r x) refl
     where
       k : x < length rs
-      k = rw (change-length end-buf r rs) at g
+      k = rw (change-length end_buf r rs) at g
 
-      go : (t : Bool) → eqb r x ≡ t → length (row_of (change end-buf r rs) x).state ≡ 54
-      go true e = let i : r ≡ x = eqb-true r x e in rw (← i) (rw (change-same end-buf r rs nowhere h) ((end-grown (row_of rs r) (l r h)).state ∙ l r h))
-      go false e = rw (change-else end-buf r x rs nowhere (eqb-false r x e)) (l x k)
+      go : (t : Bool) → eqb r x ≡ t → length (row_of (change end_buf r rs) x).state ≡ 54
+      go true e = let i : r ≡ x = eqb-true r x e in rw (← i) (rw (change-same end_buf r rs nowhere h) ((end-grown (row_of rs r) (l r h)).state ∙ l r h))
+      go false e = rw (change-else end_buf r x rs nowhere (eqb-false r x e)) (l x k)
 
   act-pop : (r x : ℕ) (rs : List Words) → r < length rs → Records rs → cond (eqb r x) 1 0 ≤ word 5 (row_of rs x)
       → Popped (cond (eqb r x) 1 0) (row_of rs x) (row_of (change (acted v m pop) r rs) x)

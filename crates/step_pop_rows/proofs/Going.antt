@@ -1,17 +1,16 @@
 -- A loop over the rows from a to b that acts on the touched ones. Assumes nothing.
-use mathlib.Core.Path.{◌≡◌, refl, sym, ap, ◌∙◌}
+use mathlib.Core.Path.{◌≡◌, refl, ap, ◌∙◌}
 use mathlib.Core.Bool.{Bool, true, false}
-use mathlib.Core.List.{List, [], ◌∷◌, ◌++◌, map}
-use Prim.Native.Nat.{ℕ, zero, suc, ◌+◌, ◌-◌, ◌≤◌, ◌<◌}
+use mathlib.Core.List.{List, [], ◌∷◌, map}
+use Prim.Native.Nat.{ℕ, ◌+◌, ◌-◌, ◌≤◌, ◌<◌}
 use native.Mathlib.Omega.{arith}
 use lib.Dec.{eqb}
-use lib.ListN.{get_or}
-use Rattle.rules.specs.Lists.{keep, change, count-from, range}
-use Rattle.rules.specs.Plans.{Act, Put, on}
-use Rattle.rules.specs.Steps.{do-act, do-puts}
-use Rattle.rules.proofs.All.{All, nil, cons, head, tail, all_map}
+use Rattle.rules.specs.Lists.{keep, change, range}
+use Rattle.rules.specs.Plans.{Act, on}
+use Rattle.rules.specs.Steps.{do-puts}
+use Rattle.rules.proofs.All.{All, nil, cons, head, tail}
 use Rattle.rules.proofs.laws.Changes.{change-else}
-use Rattle.row.specs.Words.{Words, word, word-ops}
+use Rattle.row.specs.Words.{Words, word}
 use Rattle.row_screen.specs.Arena.{nowhere}
 use Rattle.row_acts.specs.Acts.{acted}
 use Rattle.step_pop_rows.specs.Closing.{row_of, touched-in, done-puts}

@@ -1,29 +1,31 @@
 -- What the code's tests say of rows, one by one and in a run. Assumes nothing.
 use mathlib.Core.Path.{◌≡◌, refl, sym, ap, ◌∙◌}
 use mathlib.Core.Bool.{Bool, true, false, ◌&&◌, ◌||◌, not, cond}
-use mathlib.Core.List.{List, [], ◌∷◌, ◌++◌, map}
-use mathlib.Core.Option.{none}
-use Prim.Native.Nat.{ℕ, zero, suc, ◌+◌, ◌-◌, ◌*◌, ◌≤◌, ◌<◌}
+use mathlib.Core.List.{List, [], ◌∷◌, map}
+use Rattle.std.specs.Prelude.{None, Result, Ok, Err}
+use Rattle.std.specs.Result.{is_err}
+use Rattle.sizes.specs.declared.answers.Refusal.{Refusal}
+use Rattle.sizes.specs.Refusals.{answer_number}
+use Rattle.sizes.proofs.Refusals.{not_done}
+use Prim.Native.Nat.{ℕ, ◌+◌, ◌-◌, ◌*◌, ◌≤◌, ◌<◌}
 use native.Mathlib.Omega.{arith}
 use lib.Dec.{leb, ltb, eqb}
 use lib.ListN.{length, get_or}
 use borrow.Author.Tests.{eq-eqb, ne_eqb, leb-true, ltb-true}
-use Rattle.rules.specs.Lists.{some_of, every, keep, change, range}
+use Rattle.rules.specs.Lists.{some_of, keep, change, range}
 use Rattle.rules.specs.Spans.{Span}
 use Rattle.rules.specs.Commands.{layer-fill}
 use Rattle.rules.specs.Segments.{Segment, good-segment, Cut, cut_in}
 use Rattle.rules.specs.Plans.{Act, close, pop, on, close-puts}
 use Rattle.rules.specs.Steps.{do-act, do-puts}
-use Rattle.rules.proofs.All.{All, nil, cons, head, both, all_map, every-all, never}
-use Rattle.row.specs.Words.{Words, word, put-command, end-buf}
+use Rattle.rules.proofs.All.{All, head, both, all_map, every-all, never}
+use Rattle.row.specs.Words.{Words, word, put_command, end_buf}
 use Rattle.row.specs.Cmds.{Short}
 use Rattle.row_screen.specs.Arena.{sizes, cut, Arenas}
 use Rattle.row_screen.proofs.Laws.{within}
-use Rattle.row_acts.specs.Acts.{acted}
-use Rattle.row_judge.specs.Building.{good-union, good-level, good-top, good-summary, good-row}
+use Rattle.row_judge.specs.Building.{good-union, good-level, good-top, good-summary, good_row}
 use Rattle.row_room.specs.declared.Limits.{Limits}
-use Rattle.row_room.specs.declared.Hand.{Hand}
-use Rattle.row_room.specs.Room.{record-at, limits, loaded, added-to, rows_told, Found}
+use Rattle.row_room.specs.Room.{Counted as Hand, record-at, limits, loaded, added_to, rows_told, Found}
 use Rattle.row_room.proofs.Laws.{good-small, commands-told}
 use Rattle.segments.specs.declared.Scene.{Scene}
 use Rattle.segments.specs.Segs.{origin, bounds, Starts}
@@ -48,11 +50,11 @@ module _ (c d n : ℕ) (w : Words) where
   pop-other h = rw (ne_eqb (word 5 w) n h)
 
   module _ (e : word 5 w ≡ n) where
-    pub pop-bad : good-row c d n w.state ≡ false → false ≡ good-pop c d n w
+    pub pop-bad : good_row c d n w.state ≡ false → false ≡ good-pop c d n w
     unfolding good-pop
     pop-bad h = rw (eq-eqb (word 5 w) n e, h)
 
-    pub pop-tag : good-row c d n w.state ≡ true → eqb (get_or w.render (4 * word (3 + 3 * n) w) 0) 5 ≡ good-pop c d n w
+    pub pop-tag : good_row c d n w.state ≡ true → eqb (get_or w.render (4 * word (3 + 3 * n) w) 0) 5 ≡ good-pop c d n w
     unfolding good-pop
     pop-tag h = rw (eq-eqb (word 5 w) n e, h)
 
@@ -62,8 +64,8 @@ pub record Touched (c d n : ℕ) (s : List ℕ) : Type 0 where
   pub depths : get_or s 1 0 ≤ d
   pub place : get_or s (3 + 3 * n) 0 < get_or s 0 0
 
-pub good-touched : (c d n : ℕ) (s : List ℕ) → good-row c d n s ≡ true → get_or s 5 0 ≡ n → 1 ≤ n → Touched c d n s
-unfolding good-row
+pub good-touched : (c d n : ℕ) (s : List ℕ) → good_row c d n s ≡ true → get_or s 5 0 ≡ n → 1 ≤ n → Touched c d n s
+unfolding good_row
 good-touched c d n s g e h =
     let a = leb (get_or s 0 0) c in
     let b = leb (get_or s 1 0) d in
@@ -77,7 +79,7 @@ good-touched c d n s g e h =
     record { commands = leb-true (get_or s 0 0) c h1.0; depths = leb-true (get_or s 1 0) d h1.1; place = ltb-true (get_or s (3 + 3 * n) 0) (get_or s 0 0) p.0 }
 
 -- the place that the code reads
-module _ (c d n : ℕ) (w : Words) (g : good-row c d n w.state ≡ true) (e : word 5 w ≡ n) {p q : ℕ} (i : q ≡ n) (j : p ≡ get_or w.state (3 + 3 * q) 0) where
+module _ (c d n : ℕ) (w : Words) (g : good_row c d n w.state ≡ true) (e : word 5 w ≡ n) {p q : ℕ} (i : q ≡ n) (j : p ≡ get_or w.state (3 + 3 * q) 0) where
   at_place : p ≡ word (3 + 3 * n) w
   at_place = rw i at j
 
@@ -118,11 +120,11 @@ module _ {cs ds rows : ℕ} {w : Words} (o : Arenas cs ds rows w) (n r : ℕ) (i
     in-here : touched-in n (cut (sizes cs ds) rows w) (r ∷ []) ≡ r ∷ []
     in-here = is-here n (cut (sizes cs ds) rows w) r (level ∙ h)
 
-    pub close-here : (v m : ℕ) (s : Span) (j : ℕ) → change (put-command (layer-fill s none j)) r (cut (sizes cs ds) rows w) ≡ done-puts v m (map (on (close s none j)) (touched-in n (cut (sizes cs ds) rows w) (r ∷ []))) (cut (sizes cs ds) rows w)
+    pub close-here : (v m : ℕ) (s : Span) (j : ℕ) → change (put_command (layer-fill s None j)) r (cut (sizes cs ds) rows w) ≡ done-puts v m (map (on (close s None j)) (touched-in n (cut (sizes cs ds) rows w) (r ∷ []))) (cut (sizes cs ds) rows w)
     unfolding do-puts do-act
     close-here v m s j = rw in-here
 
-    pub pop-here : (v m : ℕ) → change end-buf r (cut (sizes cs ds) rows w) ≡ done-puts v m (map (on pop) (touched-in n (cut (sizes cs ds) rows w) (r ∷ []))) (cut (sizes cs ds) rows w)
+    pub pop-here : (v m : ℕ) → change end_buf r (cut (sizes cs ds) rows w) ≡ done-puts v m (map (on pop) (touched-in n (cut (sizes cs ds) rows w) (r ∷ []))) (cut (sizes cs ds) rows w)
     unfolding do-puts do-act
     pop-here v m = rw in-here
 
@@ -149,8 +151,8 @@ module _ (c d n : ℕ) where
   pub pop-shallow : (w : Words) → good-pop c d n w ≡ true → word 5 w ≡ n → word 1 w ≤ d
   unfolding good-pop
   pop-shallow w g e =
-      let h : (good-row c d n w.state && eqb (get_or w.render (4 * word (3 + 3 * n) w) 0) 5) ≡ true = rw (eq-eqb (word 5 w) n e) at g in
-      (good-small c d n w.state (both (good-row c d n w.state) _ h).0).depths
+      let h : (good_row c d n w.state && eqb (get_or w.render (4 * word (3 + 3 * n) w) 0) 5) ≡ true = rw (eq-eqb (word 5 w) n e) at g in
+      (good-small c d n w.state (both (good_row c d n w.state) _ h).0).depths
 
   pub pops-shallow : (rs : List Words) (is : List ℕ) → good-pops c d n rs is ≡ true → All (λ (x : ℕ). (word 1 (row_of rs x) ≤ d) × (word 5 (row_of rs x) ≡ n)) (touched-in n rs is)
   unfolding good-pops
@@ -158,16 +160,22 @@ module _ (c d n : ℕ) where
       all_map (λ (x : ℕ) (p : (good-pop c d n (row_of rs x) ≡ true) × (word 5 (row_of rs x) ≡ n)). (pop-shallow (row_of rs x) p.0 p.1, p.1))
       (all-touched n rs (every-all (λ (i : ℕ). good-pop c d n (row_of rs i)) is g))
 
+-- what was found so far
+pub found_done : {T : Type 0} (r : Result T Refusal) → is_err r ≡ false → answer_number r ≡ 0
+found_done (Ok x) h = refl
+found_done (Err x) h = never h
+
+pub found_some : {T : Type 0} (r : Result T Refusal) → is_err r ≡ true → answer_number r ≡ 0 → ⊥
+found_some (Ok x) h e = never (sym h)
+found_some (Err x) h e = not_done x e
+
 -- one row's PopBuf and x commands more, as the one judge of room counts them
 module _ (c d n : ℕ) (s : List ℕ) (code : ℕ) where
-  pub count-other : (k : ℕ) → (get_or s 5 0 ≡ n → ⊥) → code ≡ cond (full-pop c n k s) 10 code
-  count-other k h = rw (ne_eqb (get_or s 5 0) n h)
-
-  pub count-here : (r x : ℕ) {l : Limits} {h u : Hand} → Found code → get_or s 5 0 ≡ n → get_or s 1 0 ≤ d → l ≡ limits c d n 1 → h ≡ loaded l s code r → u ≡ added-to l h x 0
+  pub count-here : (r x : ℕ) {l : Limits} {h u : Hand} → Found code → get_or s 5 0 ≡ n → get_or s 1 0 ≤ d → l ≡ limits c d n 1 → h ≡ loaded l s code r → u ≡ added_to l h x 0
       → u.code ≡ cond (full-pop c n (x + 1) s) 10 code
   count-here r x {u = u} o e g p q z =
       let t : get_or s 0 0 + (n - get_or s 5 0) + 1 + x ≡ get_or s 0 0 + (x + 1) = omega arith in
-      let y : u ≡ added-to (limits c d n 1) (loaded (limits c d n 1) s code r) x 0 = z ∙ rw (q, p) in
+      let y : u ≡ added_to (limits c d n 1) (loaded (limits c d n 1) s code r) x 0 = z ∙ rw (q, p) in
       ap (λ (u : Hand). u.code) y ∙ commands-told (limits c d n 1) s code r x o g ∙ rw (t, eq-eqb (get_or s 5 0) n e)
 
 -- row r among all

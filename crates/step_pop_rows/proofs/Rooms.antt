@@ -1,8 +1,8 @@
 -- A screen's rows as its words have them, and room for a run of puts. Assumes nothing.
 use mathlib.Core.Path.{◌≡◌, refl, sym, ap, ◌∙◌}
-use mathlib.Core.Bool.{Bool, true, false, ◌&&◌, cond}
+use mathlib.Core.Bool.{Bool, true, false, ◌&&◌}
 use mathlib.Core.List.{List, [], ◌∷◌, ◌++◌}
-use Prim.Native.Nat.{ℕ, zero, suc, ◌+◌, ◌-◌, ◌*◌, ◌≤◌, ◌<◌}
+use Prim.Native.Nat.{ℕ, ◌+◌, ◌-◌, ◌*◌, ◌≤◌, ◌<◌}
 use native.Mathlib.Omega.{arith}
 use native.Mathlib.Nat.{mul-le-mul_right}
 use lib.Dec.{leb, ltb, eqb}
@@ -12,13 +12,13 @@ use borrow.Author.Tests.{leb-true, leb-false, ltb-true, ltb-false}
 use Rattle.rules.specs.Lists.{some_of, change, range}
 use Rattle.rules.specs.Plans.{Put}
 use Rattle.rules.specs.Steps.{do-puts}
-use Rattle.rules.proofs.All.{All, nil, cons, all_map, all_first, all_rest}
+use Rattle.rules.proofs.All.{All, all_map, all_first, all_rest}
 use Rattle.rules.proofs.laws.Changes.{change-at, puts-append}
 use Rattle.row.specs.Words.{Words, words, word, word-ops, Room}
 use Rattle.row.proofs.Laws.{grown-refl, room-first}
 use Rattle.row_acts.specs.Acts.{acted}
 use Rattle.row_acts.proofs.Laws.{Sound, sound-trans, room_after, acted-sound}
-use Rattle.row_screen.specs.Arena.{nowhere, Sizes, sizes, cut, row_at, Long, Arenas}
+use Rattle.row_screen.specs.Arena.{nowhere, sizes, cut, row_at, Arenas}
 use Rattle.row_screen.proofs.Laws.{cut-length, cut_at, at-state}
 use Rattle.step_pop_rows.specs.Closing.{row_of, touched-in, touched-word, done-puts, Roomy}
 use Rattle.step_pop_rows.proofs.Touched.{below, above, inside, all-range, all-touched}
@@ -50,7 +50,7 @@ module _ {cs ds rows : ℕ} {w : Words} (o : Arenas cs ds rows w) where
   pub touched-is : (a b n r : ℕ) → b ≤ rows → touched-word a b n w.state r ≡ some_of (eqb r) (touched-in n (cut (sizes cs ds) rows w) (range a b))
   touched-is a b n r h = go (leb a r) refl (ltb r b) refl
     where
-      go : (x : Bool) → leb a r ≡ x → (y : Bool) → ltb r b ≡ y → (x && (y && eqb (get_or w.state (r * 54 + 5) 0) n)) ≡ some_of (eqb r) (touched-in n (cut (sizes cs ds) rows w) (range a b))
+      go : (x : Bool) → leb a r ≡ x → (y : Bool) → ltb r b ≡ y → (x && y && eqb (get_or w.state (r * 54 + 5) 0) n) ≡ some_of (eqb r) (touched-in n (cut (sizes cs ds) rows w) (range a b))
       go false p y q = sym (below n (cut (sizes cs ds) rows w) (b - a) a r (leb-false a r p))
       go true p false q = sym (above n (cut (sizes cs ds) rows w) a b r (ltb-false r b q) (leb-true a r p))
       go true p true q =

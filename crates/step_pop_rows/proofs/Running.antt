@@ -2,17 +2,16 @@
 use mathlib.Core.Path.{◌≡◌, refl, sym, ap, ◌∙◌}
 use mathlib.Core.Bool.{Bool, true, false, ◌&&◌, ◌||◌, cond}
 use mathlib.Core.List.{List, [], ◌∷◌, ◌++◌}
-use mathlib.Core.Option.{Option, none, some}
-use Prim.Native.Nat.{ℕ, zero, suc, ◌+◌, ◌-◌, ◌*◌, ◌/◌, ◌≤◌, ◌<◌}
+use Rattle.std.specs.Prelude.{Option, None, Some}
+use Prim.Native.Nat.{ℕ, ◌+◌, ◌-◌, ◌/◌, ◌≤◌, ◌<◌}
 use native.Mathlib.Omega.{arith}
 use lib.Dec.{leb, ltb, eqb}
-use lib.ListN.{length, get_or}
-use borrow.Author.Tests.{eq-eqb, ne_eqb, eqb-true, eqb-false, le-ltb, ltb-false, ltb-true, leb-true}
+use borrow.Author.Tests.{eq-eqb, ne_eqb, eqb-true, eqb-false, le-ltb, ltb-false, ltb-true}
 use Rattle.rules.specs.Lists.{some_of, join}
 use Rattle.rules.specs.Boxes.{Box}
-use Rattle.rules.specs.Spans.{span, Stretch, cut-to}
+use Rattle.rules.specs.Spans.{span, Stretch, cut_to}
 use Rattle.rules.specs.Segments.{Segment, Cut, follows, ordered-after, ordered, localised, on_row, cut_in, stretch-of}
-use Rattle.rules.specs.Plans.{Put, on, close, close-puts}
+use Rattle.rules.specs.Plans.{on, close, close-puts}
 use Rattle.rules.proofs.All.{All, nil, cons, all_map, all_any, all_both, all_join, none_of, both, neither, never}
 use Rattle.row.specs.Words.{Words, word}
 use Rattle.step_pop_rows.specs.Closing.{row_of, full_by, so_far, runs-full}
@@ -53,12 +52,12 @@ after-ordered s (t ∷ ts) h = (both (follows s t) (ordered-after t ts) h).1
 
 module _ (v b : Box) where
   local-row : (row : ℕ) (o : Option Stretch) → All (λ (k : Cut). k.row ≡ row - v.y0 / 4) (localised v row o)
-  local-row row none = nil
-  local-row row (some k) = cons refl nil
+  local-row row None = nil
+  local-row row (Some k) = cons refl nil
 
   cut-row : (s : Segment) → All (λ (k : Cut). k.row ≡ s.row - v.y0 / 4) (cut_in v b s)
   unfolding cut_in
-  cut-row s = local-row s.row (on_row b s (cut-to (span b.x0 b.x1) (stretch-of s)))
+  cut-row s = local-row s.row (on_row b s (cut_to (span b.x0 b.x1) (stretch-of s)))
 
   low-join : (r : ℕ) {ss : List Segment} → All (λ (t : Segment). r ≤ t.row) ss → All (λ (k : Cut). r - v.y0 / 4 ≤ k.row) (join (cut_in v b) ss)
   low-join r a = all_join (cut_in v b) (λ (s : Segment) (h : r ≤ s.row). all_map (λ (k : Cut) (e : k.row ≡ s.row - v.y0 / 4). up k s h e) (cut-row s)) a
@@ -67,12 +66,12 @@ module _ (v b : Box) where
       up k s h e = omega arith
 
   one_more : (row : ℕ) (o : Option Stretch) {ks : List Cut} → All (λ (k : Cut). row - v.y0 / 4 ≤ k.row) ks → Sorted ks → Sorted (localised v row o ++ ks)
-  one_more row none a s = s
-  one_more row (some k) a s = one-sorted a s
+  one_more row None a s = s
+  one_more row (Some k) a s = one-sorted a s
 
   cut_sorted : (s : Segment) {ks : List Cut} → All (λ (k : Cut). s.row - v.y0 / 4 ≤ k.row) ks → Sorted ks → Sorted (cut_in v b s ++ ks)
   unfolding cut_in
-  cut_sorted s a o = one_more s.row (on_row b s (cut-to (span b.x0 b.x1) (stretch-of s))) a o
+  cut_sorted s a o = one_more s.row (on_row b s (cut_to (span b.x0 b.x1) (stretch-of s))) a o
 
   pub cuts-sorted : (ss : List Segment) → ordered ss ≡ true → Sorted (join (cut_in v b) ss)
   unfolding ordered

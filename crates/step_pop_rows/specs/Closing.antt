@@ -1,6 +1,6 @@
 -- A closing layer's rows (rules 9 and 10): which are touched, what is judged of them (answers 4 and 10), and what the doing half requires.
 use Rattle.std.specs.Prelude.{ℕ, ◌+◌, ◌-◌, ◌*◌, ◌≤◌, ◌<◌, Bool, true, false, ◌&&◌, ◌||◌, cond, ◌≡◌, List, [], ◌∷◌, ◌++◌, length, get_or, leb, ltb, eqb}
-use Rattle.std.proofs.Math.Option.{Option}
+use Rattle.std.specs.Prelude.{Option}
 use Rattle.sizes.specs.Sizes.{tile-end, most-layers, most-room, row-size, renders-at, depths-at, levels-at, level-at}
 use Rattle.rules.specs.Lists.{every, some_of, keep, join, range}
 use Rattle.rules.specs.Answers.{Done, BadRecord, FullRow}
@@ -11,12 +11,11 @@ use Rattle.rules.specs.Commands.{layer-fill}
 use Rattle.rules.specs.Plans.{Frame, bucket, Put, close-puts}
 use Rattle.rules.specs.Steps.{do-puts}
 use Rattle.rules.proofs.All.{All}
-use Rattle.row.specs.Words.{Words, word, word-ops, put-command, end-buf, Room, Ends}
+use Rattle.row.specs.Words.{Words, word, word-ops, put_command, end_buf, Room, Ends}
 use Rattle.row_screen.specs.Arena.{nowhere}
-use Rattle.row_judge.specs.Building.{rows_at, Whole, good-row}
+use Rattle.row_judge.specs.Building.{rows_at, Whole, good_row}
 use Rattle.row_room.specs.declared.Limits.{Limits}
-use Rattle.row_room.specs.declared.Hand.{Hand}
-use Rattle.row_room.specs.Room.{limits}
+use Rattle.row_room.specs.Room.{limits, Counted as Hand}
 use Rattle.screen.specs.declared.Screen.{Screen}
 use Rattle.segments.specs.declared.Scene.{Scene}
 use Rattle.segments.specs.Segs.{segs, origin, bounds, Starts}
@@ -34,7 +33,7 @@ touched-in n rs (i ∷ is) = keep (eqb (word levels-at (row_of rs i)) n) i (touc
 -- is touched: its record is good, and its PushBuf, which has no span yet, stands where the record says
 unfoldable pub good-pop : ℕ → ℕ → ℕ → Words → Bool
 good-pop c d n w =
-    cond (eqb (word levels-at w) n) (good-row c d n w.state && eqb (get_or w.render (4 * word (level-at n) w) 0) 5) (ltb (word levels-at w) n)
+    cond (eqb (word levels-at w) n) (good_row c d n w.state && eqb (get_or w.render (4 * word (level-at n) w) 0) 5) (ltb (word levels-at w) n)
 
 unfoldable pub good-pops : ℕ → ℕ → ℕ → List Words → List ℕ → Bool
 good-pops c d n rs is = every (λ (i : ℕ). good-pop c d n (row_of rs i)) is
@@ -77,10 +76,10 @@ Roomy v m ps rs = All (λ (p : Put). Room (row_of rs p.row) (row_of (done-puts v
 
 -- a row with room for a LayerFill, and one with a level to end and room for its PopBuf
 abbrev pub Fillable : Span → Option ℕ → ℕ → Words → Type 0
-Fillable s a i w = Room w (put-command (layer-fill s a i) w)
+Fillable s a i w = Room w (put_command (layer-fill s a i) w)
 
 abbrev pub Poppable : Words → Type 0
-Poppable w = Ends w × Room w (end-buf w)
+Poppable w = Ends w × Room w (end_buf w)
 
 -- a fact of each of some rows
 abbrev pub Each : (Words → Type 0) → List Words → List ℕ → Type 0
@@ -88,7 +87,7 @@ Each P rs is = All (λ (i : ℕ). P (row_of rs i)) is
 
 -- row r of the words is touched, and lies in the box
 abbrev pub touched-word : ℕ → ℕ → ℕ → List ℕ → ℕ → Bool
-touched-word a b n s r = leb a r && (ltb r b && eqb (get_or s (r * row-size + levels-at) 0) n)
+touched-word a b n s r = leb a r && ltb r b && eqb (get_or s (r * row-size + levels-at) 0) n
 
 -- the LayerFills of a clip's segments, attribute i, in the scene e
 abbrev pub clip-puts : ℕ → List ℕ → Scene → List Segment → List Put

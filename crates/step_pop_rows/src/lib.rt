@@ -2,8 +2,7 @@
 // each has a `requires`, which its callers have judged. The layer that closes is the innermost of `screen.layers`; a to b are its box's rows.
 #![tactic(auto)]
 
-ghost use Rattle.std.specs.Prelude.{◌≡◌, true, cond, [], ◌∷◌, map, ◌+◌, ◌-◌, ◌*◌, ◌≤◌, ◌<◌, length};
-ghost use Rattle.std.proofs.Math.Option.{none};
+ghost use Rattle.std.specs.Prelude.{◌≡◌, true, cond, [], ◌∷◌, map, ◌+◌, ◌-◌, ◌*◌, ◌≤◌, ◌<◌, length, None};
 ghost use Rattle.sizes.specs.Sizes.{most-layers, most-rows, row-size};
 ghost use Rattle.sizes.specs.Widths.{bucket-tiles};
 ghost use Rattle.rules.specs.Lists.{change, join, range, every};
@@ -12,26 +11,43 @@ ghost use Rattle.rules.specs.Boxes.{rows_of};
 ghost use Rattle.rules.specs.Commands.{layer-fill};
 ghost use Rattle.rules.specs.Segments.{good-segment, cut_in};
 ghost use Rattle.rules.specs.Plans.{on, close, pop, close-puts};
-ghost use Rattle.span.specs.Spans.{tiles, alpha};
+ghost use Rattle.span.specs.Spans.{tiles};
 ghost use Rattle.rect.specs.Rects.{box_of};
 ghost use Rattle.screen.specs.Screens.{frame-of};
 ghost use Rattle.segments.specs.Segs.{seg-at, segs, origin, bounds, Starts};
-ghost use Rattle.row.specs.Words.{words, put-command, end-buf, Room};
+ghost use Rattle.row.specs.Words.{words, put_command, end_buf, Room};
 ghost use Rattle.row.specs.Cmds.{Short};
 ghost use Rattle.row_judge.specs.Building.{rows_at, Whole};
-ghost use Rattle.row_room.specs.Room.{record-at, Found};
+ghost use Rattle.row_room.specs.Room.{fault_number, record-at, at-hand, Found};
+ghost use Rattle.row_screen.specs.Rows.{all-held, SameRows};
+ghost use Rattle.sizes.specs.Refusals.{answer_number};
 ghost use Rattle.step_pop_rows.specs.Closing.{row_of, touched-in, good-pop, good-pops, full-pop, pops-number, runs-full, done-puts, Roomy, Fillable, Poppable, Each, touched-word, clip-puts, Clips, pop-limits, ShallowRow, Clean, Counted};
 
 use cmd::command::Fill;
-use row::{pop_buf, push_closing};
+use row::Row;
 use row_judge::is_good_row;
-use row_room::{Counts, Hand, Limits, NO_ROW, ONE_COMMAND, add, load};
-use row_screen::{part, place_of};
+use row_room::{Counts, Fault, Hand, Limits, NO_ROW, ONE_COMMAND, load};
+use row_screen::{Rows, part, place_of};
 use screen::Screen;
-use segments::{Placed, Scene, place, segment_at};
-use sizes::answers::{BAD_RECORD, DONE};
-use sizes::{LEVEL, LEVEL_BASE, LEVELS, ROW, wide};
-use span::{Alpha, TileSpan};
+use segments::{Scene, place, segment_at};
+use sizes::answers::Refusal;
+use sizes::{LEVEL, LEVEL_BASE, LEVELS, ROW};
+use span::TileSpan;
+
+// The rows of a layer's box, from a to b.
+#[derive(Clone, Copy)]
+pub struct Band {
+    pub a: usize,
+    pub b: usize,
+}
+
+// The segments of its clip, from start to end of a list, as the scene shows them.
+#[derive(Clone, Copy)]
+pub struct ClipPath {
+    pub start: usize,
+    pub end: usize,
+    pub scene: Scene,
+}
 
 // What the rows of a closing layer have room for; each touched one gets a PopBuf.
 fn limits_of(screen: Screen) -> Limits
@@ -54,22 +70,19 @@ fn is_good_pop(state: &[u32], render: &[u32], fills: &[u32], c: u32, d: u32, ope
     if levels != open {
         return levels < open;
     }
-    if !is_good_row(state, c, d, open) {
-        return false;
-    }
-    let place = wide(state[LEVEL_BASE + LEVEL * wide(open)]);
-    render[4 * place] == 5
+    is_good_row(state, c, d, open)
+        && render[4 * state[LEVEL_BASE + LEVEL * open as usize] as usize] == 5
 }
 
 // Answer 4: row r of the layer's box.
-fn judge_pop_row(screen: Screen, rows: &[u32], render: &[u32], fills: &[u32], r: usize) -> bool
-    requires { Whole (frame-of screen) (words rows.now render.now fills.now) × (r < rows_of (box_of screen.viewport)) × (1 ≤ screen.layers) × (screen.layers ≤ most-layers) }
-    ensures { result ≡ good-pop screen.c screen.d screen.layers (row_of (rows_at (frame-of screen) (words rows.now render.now fills.now)) r) }
+fn judge_pop_row(screen: Screen, rows: &Rows<'_>, r: usize) -> bool
+    requires { Whole (frame-of screen) (all-held rows.now) × (r < rows_of (box_of screen.viewport)) × (1 ≤ screen.layers) × (screen.layers ≤ most-layers) }
+    ensures { result ≡ good-pop screen.c screen.d screen.layers (row_of (rows_at (frame-of screen) (all-held rows.now)) r) }
 {
     is_good_pop(
-        part(rows, ROW, r),
-        part(render, 4 * (screen.c as usize), r),
-        part(fills, 2 * (screen.d as usize), r),
+        part(rows.state, ROW, r),
+        part(rows.render, 4 * screen.c as usize, r),
+        part(rows.fills, 2 * screen.d as usize, r),
         screen.c,
         screen.d,
         screen.layers,
@@ -77,318 +90,265 @@ fn judge_pop_row(screen: Screen, rows: &[u32], render: &[u32], fills: &[u32], r:
 }
 
 // Answer 10: row r, whose words are good, if it is touched: its PopBuf and `more` commands.
-fn count_pop_row(screen: Screen, rows: &[u32], code: u32, r: usize, more: usize) -> u32
-    requires { (r < most-rows) × (r * row-size + row-size ≤ length rows.now) × (more ≤ 1) × Found code × ShallowRow screen.d screen.layers (record-at rows.now r) }
-    ensures { result ≡ cond (full-pop screen.c screen.layers (more + 1) (record-at rows.now r)) FullRow code }
+fn count_pop_row(screen: Screen, rows: &[u32], found: Fault, r: usize, more: usize) -> Fault
+    requires { (r < most-rows) × (r * row-size + row-size ≤ length rows.now) × (more ≤ 1) × Found (fault_number found) × ShallowRow screen.d screen.layers (record-at rows.now r) }
+    ensures { fault_number result ≡ cond (full-pop screen.c screen.layers (more + 1) (record-at rows.now r)) FullRow (fault_number found) }
 {
     let state = part(rows, ROW, r);
     if state[LEVELS] != screen.layers {
-        return code;
+        return found;
     }
     let limits = limits_of(screen);
     let added = Counts {
         renders: more,
         depths: 0,
     };
-    let next = add(limits, load(state, limits, code, r as u32), added);
-    next.code
+    load(state, limits, found, r as u32)
+        .add(limits, added)
+        .found
 }
 
 // The rows from a to b: 4 for one of them, then 10 for a touched one, its PopBuf and `more` commands, else 0.
 pub fn judge_pop_rows(
     screen: Screen,
-    rows: &[u32],
-    render: &[u32],
-    fills: &[u32],
-    a: usize,
-    b: usize,
+    rows: &Rows<'_>,
+    band: Band,
     more: usize,
-) -> u32
-    requires { Whole (frame-of screen) (words rows.now render.now fills.now) × (b ≤ rows_of (box_of screen.viewport)) × (1 ≤ screen.layers) × (screen.layers ≤ most-layers) × (more ≤ 1) }
-    ensures { result ≡ pops-number screen.c screen.d screen.layers (more + 1) (rows_at (frame-of screen) (words rows.now render.now fills.now)) (range a b) }
+) -> Result<(), Refusal>
+    requires { Whole (frame-of screen) (all-held rows.now) × (band.b ≤ rows_of (box_of screen.viewport)) × (1 ≤ screen.layers) × (screen.layers ≤ most-layers) × (more ≤ 1) }
+    ensures { answer_number result ≡ pops-number screen.c screen.d screen.layers (more + 1) (rows_at (frame-of screen) (all-held rows.now)) (range band.a band.b) }
 {
-    let mut code: u32 = 0;
-    let mut r = a;
-    while r < b {
-        if !judge_pop_row(screen, rows, render, fills, r) {
-            return BAD_RECORD;
+    let mut found = Fault::Nothing;
+    for r in band.a..band.b {
+        if !judge_pop_row(screen, rows, r) {
+            return Err(Refusal::BadRecord);
         }
-        code = count_pop_row(screen, rows, code, r, more);
-        r += 1;
+        found = count_pop_row(screen, rows.state, found, r, more);
     }
-    code
+    found.answer()
 }
 
 // Row r lies from a to b, and has the innermost layer's PushBuf.
-fn is_touched(rows: &[u32], r: usize, a: usize, b: usize, open: u32) -> bool
-    requires { (b ≤ most-rows) × (b * row-size ≤ length rows.now) }
-    ensures { result ≡ touched-word a b «open» rows.now r }
+fn is_touched(rows: &Rows<'_>, r: usize, band: Band, open: u32) -> bool
+    requires { (band.b ≤ most-rows) × (band.b * row-size ≤ length rows.now.state.now) }
+    ensures { result ≡ touched-word band.a band.b «open» rows.now.state.now r }
 {
-    if r < a {
-        return false;
-    }
-    if b <= r {
-        return false;
-    }
-    rows[r * ROW + LEVELS] == open
+    band.a <= r && r < band.b && rows.state[r * ROW + LEVELS] == open
 }
 
 // Segment i, if it is cut to something in a touched row: one LayerFill more there.
 fn count_segment(
     screen: Screen,
-    rows: &[u32],
-    render: &[u32],
-    fills: &[u32],
+    rows: &Rows<'_>,
     list: &[u32],
     i: usize,
     scene: Scene,
-    a: usize,
-    b: usize,
+    band: Band,
     hand: Hand,
 ) -> Hand
-    requires { Whole (frame-of screen) (words rows.now render.now fills.now) × (b ≤ rows_of (box_of screen.viewport)) × (5 * i + 5 ≤ length list.now) × (good-segment (seg-at list.now i) ≡ true) × Starts (origin scene) (bounds scene)
-        × (good-pops screen.c screen.d screen.layers (rows_at (frame-of screen) (words rows.now render.now fills.now)) (range a b) ≡ true) × Clean screen.d hand }
-    ensures { Counted screen.c screen.d (touched-in screen.layers (rows_at (frame-of screen) (words rows.now render.now fills.now)) (range a b)) (rows_at (frame-of screen) (words rows.now render.now fills.now))
-        hand (cut_in (origin scene) (bounds scene) (seg-at list.now i)) result }
+    requires { Whole (frame-of screen) (all-held rows.now) × (band.b ≤ rows_of (box_of screen.viewport)) × (5 * i + 5 ≤ length list.now) × (good-segment (seg-at list.now i) ≡ true) × Starts (origin scene) (bounds scene)
+        × (good-pops screen.c screen.d screen.layers (rows_at (frame-of screen) (all-held rows.now)) (range band.a band.b) ≡ true) × Clean screen.d (at-hand hand) }
+    ensures { Counted screen.c screen.d (touched-in screen.layers (rows_at (frame-of screen) (all-held rows.now)) (range band.a band.b)) (rows_at (frame-of screen) (all-held rows.now))
+        (at-hand hand) (cut_in (origin scene) (bounds scene) (seg-at list.now i)) (at-hand result) }
 {
-    let placed = place(segment_at(list, i), scene);
-    match placed {
-        Placed::Nothing => hand,
-        Placed::On(k, _) => {
-            let r = wide(k);
-            if !is_touched(rows, r, a, b, screen.layers) {
-                return hand;
-            }
-            let limits = limits_of(screen);
-            if hand.row == k {
-                return add(limits, hand, ONE_COMMAND);
-            }
-            let loaded = load(part(rows, ROW, r), limits, hand.code, k);
-            add(limits, loaded, ONE_COMMAND)
-        }
+    let Some(placed) = place(segment_at(list, i), scene) else {
+        return hand;
+    };
+    let r = placed.row as usize;
+    if !is_touched(rows, r, band, screen.layers) {
+        return hand;
     }
+    let limits = limits_of(screen);
+    if hand.row == placed.row {
+        return hand.add(limits, ONE_COMMAND);
+    }
+    load(part(rows.state, ROW, r), limits, hand.found, placed.row).add(limits, ONE_COMMAND)
 }
 
 // Answer 10 with a clip: the LayerFills of its segments as they run, each row's PopBuf after them.
 pub fn is_full_clip(
     screen: Screen,
-    rows: &[u32],
-    render: &[u32],
-    fills: &[u32],
+    rows: &Rows<'_>,
     list: &[u32],
-    start: usize,
-    end: usize,
-    scene: Scene,
-    a: usize,
-    b: usize,
+    clip: ClipPath,
+    band: Band,
 ) -> bool
-    requires { Whole (frame-of screen) (words rows.now render.now fills.now) × (b ≤ rows_of (box_of screen.viewport)) × (start ≤ «end») × (5 * «end» ≤ length list.now) × (every good-segment (segs list.now start («end» - start)) ≡ true) × Starts (origin scene) (bounds scene)
-        × (good-pops screen.c screen.d screen.layers (rows_at (frame-of screen) (words rows.now render.now fills.now)) (range a b) ≡ true) }
-    ensures { result ≡ runs-full screen.c (touched-in screen.layers (rows_at (frame-of screen) (words rows.now render.now fills.now)) (range a b)) (rows_at (frame-of screen) (words rows.now render.now fills.now))
-        0 0 (join (cut_in (origin scene) (bounds scene)) (segs list.now start («end» - start))) }
+    requires { Whole (frame-of screen) (all-held rows.now) × (band.b ≤ rows_of (box_of screen.viewport)) × (clip.start ≤ clip.«end») × (5 * clip.«end» ≤ length list.now) × (every good-segment (segs list.now clip.start (clip.«end» - clip.start)) ≡ true) × Starts (origin clip.scene) (bounds clip.scene)
+        × (good-pops screen.c screen.d screen.layers (rows_at (frame-of screen) (all-held rows.now)) (range band.a band.b) ≡ true) }
+    ensures { result ≡ runs-full screen.c (touched-in screen.layers (rows_at (frame-of screen) (all-held rows.now)) (range band.a band.b)) (rows_at (frame-of screen) (all-held rows.now))
+        0 0 (join (cut_in (origin clip.scene) (bounds clip.scene)) (segs list.now clip.start (clip.«end» - clip.start))) }
 {
     let mut hand = NO_ROW;
-    let mut i = start;
-    while i < end {
-        hand = count_segment(screen, rows, render, fills, list, i, scene, a, b, hand);
-        if hand.code != DONE {
+    for i in clip.start..clip.end {
+        hand = count_segment(screen, rows, list, i, clip.scene, band, hand);
+        if hand.found.answer().is_err() {
             return true;
         }
-        i += 1;
     }
     false
+}
+
+// A LayerFill on one row's words.
+fn push_closing(state: &mut [u32], render: &mut [u32], fills: &mut [u32], fill: Fill)
+    requires { Short (tiles fill.span) × Room (words state.old render.old fills.old) (put_command (layer-fill (tiles fill.span) fill.alpha fill.attrs_idx) (words state.old render.old fills.old)) }
+    ensures { words state.new render.new fills.new ≡ put_command (layer-fill (tiles fill.span) fill.alpha fill.attrs_idx) (words state.old render.old fills.old) }
+{
+    let mut row = Row {
+        state,
+        render,
+        fills,
+    };
+    row.push_closing(fill.span, fill.alpha, fill.attrs_idx);
 }
 
 // A LayerFill on row r.
 fn close_at(
     screen: Screen,
-    rows: &mut [u32],
+    state: &mut [u32],
     render: &mut [u32],
     fills: &mut [u32],
     r: usize,
     fill: Fill,
 )
-    requires { Whole (frame-of screen) (words rows.old render.old fills.old) × (r < rows_of (box_of screen.viewport)) × Short (tiles fill.span)
-        × Fillable (tiles fill.span) (alpha fill.alpha) fill.attrs_idx (row_of (rows_at (frame-of screen) (words rows.old render.old fills.old)) r) }
-    ensures { rows_at (frame-of screen) (words rows.new render.new fills.new)
-        ≡ change (put-command (layer-fill (tiles fill.span) (alpha fill.alpha) fill.attrs_idx)) r (rows_at (frame-of screen) (words rows.old render.old fills.old)) }
+    requires { Whole (frame-of screen) (words state.old render.old fills.old) × (r < rows_of (box_of screen.viewport)) × Short (tiles fill.span)
+        × Fillable (tiles fill.span) fill.alpha fill.attrs_idx (row_of (rows_at (frame-of screen) (words state.old render.old fills.old)) r) }
+    ensures { rows_at (frame-of screen) (words state.new render.new fills.new)
+        ≡ change (put_command (layer-fill (tiles fill.span) fill.alpha fill.attrs_idx)) r (rows_at (frame-of screen) (words state.old render.old fills.old)) }
 {
     let p = place_of(screen.c, screen.d, r);
-    let x0 = p.x0;
-    let x1 = p.x1;
-    let y0 = p.y0;
-    let y1 = p.y1;
-    let z0 = p.z0;
-    let z1 = p.z1;
-    let span = fill.span;
-    let alpha = fill.alpha;
     push_closing(
-        &mut rows[x0..x1],
-        &mut render[y0..y1],
-        &mut fills[z0..z1],
-        span,
-        alpha,
-        fill.attrs_idx,
+        &mut state[p.x0..p.x1],
+        &mut render[p.y0..p.y1],
+        &mut fills[p.z0..p.z1],
+        fill,
     );
 }
 
+// A PopBuf on one row's words.
+fn pop_buf(state: &mut [u32], render: &mut [u32], fills: &mut [u32])
+    requires { Poppable (words state.old render.old fills.old) }
+    ensures { words state.new render.new fills.new ≡ end_buf (words state.old render.old fills.old) }
+{
+    let mut row = Row {
+        state,
+        render,
+        fills,
+    };
+    row.pop_buf();
+}
+
 // A PopBuf on row r.
-fn pop_at(screen: Screen, rows: &mut [u32], render: &mut [u32], fills: &mut [u32], r: usize)
-    requires { Whole (frame-of screen) (words rows.old render.old fills.old) × (r < rows_of (box_of screen.viewport))
-        × Poppable (row_of (rows_at (frame-of screen) (words rows.old render.old fills.old)) r) }
-    ensures { rows_at (frame-of screen) (words rows.new render.new fills.new)
-        ≡ change end-buf r (rows_at (frame-of screen) (words rows.old render.old fills.old)) }
+fn pop_at(screen: Screen, state: &mut [u32], render: &mut [u32], fills: &mut [u32], r: usize)
+    requires { Whole (frame-of screen) (words state.old render.old fills.old) × (r < rows_of (box_of screen.viewport))
+        × Poppable (row_of (rows_at (frame-of screen) (words state.old render.old fills.old)) r) }
+    ensures { rows_at (frame-of screen) (words state.new render.new fills.new)
+        ≡ change end_buf r (rows_at (frame-of screen) (words state.old render.old fills.old)) }
 {
     let p = place_of(screen.c, screen.d, r);
-    let x0 = p.x0;
-    let x1 = p.x1;
-    let y0 = p.y0;
-    let y1 = p.y1;
-    let z0 = p.z0;
-    let z1 = p.z1;
-    pop_buf(&mut rows[x0..x1], &mut render[y0..y1], &mut fills[z0..z1]);
+    pop_buf(
+        &mut state[p.x0..p.x1],
+        &mut render[p.y0..p.y1],
+        &mut fills[p.z0..p.z1],
+    );
 }
 
 // Without a clip: a LayerFill of the layer's span on row r, if it is touched.
-fn close_span(
-    screen: Screen,
-    rows: &mut [u32],
-    render: &mut [u32],
-    fills: &mut [u32],
-    r: usize,
-    span: TileSpan,
-)
-    requires { Whole (frame-of screen) (words rows.old render.old fills.old) × (r < rows_of (box_of screen.viewport)) × Short (tiles span)
-        × Each (Fillable (tiles span) none screen.layer_attrs) (rows_at (frame-of screen) (words rows.old render.old fills.old)) (touched-in screen.layers (rows_at (frame-of screen) (words rows.old render.old fills.old)) (r ∷ [])) }
-    ensures { rows_at (frame-of screen) (words rows.new render.new fills.new)
-        ≡ done-puts (bucket-tiles screen.width) (screen.layers - 1) (map (on (close (tiles span) none screen.layer_attrs)) (touched-in screen.layers (rows_at (frame-of screen) (words rows.old render.old fills.old)) (r ∷ []))) (rows_at (frame-of screen) (words rows.old render.old fills.old)) }
+fn close_span(screen: Screen, rows: &mut Rows<'_>, r: usize, span: TileSpan)
+    requires { Whole (frame-of screen) (all-held rows.old) × (r < rows_of (box_of screen.viewport)) × Short (tiles span)
+        × Each (Fillable (tiles span) None screen.layer_attrs) (rows_at (frame-of screen) (all-held rows.old)) (touched-in screen.layers (rows_at (frame-of screen) (all-held rows.old)) (r ∷ [])) }
+    ensures same { SameRows rows.old rows.new }
+    ensures rows { rows_at (frame-of screen) (all-held rows.new)
+        ≡ done-puts (bucket-tiles screen.width) (screen.layers - 1) (map (on (close (tiles span) None screen.layer_attrs)) (touched-in screen.layers (rows_at (frame-of screen) (all-held rows.old)) (r ∷ []))) (rows_at (frame-of screen) (all-held rows.old)) }
 {
-    let x = r * ROW;
-    if rows[x + LEVELS] != screen.layers {
+    if rows.state[r * ROW + LEVELS] != screen.layers {
         return;
     }
     let fill = Fill {
         span,
-        alpha: Alpha::Solid,
+        alpha: None,
         attrs_idx: screen.layer_attrs,
     };
-    close_at(screen, rows, render, fills, r, fill);
+    close_at(screen, rows.state, rows.render, rows.fills, r, fill);
 }
 
 // Without a clip: a LayerFill of the layer's span on each touched row from a to b.
-pub fn close_spans(
-    screen: Screen,
-    rows: &mut [u32],
-    render: &mut [u32],
-    fills: &mut [u32],
-    a: usize,
-    b: usize,
-    span: TileSpan,
-)
-    requires { Whole (frame-of screen) (words rows.old render.old fills.old) × (b ≤ rows_of (box_of screen.viewport)) × Short (tiles span)
-        × Each (Fillable (tiles span) none screen.layer_attrs) (rows_at (frame-of screen) (words rows.old render.old fills.old)) (touched-in screen.layers (rows_at (frame-of screen) (words rows.old render.old fills.old)) (range a b)) }
-    ensures { rows_at (frame-of screen) (words rows.new render.new fills.new)
-        ≡ done-puts (bucket-tiles screen.width) (screen.layers - 1) (map (on (close (tiles span) none screen.layer_attrs)) (touched-in screen.layers (rows_at (frame-of screen) (words rows.old render.old fills.old)) (range a b))) (rows_at (frame-of screen) (words rows.old render.old fills.old)) }
+pub fn close_spans(screen: Screen, rows: &mut Rows<'_>, band: Band, span: TileSpan)
+    requires { Whole (frame-of screen) (all-held rows.old) × (band.b ≤ rows_of (box_of screen.viewport)) × Short (tiles span)
+        × Each (Fillable (tiles span) None screen.layer_attrs) (rows_at (frame-of screen) (all-held rows.old)) (touched-in screen.layers (rows_at (frame-of screen) (all-held rows.old)) (range band.a band.b)) }
+    ensures same { SameRows rows.old rows.new }
+    ensures rows { rows_at (frame-of screen) (all-held rows.new)
+        ≡ done-puts (bucket-tiles screen.width) (screen.layers - 1) (map (on (close (tiles span) None screen.layer_attrs)) (touched-in screen.layers (rows_at (frame-of screen) (all-held rows.old)) (range band.a band.b))) (rows_at (frame-of screen) (all-held rows.old)) }
 {
-    let mut r = a;
-    while r < b {
-        close_span(screen, rows, render, fills, r, span);
-        r += 1;
+    for r in band.a..band.b {
+        close_span(screen, rows, r, span);
     }
 }
 
 // A PopBuf on row r, if it is touched.
-fn pop_row(screen: Screen, rows: &mut [u32], render: &mut [u32], fills: &mut [u32], r: usize)
-    requires { Whole (frame-of screen) (words rows.old render.old fills.old) × (r < rows_of (box_of screen.viewport))
-        × Each Poppable (rows_at (frame-of screen) (words rows.old render.old fills.old)) (touched-in screen.layers (rows_at (frame-of screen) (words rows.old render.old fills.old)) (r ∷ [])) }
-    ensures { rows_at (frame-of screen) (words rows.new render.new fills.new)
-        ≡ done-puts (bucket-tiles screen.width) (screen.layers - 1) (map (on pop) (touched-in screen.layers (rows_at (frame-of screen) (words rows.old render.old fills.old)) (r ∷ []))) (rows_at (frame-of screen) (words rows.old render.old fills.old)) }
+fn pop_row(screen: Screen, rows: &mut Rows<'_>, r: usize)
+    requires { Whole (frame-of screen) (all-held rows.old) × (r < rows_of (box_of screen.viewport))
+        × Each Poppable (rows_at (frame-of screen) (all-held rows.old)) (touched-in screen.layers (rows_at (frame-of screen) (all-held rows.old)) (r ∷ [])) }
+    ensures same { SameRows rows.old rows.new }
+    ensures rows { rows_at (frame-of screen) (all-held rows.new)
+        ≡ done-puts (bucket-tiles screen.width) (screen.layers - 1) (map (on pop) (touched-in screen.layers (rows_at (frame-of screen) (all-held rows.old)) (r ∷ []))) (rows_at (frame-of screen) (all-held rows.old)) }
 {
-    let x = r * ROW;
-    if rows[x + LEVELS] != screen.layers {
+    if rows.state[r * ROW + LEVELS] != screen.layers {
         return;
     }
-    pop_at(screen, rows, render, fills, r);
+    pop_at(screen, rows.state, rows.render, rows.fills, r);
 }
 
 // A PopBuf on each touched row from a to b.
-pub fn pop_rows(
-    screen: Screen,
-    rows: &mut [u32],
-    render: &mut [u32],
-    fills: &mut [u32],
-    a: usize,
-    b: usize,
-)
-    requires { Whole (frame-of screen) (words rows.old render.old fills.old) × (b ≤ rows_of (box_of screen.viewport))
-        × Each Poppable (rows_at (frame-of screen) (words rows.old render.old fills.old)) (touched-in screen.layers (rows_at (frame-of screen) (words rows.old render.old fills.old)) (range a b)) }
-    ensures { rows_at (frame-of screen) (words rows.new render.new fills.new)
-        ≡ done-puts (bucket-tiles screen.width) (screen.layers - 1) (map (on pop) (touched-in screen.layers (rows_at (frame-of screen) (words rows.old render.old fills.old)) (range a b))) (rows_at (frame-of screen) (words rows.old render.old fills.old)) }
+pub fn pop_rows(screen: Screen, rows: &mut Rows<'_>, band: Band)
+    requires { Whole (frame-of screen) (all-held rows.old) × (band.b ≤ rows_of (box_of screen.viewport))
+        × Each Poppable (rows_at (frame-of screen) (all-held rows.old)) (touched-in screen.layers (rows_at (frame-of screen) (all-held rows.old)) (range band.a band.b)) }
+    ensures same { SameRows rows.old rows.new }
+    ensures rows { rows_at (frame-of screen) (all-held rows.new)
+        ≡ done-puts (bucket-tiles screen.width) (screen.layers - 1) (map (on pop) (touched-in screen.layers (rows_at (frame-of screen) (all-held rows.old)) (range band.a band.b))) (rows_at (frame-of screen) (all-held rows.old)) }
 {
-    let mut r = a;
-    while r < b {
-        pop_row(screen, rows, render, fills, r);
-        r += 1;
+    for r in band.a..band.b {
+        pop_row(screen, rows, r);
     }
 }
 
 // With a clip: the LayerFill of segment i, if it is cut to something in a touched row.
 fn close_segment(
     screen: Screen,
-    rows: &mut [u32],
-    render: &mut [u32],
-    fills: &mut [u32],
+    rows: &mut Rows<'_>,
     list: &[u32],
     i: usize,
     scene: Scene,
-    a: usize,
-    b: usize,
+    band: Band,
 )
-    requires { Whole (frame-of screen) (words rows.old render.old fills.old) × (b ≤ rows_of (box_of screen.viewport)) × (5 * i + 5 ≤ length list.now) × (good-segment (seg-at list.now i) ≡ true) × Starts (origin scene) (bounds scene)
-        × Roomy (bucket-tiles screen.width) (screen.layers - 1) (close-puts screen.layer_attrs (touched-in screen.layers (rows_at (frame-of screen) (words rows.old render.old fills.old)) (range a b)) (cut_in (origin scene) (bounds scene) (seg-at list.now i))) (rows_at (frame-of screen) (words rows.old render.old fills.old)) }
-    ensures { rows_at (frame-of screen) (words rows.new render.new fills.new)
-        ≡ done-puts (bucket-tiles screen.width) (screen.layers - 1) (close-puts screen.layer_attrs (touched-in screen.layers (rows_at (frame-of screen) (words rows.old render.old fills.old)) (range a b)) (cut_in (origin scene) (bounds scene) (seg-at list.now i))) (rows_at (frame-of screen) (words rows.old render.old fills.old)) }
+    requires { Whole (frame-of screen) (all-held rows.old) × (band.b ≤ rows_of (box_of screen.viewport)) × (5 * i + 5 ≤ length list.now) × (good-segment (seg-at list.now i) ≡ true) × Starts (origin scene) (bounds scene)
+        × Roomy (bucket-tiles screen.width) (screen.layers - 1) (close-puts screen.layer_attrs (touched-in screen.layers (rows_at (frame-of screen) (all-held rows.old)) (range band.a band.b)) (cut_in (origin scene) (bounds scene) (seg-at list.now i))) (rows_at (frame-of screen) (all-held rows.old)) }
+    ensures same { SameRows rows.old rows.new }
+    ensures rows { rows_at (frame-of screen) (all-held rows.new)
+        ≡ done-puts (bucket-tiles screen.width) (screen.layers - 1) (close-puts screen.layer_attrs (touched-in screen.layers (rows_at (frame-of screen) (all-held rows.old)) (range band.a band.b)) (cut_in (origin scene) (bounds scene) (seg-at list.now i))) (rows_at (frame-of screen) (all-held rows.old)) }
 {
-    let placed = place(segment_at(list, i), scene);
-    match placed {
-        Placed::Nothing => {}
-        Placed::On(k, stretch) => {
-            let r = wide(k);
-            if !is_touched(rows, r, a, b, screen.layers) {
-                return;
-            }
-            let span = stretch.tiles;
-            let alpha = stretch.alpha;
-            let fill = Fill {
-                span,
-                alpha,
-                attrs_idx: screen.layer_attrs,
-            };
-            close_at(screen, rows, render, fills, r, fill);
-        }
+    let Some(placed) = place(segment_at(list, i), scene) else {
+        return;
+    };
+    let r = placed.row as usize;
+    if !is_touched(rows, r, band, screen.layers) {
+        return;
     }
+    let fill = Fill {
+        span: placed.stretch.tiles,
+        alpha: placed.stretch.alpha,
+        attrs_idx: screen.layer_attrs,
+    };
+    close_at(screen, rows.state, rows.render, rows.fills, r, fill);
 }
 
 // With a clip: the LayerFills of its segments, from start to end, in touched rows from a to b.
-pub fn close_segments(
-    screen: Screen,
-    rows: &mut [u32],
-    render: &mut [u32],
-    fills: &mut [u32],
-    list: &[u32],
-    start: usize,
-    end: usize,
-    scene: Scene,
-    a: usize,
-    b: usize,
-)
-    requires { Clips (frame-of screen) screen.layers screen.layer_attrs list.now start «end» scene a b (words rows.old render.old fills.old) }
-    ensures { rows_at (frame-of screen) (words rows.new render.new fills.new)
-        ≡ done-puts (bucket-tiles screen.width) (screen.layers - 1) (clip-puts screen.layer_attrs (touched-in screen.layers (rows_at (frame-of screen) (words rows.old render.old fills.old)) (range a b)) scene (segs list.now start («end» - start))) (rows_at (frame-of screen) (words rows.old render.old fills.old)) }
+pub fn close_segments(screen: Screen, rows: &mut Rows<'_>, list: &[u32], clip: ClipPath, band: Band)
+    requires { Clips (frame-of screen) screen.layers screen.layer_attrs list.now clip.start clip.«end» clip.scene band.a band.b (all-held rows.old) }
+    ensures same { SameRows rows.old rows.new }
+    ensures rows { rows_at (frame-of screen) (all-held rows.new)
+        ≡ done-puts (bucket-tiles screen.width) (screen.layers - 1) (clip-puts screen.layer_attrs (touched-in screen.layers (rows_at (frame-of screen) (all-held rows.old)) (range band.a band.b)) clip.scene (segs list.now clip.start (clip.«end» - clip.start))) (rows_at (frame-of screen) (all-held rows.old)) }
 {
-    let mut i = start;
-    while i < end {
-        close_segment(screen, rows, render, fills, list, i, scene, a, b);
-        i += 1;
+    for i in clip.start..clip.end {
+        close_segment(screen, rows, list, i, clip.scene, band);
     }
 }

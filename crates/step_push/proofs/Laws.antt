@@ -2,8 +2,8 @@
 use mathlib.Core.Path.{◌≡◌, refl, sym, ap, ◌∙◌}
 use mathlib.Core.Bool.{Bool, true, false, ◌&&◌, not, cond}
 use mathlib.Core.List.{List, [], ◌∷◌, map}
-use mathlib.Core.Option.{Option, none, some}
-use Prim.Native.Nat.{ℕ, zero, suc, ◌+◌, ◌-◌, ◌*◌, ◌≤◌, ◌<◌}
+use Rattle.std.specs.Prelude.{Option, None, Some}
+use Prim.Native.Nat.{ℕ, suc, ◌+◌, ◌-◌, ◌*◌, ◌≤◌, ◌<◌}
 use native.Mathlib.Nat.{min-le_right}
 use native.Mathlib.Omega.{arith}
 use lib.Dec.{eqb, ltb}
@@ -13,7 +13,7 @@ use borrow.Author.Tests.{eq-eqb, ne_eqb, le-ltb, lt-ltb}
 use Rattle.sizes.specs.Sizes.{open-layer-size, open-layer-table, opacity-count}
 use Rattle.rules.specs.Lists.{range}
 use Rattle.rules.specs.Answers.{answer}
-use Rattle.rules.specs.Boxes.{Box, height, rows_of, rows_in, empty-box, good-viewport}
+use Rattle.rules.specs.Boxes.{Box, height, rows_of, rows_in, empty-box, good_viewport}
 use Rattle.rules.specs.Blends.{destructive}
 use Rattle.rules.specs.Inputs as rule
 use Rattle.rules.specs.Inputs.{good-props}
@@ -26,30 +26,30 @@ use Rattle.row.specs.Words.{Words, word-ops}
 use Rattle.row_screen.specs.Arena.{lay}
 use Rattle.sizes.specs.Widths.{bucket-tiles}
 use Rattle.row_acts.specs.Acts.{acted}
-use Rattle.row_judge.specs.Building.{Whole, rows_at, screen-at, good-rows, step-number}
+use Rattle.row_judge.specs.Building.{Whole, rows_at, screen-at, good_rows, step_number}
 use Rattle.rect.specs.declared.Rect.{Rect}
 use Rattle.rect.specs.Rects.{box_of}
 use Rattle.screen.specs.declared.Screen.{Screen}
-use Rattle.screen.specs.Screens.{frame-of, state-of, screen-after, good-screen}
+use Rattle.screen.specs.Screens.{frame-of, state-of, screen-after, good_screen}
 use Rattle.screen.specs.Judging.{judged}
 use Rattle.rect.proofs.Boxes.{view}
 use Rattle.screen.proofs.Laws.{bounds, clip, good-clip-of, clip-of, paint-count, layer-attr-count, filter-count, layer-count}
 use Rattle.screen.proofs.Passed.{Passed, passed}
 use Rattle.screen_layers.specs.declared.LayerProps.{LayerProps}
 use Rattle.screen_layers.specs.Layers.{clip-of as clip-in, props-of, good-pattern, good-given, layer-of, layer-words}
-use Rattle.step_rows.specs.Band.{band-number, each, OnRows}
+use Rattle.step_rows.specs.Band.{band_number, each, OnRows}
 use Rattle.step_rows.proofs.Laws.{puts-each}
 use Rattle.step_rows.proofs.Numbers.{Adding, band-answer, band-step, band-room, touch-adds, run-told}
 use Rattle.step_rows.proofs.Passing.{passed-whole, rows-within, decide, surely, below}
 use Rattle.step_push.specs.declared.Run.{Run}
-use Rattle.step_push.specs.Push.{PushLent, lent, plan-of, push-number, after, pushed, no_run, box-run, touch-run, on-layer}
+use Rattle.step_push.specs.Push.{PushLent, lent, plan-of, push-number, after, pushed, no_run, box-run, touch_run, on-layer}
 
 -- the new layer's box, and the rows that it touches at once
 abbrev pub own-box : LayerProps → Screen → Box
 own-box p s = layer-box (box_of s.viewport) (box_of s.clip_bbox) (clip-in p.clip)
 
 abbrev pub own-run : LayerProps → Screen → Run
-own-run p s = touch-run p.blend.compose (own-box p s)
+own-run p s = touch_run p.blend.compose (own-box p s)
 
 frame_is : (s : Screen) → (state-of s).frame ≡ frame-of s
 unfolding state-of
@@ -60,7 +60,7 @@ unfolding state-of
 next-is s = refl
 
 -- the plan of a push on a good screen
-module _ (p : LayerProps) (s : Screen) (g : good-screen s ≡ true) where
+module _ (p : LayerProps) (s : Screen) (g : good_screen s ≡ true) where
   plan-layers : (plan-of p s).layers ≡ record { props = props-of p; bounds = own-box p s } ∷ (state-of s).layers
   unfolding plan-push
   plan-layers = rw (clip-of s g, frame_is s)
@@ -83,7 +83,7 @@ module _ (p : LayerProps) (s : Screen) (g : good-screen s ≡ true) where
   run-puts false b = refl
 
   plan-puts : (plan-of p s).puts ≡ map (on touch) (range (own-run p s).a (own-run p s).b)
-  unfolding plan-push touch-run
+  unfolding plan-push touch_run
   plan-puts = rw (clip-of s g, frame_is s) (run-puts (destructive p.blend.compose && not (empty-box (own-box p s))) (own-box p s))
 
   plan-fine : good-props (props-of p) ≡ true → (plan-of p s).refused ≡ 0
@@ -95,10 +95,10 @@ module _ (p : LayerProps) (s : Screen) (g : good-screen s ≡ true) where
 
 -- the box lies on the screen, and so do the rows
 own-bottom : (v b : Box) (o : Option rule.Clip) (h : ℕ) → b.y1 ≤ h → (layer-box v b o).y1 ≤ h
-own-bottom v b none h e = e
-own-bottom v b (some c) h e = omega (arith, min-le_right (c.bounds.y1 - v.y0) b.y1)
+own-bottom v b None h e = e
+own-bottom v b (Some c) h e = omega (arith, min-le_right (c.bounds.y1 - v.y0) b.y1)
 
-module _ (p : LayerProps) (s : Screen) (g : good-screen s ≡ true) (v : good-viewport (box_of s.viewport) ≡ true) where
+module _ (p : LayerProps) (s : Screen) (g : good_screen s ≡ true) (v : good_viewport (box_of s.viewport) ≡ true) where
   pub box-bottom : (own-box p s).y1 ≤ height (box_of s.viewport)
   box-bottom = own-bottom (box_of s.viewport) (box_of s.clip_bbox) (clip-in p.clip) (height (box_of s.viewport)) (clip (box_of s.viewport) (box_of s.clip_bbox) s.layers v (good-clip-of s g)).bottom
 
@@ -107,7 +107,7 @@ module _ (p : LayerProps) (s : Screen) (g : good-screen s ≡ true) (v : good-vi
   run-bottom false b h = omega arith
 
   pub run-within : (own-run p s).b ≤ rows_of (box_of s.viewport)
-  unfolding touch-run
+  unfolding touch_run
   run-within = run-bottom (destructive p.blend.compose && not (empty-box (own-box p s))) (own-box p s) box-bottom
 
 -- the number
@@ -116,17 +116,17 @@ judged-at s w = judged s (length w.state) (length w.render) (length w.fills)
 
 module _ (p : LayerProps) (s : Screen) (w : Words) (ls : List ℕ) (os : List Float) where
   pub bad-screen : (judged-at s w ≡ 0 → ⊥) → judged-at s w ≡ push-number p (lent s w ls os)
-  unfolding push-number step-number
+  unfolding push-number step_number
   bad-screen h = rw (ne_eqb (judged-at s w) 0 h, ne_eqb (judged-at s w) 0 h)
 
   module _ (z : judged-at s w ≡ 0) where
-    pub bad-layers : (length ls ≡ open-layer-table → ⊥) → 4 ≡ push-number p (lent s w ls os)
-    unfolding push-number step-number
-    bad-layers h = rw (z, ne_eqb _ _ h)
+    pub bad_layers : (length ls ≡ open-layer-table → ⊥) → 4 ≡ push-number p (lent s w ls os)
+    unfolding push-number step_number
+    bad_layers h = rw (z, ne_eqb _ _ h)
 
-    pub bad-opacities : length ls ≡ open-layer-table → (length os ≡ opacity-count → ⊥) → 4 ≡ push-number p (lent s w ls os)
-    unfolding push-number step-number
-    bad-opacities e h = rw (z, eq-eqb _ _ e, ne_eqb _ _ h)
+    pub bad_opacities : length ls ≡ open-layer-table → (length os ≡ opacity-count → ⊥) → 4 ≡ push-number p (lent s w ls os)
+    unfolding push-number step_number
+    bad_opacities e h = rw (z, eq-eqb _ _ e, ne_eqb _ _ h)
 
     -- the screen's own facts
     pub fit : Passed s (length w.state) (length w.render) (length w.fills) (rows_of (box_of s.viewport))
@@ -146,14 +146,14 @@ module _ (p : LayerProps) (s : Screen) (w : Words) (ls : List ℕ) (os : List Fl
       plan-bad h = rw h
 
       bad-pattern : good-pattern p.opacity p.nan ≡ false → 4 ≡ push-number p (lent s w ls os)
-      unfolding push-number step-number
+      unfolding push-number step_number
       bad-pattern h = rw (z, eq-eqb _ _ e, eq-eqb _ _ f, h)
 
       bad-rest : good-pattern p.opacity p.nan ≡ true → good-props (props-of p) ≡ false → 4 ≡ push-number p (lent s w ls os)
-      unfolding push-number step-number
+      unfolding push-number step_number
       bad-rest g h =
           rw (z, eq-eqb _ _ e, eq-eqb _ _ f, g)
-          (either_way (plan-bad h) (good-rows (frame-of s) s.layers (plan-of p s).puts (rows_at (frame-of s) w)))
+          (either_way (plan-bad h) (good_rows (frame-of s) s.layers (plan-of p s).puts (rows_at (frame-of s) w)))
 
       pub bad-props : good-given p ≡ false → 4 ≡ push-number p (lent s w ls os)
       bad-props h = by (good-pattern p.opacity p.nan) refl h
@@ -170,7 +170,7 @@ module _ (p : LayerProps) (s : Screen) (w : Words) (ls : List ℕ) (os : List Fl
         h = (both (good-pattern p.opacity p.nan) (good-props (props-of p)) good).1
 
         abbrev pub rows-number : ℕ
-        rows-number = band-number s.c s.d s.layers w.state (range (own-run p s).a (own-run p s).b)
+        rows-number = band_number s.c s.d s.layers w.state (range (own-run p s).a (own-run p s).b)
 
         number_is : push-number p (lent s w ls os) ≡ band-answer rows-number (plan-of p s)
         unfolding push-number
@@ -210,9 +210,9 @@ module _ (p : LayerProps) (s : Screen) (w : Words) (z : judged-at s w ≡ 0) (b 
       let h : b.y1 ≡ (own-box p s).y1 = ap (λ (x : Box). x.y1) e in
       omega (arith, box-bottom p s ok.screen ok.view, (view (box_of s.viewport) ok.view).high)
 
-  module _ (r : Run) (f : r ≡ touch-run p.blend.compose (box_of b)) where
+  module _ (r : Run) (f : r ≡ touch_run p.blend.compose (box_of b)) where
     pub run_is : r ≡ own-run p s
-    run_is = f ∙ ap (touch-run p.blend.compose) e
+    run_is = f ∙ ap (touch_run p.blend.compose) e
 
     pub rows-asked : (s.layers ≤ 16) × (s.c ≤ 1024) × (r.b ≤ 512) × (r.b * 54 ≤ length w.state)
     rows-asked =
@@ -220,7 +220,7 @@ module _ (p : LayerProps) (s : Screen) (w : Words) (z : judged-at s w ≡ 0) (b 
         let o = passed-whole s w ok in
         ((bounds s ok.screen).deep, o.c, omega (arith, o.rows), omega (arith, ok.row_words))
 
-    pub number-of-rows : (k : ℕ) → k ≡ band-number s.c s.d s.layers w.state (range r.a r.b) → k ≡ band-number s.c s.d s.layers w.state (range (own-run p s).a (own-run p s).b)
+    pub number-of-rows : (k : ℕ) → k ≡ band_number s.c s.d s.layers w.state (range r.a r.b) → k ≡ band_number s.c s.d s.layers w.state (range (own-run p s).a (own-run p s).b)
     number-of-rows k h = rw run_is at h
 
 -- what a push judged 0 may rely on
@@ -238,8 +238,8 @@ module _ (p : LayerProps) (s : Screen) (w : Words) (ls : List ℕ) (os : List Fl
   pub ready : PushReady p s w ls os
   ready =
       let z : judged-at s w ≡ 0 = decide (judged-at s w) 0 (λ h. h (bad-screen p s w ls os h ∙ q)) in
-      let a : length ls ≡ open-layer-table = decide (length ls) open-layer-table (λ h. not-zero (bad-layers p s w ls os z h)) in
-      let b : length os ≡ opacity-count = decide (length os) opacity-count (λ h. not-zero (bad-opacities p s w ls os z a h)) in
+      let a : length ls ≡ open-layer-table = decide (length ls) open-layer-table (λ h. not-zero (bad_layers p s w ls os z h)) in
+      let b : length os ≡ opacity-count = decide (length os) opacity-count (λ h. not-zero (bad_opacities p s w ls os z a h)) in
       let g : good-given p ≡ true = surely (good-given p) (λ h. not-zero (bad-props p s w ls os z a b h)) in
       let k = rows-number p s w ls os z a b g in
       let n : k ≡ 4 → ⊥ = λ t. not-zero (bad-rows p s w ls os z a b g k refl t) in
@@ -258,7 +258,7 @@ module _ (p : LayerProps) (s : Screen) (w : Words) (ls : List ℕ) (os : List Fl
 
 -- what it leaves
 module _ (p : LayerProps) (s : Screen) (w : Words) (ls : List ℕ) (os : List Float) (y : PushReady p s w ls os) (b : Rect) (e : box_of b ≡ own-box p s) where
-  ok-screen : good-screen s ≡ true
+  ok-screen : good_screen s ≡ true
   ok-screen = (passed s (length w.state) (length w.render) (length w.fills) y.zero).screen
 
   plan-counts : (length (plan-of p s).attrs.paints ≡ s.paint_attrs) × (length (plan-of p s).attrs.layers ≡ s.layer_attrs) × (length (plan-of p s).attrs.filters ≡ s.filter_paints)
@@ -273,7 +273,7 @@ module _ (p : LayerProps) (s : Screen) (w : Words) (ls : List ℕ) (os : List Fl
   unfolding done
   rows_are = rw (plan-deep p s ok-screen, plan-puts p s ok-screen, frame_is s) (puts-each _ (s.layers + 1) touch (range (own-run p s).a (own-run p s).b) (rows_at (frame-of s) w))
 
-  pub after_is : (x : Screen) (ws : Words) (r : Run) → x ≡ on-layer s b → r ≡ touch-run p.blend.compose (box_of b)
+  pub after_is : (x : Screen) (ws : Words) (r : Run) → x ≡ on-layer s b → r ≡ touch_run p.blend.compose (box_of b)
       → ws ≡ lay (each (acted (bucket-tiles s.width) (s.layers + 1) touch) (range r.a r.b) (rows_at (frame-of s) w))
       → lent x ws (words-at ls (open-layer-size * s.layers) (layer-words (layer-of p b) p.nan)) (set os s.layers p.opacity) ≡ after p (lent s w ls os)
   unfolding after

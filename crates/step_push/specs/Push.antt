@@ -9,7 +9,7 @@ use Rattle.rules.specs.Steps.{done}
 use Rattle.cmd.specs.Attrs.{words-at}
 use Rattle.row.specs.Words.{Words, word-ops}
 use Rattle.row_screen.specs.Arena.{lay}
-use Rattle.row_judge.specs.Building.{rows_at, screen-at, good-rows, step-number}
+use Rattle.row_judge.specs.Building.{rows_at, screen-at, good_rows, step_number}
 use Rattle.rect.specs.declared.Rect.{Rect}
 use Rattle.screen.specs.declared.Screen.{Screen}
 use Rattle.screen.specs.Screens.{frame-of, state-of, screen-in, screen-after}
@@ -42,7 +42,7 @@ first-number p l =
 unfoldable pub push-number : LayerProps → PushLent → ℕ
 push-number p l =
     let s = l.screen in
-    step-number (first-number p l) (good-rows (frame-of s) s.layers (plan-of p s).puts (rows_at (frame-of s) l.words)) (plan-of p s)
+    step_number (first-number p l) (good_rows (frame-of s) s.layers (plan-of p s).puts (rows_at (frame-of s) l.words)) (plan-of p s)
     (screen-at (state-of s) l.words)
 
 -- the words of the innermost layer
@@ -68,8 +68,8 @@ no_run = record { a = 0; b = 0 }
 abbrev pub box-run : Box → Run
 box-run b = record { a = b.y0 / 4; b = (b.y1 + 3) / 4 }
 
-unfoldable pub touch-run : ℕ → Box → Run
-touch-run c b = cond (destructive c && not (empty-box b)) (box-run b) no_run
+unfoldable pub touch_run : ℕ → Box → Run
+touch_run c b = cond (destructive c && not (empty-box b)) (box-run b) no_run
 
 abbrev pub on-layer : Screen → Rect → Screen
 on-layer s b =

@@ -3,18 +3,21 @@
 
 ghost use Rattle.std.specs.Prelude.{◌≡◌, ◌≤◌};
 ghost use Rattle.sizes.specs.Sizes.{most-layers};
+ghost use Rattle.sizes.specs.Refusals.{answer_number};
 ghost use Rattle.rules.specs.Answers.{answer};
 ghost use Rattle.rect.specs.Rects.{box_of};
-ghost use Rattle.row.specs.Words.{words};
-ghost use Rattle.step_push.specs.Push.{touch-run, on-layer, lent, push-number, after, pushed};
+ghost use Rattle.row_screen.specs.Rows.{all-held, SameRows};
+ghost use Rattle.screen_layers.specs.Lent.{SameLayers};
+ghost use Rattle.step_push.specs.Push.{touch_run, on-layer, lent, push-number, pushed};
 
 use cmd::blend::Blend;
 use rect::Rect;
-use screen::{Built, Screen, judge_screen};
-use screen_layers::{LayerProps, is_good_props, layer_box, put_layer};
-use sizes::answers::{BAD_RECORD, DEEP, DONE};
+use row_screen::Rows;
+use screen::{Screen, judge_screen};
+use screen_layers::{LayerProps, Layers, layer_box};
+use sizes::answers::Refusal;
 use sizes::{MOST_LAYERS, OPACITIES, OPEN_TABLE};
-use step_rows::{judge_rows, touch_rows};
+use step_rows::{is_bad_record, judge_rows, touch_rows};
 
 // Rows a to b.
 #[derive(Clone, Copy)]
@@ -24,14 +27,12 @@ struct Run {
 }
 
 // The rows that a push touches at once: those of its box, if the blend is destructive and the box not empty.
+#[tactic(auto, unfolding(crate::specs::Push::touch_run))]
 fn touch_run(blend: Blend, bbox: Rect) -> Run
     requires { bbox.y1 ≤ 32768 }
-    ensures { result ≡ touch-run blend.compose (box_of bbox) }
+    ensures { result ≡ touch_run blend.compose (box_of bbox) }
 {
-    if !blend.is_destructive() {
-        return Run { a: 0, b: 0 };
-    }
-    if bbox.is_empty() {
+    if !blend.is_destructive() || bbox.is_empty() {
         return Run { a: 0, b: 0 };
     }
     Run {
@@ -40,106 +41,66 @@ fn touch_run(blend: Blend, bbox: Rect) -> Run
     }
 }
 
-// The screen with one more layer, whose box is given.
-fn on_layer(screen: Screen, bbox: Rect) -> Screen
-    requires { screen.layers ≤ most-layers }
-    ensures { result ≡ on-layer screen bbox }
+// One more layer, whose box is given.
+fn open(screen: &mut Screen, bbox: Rect)
+    requires { screen.old.layers ≤ most-layers }
+    ensures { screen.new ≡ on-layer screen.old bbox }
 {
-    let mut next = screen;
-    next.clip_bbox = bbox;
-    next.layers = screen.layers + 1;
-    next.painting = false;
-    next
+    screen.clip_bbox = bbox;
+    screen.layers += 1;
+    screen.painting = false;
 }
 
-// 2, 1, 4, then 6 with 16 open, then 10, or 0.
+// 2, 1, 4, then 6 with 16 open, then 10.
 fn judge_push(
     screen: Screen,
-    rows: &[u32],
-    render: &[u32],
-    fills: &[u32],
-    layers: &[u32],
-    opacities: &[f32],
+    rows: &Rows<'_>,
+    layers: &Layers<'_>,
     props: LayerProps,
-) -> u32
-    ensures { result ≡ push-number props (lent screen (words rows.now render.now fills.now) layers.now opacities.now) }
+) -> Result<(), Refusal>
+    ensures { answer_number result ≡ push-number props (lent screen (all-held rows.now) layers.now.table.now layers.now.opacities.now) }
 {
-    let n = judge_screen(screen, rows.len(), render.len(), fills.len());
-    if n != DONE {
-        return n;
+    judge_screen(
+        screen,
+        rows.state.len(),
+        rows.render.len(),
+        rows.fills.len(),
+    )?;
+    if layers.table.len() != OPEN_TABLE || layers.opacities.len() != OPACITIES {
+        return Err(Refusal::BadRecord);
     }
-    if layers.len() != OPEN_TABLE {
-        return BAD_RECORD;
+    if !props.is_good() {
+        return Err(Refusal::BadRecord);
     }
-    if opacities.len() != OPACITIES {
-        return BAD_RECORD;
-    }
-    if !is_good_props(props) {
-        return BAD_RECORD;
-    }
-    let viewport = screen.viewport;
-    let parent = screen.clip_bbox;
-    let clip = props.clip;
-    let blend = props.blend;
-    let bbox = layer_box(viewport, parent, clip);
-    let run = touch_run(blend, bbox);
-    let k = judge_rows(screen, rows, run.a, run.b);
-    if k == BAD_RECORD {
-        return BAD_RECORD;
+    let bbox = layer_box(screen.viewport, screen.clip_bbox, props.clip);
+    let run = touch_run(props.blend, bbox);
+    let judged = judge_rows(screen, rows.state, run.a, run.b);
+    if is_bad_record(judged) {
+        return judged;
     }
     if MOST_LAYERS <= screen.layers {
-        return DEEP;
+        return Err(Refusal::Deep);
     }
-    k
+    judged
 }
 
-// A push that was judged 0.
-fn do_push(
-    screen: Screen,
-    rows: &mut [u32],
-    render: &mut [u32],
-    fills: &mut [u32],
-    layers: &mut [u32],
-    opacities: &mut [f32],
-    props: LayerProps,
-) -> Screen
-    requires { push-number props (lent screen (words rows.old render.old fills.old) layers.old opacities.old) ≡ 0 }
-    ensures { lent result (words rows.new render.new fills.new) layers.new opacities.new
-        ≡ after props (lent screen (words rows.old render.old fills.old) layers.old opacities.old) }
-{
-    let viewport = screen.viewport;
-    let parent = screen.clip_bbox;
-    let clip = props.clip;
-    let blend = props.blend;
-    let open = screen.layers;
-    let bbox = layer_box(viewport, parent, clip);
-    let run = touch_run(blend, bbox);
-    put_layer(layers, open, props, bbox);
-    opacities[open as usize] = props.opacity;
-    touch_rows(screen, rows, render, fills, run.a, run.b, open + 1);
-    on_layer(screen, bbox)
-}
-
-// Rule 8: one more layer is open. Its opacity is copied, bit for bit.
+// Rule 8: one more layer is open. Its opacity is copied, bit for bit. Refused, the screen and every lent word stay.
 pub fn push_layer(
-    screen: Screen,
-    rows: &mut [u32],
-    render: &mut [u32],
-    fills: &mut [u32],
-    layers: &mut [u32],
-    opacities: &mut [f32],
+    screen: &mut Screen,
+    rows: &mut Rows<'_>,
+    layers: &mut Layers<'_>,
     props: LayerProps,
-) -> Built
-    ensures { answer result.number (lent result.screen (words rows.new render.new fills.new) layers.new opacities.new)
-        ≡ pushed props (lent screen (words rows.old render.old fills.old) layers.old opacities.old) }
+) -> Result<(), Refusal>
+    ensures same_rows { SameRows rows.old rows.new }
+    ensures same_layers { SameLayers layers.old layers.new }
+    ensures pushed { answer (answer_number result) (lent screen.new (all-held rows.new) layers.new.table.now layers.new.opacities.now)
+        ≡ pushed props (lent screen.old (all-held rows.old) layers.old.table.now layers.old.opacities.now) }
 {
-    let n = judge_push(screen, rows, render, fills, layers, opacities, props);
-    if n != DONE {
-        return Built { number: n, screen };
-    }
-    let next = do_push(screen, rows, render, fills, layers, opacities, props);
-    Built {
-        number: DONE,
-        screen: next,
-    }
+    judge_push(*screen, rows, layers, props)?;
+    let bbox = layer_box(screen.viewport, screen.clip_bbox, props.clip);
+    let run = touch_run(props.blend, bbox);
+    layers.put(screen.layers, props, bbox);
+    touch_rows(*screen, rows, run.a, run.b, screen.layers + 1);
+    open(screen, bbox);
+    Ok(())
 }

@@ -2,7 +2,7 @@
 use mathlib.Core.Path.{◌≡◌, refl, sym, ap, ◌∙◌}
 use mathlib.Core.Bool.{Bool, true, false}
 use mathlib.Core.List.{List, [], ◌∷◌, map}
-use Prim.Native.Nat.{ℕ, zero, suc, ◌+◌, ◌-◌, ◌*◌, ◌≤◌, ◌<◌}
+use Prim.Native.Nat.{ℕ, zero, suc, ◌+◌, ◌-◌, ◌≤◌, ◌<◌}
 use native.Mathlib.Omega.{arith}
 use lib.Dec.{eqb}
 use lib.ListN.{length, get_or}
@@ -13,12 +13,12 @@ use Rattle.rules.specs.Commands.{Command}
 use Rattle.rules.specs.Plans.{Act, on}
 use Rattle.rules.specs.Steps.{do-act, do-puts}
 use Rattle.rules.proofs.laws.Changes.{change-length, change-same, change-else}
-use Rattle.row.specs.Words.{Words, words, put-command, word-ops, Room, Grown}
+use Rattle.row.specs.Words.{Words, words, put_command, word-ops, Room, Grown}
 use Rattle.row.proofs.Laws.{room-first}
-use Rattle.row_screen.specs.Arena.{nowhere, sizes, cut, lay, Long}
+use Rattle.row_screen.specs.Arena.{nowhere, sizes, lay, Long}
 use Rattle.row_screen.proofs.Laws.{lay-cut}
 use Rattle.row_acts.specs.Acts.{acted, ensured}
-use Rattle.row_acts.proofs.Laws.{Sound, ensured-sound, cmd-sound, acted-sound}
+use Rattle.row_acts.proofs.Laws.{Sound, ensured-sound, cmd-sound, acted-sound, layers-then}
 use Rattle.rect.specs.Rects.{box_of}
 use Rattle.screen.specs.declared.Screen.{Screen}
 use Rattle.row_judge.specs.Building.{rows_at}
@@ -61,9 +61,6 @@ pub record Banding (s : Screen) (n : ℕ) (f : Words → Words) (a b : ℕ) (w�
   pub on : OnRows s n f r b w
   pub rest : each f (range r b) (rows_at (frame-of s) w) ≡ each f (range a b) (rows_at (frame-of s) w₀)
 
-pub banding : {s : Screen} {n : ℕ} {f : Words → Words} {a b : ℕ} {w : Words} → OnRows s n f a b w → Banding s n f a b w a w
-banding o = record { on = o; rest = refl }
-
 one_less : (b r : ℕ) → r < b → b - r ≡ suc (b - (r + 1))
 one_less b r h = omega arith
 
@@ -80,8 +77,8 @@ module _ {s : Screen} {n : ℕ} {f : Words → Words} {a b : ℕ} {w₀ : Words}
       let e : rows_at (frame-of s) w ≡ each f (range a b) (rows_at (frame-of s) w₀) = rw (none_left b r h) at v.rest in
       sym (lay-cut (sizes s.c s.d) (rows_of (box_of s.viewport)) w v.on.whole.long) ∙ ap lay e
 
-  pub band-row : r < b → OnRow s n f r w
-  band-row h = record { whole = v.on.whole; layers = v.on.layers; within = omega (arith, v.on.within); room = v.on.room r (omega arith) h }
+  pub band_row : r < b → OnRow s n f r w
+  band_row h = record { whole = v.on.whole; layers = v.on.layers; within = omega (arith, v.on.within); room = v.on.room r (omega arith) h }
 
   pub band-again : r < b → (u : Words) → Long (sizes s.c s.d) (rows_of (box_of s.viewport)) u → rows_at (frame-of s) u ≡ change f r (rows_at (frame-of s) w) → Banding s n f a b w₀ (r + 1) u
   unfolding each
@@ -114,7 +111,11 @@ act-on-is v n Touch w = refl
 act-on-is v n (Paint s i) w = refl
 
 -- a row with room for a command after its layers has room for its layers
-pub layers-room : (n : ℕ) (c : Command) (w : Words) → n ≤ 16 → Room w (put-command c (ensured n w)) → Room w (ensured n w)
-layers-room n c w m r =
+pub layers_room : (n : ℕ) (c : Command) (w : Words) → n ≤ 16 → Room w (put_command c (ensured n w)) → Room w (ensured n w)
+layers_room n c w m r =
     let s : Sound w (ensured n w) = ensured-sound n w m r.state r.levels in
     room-first (cmd-sound (ensured n w) (s.grown.state ∙ r.state) s.levels c).grown r
+
+-- and then has room for the command
+pub command_asks : (n : ℕ) (c : Command) {u w : Words} → n ≤ 16 → u ≡ ensured n w → Room w (put_command c (ensured n w)) → Room u (put_command c u)
+command_asks n c m e r = rw e (rw e at (layers-then n m e r))

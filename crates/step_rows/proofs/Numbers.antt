@@ -1,8 +1,8 @@
 -- What the judged number of a run of rows says of a step that does one act on each of them. Assumes nothing.
-use mathlib.Core.Path.{◌≡◌, refl, sym, ap, ◌∙◌}
+use mathlib.Core.Path.{◌≡◌, refl, ap, ◌∙◌}
 use mathlib.Core.Bool.{Bool, true, false, ◌&&◌, ◌||◌, cond}
 use mathlib.Core.List.{List, [], ◌∷◌, map}
-use mathlib.Core.Option.{none}
+use Rattle.std.specs.Prelude.{None}
 use Prim.Native.Nat.{ℕ, zero, suc, ◌+◌, ◌-◌, ◌*◌, ◌≤◌, ◌<◌}
 use native.Mathlib.Omega.{arith}
 use lib.Dec.{ltb, eqb}
@@ -16,21 +16,21 @@ use Rattle.rules.specs.Spans.{Span}
 use Rattle.rules.specs.Commands.{paint-fill}
 use Rattle.rules.specs.Attributes.{attrs-full}
 use Rattle.rules.specs.Plans.{Act, paint, touch, on, Put, Plan}
-use Rattle.rules.specs.Steps.{do-puts, done, row-passes, passes, refusal}
+use Rattle.rules.specs.Steps.{done, row-passes, passes, refusal}
 use Rattle.rules.proofs.All.{All, nil, cons, every-all, none_of}
-use Rattle.row.specs.Words.{Words, words, word, put-buf, put-command, word-ops, Room}
+use Rattle.row.specs.Words.{Words, word, put_buf, word-ops}
 use Rattle.row.proofs.Laws.{buf-renders, buf-depths, buf-levels, buf-grown, cmd-renders, cmd-depths}
-use Rattle.row_screen.specs.Arena.{nowhere, sizes, cut}
+use Rattle.row_screen.specs.Arena.{nowhere, sizes}
 use Rattle.row_screen.proofs.Laws.{cut-length, cut_at, at-state, at-render, at-fills}
 use Rattle.row_acts.specs.Acts.{acted, ensured}
 use Rattle.row_acts.proofs.Laws.{ensured-sound, touch_is, drawn_plain, paint-is}
-use Rattle.row_judge.specs.Building.{Whole, rows_at, screen-at, good-row, good-at, good-rows, step-number}
+use Rattle.row_judge.specs.Building.{Whole, rows_at, screen-at, good_row, good-at, good_rows, step_number}
 use Rattle.rect.specs.Rects.{box_of}
 use Rattle.screen.specs.declared.Screen.{Screen}
 use Rattle.screen.specs.Screens.{frame-of, state-of}
 use Rattle.row_room.specs.Room.{record-at, rows_told}
 use Rattle.row_room.proofs.Laws.{Small, good-small}
-use Rattle.step_rows.specs.Band.{is-full, band-number, each, OnRows}
+use Rattle.step_rows.specs.Band.{is-full, band_number, each, OnRows}
 use Rattle.step_rows.proofs.Laws.{each-length, each_at, puts-each}
 
 -- facts of the numbers of a run
@@ -69,7 +69,7 @@ module _ {A B : Type 0} (g : A → B) (p : B → Bool) where
   some-map (x ∷ xs) = ap (λ (t : Bool). p (g x) || t) (some-map xs)
 
 -- a row that is there
-good-get : (s : Screen) (n i : ℕ) (ws : List Words) → i < length ws → good-at (frame-of s) n i ws ≡ good-row s.c s.d n (get_or ws i nowhere).state
+good-get : (s : Screen) (n i : ℕ) (ws : List Words) → i < length ws → good-at (frame-of s) n i ws ≡ good_row s.c s.d n (get_or ws i nowhere).state
 good-get s n i [] h = absurd (omega arith)
 good-get s n zero (w ∷ ws) h = refl
 good-get s n (suc i) (w ∷ ws) h = good-get s n i ws (omega arith)
@@ -108,16 +108,16 @@ module _ (s : Screen) (w : Words) (o : Whole (frame-of s) w) where
     in-run : {P : ℕ → Type 0} → ((i : ℕ) → x ≤ i → i < b → P i) → All P (range x b)
     in-run f = run-all x (b - x) (λ i g k. f i g (omega arith))
 
-    good-is : (n : ℕ) (a : Act) → good-rows (frame-of s) n (map (on a) (range x b)) (rows_at (frame-of s) w) ≡ every (λ (r : ℕ). good-row s.c s.d n (record-at w.state r)) (range x b)
-    unfolding good-rows
+    good-is : (n : ℕ) (a : Act) → good_rows (frame-of s) n (map (on a) (range x b)) (rows_at (frame-of s) w) ≡ every (λ (r : ℕ). good_row s.c s.d n (record-at w.state r)) (range x b)
+    unfolding good_rows
     good-is n a =
         every_map (on a) (λ (p : Put). good-at (frame-of s) n p.row (rows_at (frame-of s) w)) (range x b)
-        ∙ every-same (in-run (λ i g k. good-get s n i (rows_at (frame-of s) w) (in_rows i (omega arith)) ∙ ap (good-row s.c s.d n) (row_is i (omega arith))))
+        ∙ every-same (in-run (λ i g k. good-get s n i (rows_at (frame-of s) w) (in_rows i (omega arith)) ∙ ap (good_row s.c s.d n) (row_is i (omega arith))))
 
-    module _ (n : ℕ) (f : Words → Words) (ad : Adding n f) (good : every (λ (r : ℕ). good-row s.c s.d n (record-at w.state r)) (range x b) ≡ true) where
+    module _ (n : ℕ) (f : Words → Words) (ad : Adding n f) (good : every (λ (r : ℕ). good_row s.c s.d n (record-at w.state r)) (range x b) ≡ true) where
       module _ (i : ℕ) (g : x ≤ i) (k : i < b) where
         facts : Small s.c s.d n (record-at w.state i)
-        facts = good-small s.c s.d n (record-at w.state i) (all-run x (b - x) (every-all (λ (r : ℕ). good-row s.c s.d n (record-at w.state r)) (range x b) good) i g (omega arith))
+        facts = good-small s.c s.d n (record-at w.state i) (all-run x (b - x) (every-all (λ (r : ℕ). good_row s.c s.d n (record-at w.state r)) (range x b) good) i g (omega arith))
 
         row-levels : word 5 (get_or (rows_at (frame-of s) w) i nowhere) ≤ n
         row-levels = rw (row_is i (omega arith)) facts.levels
@@ -166,13 +166,13 @@ then-full false ids attrs = refl
 
 module _ (s : Screen) (w : Words) (o : Whole (frame-of s) w) (a : Act) (x b : ℕ) (m : b ≤ rows_of (box_of s.viewport)) where
   abbrev good-run : Bool
-  good-run = every (λ (r : ℕ). good-row s.c s.d s.layers (record-at w.state r)) (range x b)
+  good-run = every (λ (r : ℕ). good_row s.c s.d s.layers (record-at w.state r)) (range x b)
 
   abbrev full-run : Bool
   full-run = some_of (λ (r : ℕ). is-full s.c s.layers (record-at w.state r)) (range x b)
 
   abbrev pub run-number : ℕ
-  run-number = band-number s.c s.d s.layers w.state (range x b)
+  run-number = band_number s.c s.d s.layers w.state (range x b)
 
   module _ (p : Plan) (fine : p.refused ≡ 0) (puts : p.puts ≡ map (on a) (range x b)) (ad : length p.layers ≤ 16 → Adding s.layers (acted (bucket-tiles s.width) (length p.layers) a)) where
     refused : good-run ≡ true → (deep : Bool) → ltb 16 (length p.layers) ≡ deep
@@ -199,11 +199,11 @@ module _ (s : Screen) (w : Words) (o : Whole (frame-of s) w) (a : Act) (x b : �
     numbered true e = refused e (ltb 16 (length p.layers)) refl
     numbered false e = refl
 
-    pub band-step : step-number 0 (good-rows (frame-of s) s.layers p.puts (rows_at (frame-of s) w)) p (screen-at (state-of s) w) ≡ band-answer run-number p
-    unfolding step-number band-number rows_told
+    pub band-step : step_number 0 (good_rows (frame-of s) s.layers p.puts (rows_at (frame-of s) w)) p (screen-at (state-of s) w) ≡ band-answer run-number p
+    unfolding step_number band_number rows_told
     band-step =
         ap (λ (g : Bool). cond g (refusal Words word-ops p (done Words word-ops p (screen-at (state-of s) w))) 4)
-        (ap (λ (ps : List Put). good-rows (frame-of s) s.layers ps (rows_at (frame-of s) w)) puts ∙ good-is s w o x b m s.layers a)
+        (ap (λ (ps : List Put). good_rows (frame-of s) s.layers ps (rows_at (frame-of s) w)) puts ∙ good-is s w o x b m s.layers a)
         ∙ numbered good-run refl
 
   -- where the number is 0, each row has room
@@ -235,15 +235,15 @@ module _ (s : Screen) (w : Words) (o : Whole (frame-of s) w) (a : Act) (x b : �
         }
 
     pub band-room : run-number ≡ 0 → OnRows s n (acted (bucket-tiles s.width) n a) x b w
-    unfolding band-number rows_told
+    unfolding band_number rows_told
     band-room z = room_of good-run full-run refl refl z
 
 -- rule 5 alone, with one layer more than before
-pub layers-count : (j : ℕ) (w : Words) → length w.state ≡ 54 → word 5 w + j ≤ 16 → (word 0 (times j put-buf w) ≡ word 0 w + j) × (word 1 (times j put-buf w) ≡ word 1 w)
+pub layers-count : (j : ℕ) (w : Words) → length w.state ≡ 54 → word 5 w + j ≤ 16 → (word 0 (times j put_buf w) ≡ word 0 w + j) × (word 1 (times j put_buf w) ≡ word 1 w)
 layers-count zero w l h = (omega arith, refl)
 layers-count (suc j) w l h =
     let g : word 5 w ≤ 15 = omega arith in
-    let r = layers-count j (put-buf w) ((buf-grown w l g).state ∙ l) (omega (arith, buf-levels w l g)) in
+    let r = layers-count j (put_buf w) ((buf-grown w l g).state ∙ l) (omega (arith, buf-levels w l g)) in
     (r.0 ∙ omega (arith, buf-renders w l g), r.1 ∙ buf-depths w l g)
 
 pub touch-adds : (v n : ℕ) → n + 1 ≤ 16 → Adding n (acted v (n + 1) touch)
@@ -252,21 +252,21 @@ touch-adds v n h w l k =
     record { renders = ap (word 0) (touch_is v (n + 1) w) ∙ r.0; depths = ap (word 1) (touch_is v (n + 1) w) ∙ r.1 }
 
 -- a fill, with the layers that were open
-pub paint-adds : (v n : ℕ) (t : Span) (i : ℕ) → n ≤ 16 → Adding n (acted v n (paint t none i))
+pub paint-adds : (v n : ℕ) (t : Span) (i : ℕ) → n ≤ 16 → Adding n (acted v n (paint t None i))
 paint-adds v n t i h w l k =
     let r = layers-count (n - word 5 w) w l (omega arith) in
     let e = paint-is v n w t i 0 ∙ drawn_plain v n t i 0 w in
     let q = ensured-sound n w h l (omega arith) in
     record {
-      renders = ap (word 0) e ∙ cmd-renders (ensured n w) (q.grown.state ∙ l) (paint-fill t none i) ∙ omega (arith, r.0);
-      depths = ap (word 1) e ∙ cmd-depths (ensured n w) (q.grown.state ∙ l) (paint-fill t none i) ∙ r.1;
+      renders = ap (word 0) e ∙ cmd-renders (ensured n w) (q.grown.state ∙ l) (paint-fill t None i) ∙ omega (arith, r.0);
+      depths = ap (word 1) e ∙ cmd-depths (ensured n w) (q.grown.state ∙ l) (paint-fill t None i) ∙ r.1;
     }
 
 -- a run's number is 4, 10 or 0
-pub run-told : (c d n : ℕ) (ws rs : List ℕ) → (band-number c d n ws rs ≡ 4 → ⊥) → cond (eqb (band-number c d n ws rs) 10) 10 0 ≡ band-number c d n ws rs
-unfolding band-number rows_told
+pub run-told : (c d n : ℕ) (ws rs : List ℕ) → (band_number c d n ws rs ≡ 4 → ⊥) → cond (eqb (band_number c d n ws rs) 10) 10 0 ≡ band_number c d n ws rs
+unfolding band_number rows_told
 run-told c d n ws rs h =
-    by (every (λ (r : ℕ). good-row c d n (record-at ws r)) rs) (some_of (λ (r : ℕ). is-full c n (record-at ws r)) rs) h
+    by (every (λ (r : ℕ). good_row c d n (record-at ws r)) rs) (some_of (λ (r : ℕ). is-full c n (record-at ws r)) rs) h
   where
     by : (g f : Bool) → (told g f ≡ 4 → ⊥) → cond (eqb (told g f) 10) 10 0 ≡ told g f
     by true true h = refl

@@ -1,16 +1,16 @@
 -- A run of rows: what is judged of their records, and something done on each.
 use Rattle.std.specs.Prelude.{ℕ, ◌≤◌, ◌<◌, ◌+◌, ◌-◌, Bool, List, [], ◌∷◌, get_or, ltb}
-use Rattle.std.proofs.Math.Option.{none}
+use Rattle.std.specs.Prelude.{None}
 use Rattle.sizes.specs.Sizes.{most-layers, renders-at, levels-at}
 use Rattle.rules.specs.Lists.{change}
 use Rattle.rules.specs.Answers.{Done}
 use Rattle.rules.specs.Boxes.{rows_of}
 use Rattle.rules.specs.Commands.{paint-fill}
-use Rattle.row.specs.Words.{Words, put-command, Room}
+use Rattle.row.specs.Words.{Words, put_command, Room}
 use Rattle.row.specs.Cmds.{Short}
 use Rattle.row_screen.specs.Arena.{nowhere}
 use Rattle.row_acts.specs.Acts.{ensured}
-use Rattle.row_judge.specs.Building.{rows_at, Whole, good-row}
+use Rattle.row_judge.specs.Building.{rows_at, Whole, good_row}
 use Rattle.row_room.specs.Room.{record-at, rows_told}
 use Rattle.rect.specs.Rects.{box_of}
 use Rattle.screen.specs.declared.Screen.{Screen}
@@ -26,8 +26,8 @@ abbrev pub is-full : ℕ → ℕ → List ℕ → Bool
 is-full c n s = ltb c (get_or s renders-at 0 + (n + 1 - get_or s levels-at 0))
 
 -- the rows rs: 4 for a record, then 10
-unfoldable pub band-number : ℕ → ℕ → ℕ → List ℕ → List ℕ → ℕ
-band-number c d n ws rs = rows_told (λ (r : ℕ). good-row c d n (record-at ws r)) (λ (r : ℕ). is-full c n (record-at ws r)) Done rs
+unfoldable pub band_number : ℕ → ℕ → ℕ → List ℕ → List ℕ → ℕ
+band_number c d n ws rs = rows_told (λ (r : ℕ). good_row c d n (record-at ws r)) (λ (r : ℕ). is-full c n (record-at ws r)) Done rs
 
 -- f done on each of the rows rs
 unfoldable pub each : (Words → Words) → List ℕ → List Words → List Words
@@ -37,12 +37,12 @@ each f (r ∷ rs) ws = each f rs (change f r ws)
 -- the rules' act, and what it asks of its span
 abbrev pub act-of : Act → Plans.Act
 act-of Touch = touch
-act-of (Paint s i) = paint (tiles s) none i
+act-of (Paint s i) = paint (tiles s) None i
 
 -- the act on one row's words, with n layers open: no depth fill, so that it is the same at each width
 abbrev pub act-on : ℕ → Act → Words → Words
 act-on n Touch w = ensured n w
-act-on n (Paint s i) w = put-command (paint-fill (tiles s) none i) (ensured n w)
+act-on n (Paint s i) w = put_command (paint-fill (tiles s) None i) (ensured n w)
 
 abbrev pub ShortAct : Act → Type 0
 ShortAct Touch = Unit

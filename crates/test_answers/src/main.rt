@@ -5,10 +5,12 @@
 ghost use Rattle.std.specs.Prelude.{◌≤◌, IfOk, IfSome};
 
 use file_form::words_of_bytes;
+use screen::Lent;
 use sizes::{FILTER_TABLE, LAYER_TABLE, OPACITIES, OPEN_TABLE, PAINT_TABLE, PROGRAM_DEPTH};
 use std::alloc::Global;
 use std::io;
 use std::io::{BufReader, BufWriter, ErrorKind, Read, Write};
+use test_run::run;
 
 // Most words of a sequence, or of its answers.
 const MOST: usize = 32768;
@@ -28,12 +30,11 @@ fn next_length(input: &mut impl Read) -> io::Result<Option<usize>>
     }
 }
 
-// So many words of the input, or those that are left.
-fn read_list(alloc: Global, input: &mut impl Read, n: usize) -> io::Result<Vec<u32>>
-    requires { n ≤ MOST }
-{
-    let mut bytes = Vec::with_capacity(alloc, 4 * n)?;
-    input.take(4 * n as u64).read_to_end(&mut bytes)?;
+// So many words of the input, MOST at most, or those that are left.
+fn read_list(alloc: Global, input: &mut impl Read, n: usize) -> io::Result<Vec<u32>> {
+    let size = 4 * n.min(MOST);
+    let mut bytes = Vec::with_capacity(alloc, size)?;
+    input.take(size as u64).read_to_end(&mut bytes)?;
     let mut words = vec![in alloc; 0; bytes.len() / 4]?;
     words_of_bytes(&bytes, &mut words);
     Ok(words)
@@ -65,26 +66,24 @@ fn main(rt: HostRuntime) -> io::Result<()> {
     let mut layer_attrs: [u32; LAYER_TABLE] = [0; LAYER_TABLE];
     let mut filter_paints: [i32; FILTER_TABLE] = [0; FILTER_TABLE];
     let mut list: [u32; 64] = [0; 64];
+    let mut lent = Lent {
+        render: &mut render,
+        fills: &mut fills,
+        depth: &mut depth,
+        rows: &mut rows,
+        painting: &mut painting,
+        layers: &mut layers,
+        opacities: &mut opacities,
+        paint_attrs: &mut paint_attrs,
+        layer_attrs: &mut layer_attrs,
+        filter_paints: &mut filter_paints,
+    };
     for _ in 0..u64::MAX {
         let Some(length) = next_length(&mut input)? else {
             break;
         };
         let words = read_list(alloc, &mut input, length)?;
-        let m = test_run::run(
-            &words,
-            &mut out,
-            &mut render,
-            &mut fills,
-            &mut depth,
-            &mut rows,
-            &mut painting,
-            &mut layers,
-            &mut opacities,
-            &mut paint_attrs,
-            &mut layer_attrs,
-            &mut filter_paints,
-            &mut list,
-        );
+        let m = run(&words, &mut lent, &mut list, &mut out);
         write_list(&mut output, &out, m)?;
     }
     Ok(())

@@ -1,77 +1,62 @@
 // The building calls of a sequence: a call's words become what the step takes.
 #![tactic(auto)]
 
-ghost use Rattle.std.specs.Prelude.{◌≡◌, ◌≤◌, length};
+ghost use Rattle.std.specs.Prelude.{◌≤◌, length};
 
 use cmd::blend::Blend;
-use rect::Rect;
-use screen::{Built, Screen, reset};
-use screen_layers::{Clip, LayerClip, LayerProps};
-use sizes::answers::BAD_VIEWPORT;
+use row_screen::Rows;
+use screen::{Lent, Screen, reset};
+use screen_layers::{Clip, LayerProps, Layers};
+use sizes::answers::Refusal;
 use step_fill::{Draw, fill};
-use step_filter::{Pixmap, Placement, filter_fill};
-use step_pop_call::pop_layer;
+use step_filter::{FilterFill, Placement, filter_fill};
+use step_pop::pop_layer;
 use step_push::push_layer;
-use test_words::lens::{Asked, setup_of};
-use test_words::{Turn, after, box_at, put, wide, word};
+use test_words::lens::setup_of;
+use test_words::{after, box_at, word};
 
 // thread, start, end, paint, mix, compose, mask, panel.
 fn draw_of(call: &[u32]) -> Draw {
-    let blend = Blend {
-        mix: word(call, 5),
-        compose: word(call, 6),
-    };
     Draw {
         thread: word(call, 1),
-        start: wide(word(call, 2)),
-        end: wide(word(call, 3)),
+        start: word(call, 2) as usize,
+        end: word(call, 3) as usize,
         paint: word(call, 4),
-        blend,
+        blend: Blend {
+            mix: word(call, 5),
+            compose: word(call, 6),
+        },
         mask: word(call, 7),
         panel: word(call, 8),
     }
 }
 
-// So many words after the number at place at, as far as the call has them.
-#[derive(Clone, Copy)]
-struct Part {
-    first: usize,
-    end: usize,
-}
-
-fn part_of(call: &[u32], at: usize, words: usize) -> Part
-    ensures { (result.first ≤ result.«end») × (result.«end» ≤ length call.now) }
+// Records of so many words each that stand after their number at place at, as far as the call has them: where they start and end.
+fn records(call: &[u32], at: usize, size: usize) -> (usize, usize)
+    requires { size ≤ 5 }
+    ensures { (result.0 ≤ result.1) × (result.1 ≤ length call.now) }
 {
-    let n = call.len();
-    if n <= at {
-        return Part { first: n, end: n };
-    }
-    let first = at + 1;
-    let end = after(first, words, n);
-    Part { first, end }
+    let first = after(0, at, call.len());
+    let first = after(first, 1, call.len());
+    (
+        first,
+        after(first, size * word(call, at) as usize, call.len()),
+    )
 }
 
 // A draw; then paints and segments, each after their number.
-pub fn do_fill(
-    call: &[u32],
-    screen: Screen,
-    rows: &mut [u32],
-    render: &mut [u32],
-    fills: &mut [u32],
-    paint_attrs: &mut [u32],
-) -> Built {
-    let paints = part_of(call, 9, 4 * wide(word(call, 9)));
-    let a = paints.first;
-    let b = paints.end;
-    let segments = part_of(call, b, 5 * wide(word(call, b)));
-    let c = segments.first;
-    let d = segments.end;
+fn do_fill(call: &[u32], screen: &mut Screen, lent: &mut Lent<'_>) -> Result<(), Refusal> {
+    let (a, b) = records(call, 9, 4);
+    let (c, d) = records(call, b, 5);
+    let mut rows = Rows {
+        state: lent.rows,
+        render: lent.render,
+        fills: lent.fills,
+    };
     fill(
         screen,
-        rows,
-        render,
-        fills,
-        paint_attrs,
+        &mut rows,
+        lent.paint_attrs,
         &call[a..b],
         &call[c..d],
         draw_of(call),
@@ -81,24 +66,22 @@ pub fn do_fill(
 // Bits as an f32; for a NaN's pattern some NaN.
 fn float_of(bits: u32) -> f32 {
     if bits % 2147483648 <= 2139095040 {
-        return f32::from_bits(bits);
+        f32::from_bits(bits)
+    } else {
+        0.0 / 0.0
     }
-    0.0 / 0.0
 }
 
 // The pattern itself where it is a NaN's, else 0.
 fn nan_of(bits: u32) -> u32 {
-    if bits % 2147483648 <= 2139095040 {
-        return 0;
-    }
-    bits
+    if float_of(bits).is_nan() { bits } else { 0 }
 }
 
-fn clip_of(call: &[u32]) -> LayerClip {
+fn clip_of(call: &[u32]) -> Option<Clip> {
     if word(call, 5) == 0 {
-        return LayerClip::Absent;
+        return None;
     }
-    LayerClip::Present(Clip {
+    Some(Clip {
         bbox: box_at(call, 6),
         start: word(call, 10),
         end: word(call, 11),
@@ -107,190 +90,96 @@ fn clip_of(call: &[u32]) -> LayerClip {
 }
 
 // mix, compose, opacity's bits, mask, clip flag, clip box, its range, its thread, panel.
-pub fn do_push(
-    call: &[u32],
-    screen: Screen,
-    rows: &mut [u32],
-    render: &mut [u32],
-    fills: &mut [u32],
-    layers: &mut [u32],
-    opacities: &mut [f32],
-) -> Built {
-    let blend = Blend {
-        mix: word(call, 1),
-        compose: word(call, 2),
-    };
+fn do_push(call: &[u32], screen: &mut Screen, lent: &mut Lent<'_>) -> Result<(), Refusal> {
     let bits = word(call, 3);
     let props = LayerProps {
-        blend,
+        blend: Blend {
+            mix: word(call, 1),
+            compose: word(call, 2),
+        },
         opacity: float_of(bits),
         nan: nan_of(bits),
         mask: word(call, 4),
         clip: clip_of(call),
         panel: word(call, 13),
     };
-    push_layer(screen, rows, render, fills, layers, opacities, props)
+    let mut rows = Rows {
+        state: lent.rows,
+        render: lent.render,
+        fills: lent.fills,
+    };
+    let mut layers = Layers {
+        table: lent.layers,
+        opacities: lent.opacities,
+    };
+    push_layer(screen, &mut rows, &mut layers, props)
 }
 
 // The segments, after their number.
-pub fn do_pop(
-    call: &[u32],
-    screen: Screen,
-    rows: &mut [u32],
-    render: &mut [u32],
-    fills: &mut [u32],
-    layers: &mut [u32],
-    opacities: &mut [f32],
-    layer_attrs: &mut [u32],
-) -> Built {
-    let list = part_of(call, 1, 5 * wide(word(call, 1)));
-    let a = list.first;
-    let b = list.end;
+fn do_pop(call: &[u32], screen: &mut Screen, lent: &mut Lent<'_>) -> Result<(), Refusal> {
+    let (a, b) = records(call, 1, 5);
+    let mut rows = Rows {
+        state: lent.rows,
+        render: lent.render,
+        fills: lent.fills,
+    };
+    let mut layers = Layers {
+        table: lent.layers,
+        opacities: lent.opacities,
+    };
     pop_layer(
         screen,
-        rows,
-        render,
-        fills,
-        layers,
-        opacities,
-        layer_attrs,
+        &mut rows,
+        &mut layers,
+        lent.layer_attrs,
         &call[a..b],
     )
 }
 
-fn pixmap_of(call: &[u32]) -> Pixmap {
-    if word(call, 1) == 0 {
-        return Pixmap::Absent;
-    }
-    Pixmap::Present(word(call, 2))
-}
-
 // picture flag, its handle, dest box, source origin, the paint list's length, panel.
-pub fn do_filter(
-    call: &[u32],
-    screen: Screen,
-    rows: &mut [u32],
-    render: &mut [u32],
-    fills: &mut [u32],
-    paint_attrs: &mut [u32],
-    filter_paints: &mut [i32],
-) -> Built {
-    let placement = Placement {
-        dest: box_at(call, 3),
-        source_x: word(call, 7),
-        source_y: word(call, 8),
+fn do_filter(call: &[u32], screen: &mut Screen, lent: &mut Lent<'_>) -> Result<(), Refusal> {
+    let pixmap = if word(call, 1) == 0 {
+        None
+    } else {
+        Some(word(call, 2))
+    };
+    let mut rows = Rows {
+        state: lent.rows,
+        render: lent.render,
+        fills: lent.fills,
     };
     filter_fill(
         screen,
-        rows,
-        render,
-        fills,
-        paint_attrs,
-        filter_paints,
-        placement,
-        pixmap_of(call),
-        word(call, 9),
-        word(call, 10),
+        &mut rows,
+        lent.paint_attrs,
+        lent.filter_paints,
+        FilterFill {
+            placement: Placement {
+                dest: box_at(call, 3),
+                source_x: word(call, 7),
+                source_y: word(call, 8),
+            },
+            pixmap,
+            paint_count: word(call, 9),
+            panel: word(call, 10),
+        },
     )
 }
 
 // A box, C, D, mode, width. A width that is none is refused by 2.
-fn do_reset(
-    call: &[u32],
-    screen: Screen,
-    render: &mut [u32],
-    fills: &mut [u32],
-    depth: &mut [u32],
-    rows: &mut [u32],
-    painting: &mut [u32],
-    layers: &mut [u32],
-    opacities: &mut [f32],
-    paint_attrs: &mut [u32],
-    layer_attrs: &mut [u32],
-    filter_paints: &mut [i32],
-) -> Built {
-    let Asked::Good(setup) = setup_of(call) else {
-        return Built {
-            number: BAD_VIEWPORT,
-            screen,
-        };
-    };
-    reset(
-        screen,
-        box_at(call, 1),
-        setup,
-        render,
-        fills,
-        depth,
-        rows,
-        painting,
-        layers,
-        opacities,
-        paint_attrs,
-        layer_attrs,
-        filter_paints,
-    )
+fn do_reset(call: &[u32], screen: &mut Screen, lent: &mut Lent<'_>) -> Result<(), Refusal> {
+    let setup = setup_of(call).ok_or(Refusal::BadViewport)?;
+    *screen = reset(box_at(call, 1), setup, lent)?;
+    Ok(())
 }
 
 // Kinds 0 to 4: reset, fill, push, pop, filter fill.
-pub fn build_step(
-    call: &[u32],
-    screen: Screen,
-    render: &mut [u32],
-    fills: &mut [u32],
-    depth: &mut [u32],
-    rows: &mut [u32],
-    painting: &mut [u32],
-    layers: &mut [u32],
-    opacities: &mut [f32],
-    paint_attrs: &mut [u32],
-    layer_attrs: &mut [u32],
-    filter_paints: &mut [i32],
-) -> Built {
+pub fn build_step(call: &[u32], screen: &mut Screen, lent: &mut Lent<'_>) -> Result<(), Refusal> {
     match word(call, 0) {
-        0 => do_reset(
-            call,
-            screen,
-            render,
-            fills,
-            depth,
-            rows,
-            painting,
-            layers,
-            opacities,
-            paint_attrs,
-            layer_attrs,
-            filter_paints,
-        ),
-        1 => do_fill(call, screen, rows, render, fills, paint_attrs),
-        2 => do_push(call, screen, rows, render, fills, layers, opacities),
-        3 => do_pop(
-            call,
-            screen,
-            rows,
-            render,
-            fills,
-            layers,
-            opacities,
-            layer_attrs,
-        ),
-        _ => do_filter(
-            call,
-            screen,
-            rows,
-            render,
-            fills,
-            paint_attrs,
-            filter_paints,
-        ),
-    }
-}
-
-// A building step's answer is its number.
-pub fn built(out: &mut [u32], at: usize, done: Built) -> Turn {
-    let screen = done.screen;
-    Turn {
-        screen,
-        place: put(out, at, done.number),
+        0 => do_reset(call, screen, lent),
+        1 => do_fill(call, screen, lent),
+        2 => do_push(call, screen, lent),
+        3 => do_pop(call, screen, lent),
+        _ => do_filter(call, screen, lent),
     }
 }

@@ -6,45 +6,23 @@
 ghost use Rattle.std.specs.Prelude.{◌≡◌, ◌≤◌, ◌<◌, length};
 
 use file_form::words_of_bytes;
-use sizes::answers::DONE;
+use screen::Lent;
 use sizes::{FILTER_TABLE, LAYER_TABLE, OPACITIES, OPEN_TABLE, PAINT_TABLE};
 use std::process::ExitCode;
 use std::{fs, io};
+use test_run::run;
+use test_words::{after, word};
 
 const PATH: &str = "forged.words";
 
 // The last call of a line, counted from 0.
 const LAST: u32 = 11;
 
-fn wide(x: u32) -> usize
-    ensures { (result ≡ x) × (result < 4294967296) }
-{
-    x as usize
-}
-
-fn word(s: &[u32], i: usize) -> u32 {
-    if i < s.len() {
-        return s[i];
-    }
-    0
-}
-
-// n places after place a, or the end.
-fn after(a: usize, n: usize, end: usize) -> usize
-    requires { a ≤ «end» }
-    ensures { (a ≤ result) × (result ≤ «end») × (1 ≤ n → a < «end» → a < result) }
-{
-    if end - a < n {
-        return end;
-    }
-    a + n
-}
-
 // The number of the forged call at place p of the answers; the sums before it and at the end say whether a word changed.
 fn report(rt: &impl Print, out: &[u32], p: usize, m: usize) -> io::Result<()> {
     let number = word(out, p);
     print!(rt; " {number}")?;
-    if number != DONE && 1 <= p && 1 <= m && word(out, p - 1) != word(out, m - 1) {
+    if number != 0 && 1 <= p && 1 <= m && word(out, p - 1) != word(out, m - 1) {
         print!(rt; "!")?;
     }
     Ok(())
@@ -57,43 +35,6 @@ fn next_column(rt: &impl Print, column: u32) -> io::Result<u32> {
     }
     println!(rt)?;
     Ok(0)
-}
-
-// The sequence that stands from one place of the words to another: how many words its answers have.
-fn answer(
-    words: &[u32],
-    a: usize,
-    b: usize,
-    out: &mut [u32],
-    render: &mut [u32],
-    fills: &mut [u32],
-    depth: &mut [u32],
-    rows: &mut [u32],
-    painting: &mut [u32],
-    layers: &mut [u32],
-    opacities: &mut [f32],
-    paint_attrs: &mut [u32],
-    layer_attrs: &mut [u32],
-    filter_paints: &mut [i32],
-    list: &mut [u32],
-) -> usize
-    requires { (a ≤ b) × (b ≤ length words.now) }
-{
-    test_run::run(
-        &words[a..b],
-        out,
-        render,
-        fills,
-        depth,
-        rows,
-        painting,
-        layers,
-        opacities,
-        paint_attrs,
-        layer_attrs,
-        filter_paints,
-        list,
-    )
 }
 
 // Each sequence stands after the place of its forged answer and its length.
@@ -110,30 +51,26 @@ fn answer_all(rt: &impl Print, words: &[u32]) -> io::Result<()> {
     let mut layer_attrs: [u32; LAYER_TABLE] = [0; LAYER_TABLE];
     let mut filter_paints: [i32; FILTER_TABLE] = [0; FILTER_TABLE];
     let mut list: [u32; 64] = [0; 64];
+    let mut lent = Lent {
+        render: &mut render,
+        fills: &mut fills,
+        depth: &mut depth,
+        rows: &mut rows,
+        painting: &mut painting,
+        layers: &mut layers,
+        opacities: &mut opacities,
+        paint_attrs: &mut paint_attrs,
+        layer_attrs: &mut layer_attrs,
+        filter_paints: &mut filter_paints,
+    };
     let mut column: u32 = 0;
     let mut at: usize = 0;
     while at < words.len() {
         let one = after(at, 1, words.len());
         let two = after(one, 1, words.len());
-        let end = after(two, wide(word(words, one)), words.len());
-        let m = answer(
-            words,
-            two,
-            end,
-            &mut out,
-            &mut render,
-            &mut fills,
-            &mut depth,
-            &mut rows,
-            &mut painting,
-            &mut layers,
-            &mut opacities,
-            &mut paint_attrs,
-            &mut layer_attrs,
-            &mut filter_paints,
-            &mut list,
-        );
-        report(rt, &out, wide(word(words, at)), m)?;
+        let end = after(two, word(words, one) as usize, words.len());
+        let m = run(&words[two..end], &mut lent, &mut list, &mut out);
+        report(rt, &out, word(words, at) as usize, m)?;
         column = next_column(rt, column)?;
         at = end;
     }

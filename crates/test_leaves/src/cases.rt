@@ -3,11 +3,11 @@
 ghost use Rattle.std.specs.Prelude.{◌≡◌, ◌+◌, ◌^◌, ◌≤◌, ◌<◌, length};
 
 use crate::words::{MARK, holds, load, marks, word};
-use depth::runs::{Runs, unset_runs, unset_runs_and_write, visible_runs};
-use depth::split::{Edge, Split, split_opaque_span};
-use depth::state::{DepthState, Skip};
-use sizes::answers::DONE;
-use sizes::width::{ReadWidth, Width, read_width};
+use depth::runs::{unset_runs, unset_runs_and_write, visible_runs};
+use depth::split::{Split, split_opaque_span};
+use depth::state::DepthState;
+use sizes::answers::Refusal;
+use sizes::width::Width;
 use span::{BucketRange, TileSpan};
 
 // How many cases agree, of how many.
@@ -34,29 +34,26 @@ fn tiles_at(s: &[u8], at: usize) -> TileSpan
 }
 
 // A split as it is stored: the number of parts, three words a part, and marks. A refusal is marks alone.
-fn split_words(split: Split) -> [u32; 11]
+fn split_words(split: Result<Split, Refusal>) -> [u32; 11]
     ensures { 11 ≡ length result }
 {
     let m = MARK;
     match split {
-        Split::Refused => [MARK; 11],
-        Split::Whole(t) => [1, 0, t.first, t.end, m, m, m, m, m, m, m],
-        Split::Opaque {
-            before,
-            buckets,
-            after,
-        } => {
-            let f = buckets.first;
-            let e = buckets.end;
-            match before {
-                Edge::Absent => match after {
-                    Edge::Absent => [1, 1, f, e, m, m, m, m, m, m, m],
-                    Edge::Tiles(a) => [2, 1, f, e, 0, a.first, a.end, m, m, m, m],
-                },
-                Edge::Tiles(b) => match after {
-                    Edge::Absent => [2, 0, b.first, b.end, 1, f, e, m, m, m, m],
-                    Edge::Tiles(a) => [3, 0, b.first, b.end, 1, f, e, 0, a.first, a.end, m],
-                },
+        Err(_) => [MARK; 11],
+        Ok(Split::Whole(t)) => [1, 0, t.first, t.end, m, m, m, m, m, m, m],
+        Ok(
+            Split::Opaque {
+                before,
+                buckets,
+                after,
+            },
+        ) => {
+            let BucketRange { first, end } = buckets;
+            match (before, after) {
+                (None, None) => [1, 1, first, end, m, m, m, m, m, m, m],
+                (None, Some(a)) => [2, 1, first, end, 0, a.first, a.end, m, m, m, m],
+                (Some(b), None) => [2, 0, b.first, b.end, 1, first, end, m, m, m, m],
+                (Some(b), Some(a)) => [3, 0, b.first, b.end, 1, first, end, 0, a.first, a.end, m],
             }
         }
     }
@@ -67,7 +64,7 @@ fn replay_split(s: &[u8], at: usize) -> Seen
     requires { at ≤ 2 ^ 61 }
 {
     let n = word(s, at + 3);
-    let ReadWidth::Good(width) = read_width(word(s, at)) else {
+    let Ok(width) = Width::try_from(word(s, at)) else {
         return Seen {
             next: at + 4,
             agrees: n == MARK,
@@ -82,7 +79,14 @@ fn replay_split(s: &[u8], at: usize) -> Seen
 }
 
 // A question about runs, to the leaf of its kind: a span, with an id before it unless the kind is the unset one.
-fn ask(s: &[u8], kind: u32, width: Width, at: usize, row: &mut [u32], list: &mut [u32]) -> Runs
+fn ask(
+    s: &[u8],
+    kind: u32,
+    width: Width,
+    at: usize,
+    row: &mut [u32],
+    list: &mut [u32],
+) -> Result<usize, Refusal>
     requires { (1 ≤ at) × (at ≤ 2 ^ 63) }
 {
     let id = word(s, at - 1);
@@ -103,17 +107,14 @@ fn ask(s: &[u8], kind: u32, width: Width, at: usize, row: &mut [u32], list: &mut
 }
 
 // Whether as many runs were listed as are stored, and the list holds them and nothing else.
-fn listed(s: &[u8], at: usize, runs: Runs, list: &[u32]) -> bool
+fn listed(s: &[u8], at: usize, runs: Result<usize, Refusal>, list: &[u32]) -> bool
     requires { at < 2 ^ 63 }
 {
     let n = word(s, at) as usize;
-    if runs.number != DONE {
-        return false;
+    match runs {
+        Ok(count) => count == n && holds(s, at + 1, 2 * n, list),
+        Err(_) => false,
     }
-    if runs.count != n {
-        return false;
-    }
-    holds(s, at + 1, 2 * n, list)
 }
 
 // Where a span stands: after b depth words and an id, which only an unset case has not.
@@ -184,7 +185,7 @@ fn replay_runs(s: &[u8], kind: u32, width: Width, at: usize) -> Seen
 fn replay_wide(s: &[u8], kind: u32, at: usize) -> Seen
     requires { at ≤ 2 ^ 61 }
 {
-    let ReadWidth::Good(width) = read_width(word(s, at)) else {
+    let Ok(width) = Width::try_from(word(s, at)) else {
         return Seen {
             next: 0,
             agrees: false,
@@ -207,14 +208,11 @@ fn summed(s: &[u8], at: usize, k: usize) -> DepthState
 }
 
 // 1 is due for yes, 0 for no.
-fn is_due(skip: Skip, due: u32) -> bool {
-    if skip.number != DONE {
-        return false;
+fn is_due(skip: Result<bool, Refusal>, due: u32) -> bool {
+    match skip {
+        Ok(yes) => due == u32::from(yes),
+        Err(_) => false,
     }
-    if skip.yes {
-        return due == 1;
-    }
-    due == 0
 }
 
 // More fills than the file has bytes are no case.
@@ -263,11 +261,7 @@ pub fn replay(s: &[u8], kind: u32) -> Tally {
     while at < n {
         let this = word(s, at);
         let seen = replay_one(s, this, at + 1);
-        let next = seen.next;
-        if next <= at {
-            return Tally { agree, of: of + 1 };
-        }
-        if n < next {
+        if seen.next <= at || n < seen.next {
             return Tally { agree, of: of + 1 };
         }
         if this == kind {
@@ -276,7 +270,7 @@ pub fn replay(s: &[u8], kind: u32) -> Tally {
                 agree += 1;
             }
         }
-        at = next;
+        at = seen.next;
     }
     if 4 * n < s.len() {
         of += 1;

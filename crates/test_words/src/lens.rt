@@ -1,22 +1,28 @@
 // How much of each arena and table a call of a sequence is lent.
-ghost use Rattle.std.specs.Prelude.{◌≡◌, ◌≤◌, length};
+ghost use Rattle.std.specs.Prelude.{◌≤◌};
 ghost use Rattle.sizes.specs.Sizes.{most-room};
 
-use crate::{after, box_at, wide, word};
-use rect::{Mode, NOWHERE, Rect, Viewport};
+use crate::{after, box_at, word};
+use rect::{Mode, NOWHERE, Rect};
 use screen::{Screen, Setup};
-use sizes::width::{ReadWidth, Width, read_width};
+use sizes::width::Width;
 use sizes::{MOST_ROOM, ROW};
 
-// How many words of each arena and table a call is lent; the rows, and a row's own words.
+// How many words there are of each arena, of the rows and of painting.
 #[derive(Clone, Copy)]
-pub struct Lens {
-    pub count: usize,
+pub struct Words {
     pub rows: usize,
     pub render: usize,
     pub fills: usize,
     pub depth: usize,
     pub painting: usize,
+}
+
+// How many words a call is lent; the rows, and a row's own words.
+#[derive(Clone, Copy)]
+pub struct Lens {
+    pub lent: Words,
+    pub count: usize,
     pub row_render: usize,
     pub row_fills: usize,
     pub row_depth: usize,
@@ -26,20 +32,14 @@ pub struct Lens {
 fn room(n: u32) -> usize
     ensures { result ≤ most-room }
 {
-    if MOST_ROOM < n {
-        return 0;
-    }
-    wide(n)
+    if MOST_ROOM < n { 0 } else { n as usize }
 }
 
 // The words of so many rows, as far as they are there; none for more rows or longer rows than a screen can have.
 pub fn all_rows(count: usize, words: usize, there: usize) -> usize
     ensures { result ≤ there }
 {
-    if 512 < count {
-        return 0;
-    }
-    if 4096 < words {
+    if 512 < count || 4096 < words {
         return 0;
     }
     after(0, count * words, there)
@@ -49,64 +49,45 @@ pub fn all_rows(count: usize, words: usize, there: usize) -> usize
 pub fn less(n: usize, short: u32, table: u32) -> usize
     ensures { result ≤ n }
 {
-    if short != table {
-        return n;
+    if short == table {
+        n.saturating_sub(1)
+    } else {
+        n
     }
-    if n == 0 {
-        return 0;
-    }
-    n - 1
 }
 
-// What a screen of this viewport, C, D and width is lent of arenas and tables of these lengths.
-fn lens_for(
-    viewport: Rect,
-    c: u32,
-    d: u32,
-    width: Width,
-    rows: usize,
-    render: usize,
-    fills: usize,
-    depth: usize,
-    painting: usize,
-) -> Lens
-    ensures { (result.rows ≤ rows) × (result.render ≤ render) × (result.fills ≤ fills) × (result.depth ≤ depth) × (result.painting ≤ painting) }
+// What a screen of this viewport, C, D and width is lent of what there is.
+fn lens_for(viewport: Rect, c: u32, d: u32, width: Width, there: Words) -> Lens
+    ensures { (result.lent.rows ≤ there.rows) × (result.lent.render ≤ there.render) × (result.lent.fills ≤ there.fills) × (result.lent.depth ≤ there.depth) × (result.lent.painting ≤ there.painting) }
 {
-    let count = wide(viewport.height() / 4);
-    let buckets = wide(width.above(viewport.width() / 4));
+    let count = (viewport.height() / 4) as usize;
+    let row_depth = width.above(viewport.width() / 4) as usize;
     let row_render = 4 * room(c);
     let row_fills = 2 * room(d);
     Lens {
+        lent: Words {
+            rows: all_rows(count, ROW, there.rows),
+            render: all_rows(count, row_render, there.render),
+            fills: all_rows(count, row_fills, there.fills),
+            depth: all_rows(count, row_depth, there.depth),
+            painting: all_rows(count, 2, there.painting),
+        },
         count,
-        rows: all_rows(count, ROW, rows),
-        render: all_rows(count, row_render, render),
-        fills: all_rows(count, row_fills, fills),
-        depth: all_rows(count, buckets, depth),
-        painting: all_rows(count, 2, painting),
         row_render,
         row_fills,
-        row_depth: buckets,
+        row_depth,
     }
 }
 
-// What a reset asks of the screen.
-#[derive(Clone, Copy)]
-pub enum Asked {
-    Bad,
-    Good(Setup),
-}
-
-// C, D, the mode, where 0 is exact and any other word snapping, and a bucket's width in pixels, which may be none.
-pub fn setup_of(call: &[u32]) -> Asked {
-    let ReadWidth::Good(width) = read_width(word(call, 8)) else {
-        return Asked::Bad;
-    };
+// What a reset asks of the screen: C, D, the mode, where 0 is exact and any other word snapping, and a bucket's width in pixels, if it is one.
+pub fn setup_of(call: &[u32]) -> Option<Setup> {
+    let width = Width::try_from(word(call, 8)).ok()?;
     let mode = if word(call, 7) == 0 {
         Mode::Exact
     } else {
         Mode::Snapping
     };
-    Asked::Good(Setup {
+    Some(Setup {
         c: word(call, 5),
         d: word(call, 6),
         mode,
@@ -114,58 +95,18 @@ pub fn setup_of(call: &[u32]) -> Asked {
     })
 }
 
-// The viewport that a reset makes, none if it is refused.
-fn viewport_of(call: &[u32], setup: Setup) -> Rect {
-    let mode = setup.mode;
-    let Viewport::Good(viewport) = box_at(call, 1).viewport_in(mode) else {
-        return NOWHERE;
-    };
-    viewport
-}
-
 // A reset is lent what its own viewport, C, D and width need, nothing if it has no width; any other call what the screen's need.
-pub fn lens_of(
-    call: &[u32],
-    screen: Screen,
-    rows: usize,
-    render: usize,
-    fills: usize,
-    depth: usize,
-    painting: usize,
-) -> Lens
-    ensures { (result.rows ≤ rows) × (result.render ≤ render) × (result.fills ≤ fills) × (result.depth ≤ depth) × (result.painting ≤ painting) }
+pub fn lens_of(call: &[u32], screen: Screen, there: Words) -> Lens
+    ensures { (result.lent.rows ≤ there.rows) × (result.lent.render ≤ there.render) × (result.lent.fills ≤ there.fills) × (result.lent.depth ≤ there.depth) × (result.lent.painting ≤ there.painting) }
 {
-    if word(call, 0) == 0 {
-        let Asked::Good(setup) = setup_of(call) else {
-            let none = NOWHERE;
-            return lens_for(
-                none,
-                0,
-                0,
-                Width::W128,
-                rows,
-                render,
-                fills,
-                depth,
-                painting,
-            );
-        };
-        let width = setup.width;
-        return lens_for(
-            viewport_of(call, setup),
-            setup.c,
-            setup.d,
-            width,
-            rows,
-            render,
-            fills,
-            depth,
-            painting,
-        );
+    if word(call, 0) != 0 {
+        return lens_for(screen.viewport, screen.c, screen.d, screen.width, there);
     }
-    let viewport = screen.viewport;
-    let width = screen.width;
-    lens_for(
-        viewport, screen.c, screen.d, width, rows, render, fills, depth, painting,
-    )
+    match setup_of(call) {
+        Some(setup) => {
+            let viewport = box_at(call, 1).viewport_in(setup.mode).unwrap_or(NOWHERE);
+            lens_for(viewport, setup.c, setup.d, setup.width, there)
+        }
+        None => lens_for(NOWHERE, 0, 0, Width::W128, there),
+    }
 }

@@ -135,11 +135,8 @@ pub fn put_paint_attrs(out: &mut [u8], at: usize, table: &[u32], n: u32, panels:
     ensures { Wrote (details-text panels (paint-lines table.now n)) (detail-room * (1 + n)) (text out.old at) (text out.new result) }
 {
     let mut place = put_heading(out, at, b"paint attributes", n);
-    let count = n as usize;
-    let mut i = 0;
-    while i < count {
+    for i in 0..n as usize {
         place = put_paint_attr(out, place, table, i, panels);
-        i += 1;
     }
     place
 }
@@ -157,11 +154,8 @@ pub fn put_layer_attrs(
     ensures { Wrote (details-text panels (layer-lines table.now opacities.now n)) (detail-room * (1 + n)) (text out.old at) (text out.new result) }
 {
     let mut place = put_heading(out, at, b"layer attributes", n);
-    let count = n as usize;
-    let mut i = 0;
-    while i < count {
+    for i in 0..n as usize {
         place = put_layer_attr(out, place, table, opacities, i, panels);
-        i += 1;
     }
     place
 }
@@ -172,11 +166,8 @@ pub fn put_filter_paints(out: &mut [u8], at: usize, table: &[i32], n: u32) -> us
     ensures { Wrote (details-text false (filter-lines table.now n)) (detail-room * (1 + n)) (text out.old at) (text out.new result) }
 {
     let mut place = put_heading(out, at, b"filter paints", n);
-    let count = n as usize;
-    let mut i = 0;
-    while i < count {
+    for i in 0..n as usize {
         place = put_filter(out, place, table, i);
-        i += 1;
     }
     place
 }

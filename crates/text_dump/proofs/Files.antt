@@ -2,7 +2,7 @@
 use mathlib.Core.Path.{◌≡◌, refl, sym, ap, ◌∙◌}
 use mathlib.Core.Bool.{Bool, true, false, ◌&&◌, cond}
 use mathlib.Core.List.{List, [], ◌++◌, append-nil}
-use mathlib.Core.Option.{Option, none, some}
+use Rattle.std.specs.Prelude.{Option, None, Some}
 use Prim.Native.Nat.{ℕ, ◌+◌, ◌-◌, ◌*◌, ◌%◌, ◌≤◌, ◌<◌}
 use native.Mathlib.Omega.{arith}
 use lib.Dec.{leb, eqb}
@@ -32,8 +32,13 @@ use Rattle.text_details.specs.Details.{detail-lines, rowdump-words}
 use Rattle.text_details.specs.Bytes.{details-text}
 use Rattle.text_row.specs.Pieces.{piece-list}
 use Rattle.text_row.specs.Dumped as dumped
-use Rattle.text_file.specs.declared.FileText.{FileText}
-use Rattle.text_file.specs.Files.{FileOut, file-out, showed, refusing, size, over, Usual, words-text, refused-as-is, bytes-text}
+use Rattle.std.specs.Prelude.{Result, Ok, Err}
+use Rattle.std.specs.Result.{is_err}
+use Rattle.rules.proofs.All.{never}
+use Rattle.sizes.specs.declared.answers.Refusal.{Refusal}
+use Rattle.sizes.specs.Refusals.{answer_number}
+use Rattle.sizes.proofs.Refusals.{not_done}
+use Rattle.text_file.specs.Files.{Text as FileText, FileOut, file-out, shows-as, refusing, size, over, Usual, words-text, refused-as-is, bytes-text}
 use Rattle.text_file.proofs.Texts.{small}
 use Rattle.refine_steps.specs.Lent.{lent_of, Holds}
 use Rattle.refine_text.proofs.Files.{usual-frame, Left, Leaves, words-leave, file-few}
@@ -75,7 +80,7 @@ module _ (d : Bool) (s : Screen Row) (t u : Tables) (ht : Long t) (hu : Long u) 
   abbrev m : ScreenLent
   m = lent_of s h.begun h.depth h.painting
 
-  ue : u ≡ over (size 0 n b) t w.tables
+  ue : u ≡ over (size n b) t w.tables
   ue = eu ∙ l.tables
 
   own_view : s.state.frame.viewport ≡ v
@@ -215,19 +220,19 @@ module _ (q : Setup) (usual : Usual q) (fs : List ℕ) (byte : (i : ℕ) → get
   long-lines : 65536 < length fs → rowdump-lines q fs ≡ []
   unfolding rowdump-lines
   long-lines g =
-      ap (λ (x : Bool). elim x [ true ↦ [] | false ↦ elim (words_of fs) [ none ↦ [] | some ws ↦ rowdump-words q ws ] ]) (lt-ltb 65536 (length fs) g)
+      ap (λ (x : Bool). elim x [ true ↦ [] | false ↦ elim (words_of fs) [ None ↦ [] | Some ws ↦ rowdump-words q ws ] ]) (lt-ltb 65536 (length fs) g)
 
-  by-words : length fs ≤ 65536 → (o : Option (List ℕ)) → words_of fs ≡ o → rowdump-lines q fs ≡ elim o [ none ↦ [] | some ws ↦ rowdump-words q ws ]
+  by-words : length fs ≤ 65536 → (o : Option (List ℕ)) → words_of fs ≡ o → rowdump-lines q fs ≡ elim o [ None ↦ [] | Some ws ↦ rowdump-words q ws ]
   unfolding rowdump-lines
   by-words g o e =
-      ap (λ (x : Bool). elim x [ true ↦ [] | false ↦ elim (words_of fs) [ none ↦ [] | some ws ↦ rowdump-words q ws ] ]) (le-ltb 65536 (length fs) g)
-      ∙ ap (λ (p : Option (List ℕ)). elim p [ none ↦ [] | some ws ↦ rowdump-words q ws ]) e
+      ap (λ (x : Bool). elim x [ true ↦ [] | false ↦ elim (words_of fs) [ None ↦ [] | Some ws ↦ rowdump-words q ws ] ]) (le-ltb 65536 (length fs) g)
+      ∙ ap (λ (p : Option (List ℕ)). elim p [ None ↦ [] | Some ws ↦ rowdump-words q ws ]) e
 
   odd-lines : length fs ≤ 65536 → eqb (length fs % 4) 0 ≡ false → rowdump-lines q fs ≡ []
-  odd-lines g e = by-words g none (rules-words fs ∙ ap (λ (x : Bool). cond x (some (words-in fs)) none) e)
+  odd-lines g e = by-words g None (rules-words fs ∙ ap (λ (x : Bool). cond x (Some (words-in fs)) None) e)
 
   word-lines : length fs ≤ 65536 → eqb (length fs % 4) 0 ≡ true → rowdump-lines q fs ≡ rowdump-words q (words-in fs)
-  word-lines g e = by-words g (some (words-in fs)) (rules-words fs ∙ ap (λ (x : Bool). cond x (some (words-in fs)) none) e)
+  word-lines g e = by-words g (Some (words-in fs)) (rules-words fs ∙ ap (λ (x : Bool). cond x (Some (words-in fs)) None) e)
 
   refused-lines : (a : Answer (Screen Row)) → eqb a.number Done ≡ false → cond (eqb a.number Done) (detail-lines a.value) [] ≡ []
   refused-lines a e = rw e
@@ -289,9 +294,18 @@ long_of t list out p =
       filter-paints = p.filter-paints;
     }
 
+-- whether a file's call is refused, by its answer's number
+pub was_refused : {T : Type 0} (r : Result T Refusal) → is_err r ≡ true → answer_number r ≡ 0 → ⊥
+was_refused (Ok x) e z = never (sym e)
+was_refused (Err r) e z = not_done r z
+
+pub was_done : {T : Type 0} (r : Result T Refusal) → is_err r ≡ false → answer_number r ≡ 0
+was_done (Ok x) e = refl
+was_done (Err r) e = never e
+
 -- The whole text of a file, where its call is refused, and where the details stand after its lines.
 module _ (v : Bool) (q : Setup) (usual : Usual q) (fs : List ℕ) (byte : (i : ℕ) → get_or fs i 0 < 256) (t : Tables) (h : Long t)
-    (bs : List ℕ) (room : lines-room ≤ length bs) {x : FileText} {cs : List ℕ} {u : Tables} (e : file-out (showed x cs) u ≡ bytes-text fs q t bs) where
+    (bs : List ℕ) (room : lines-room ≤ length bs) {x : FileText} {cs : List ℕ} {u : Tables} (e : file-out (shows-as x cs) u ≡ bytes-text fs q t bs) where
   enough : list-room ≤ length bs
   enough = omega arith
 

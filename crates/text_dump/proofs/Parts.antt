@@ -1,7 +1,7 @@
 -- The parts of a recording's text, each put where the last one ended. Assumes nothing.
 use mathlib.Core.Path.{◌≡◌, refl, ap, ◌∙◌}
 use mathlib.Core.Bool.{Bool, true, false, cond}
-use mathlib.Core.List.{List, [], ◌++◌, append-nil}
+use mathlib.Core.List.{List, ◌++◌, append-nil}
 use Prim.Native.Nat.{ℕ, suc, ◌+◌, ◌-◌, ◌*◌, ◌≤◌, ◌<◌}
 use native.Mathlib.Numerals.{add-one}
 use native.Mathlib.Nat.{mul-le-mul}
@@ -21,9 +21,8 @@ use Rattle.paint_command.specs.Painting.{RowLent, lent, StepOut}
 use Rattle.paint_screen.specs.Beginning.{canvas, beginning}
 use Rattle.paint_screen.specs.Stepping.{Attributes, attributes}
 use Rattle.paint_whole.specs.Running.{row-painted}
-use Rattle.text_screen.specs.declared.Listing.{Listing}
 use Rattle.text_screen.specs.Listed as list
-use Rattle.text_screen.specs.Listed.{listing, written, begun-with}
+use Rattle.text_screen.specs.Listed.{Listing, listing, written, begun-with}
 use Rattle.text_details.specs.Bytes.{details-text}
 use Rattle.text_row.specs.Pieces.{row-lines}
 use Rattle.text_row.specs.Dumped.{AttrTables, row_out, pieces-written, stopped, row-stopped, with-text, row-dumped, good-tables, attrs-text, attrs-dumped}
@@ -34,7 +33,7 @@ written-few : (ts bs : List ℕ) → (written ts bs).answer.bytes ≤ length bs
 unfolding written
 written-few ts bs = go (ltb (length bs) (length ts)) refl
   where
-    go : (b : Bool) → ltb (length bs) (length ts) ≡ b → (cond b (list.left (listing 14 0) bs) (begun-with ts bs)).answer.bytes ≤ length bs
+    go : (b : Bool) → ltb (length bs) (length ts) ≡ b → (cond b (list.text-out (listing 14 0) bs) (begun-with ts bs)).answer.bytes ≤ length bs
     go true e = omega arith
     go false e = omega (arith, ltb-false (length bs) (length ts) e)
 
@@ -42,7 +41,7 @@ pieces-few : (v : Bool) (r : ℕ) (ws : List ℕ) (n : ℕ) (bs : List ℕ) → 
 unfolding pieces-written
 pieces-few v r ws n bs = go (ltb 65536 n)
   where
-    go : (b : Bool) → (cond b (list.left (listing 14 0) bs) (written (details-text v (row-lines r ws n)) bs)).answer.bytes ≤ length bs
+    go : (b : Bool) → (cond b (list.text-out (listing 14 0) bs) (written (details-text v (row-lines r ws n)) bs)).answer.bytes ≤ length bs
     go true = omega arith
     go false = written-few (details-text v (row-lines r ws n)) bs
 
@@ -51,7 +50,7 @@ unfolding row-dumped stopped
 row-few v s r a l bs = let e = row-painted s r a l in go e (eqb e.answer.number Done) e.answer.finished
   where
     go : (e : StepOut) (x y : Bool)
-        → (cond x (cond y (with-text e (pieces-written v r e.list e.answer.pieces bs)) (row-stopped s r a l e bs)) (with-text e (list.left (listing e.answer.number 0) bs))).answer.bytes ≤ length bs
+        → (cond x (cond y (with-text e (pieces-written v r e.list e.answer.pieces bs)) (row-stopped s r a l e bs)) (with-text e (list.text-out (listing e.answer.number 0) bs))).answer.bytes ≤ length bs
     go e true true = pieces-few v r e.list e.answer.pieces bs
     go e true false = omega arith
     go e false y = omega arith
@@ -60,7 +59,7 @@ pub attrs-few : (v : Bool) (s : Screen) (t : AttrTables) (bs : List ℕ) → (at
 unfolding attrs-dumped
 attrs-few v s t bs = go (good-tables s t)
   where
-    go : (b : Bool) → (cond b (written (attrs-text v s t) bs) (list.left (listing 4 0) bs)).answer.bytes ≤ length bs
+    go : (b : Bool) → (cond b (written (attrs-text v s t) bs) (list.text-out (listing 4 0) bs)).answer.bytes ≤ length bs
     go true = written-few (attrs-text v s t) bs
     go false = omega arith
 
@@ -91,7 +90,7 @@ module _ (v : Bool) (s : Screen) (n r : ℕ) (a : Attributes) (l : RowLent) (bs 
         rw (z, put_all q.bytes cs ds) (ap (after q.bytes cs) i ∙ rw (j, ← e))
 
 -- the attributes, then the rows
-module _ (v : Bool) (s : Screen) (n : ℕ) (t : AttrTables) (l : RowLent) (bs : List ℕ) {q : Listing} {cs : List ℕ} (e : list.left q cs ≡ attrs-dumped v s t bs) where
+module _ (v : Bool) (s : Screen) (n : ℕ) (t : AttrTables) (l : RowLent) (bs : List ℕ) {q : Listing} {cs : List ℕ} (e : list.text-out q cs ≡ attrs-dumped v s t bs) where
   pub heads-few : q.bytes ≤ length bs
   heads-few = rw (← e) at (attrs-few v s t bs)
 

@@ -12,7 +12,7 @@ use Rattle.paint_screen.specs.Beginning.{canvas, beginning}
 use Rattle.paint_screen.specs.Stepping.{Attributes, attributes}
 use Rattle.text_screen.specs.Listed.{row_room}
 use Rattle.text_row.specs.Pieces.{piece-list}
-use Rattle.text_row.specs.Dumped.{attrs-most, row-most, AttrTables, tables, row-dumped, attrs-dumped}
+use Rattle.text_row.specs.Dumped.{attrs-most, row-most, AttrTables, row-dumped, attrs-dumped}
 
 -- What the lines of `rowlist` have at most; what the details have; what all that stands after the first line has; and the whole text.
 abbrev pub list-room : ℕ

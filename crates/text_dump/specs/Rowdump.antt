@@ -1,6 +1,6 @@
 -- The text that `rowdump` prints of one recording: over the rules alone.
 use Rattle.std.specs.Prelude.{ℕ, ◌≤◌, ◌≡◌, Bool, true, false, cond, List, [], ◌∷◌, ◌++◌, length}
-use Rattle.std.proofs.Math.Option.{none, some}
+use Rattle.std.specs.Prelude.{None, Some}
 use Rattle.rules.specs.Setups.{Setup}
 use Rattle.rules.specs.Lines.{words_of, too_long, digits}
 use Rattle.text_details.specs.Details.{Detail, rowdump-words}
@@ -20,7 +20,7 @@ unfoldable pub rowdump-lines : Setup → List ℕ → List Detail
 rowdump-lines q fs =
     elim (too_long (length fs)) [
       | true ↦ []
-      | false ↦ elim (words_of fs) [ none ↦ [] | some ws ↦ rowdump-words q ws ]
+      | false ↦ elim (words_of fs) [ None ↦ [] | Some ws ↦ rowdump-words q ws ]
     ]
 
 -- what stands after the first line: the rules' `rowlist` of the bytes, then the details; v: panels are shown

@@ -8,28 +8,28 @@ ghost use Rattle.screen.specs.Tables.{tables as screen-tables};
 ghost use Rattle.text.specs.Texts.{text, Wrote};
 ghost use Rattle.paint_command.specs.Painting.{lent};
 ghost use Rattle.paint_screen.specs.Stepping.{attributes};
-ghost use Rattle.text_file.specs.Files.{Usual};
+ghost use Rattle.text_file.specs.Files.{Usual, showed, file-out, bytes-text};
 ghost use Rattle.text_row.specs.Pieces.{piece-list};
 ghost use Rattle.text_row.specs.Dumped.{tables};
 ghost use Rattle.text_programs.specs.Programs.{first};
 ghost use Rattle.text_dump.specs.Rowdump.{recording-line, file-lines-text, rowdump-text, no-width-dump, Printed};
 ghost use Rattle.text_dump.specs.Dumped.{lines-room, dump-room, part, rows-dumped, details-dumped, screen-dumped, Wide, Sized};
 
+use paint_screen::Stored;
 use paint_screen::begin::begin_painting;
-use screen::{Screen, Setup};
-use sizes::answers::DONE;
+use screen::{Lent, Screen, Setup};
 use sizes::{
     MOST_ATTRS, MOST_FILTERS, PROGRAM_DEPTHS, PROGRAM_RENDERS, PROGRAM_ROOM, PROGRAM_ROWS, ROW,
 };
 use text::{put_byte, put_digits, put_text};
 use text_details::{DETAIL, PIECE_LINE};
-use text_file::file_text;
+use text_file::{FileText, file_text};
 use text_programs::no_width_text;
 use text_programs::tables::{
     depth_words, fill_words, filter_words, layer_attr_words, layer_words, opacity_words,
     paint_attr_words, painting_words, render_words, row_words,
 };
-use text_row::{PIECE_LIST, PIECES, attrs_text, row_text};
+use text_row::{PIECE_LIST, PIECES, Tables, attrs_text, row_text};
 
 // What the lines of `rowlist` have at most, what the text after the first line has, and the whole text.
 const LIST_ROOM: usize = 64 + PROGRAM_ROWS * (64 * (1 + 2 * PROGRAM_ROOM as usize));
@@ -68,50 +68,28 @@ fn rows_text(
     r: u32,
     n: u32,
     panels: bool,
-    rows: &[u32],
-    render: &[u32],
-    fills: &[u32],
+    stored: &Stored<'_>,
     depth: &mut [u32],
     painting: &mut [u32],
-    paint_attrs: &[u32],
-    layer_attrs: &[u32],
     list: &mut [u32],
     out: &mut [u8],
 ) -> usize
     ensures out_after { part result depth.new painting.new list.new out.new
-        ≡ rows-dumped panels (n - r) r screen (attributes paint_attrs.now layer_attrs.now) (lent rows.now render.now fills.now depth.old painting.old list.old) out.old }
+        ≡ rows-dumped panels (n - r) r screen (attributes stored.now.paint_attrs.now stored.now.layer_attrs.now) (lent stored.now.rows.now stored.now.render.now stored.now.fills.now depth.old painting.old list.old) out.old }
     ensures upper_bound { result ≤ length out.old }
 {
     if n <= r {
         return 0;
     }
-    let text = row_text(
-        screen,
-        r,
-        panels,
-        rows,
-        render,
-        fills,
-        depth,
-        painting,
-        paint_attrs,
-        layer_attrs,
-        list,
-        out,
-    );
-    let k = text.bytes;
+    let k = row_text(screen, r, panels, stored, depth, painting, list, out).unwrap_or(0);
     let more = rows_text(
         screen,
         r + 1,
         n,
         panels,
-        rows,
-        render,
-        fills,
+        stored,
         depth,
         painting,
-        paint_attrs,
-        layer_attrs,
         list,
         &mut out[k..],
     );
@@ -123,47 +101,37 @@ fn details_text(
     screen: Screen,
     n: u32,
     panels: bool,
-    rows: &[u32],
-    render: &[u32],
-    fills: &[u32],
+    stored: &Stored<'_>,
     depth: &mut [u32],
     painting: &mut [u32],
     opacities: &[f32],
-    paint_attrs: &[u32],
-    layer_attrs: &[u32],
     filter_paints: &[i32],
     list: &mut [u32],
     out: &mut [u8],
 ) -> usize
     ensures out_after { part result depth.new painting.new list.new out.new
-        ≡ details-dumped panels screen n (tables paint_attrs.now layer_attrs.now opacities.now filter_paints.now)
-        (lent rows.now render.now fills.now depth.old painting.old list.old) out.old }
+        ≡ details-dumped panels screen n (tables stored.now.paint_attrs.now stored.now.layer_attrs.now opacities.now filter_paints.now)
+        (lent stored.now.rows.now stored.now.render.now stored.now.fills.now depth.old painting.old list.old) out.old }
     ensures upper_bound { result ≤ length out.old }
 {
-    let text = attrs_text(
-        screen,
-        panels,
-        paint_attrs,
-        layer_attrs,
+    let tables = Tables {
+        paint_attrs: stored.paint_attrs,
+        layer_attrs: stored.layer_attrs,
         opacities,
         filter_paints,
-        out,
-    );
-    let k = text.bytes;
-    let begun = begin_painting(screen, depth, painting);
-    let s = begun.screen;
+    };
+    let k = attrs_text(screen, panels, &tables, out).unwrap_or(0);
+    let mut begun = screen;
+    // Where it is refused the screen is as it was, and no row gives a text.
+    let _ = begin_painting(&mut begun, depth, painting);
     let more = rows_text(
-        s,
+        begun,
         0,
         n,
         panels,
-        rows,
-        render,
-        fills,
+        stored,
         depth,
         painting,
-        paint_attrs,
-        layer_attrs,
         list,
         &mut out[k..],
     );
@@ -194,22 +162,59 @@ fn screen_text(
 {
     let n = screen.rows();
     let b = screen.buckets();
+    let stored = Stored {
+        rows: &rows[..n * ROW],
+        render: &render[..n * PROGRAM_RENDERS],
+        fills: &fills[..n * PROGRAM_DEPTHS],
+        paint_attrs,
+        layer_attrs,
+    };
     details_text(
         screen,
         n as u32,
         panels,
-        &rows[..n * ROW],
-        &render[..n * PROGRAM_RENDERS],
-        &fills[..n * PROGRAM_DEPTHS],
+        &stored,
         &mut depth[..n * b],
         &mut painting[..n * 2],
         opacities,
-        paint_attrs,
-        layer_attrs,
         filter_paints,
         list,
         out,
     )
+}
+
+// The lines of `rowlist`, with the tables lent one by one.
+fn lines_text(
+    file: &[u8],
+    setup: Setup,
+    render: &mut [u32],
+    fills: &mut [u32],
+    depth: &mut [u32],
+    rows: &mut [u32],
+    painting: &mut [u32],
+    layers: &mut [u32],
+    opacities: &mut [f32],
+    paint_attrs: &mut [u32],
+    layer_attrs: &mut [u32],
+    filter_paints: &mut [i32],
+    out: &mut [u8],
+) -> FileText
+    ensures { file-out (showed result out.new) (screen-tables render.new fills.new depth.new rows.new painting.new layers.new opacities.new paint_attrs.new layer_attrs.new filter_paints.new)
+        ≡ bytes-text file.now (setup-of setup) (screen-tables render.old fills.old depth.old rows.old painting.old layers.old opacities.old paint_attrs.old layer_attrs.old filter_paints.old) out.old }
+{
+    let mut lent = Lent {
+        render,
+        fills,
+        depth,
+        rows,
+        painting,
+        layers,
+        opacities,
+        paint_attrs,
+        layer_attrs,
+        filter_paints,
+    };
+    file_text(file, setup, &mut lent, out)
 }
 
 // The text of a recording after its first line, in tables that are lent.
@@ -234,7 +239,7 @@ fn tables_text(
     requires sized { Sized (screen-tables render.old fills.old depth.old rows.old painting.old layers.old opacities.old paint_attrs.old layer_attrs.old filter_paints.old) list.old out.old }
     ensures { Printed (file-lines-text panels (setup-of setup) file.now) out.old result out.new }
 {
-    let text = file_text(
+    let text = lines_text(
         file,
         setup,
         render,
@@ -250,12 +255,11 @@ fn tables_text(
         out,
     );
     let k = text.bytes;
-    if text.number != DONE {
+    if text.answer.is_err() {
         return k;
     }
-    let screen = text.screen;
     let more = screen_text(
-        screen,
+        text.screen,
         panels,
         rows,
         render,

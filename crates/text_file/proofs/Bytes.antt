@@ -2,12 +2,14 @@
 use mathlib.Core.Path.{◌≡◌, refl, ap, ◌∙◌}
 use mathlib.Core.Bool.{Bool, true, false, ◌&&◌, ◌||◌, cond}
 use mathlib.Core.List.{List, ◌++◌}
-use mathlib.Core.Option.{none, some}
+use Rattle.std.specs.Prelude.{None, Some, Ok, Err}
 use Prim.Native.Nat.{ℕ, ◌/◌, ◌%◌, ◌≤◌}
 use native.Mathlib.Omega.{arith}
 use lib.ListN.{length, take, drop}
 use lib.Dec.{leb, ltb, eqb}
 use borrow.Author.Tests.{le-ltb, lt-ltb, leb-true, leb-false}
+use Rattle.sizes.specs.declared.answers.Refusal.{Refusal}
+use Rattle.sizes.specs.Refusals.{number_of}
 use Rattle.rules.proofs.All.{both, never}
 use Rattle.rules.specs.Lists.{is_none}
 use Rattle.rules.specs.Setups.{Setup}
@@ -15,7 +17,6 @@ use Rattle.rules.specs.Recording.{shape, sections}
 use Rattle.rules.specs.Lines.{words_of}
 use Rattle.screen.specs.declared.Screen.{Screen}
 use Rattle.screen.specs.Tables.{Tables}
-use Rattle.file_form.specs.declared.Form.TheVariants as form
 use Rattle.file_form.specs.declared.Layout.{Layout}
 use Rattle.file_form.specs.Layouts.{form_of}
 use Rattle.file_form.specs.Words.{Filled, filled, filled-with, words-in}
@@ -65,11 +66,11 @@ module _ (fs ws : List ℕ) (g : good-bytes (length fs) ≡ true) {n : ℕ} {vs 
   bytes-shown q t bs e = rw g (rw words-read at e)
 
 -- Where the width asked for is none: the number of the words' form, and of the bytes.
-pub formless : (ws : List ℕ) → form.Bad ≡ form_of ws → 3 ≡ no-width-of ws
+pub formless : (ws : List ℕ) {r : Refusal} → Err r ≡ form_of ws → number_of r ≡ no-width-of ws
 unfolding no-width-of
-formless ws e = rw (bad-form ws e)
+formless ws e = let p = bad-form ws e in rw (p.0, p.1)
 
-pub well-formed : (ws : List ℕ) (l : Layout) → form.Good l ≡ form_of ws → 2 ≡ no-width-of ws
+pub well-formed : (ws : List ℕ) (l : Layout) → Ok l ≡ form_of ws → 2 ≡ no-width-of ws
 unfolding no-width-of
 well-formed ws l e = rw (good-form ws l e).same
 
@@ -79,7 +80,7 @@ unfolding no-width-number
 no-width-bad fs = go (leb (length fs) 65536) (eqb (length fs % 4) 0) refl refl
   where
     go : (x y : Bool) → leb (length fs) 65536 ≡ x → eqb (length fs % 4) 0 ≡ y → (x && y) ≡ false
-        → ◌≡◌ {A = ℕ} 3 (cond (ltb 65536 (length fs) || elim (words_of fs) [ none ↦ true | some ws ↦ is_none (sections shape ws) ]) 3 2)
+        → ◌≡◌ {A = ℕ} 3 (cond (ltb 65536 (length fs) || elim (words_of fs) [ None ↦ true | Some ws ↦ is_none (sections shape ws) ]) 3 2)
     go false y p e g = rw (lt-ltb 65536 (length fs) (leb-false _ _ p))
     go true false p e g = rw (le-ltb 65536 (length fs) (leb-true _ _ p), rules-words fs, e)
     go true true p e g = never g

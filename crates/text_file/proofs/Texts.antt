@@ -1,45 +1,45 @@
 -- What is shown of a screen, of a file, and of a refusal. Assumes nothing.
 use mathlib.Core.Path.{◌≡◌, ap, ◌∙◌}
+use Rattle.std.specs.Prelude.{Ok, Err}
 use mathlib.Core.Bool.{true, false}
 use mathlib.Core.List.{List}
 use Prim.Native.Nat.{ℕ, ◌*◌, ◌≤◌, ◌<◌}
 use native.Mathlib.Nat.{mul-le-mul}
 use borrow.Author.Tests.{le-leb, lt-leb, eq-eqb, ne_eqb}
+use Rattle.sizes.specs.declared.answers.Refusal.{Refusal}
+use Rattle.sizes.specs.declared.answers.Refusal.TheVariants as refusal
+use Rattle.sizes.specs.Refusals.{number_of}
 use Rattle.sizes.specs.Widths.{bucket-tiles}
 use Rattle.rules.specs.Answers.{answer}
-use Rattle.rules.specs.Boxes.{Box, good-viewport, rows_of, buckets-of}
+use Rattle.rules.specs.Boxes.{Box, good_viewport, rows_of, buckets-of}
 use Rattle.rules.specs.Setups.{Setup, viewport-in}
 use Rattle.rect.specs.declared.Rect.{Rect}
-use Rattle.rect.specs.declared.Viewport.TheVariants as viewport
 use Rattle.rect.specs.Rects.{box_of, seen}
 use Rattle.rect.proofs.Snapping.{good-seen, bad-seen}
 use Rattle.row.specs.Words.{Words, words}
 use Rattle.screen.specs.declared.Screen.{Screen}
 use Rattle.screen.specs.Tables.{Tables, lent}
 use Rattle.screen.proofs.Laws.{few-buckets}
-use Rattle.file_form.specs.declared.Form.TheVariants as form
 use Rattle.file_form.specs.declared.Layout.{Layout}
 use Rattle.file_form.specs.Layouts.{form_of}
-use Rattle.file_judge.specs.Judging.{box-from}
+use Rattle.file_judge.specs.Judging.{box_from}
 use Rattle.file_call.specs.Recorded.{recorded}
-use Rattle.text_screen.specs.declared.Listing.{Listing}
-use Rattle.text_screen.specs.Listed.{TextOut, left, listed, refused-listed}
-use Rattle.text_file.specs.declared.FileText.{FileText}
+use Rattle.text_screen.specs.Listed.{Listing, TextOut, text-out, listed, refused-listed}
 use Rattle.text_file.specs.declared.Size.{Size}
-use Rattle.text_file.specs.Files.{nothing, Showed, showed, file-text, refusing, showing, file-out, FileOut, recording-text}
+use Rattle.text_file.specs.Files.{nothing, Showed, shows-as, file-text, refusing, showing, file-out, FileOut, recording-text}
 use Rattle.text_file.specs.Files.{frame_at, size, size_of, cut-to, over, in-front, front-text, is-roomy, words-text}
 
 module _ (n : ℕ) (s : Screen) (bs : List ℕ) {r : Listing} {cs : List ℕ} where
-  pub refused_as : left r cs ≡ refused-listed n bs → showed (file-text n r.bytes s) cs ≡ refusing n s bs
+  pub refused_as : text-out r cs ≡ refused-listed n bs → shows-as (file-text n r.bytes s) cs ≡ refusing n s bs
   unfolding refusing
-  refused_as e = ap (λ (o : TextOut). showed (file-text n o.answer.bytes s) o.bytes) e
+  refused_as e = ap (λ (o : TextOut). shows-as (file-text n o.answer.bytes s) o.bytes) e
 
-module _ (s : Screen) (w : Words) (bs : List ℕ) {r : Listing} {cs : List ℕ} (e : left r cs ≡ listed s w bs) where
-  pub show-refused : {x : FileText} {ds : List ℕ} → (r.number ≡ 0 → ⊥) → showed x ds ≡ refusing r.number s cs → showed x ds ≡ showing s w bs
+module _ (s : Screen) (w : Words) (bs : List ℕ) {r : Listing} {cs : List ℕ} (e : text-out r cs ≡ listed s w bs) where
+  pub show-refused : {x : Showed} → (r.number ≡ 0 → ⊥) → x ≡ refusing r.number s cs → x ≡ showing s w bs
   unfolding showing
   show-refused h g = g ∙ rw (← e, ne_eqb r.number 0 h)
 
-  pub show-done : r.number ≡ 0 → showed (file-text 0 r.bytes s) cs ≡ showing s w bs
+  pub show-done : r.number ≡ 0 → shows-as (file-text 0 r.bytes s) cs ≡ showing s w bs
   unfolding showing
   show-done h = rw (← e, eq-eqb r.number 0 h)
 
@@ -59,28 +59,28 @@ module _ (ws : List ℕ) (q : Setup) (t : Tables) (bs : List ℕ) {o : Screen} (
 
 -- a file's size
 module _ (ws : List ℕ) (q : Setup) where
-  pub bad-form : form.Bad ≡ form_of ws → size 3 0 0 ≡ size_of ws q
+  pub bad-form : {r : Refusal} → Err r ≡ form_of ws → Err r ≡ size_of ws q
   unfolding size_of
   bad-form e = rw (← e)
 
-  module _ {l : Layout} (e : form.Good l ≡ form_of ws) {b : Box} (i : b ≡ box-from ws 1) where
-    pub bad-viewport : viewport.Bad ≡ seen (viewport-in q.mode b) → size 2 0 0 ≡ size_of ws q
+  module _ {l : Layout} (e : Ok l ≡ form_of ws) {b : Box} (i : b ≡ box_from ws 1) where
+    pub bad-viewport : {r : Refusal} → Err r ≡ seen (viewport-in q.mode b) → Err r ≡ size_of ws q
     unfolding size_of
-    bad-viewport h = rw (← e, ← i, bad-seen _ h)
+    bad-viewport h = let p = bad-seen _ _ h in rw (← e, ← i, p.0, p.1)
 
     -- of r, the viewport that the screen has
-    module _ {r : Rect} (h : viewport.Good r ≡ seen (viewport-in q.mode b)) where
+    module _ {r : Rect} (h : Ok r ≡ seen (viewport-in q.mode b)) where
       held : box_of r ≡ (frame_at ws q).viewport
       held = ap box_of (good-seen _ _ h).1 ∙ ap (viewport-in q.mode) i
 
-      is-good : good-viewport (box_of r) ≡ true
-      is-good = ap (λ (v : Rect). good-viewport (box_of v)) (good-seen _ _ h).1 ∙ (good-seen _ _ h).0
+      is-good : good_viewport (box_of r) ≡ true
+      is-good = ap (λ (v : Rect). good_viewport (box_of v)) (good-seen _ _ h).1 ∙ (good-seen _ _ h).0
 
-      pub many-rows : {m : ℕ} → m ≡ rows_of (box_of r) → 32 < m → size 2 0 0 ≡ size_of ws q
+      pub many-rows : {m : ℕ} → m ≡ rows_of (box_of r) → 32 < m → Err refusal.BadViewport ≡ size_of ws q
       unfolding size_of
       many-rows j g = rw (← e, ← held, is-good, lt-leb (rows_of (box_of r)) 32 (rw j at g))
 
-      pub good-size : {m n : ℕ} → m ≡ rows_of (box_of r) → n ≡ buckets-of (bucket-tiles q.width) (box_of r) → m ≤ 32 → size 0 m n ≡ size_of ws q
+      pub good-size : {m n : ℕ} → m ≡ rows_of (box_of r) → n ≡ buckets-of (bucket-tiles q.width) (box_of r) → m ≤ 32 → Ok (size m n) ≡ size_of ws q
       unfolding size_of
       good-size j k g = rw (← e, ← held, is-good, le-leb (rows_of (box_of r)) 32 (rw j at g), j, k)
 
@@ -91,21 +91,21 @@ module _ (ws : List ℕ) (q : Setup) where
 pub small : (n b : ℕ) → n ≤ 32 → b ≤ 64 → n * b ≤ 2048
 small n b h g = mul-le-mul {n₂ = 32} {m₂ = 64} h g
 
-pub front-shown : (n b : ℕ) (ws : List ℕ) (q : Setup) (t : Tables) (bs : List ℕ) {x : Showed} {u : Tables}
-    → file-out x u ≡ recording-text ws q (cut-to (size 0 n b) t) bs → file-out x (over (size 0 n b) t u) ≡ front-text n b ws q t bs
+pub front-shown : (z : Size) (ws : List ℕ) (q : Setup) (t : Tables) (bs : List ℕ) {x : Showed} {u : Tables}
+    → file-out x u ≡ recording-text ws q (cut-to z t) bs → file-out x (over z t u) ≡ front-text z ws q t bs
 unfolding front-text
-front-shown n b ws q t bs g = ap (in-front (size 0 n b) t) g
+front-shown z ws q t bs g = ap (in-front z t) g
 
-module _ (ws : List ℕ) (q : Setup) (t : Tables) (bs : List ℕ) {z : Size} (e : z ≡ size_of ws q) where
+module _ (ws : List ℕ) (q : Setup) (t : Tables) (bs : List ℕ) where
   module _ {x : Showed} {s : Screen} (p : s ≡ nothing) where
-    pub words-refused : (z.number ≡ 0 → ⊥) → x ≡ refusing z.number s bs → file-out x t ≡ words-text ws q t bs
+    pub words-refused : {r : Refusal} → Err r ≡ size_of ws q → x ≡ refusing (number_of r) s bs → file-out x t ≡ words-text ws q t bs
     unfolding words-text
-    words-refused h g = rw (← e, ne_eqb z.number 0 h) (ap (λ (y : Showed). file-out y t) (rw p at g))
+    words-refused e g = rw (← e) (ap (λ (y : Showed). file-out y t) (rw p at g))
 
-    pub words-short : z.number ≡ 0 → is-roomy t ≡ false → x ≡ refusing 4 s bs → file-out x t ≡ words-text ws q t bs
+    pub words-short : {z : Size} → Ok z ≡ size_of ws q → is-roomy t ≡ false → x ≡ refusing 4 s bs → file-out x t ≡ words-text ws q t bs
     unfolding words-text
-    words-short h i g = rw (← e, eq-eqb z.number 0 h, i) (ap (λ (y : Showed). file-out y t) (rw p at g))
+    words-short e i g = rw (← e, i) (ap (λ (y : Showed). file-out y t) (rw p at g))
 
-  pub words-shown : {o : FileOut} → z.number ≡ 0 → is-roomy t ≡ true → o ≡ front-text z.rows z.buckets ws q t bs → o ≡ words-text ws q t bs
+  pub words-shown : {z : Size} → Ok z ≡ size_of ws q → {o : FileOut} → is-roomy t ≡ true → o ≡ front-text z ws q t bs → o ≡ words-text ws q t bs
   unfolding words-text
-  words-shown h i g = rw (← e, eq-eqb z.number 0 h, i) g
+  words-shown e i g = rw (← e, i) g

@@ -1,9 +1,12 @@
 -- The text of a recording file: what `rowlist` prints of it, and what its words leave in the lent tables.
-use Rattle.std.specs.Prelude.{ℕ, ◌*◌, ◌%◌, ◌≤◌, ◌≡◌, Bool, true, false, ◌&&◌, cond, List, ◌++◌, length, take, drop, leb, eqb}
+use Rattle.std.specs.Prelude.{Result, Ok, Err, ℕ, ◌*◌, ◌%◌, ◌≤◌, ◌≡◌, Bool, true, false, ◌&&◌, cond, List, ◌++◌, length, take, drop, leb, eqb}
 use Rattle.sizes.specs.Sizes.{file-bytes, program-rows, program-room, program-render, program-fills, program-depth, program-records, program-painting, row-size}
+use Rattle.sizes.specs.declared.answers.Refusal.{Refusal}
+use Rattle.sizes.specs.declared.answers.Refusal.TheVariants as refusal
+use Rattle.sizes.specs.Refusals.{number_of, answer_number}
 use Rattle.rules.specs.Answers.{Answer, Done, BadViewport, BadForm, BadRecord}
 use Rattle.rules.specs.Lists.{is_none}
-use Rattle.rules.specs.Boxes.{good-viewport, rows_of}
+use Rattle.rules.specs.Boxes.{good_viewport, rows_of}
 use Rattle.rules.specs.Plans.{Frame, buckets-across}
 use Rattle.rules.specs.Setups.{Setup, frame}
 use Rattle.rules.specs.Recording.{shape, sections}
@@ -12,11 +15,10 @@ use Rattle.row.specs.Words.{Words, words}
 use Rattle.screen.specs.declared.Screen.{Screen}
 use Rattle.screen.specs.Screens.{fresh-screen}
 use Rattle.screen.specs.Tables.{Tables, tables, ScreenLent, lent}
-use Rattle.file_form.specs.declared.Form.{Form}
-use Rattle.file_form.specs.declared.Form.TheVariants as form
+use Rattle.file_form.specs.declared.Layout.{Layout}
 use Rattle.file_form.specs.Layouts.{form_of}
 use Rattle.file_form.specs.Words.{words-in}
-use Rattle.file_judge.specs.Judging.{box-from}
+use Rattle.file_judge.specs.Judging.{box_from}
 use Rattle.file_call.specs.Recorded.{recorded}
 use Rattle.text_screen.specs.Listed.{TextOut, listed, refused-listed}
 use Rattle.text_file.specs.declared.FileText.{FileText}
@@ -26,24 +28,36 @@ use Rattle.text_file.specs.declared.Size.{Size}
 abbrev pub nothing : Screen
 nothing = fresh-screen rule.nothing
 
+-- an answer's number, how many bytes are written, the screen
+pub record Text : Type 0 where
+  pub number : ℕ
+  pub bytes : ℕ
+  pub screen : Screen
+
+abbrev pub file-text : ℕ → ℕ → Screen → Text
+file-text n k s = record { number = n; bytes = k; screen = s }
+
+abbrev pub text_of : FileText → Text
+text_of x = file-text (answer_number x.answer) x.bytes x.screen
+
 -- what a call leaves: its answer with the screen, and the lent bytes
 pub record Showed : Type 0 where
-  pub text : FileText
+  pub text : Text
   pub bytes : List ℕ
 
-abbrev pub showed : FileText → List ℕ → Showed
-showed x bs = record { text = x; bytes = bs }
+abbrev pub shows-as : Text → List ℕ → Showed
+shows-as x bs = record { text = x; bytes = bs }
 
-abbrev pub file-text : ℕ → ℕ → Screen → FileText
-file-text n k s = record { number = n; bytes = k; screen = s }
+abbrev pub showed : FileText → List ℕ → Showed
+showed x bs = shows-as (text_of x) bs
 
 -- a refusal prints only its number
 unfoldable pub refusing : ℕ → Screen → List ℕ → Showed
-refusing n s bs = let o = refused-listed n bs in showed (file-text n o.answer.bytes s) o.bytes
+refusing n s bs = let o = refused-listed n bs in shows-as (file-text n o.answer.bytes s) o.bytes
 
 -- a listed screen
 abbrev pub shown-as : Screen → TextOut → Showed
-shown-as s o = cond (eqb o.answer.number Done) (showed (file-text Done o.answer.bytes s) o.bytes) (refusing o.answer.number s o.bytes)
+shown-as s o = cond (eqb o.answer.number Done) (shows-as (file-text Done o.answer.bytes s) o.bytes) (refusing o.answer.number s o.bytes)
 
 -- a screen's lines
 unfoldable pub showing : Screen → Words → List ℕ → Showed
@@ -70,20 +84,20 @@ recording-text ws q t bs = answered (recorded ws q (lent nothing t)) bs
 
 -- The file's own size: 3 for its form, 2 for its viewport or more than 32 rows.
 abbrev pub frame_at : List ℕ → Setup → Frame
-frame_at ws q = frame q (box-from ws 1)
+frame_at ws q = frame q (box_from ws 1)
 
-abbrev pub size : ℕ → ℕ → ℕ → Size
-size n r b = record { number = n; rows = r; buckets = b }
+abbrev pub size : ℕ → ℕ → Size
+size r b = record { rows = r; buckets = b }
 
-abbrev pub sized-if : Bool → Frame → Size
-sized-if true f = size Done (rows_of f.viewport) (buckets-across f)
-sized-if false f = size BadViewport 0 0
+abbrev pub sized-if : Bool → Frame → Result Size Refusal
+sized-if true f = Ok (size (rows_of f.viewport) (buckets-across f))
+sized-if false f = Err refusal.BadViewport
 
-abbrev pub sized : Form → Frame → Size
-sized form.Bad f = size BadForm 0 0
-sized (form.Good l) f = sized-if (good-viewport f.viewport && leb (rows_of f.viewport) program-rows) f
+abbrev pub sized : Result Layout Refusal → Frame → Result Size Refusal
+sized (Err r) f = Err r
+sized (Ok l) f = sized-if (good_viewport f.viewport && leb (rows_of f.viewport) program-rows) f
 
-unfoldable pub size_of : List ℕ → Setup → Size
+unfoldable pub size_of : List ℕ → Setup → Result Size Refusal
 size_of ws q = sized (form_of ws) (frame_at ws q)
 
 -- The tables that the programs have are for 32 rows of 64 buckets; a file's screen has their first words.
@@ -116,9 +130,9 @@ in-front z t o = file-out o.showed (over z t o.tables)
 abbrev pub refused-as-is : ℕ → Tables → List ℕ → FileOut
 refused-as-is n t bs = file-out (refusing n nothing bs) t
 
--- .. n rows of b buckets
-unfoldable pub front-text : ℕ → ℕ → List ℕ → Setup → Tables → List ℕ → FileOut
-front-text n b ws q t bs = in-front (size Done n b) t (recording-text ws q (cut-to (size Done n b) t) bs)
+-- .. of a size
+unfoldable pub front-text : Size → List ℕ → Setup → Tables → List ℕ → FileOut
+front-text z ws q t bs = in-front z t (recording-text ws q (cut-to z t) bs)
 
 -- .. of 64 commands and 64 depth fills: what the programs ask
 pub record Usual (q : Setup) : Type 0 where
@@ -133,18 +147,16 @@ pub record Roomy (t : Tables) : Type 0 where
   pub rows : program-records ≤ length t.rows
   pub painting : program-painting ≤ length t.painting
 
--- how many words the programs' tables have at least
-abbrev pub roomy : ℕ → ℕ → ℕ → ℕ → ℕ → Bool
-roomy render fills depth rows painting =
-    leb program-render render && (leb program-fills fills && (leb program-depth depth && (leb program-records rows && leb program-painting painting)))
-
 abbrev pub is-roomy : Tables → Bool
-is-roomy t = roomy (length t.render) (length t.fills) (length t.depth) (length t.rows) (length t.painting)
+is-roomy t =
+    leb program-render (length t.render)
+    && (leb program-fills (length t.fills)
+    && (leb program-depth (length t.depth) && (leb program-records (length t.rows) && leb program-painting (length t.painting))))
 
 -- 3 and 2 of the file, then 4 for a lent table that is too short
-abbrev pub text_in : Size → List ℕ → Setup → Tables → List ℕ → FileOut
-text_in z ws q t bs =
-    cond (eqb z.number Done) (cond (is-roomy t) (front-text z.rows z.buckets ws q t bs) (refused-as-is BadRecord t bs)) (refused-as-is z.number t bs)
+abbrev pub text_in : Result Size Refusal → List ℕ → Setup → Tables → List ℕ → FileOut
+text_in (Ok z) ws q t bs = cond (is-roomy t) (front-text z ws q t bs) (refused-as-is BadRecord t bs)
+text_in (Err r) ws q t bs = refused-as-is (number_of r) t bs
 
 -- a file's words
 unfoldable pub words-text : List ℕ → Setup → Tables → List ℕ → FileOut

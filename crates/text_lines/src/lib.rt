@@ -1,16 +1,16 @@
 // The lines that `rowlist` prints, one function for each kind. Parts: each asks for a place that is not far, and its callers have seen to it.
 #![tactic(auto)]
 
-ghost use Rattle.std.specs.Prelude.{◌≡◌, [], ◌∷◌, ◌+◌, ◌≤◌};
+ghost use Rattle.std.specs.Prelude.{◌≡◌, [], ◌∷◌, ◌+◌, ◌≤◌, option_map};
 ghost use Rattle.rules.specs.Lines.{header, row, refused, depth-line, command-line, fill-bytes, alpha-bytes, span-bytes, line-text, line-bytes};
-ghost use Rattle.span.specs.Spans.{tiles, alpha};
-ghost use Rattle.cmd.specs.Commands.{command, recorded-of};
+ghost use Rattle.span.specs.Spans.{tiles};
+ghost use Rattle.cmd.specs.Commands.{command};
 ghost use Rattle.cmd.specs.DepthFills.{depth-fill};
 ghost use Rattle.text.specs.Texts.{text, far, Wrote};
 
-use cmd::command::{Fill, Recorded, RenderCmd};
+use cmd::command::{Fill, RenderCmd};
 use cmd::depth_fill::DepthFill;
-use span::Alpha;
+use span::TileSpan;
 use text::{put_byte, put_dash, put_number, put_text};
 
 // A line's bytes at most.
@@ -57,20 +57,20 @@ pub fn put_depth_line(out: &mut [u8], at: usize, fill: DepthFill) -> usize
 }
 
 // An alpha index, or a dash.
-pub fn put_alpha(out: &mut [u8], at: usize, index: Alpha) -> usize
+pub fn put_alpha(out: &mut [u8], at: usize, index: Option<u32>) -> usize
     requires { at + 11 ≤ far }
-    ensures { Wrote (alpha-bytes (alpha index)) 11 (text out.old at) (text out.new result) }
+    ensures { Wrote (alpha-bytes index) 11 (text out.old at) (text out.new result) }
 {
     match index {
-        Alpha::Solid => put_dash(out, at),
-        Alpha::At(i) => put_number(out, at, i),
+        None => put_dash(out, at),
+        Some(i) => put_number(out, at, i),
     }
 }
 
 // What a P and an L have in common.
 fn put_fill(out: &mut [u8], at: usize, fill: Fill) -> usize
     requires { at + 44 ≤ far }
-    ensures { Wrote (fill-bytes fill.span.first fill.span.end (alpha fill.alpha) fill.attrs_idx) 44 (text out.old at) (text out.new result) }
+    ensures { Wrote (fill-bytes fill.span.first fill.span.end fill.alpha fill.attrs_idx) 44 (text out.old at) (text out.new result) }
 {
     let span = fill.span;
     let index = fill.alpha;
@@ -81,16 +81,16 @@ fn put_fill(out: &mut [u8], at: usize, fill: Fill) -> usize
 }
 
 // A buffer's span, or two dashes.
-fn put_recorded(out: &mut [u8], at: usize, recorded: Recorded) -> usize
+fn put_recorded(out: &mut [u8], at: usize, recorded: Option<TileSpan>) -> usize
     requires { at + 22 ≤ far }
-    ensures { Wrote (span-bytes (recorded-of recorded)) 22 (text out.old at) (text out.new result) }
+    ensures { Wrote (span-bytes (option_map tiles recorded)) 22 (text out.old at) (text out.new result) }
 {
     match recorded {
-        Recorded::Nothing => {
+        None => {
             let a = put_dash(out, at);
             put_dash(out, a)
         }
-        Recorded::Tiles(span) => {
+        Some(span) => {
             let a = put_number(out, at, span.first);
             put_number(out, a, span.end)
         }

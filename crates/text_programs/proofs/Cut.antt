@@ -1,7 +1,7 @@
 -- The programs read at most one byte more than the longest file has. A file that is cut there is refused as the whole file is.
 use Rattle.std.proofs.Common.{◌≡◌, ℕ, ◌+◌, ◌-◌, ◌<◌, true, List, length, take, drop, drop-drop, take_all, take-take, min, arith, length-take, leb, refl, sym, ap, subst, ◌∙◌, Bool, false, [], ◌∷◌, Option, Some}
 use borrow.Author.Tests.{lt-ltb, leb-true, leb-false}
-use Rattle.std.proofs.Math.Option.{none, some}
+use Rattle.std.specs.Prelude.{None, Some}
 use Rattle.rules.specs.Answers.{BadForm}
 use Rattle.rules.specs.Setups.{Setup}
 use Rattle.rules.specs.Lines.{refused, words_of, rowlist-words, rowlist, no-width}
@@ -40,7 +40,7 @@ read_over size m k bs ts mid new e f t s =
 long-rowlist : (q : Setup) (xs : List ℕ) → 65536 < length xs → rowlist-text q xs ≡ text_of (refused BadForm ∷ [])
 unfolding rowlist
 long-rowlist q xs h =
-    ap (λ (b : Bool). text_of (elim b [ true ↦ refused BadForm ∷ [] | false ↦ elim (words_of xs) [ none ↦ refused BadForm ∷ [] | some ws ↦ rowlist-words q ws ] ]))
+    ap (λ (b : Bool). text_of (elim b [ true ↦ refused BadForm ∷ [] | false ↦ elim (words_of xs) [ None ↦ refused BadForm ∷ [] | Some ws ↦ rowlist-words q ws ] ]))
     (lt-ltb 65536 (length xs) h)
 
 long-no-width : (xs : List ℕ) → 65536 < length xs → no-width-text xs ≡ text_of (refused BadForm ∷ [])
@@ -53,7 +53,7 @@ rowlist-cut q = cut (rowlist-text q) (λ xs ys h k. long-rowlist q xs h ∙ sym 
 pub no-width-cut : (fs : List ℕ) → no-width-text (take 65537 fs) ≡ no-width-text fs
 no-width-cut = cut no-width-text (λ xs ys h k. long-no-width xs h ∙ sym (long-no-width ys k))
 
-pub by_width-cut : (none : Bool) (q : Setup) (fs : List ℕ)
-    → by_width none (take 65537 fs) (rowlist-text q (take 65537 fs)) ≡ by_width none fs (rowlist-text q fs)
+pub by_width-cut : (None : Bool) (q : Setup) (fs : List ℕ)
+    → by_width None (take 65537 fs) (rowlist-text q (take 65537 fs)) ≡ by_width None fs (rowlist-text q fs)
 by_width-cut true q fs = no-width-cut fs
 by_width-cut false q fs = rowlist-cut q fs

@@ -2,7 +2,7 @@
 use mathlib.Core.Path.{◌≡◌, refl, sym, ap, ◌∙◌}
 use mathlib.Core.Bool.{Bool, true, false, ◌&&◌, cond}
 use mathlib.Core.List.{List, append-nil}
-use mathlib.Core.Option.{Option, none, some}
+use Rattle.std.specs.Prelude.{Option, None, Some, Result, Ok, Err}
 use Prim.Native.Nat.{ℕ, ◌%◌, ◌≤◌, ◌<◌}
 use native.Mathlib.Omega.{arith}
 use lib.ListN.{length, take, drop, length-append}
@@ -11,37 +11,24 @@ use lib.Dec.{leb, eqb}
 use borrow.Author.Tests.{le-leb, le-ltb, lt-ltb, leb-true, leb-false, eq-eqb}
 use Rattle.sizes.specs.Sizes.{program-render, program-fills, program-depth, program-records, program-painting, open-layer-table, opacity-count, paint-attr-table, layer-attr-table, filter-paint-table}
 use Rattle.sizes.specs.declared.width.Width.{Width}
-use Rattle.sizes.specs.declared.width.Width.TheVariants.{W128}
-use Rattle.sizes.specs.declared.width.ReadWidth.{ReadWidth}
-use Rattle.sizes.specs.declared.width.ReadWidth.TheVariants as read
-use Rattle.sizes.specs.Widths.{width_of, width_read}
+use Rattle.sizes.specs.declared.answers.Refusal.{Refusal}
 use Rattle.rules.specs.Answers.{BadForm}
 use Rattle.rules.specs.Setups.{Mode, Setup}
-use Rattle.rules.specs.Lines.{usual, words_of, rowlist-screen, refused, no-width, line-bytes}
+use Rattle.rules.specs.Lines.{words_of, rowlist-screen, refused, no-width, line-bytes}
 use Rattle.screen.specs.Judging.{good-fixed}
 use Rattle.screen.specs.Tables.{Tables, lengths}
 use Rattle.file_form.specs.Words.{words-in}
 use Rattle.file_form.proofs.Bytes.{rules-words}
-use Rattle.text_screen.specs.declared.Listing.{Listing}
-use Rattle.text_screen.specs.Listed.{TextOut, left, begun-with, written, refused-listed, text_of}
-use Rattle.text_file.specs.declared.FileText.{FileText}
-use Rattle.text_file.specs.Files.{FileOut, file-out, showed, Usual, is-roomy, refusing, refused-as-is, words-text, bytes-text, no-width-number}
+use Rattle.text_screen.specs.Listed.{Listing, TextOut, text-out, begun-with, written, refused-listed, text_of}
+use Rattle.text_file.specs.Files.{Text, FileOut, file-out, shows-as, Usual, is-roomy, refusing, refused-as-is, words-text, bytes-text, no-width-number}
 use Rattle.refine_text.proofs.Lengths.{line-few}
 use Rattle.refine_text.proofs.Files.{shows, file-printed, words-leave}
 use Rattle.text_programs.specs.Programs.{rowlist-number, rowlist-text, no-width-text, Wanted, wanted, want-of, first}
 
--- what is wanted with n pixels a bucket, as they are read
-module _ (m : Mode) (n : ℕ) (v : Bool) {r : ReadWidth} (e : width_read r ≡ width_of n) {q : Setup} where
-  pub no-want : r ≡ read.Bad → q ≡ usual m W128 → wanted q true v ≡ want-of m (width_of n) v
-  no-want b h = rw (← e, b, h)
-
-  pub want-at : (w : Width) → r ≡ read.Good w → q ≡ usual m w → wanted q false v ≡ want-of m (width_of n) v
-  want-at w b h = rw (← e, b, h)
-
--- .. has C = D = 64
-pub as-usual : (m : Mode) (o : Option Width) (v : Bool) {q : Setup} {b c : Bool} → wanted q b c ≡ want-of m o v → Usual q
-as-usual m none v e = record { c = ap (λ (x : Wanted). x.setup.c) e; d = ap (λ (x : Wanted). x.setup.d) e }
-as-usual m (some w) v e = record { c = ap (λ (x : Wanted). x.setup.c) e; d = ap (λ (x : Wanted). x.setup.d) e }
+-- what is wanted has C = D = 64
+pub as-usual : (m : Mode) (o : Result Width Refusal) (v : Bool) {q : Setup} {b c : Bool} → wanted q b c ≡ want-of m o v → Usual q
+as-usual m (Err _) v e = record { c = ap (λ (x : Wanted). x.setup.c) e; d = ap (λ (x : Wanted). x.setup.d) e }
+as-usual m (Ok w) v e = record { c = ap (λ (x : Wanted). x.setup.c) e; d = ap (λ (x : Wanted). x.setup.d) e }
 
 -- the lengths of the programs' tables
 pub record Long (t : Tables) : Type 0 where
@@ -78,7 +65,7 @@ module _ (t : Tables) (h : Long t) where
       )
 
   module _ (q : Setup) (u : Usual q) (fs bs : List ℕ) (room : 264256 ≤ length bs) where
-    pub rowlist-shown : {x : FileText} {cs : List ℕ} {v : Tables} → file-out (showed x cs) v ≡ bytes-text fs q t bs
+    pub rowlist-shown : {x : Text} {cs : List ℕ} {v : Tables} → file-out (shows-as x cs) v ≡ bytes-text fs q t bs
         → (x.bytes ≡ length (rowlist-text q fs)) × (cs ≡ first (rowlist-text q fs) bs)
     rowlist-shown e =
         let p = ap (λ (o : FileOut). shows o.showed) e ∙ file-printed q u fs t roomy fixed bs room in
@@ -86,22 +73,22 @@ module _ (t : Tables) (h : Long t) where
 
     -- the number, by the size of the bytes and by their words
     abbrev by_size : Bool → ℕ
-    by_size b = elim b [ true ↦ BadForm | false ↦ elim (words_of fs) [ none ↦ BadForm | some ws ↦ (rowlist-screen q ws).number ] ]
+    by_size b = elim b [ true ↦ BadForm | false ↦ elim (words_of fs) [ None ↦ BadForm | Some ws ↦ (rowlist-screen q ws).number ] ]
 
     long-number : 65536 < length fs → rowlist-number q fs ≡ 3
     unfolding rowlist-number
     long-number g = ap by_size (lt-ltb 65536 (length fs) g)
 
-    by-words : length fs ≤ 65536 → rowlist-number q fs ≡ elim (words_of fs) [ none ↦ BadForm | some ws ↦ (rowlist-screen q ws).number ]
+    by-words : length fs ≤ 65536 → rowlist-number q fs ≡ elim (words_of fs) [ None ↦ BadForm | Some ws ↦ (rowlist-screen q ws).number ]
     unfolding rowlist-number
     by-words g = ap by_size (le-ltb 65536 (length fs) g)
 
     word_number : length fs ≤ 65536 → (b : Bool) → eqb (length fs % 4) 0 ≡ b → rowlist-number q fs ≡ cond b (rowlist-screen q (words-in fs)).number 3
     word_number g b e =
-        by-words g ∙ ap (λ (o : Option (List ℕ)). elim o [ none ↦ BadForm | some ws ↦ (rowlist-screen q ws).number ]) (rules-words fs) ∙ taken b e
+        by-words g ∙ ap (λ (o : Option (List ℕ)). elim o [ None ↦ BadForm | Some ws ↦ (rowlist-screen q ws).number ]) (rules-words fs) ∙ taken b e
       where
         taken : (b : Bool) → eqb (length fs % 4) 0 ≡ b
-            → ◌≡◌ {A = ℕ} (elim (cond (eqb (length fs % 4) 0) (some (words-in fs)) none) [ none ↦ BadForm | some ws ↦ (rowlist-screen q ws).number ])
+            → ◌≡◌ {A = ℕ} (elim (cond (eqb (length fs % 4) 0) (Some (words-in fs)) None) [ None ↦ BadForm | Some ws ↦ (rowlist-screen q ws).number ])
             (cond b (rowlist-screen q (words-in fs)).number 3)
         taken true e = rw e
         taken false e = rw e
@@ -120,7 +107,7 @@ module _ (t : Tables) (h : Long t) where
         go true false p e = bad-number ∙ sym (word_number (leb-true _ _ p) false e)
         go true true p e = (words-leave q u (words-in fs) t roomy fixed bs room).number ∙ sym (word_number (leb-true _ _ p) true e)
 
-    pub number-shown : {x : FileText} {cs : List ℕ} {v : Tables} → file-out (showed x cs) v ≡ bytes-text fs q t bs → x.number ≡ rowlist-number q fs
+    pub number-shown : {x : Text} {cs : List ℕ} {v : Tables} → file-out (shows-as x cs) v ≡ bytes-text fs q t bs → x.number ≡ rowlist-number q fs
     number-shown e = ap (λ (o : FileOut). o.showed.text.number) e ∙ number-there
 
 -- the line where the width asked for is none
@@ -131,12 +118,12 @@ no-width-line fs = sym (append-nil _)
 pub no-width-few : (fs : List ℕ) → length (no-width-text fs) ≤ 64
 no-width-few fs = rw (← no-width-line fs) (line-few (refused (no-width-number fs)))
 
-pub no-width-shown : (fs bs : List ℕ) → 64 ≤ length bs → {n : ℕ} → n ≡ no-width-number fs → {r : Listing} {cs : List ℕ} → left r cs ≡ refused-listed n bs
+pub no-width-shown : (fs bs : List ℕ) → 64 ≤ length bs → {n : ℕ} → n ≡ no-width-number fs → {r : Listing} {cs : List ℕ} → text-out r cs ≡ refused-listed n bs
     → (r.bytes ≡ length (no-width-text fs)) × (cs ≡ first (no-width-text fs) bs)
 unfolding written
 no-width-shown fs bs room {n} h {r} {cs} e =
     let short : length (line-bytes (refused (no-width-number fs))) ≤ 64 = line-few (refused (no-width-number fs)) in
-    let o : left r cs ≡ begun-with (line-bytes (refused (no-width-number fs))) bs = e ∙ rw (h, le-ltb (length bs) (length (line-bytes (refused (no-width-number fs)))) (omega (arith, short, room))) in
+    let o : text-out r cs ≡ begun-with (line-bytes (refused (no-width-number fs))) bs = e ∙ rw (h, le-ltb (length bs) (length (line-bytes (refused (no-width-number fs)))) (omega (arith, short, room))) in
     rw (← no-width-line fs) (ap (λ (x : TextOut). x.answer.bytes) o, ap (λ (x : TextOut). x.bytes) o)
 
 -- a text that stands first is the bytes as far as it goes

@@ -1,6 +1,7 @@
 -- The texts that the programs print of a recording file's bytes.
 use Rattle.std.specs.Prelude.{ℕ, Bool, true, false, cond, List, ◌++◌, length, drop}
-use Rattle.std.proofs.Math.Option.{Option, none, some}
+use Rattle.std.specs.Prelude.{None, Some, Result, Ok, Err}
+use Rattle.sizes.specs.declared.answers.Refusal.{Refusal}
 use Rattle.sizes.specs.declared.width.Width.{Width}
 use Rattle.sizes.specs.declared.width.Width.TheVariants.{W128}
 use Rattle.rules.specs.Answers.{BadForm}
@@ -13,7 +14,7 @@ unfoldable pub rowlist-number : Setup → List ℕ → ℕ
 rowlist-number q fs =
     elim (too_long (length fs)) [
       | true ↦ BadForm
-      | false ↦ elim (words_of fs) [ none ↦ BadForm | some ws ↦ (rowlist-screen q ws).number ]
+      | false ↦ elim (words_of fs) [ None ↦ BadForm | Some ws ↦ (rowlist-screen q ws).number ]
     ]
 
 -- `rowlist`: the rules' own lines
@@ -37,9 +38,9 @@ pub record Wanted : Type 0 where
 abbrev pub wanted : Setup → Bool → Bool → Wanted
 wanted q b v = record { setup = q; no-width = b; panels = v }
 
-abbrev pub want-of : Mode → Option Width → Bool → Wanted
-want-of m none v = wanted (usual m W128) true v
-want-of m (some w) v = wanted (usual m w) false v
+abbrev pub want-of : Mode → Result Width Refusal → Bool → Wanted
+want-of m (Err _) v = wanted (usual m W128) true v
+want-of m (Ok w) v = wanted (usual m w) false v
 
 -- a text at the start of some bytes; what was after it stays
 abbrev pub first : List ℕ → List ℕ → List ℕ

@@ -4,16 +4,18 @@
 
 ghost use Rattle.std.specs.Prelude.{◌≡◌, ◌≤◌, length, take, IfOk, OnOk, IsOkUnless};
 ghost use Rattle.std.specs.Io.KnownBytes.{Appends};
+ghost use Rattle.sizes.specs.Refusals.{answer_number};
 ghost use Rattle.screen.specs.Screens.{setup-of};
 ghost use Rattle.text_file.specs.Files.{Usual};
 ghost use Rattle.text_programs.specs.Programs.{rowlist-number, rowlist-text, no-width-text, first};
 ghost use Rattle.text_programs.specs.Streams.{Takes};
 
 use crate::failure::Failure;
-use screen::Setup;
+use screen::{Lent, Setup};
+use sizes::answers::Refusal;
 use std::io::{Read, Write};
-use text_file::{file_text, no_width_number};
-use text_screen::{Listing, refusal_line};
+use text_file::{file_text, no_width_refusal};
+use text_screen::refusal_line;
 
 pub mod failure;
 pub mod options;
@@ -25,10 +27,17 @@ use crate::tables::{
     paint_attr_words, painting_words, render_words, row_words,
 };
 
-// The text that `rowlist` prints of a file's bytes, put first; how long it is, and the recording's number. The room is that of the longest text.
-pub fn list_file(file: &[u8], setup: Setup, out: &mut [u8]) -> Listing
+// answer: whether the recording is refused. bytes: how many are written, at the start of the lent ones.
+#[derive(Clone, Copy)]
+pub struct Listed {
+    pub answer: Result<(), Refusal>,
+    pub bytes: usize,
+}
+
+// The text that `rowlist` prints of a file's bytes, put first; how long it is, and the recording's answer. The room is that of the longest text.
+pub fn list_file(file: &[u8], setup: Setup, out: &mut [u8]) -> Listed
     requires { Usual (setup-of setup) × (264256 ≤ length out.old) }
-    ensures number_value { (result.number ≡ rowlist-number (setup-of setup) file.now) × (result.bytes ≡ length (rowlist-text (setup-of setup) file.now)) }
+    ensures number_value { (answer_number result.answer ≡ rowlist-number (setup-of setup) file.now) × (result.bytes ≡ length (rowlist-text (setup-of setup) file.now)) }
     ensures out_after { out.new ≡ first (rowlist-text (setup-of setup) file.now) out.old }
 {
     let mut render = render_words();
@@ -41,23 +50,21 @@ pub fn list_file(file: &[u8], setup: Setup, out: &mut [u8]) -> Listing
     let mut paint_attrs = paint_attr_words();
     let mut layer_attrs = layer_attr_words();
     let mut filter_paints = filter_words();
-    let text = file_text(
-        file,
-        setup,
-        &mut render,
-        &mut fills,
-        &mut depth,
-        &mut rows,
-        &mut painting,
-        &mut layers,
-        &mut opacities,
-        &mut paint_attrs,
-        &mut layer_attrs,
-        &mut filter_paints,
-        out,
-    );
-    Listing {
-        number: text.number,
+    let mut lent = Lent {
+        render: &mut render,
+        fills: &mut fills,
+        depth: &mut depth,
+        rows: &mut rows,
+        painting: &mut painting,
+        layers: &mut layers,
+        opacities: &mut opacities,
+        paint_attrs: &mut paint_attrs,
+        layer_attrs: &mut layer_attrs,
+        filter_paints: &mut filter_paints,
+    };
+    let text = file_text(file, setup, &mut lent, out);
+    Listed {
+        answer: text.answer,
         bytes: text.bytes,
     }
 }
@@ -68,8 +75,7 @@ pub fn rowlist_text(file: &[u8], setup: Setup, out: &mut [u8]) -> usize
     ensures value { result ≡ length (rowlist-text (setup-of setup) file.now) }
     ensures out_after { out.new ≡ first (rowlist-text (setup-of setup) file.now) out.old }
 {
-    let text = list_file(file, setup, out);
-    text.bytes
+    list_file(file, setup, out).bytes
 }
 
 // What the programs print of a file's bytes where the width asked for is none, put first; how long it is.
@@ -78,8 +84,7 @@ pub fn no_width_text(file: &[u8], out: &mut [u8]) -> usize
     ensures value { result ≡ length (no-width-text file.now) }
     ensures out_after { out.new ≡ first (no-width-text file.now) out.old }
 {
-    let line = refusal_line(no_width_number(file), out);
-    line.bytes
+    refusal_line(no_width_refusal(file).number(), out).unwrap_or(0)
 }
 
 // Reads until the bytes are full or the input ends; how many were read.

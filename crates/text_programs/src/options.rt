@@ -1,5 +1,6 @@
 // The programs' arguments. Options stand before the others, in any order, and of a repeated one the last counts.
-ghost use Rattle.std.specs.Prelude.{◌≡◌, ◌<◌, length, map, string_bytes, MatchOption};
+ghost use Rattle.std.specs.Prelude.{◌≡◌, ◌<◌, ◌⊎◌, IfErr, length, map, string_bytes, MatchOption};
+ghost use Rattle.text_programs.specs.declared.failure.Failure.TheVariants as Failure;
 ghost use Rattle.sizes.specs.Widths.{width_of};
 ghost use Rattle.rules.specs.Lines as rule;
 ghost use Rattle.rect.specs.Rects.{mode_of};
@@ -12,7 +13,7 @@ use crate::failure::Failure;
 use rect::Mode;
 use screen::Setup;
 use sizes::PROGRAM_ROOM;
-use sizes::width::{ReadWidth, Width, read_width};
+use sizes::width::Width;
 use std::env;
 use std::io::ErrorKind;
 use std::rt::Env;
@@ -57,17 +58,17 @@ fn usual(mode: Mode, width: Width) -> Setup
 fn want_of(mode: Mode, pixels: u32, panels: bool) -> Want
     ensures { wanted_of result ≡ want-of (mode_of mode) (width_of pixels) panels }
 {
-    let ReadWidth::Good(width) = read_width(pixels) else {
-        return Want {
+    match Width::try_from(pixels) {
+        Ok(width) => Want {
+            setup: usual(mode, width),
+            no_width: false,
+            panels,
+        },
+        Err(_) => Want {
             setup: usual(mode, Width::W128),
             no_width: true,
             panels,
-        };
-    };
-    Want {
-        setup: usual(mode, width),
-        no_width: false,
-        panels,
+        },
     }
 }
 
@@ -143,7 +144,9 @@ pub fn read_options(args: &[String], panels_known: bool) -> Options<'_>
 }
 
 // The arguments that the program was started with, without its name. One that is no text is no argument of a program.
-pub fn arguments<R: Env + AllocGlobal>(rt: &R) -> Result<Vec<String>, Failure> {
+pub fn arguments<R: Env + AllocGlobal>(rt: &R) -> Result<Vec<String>, Failure>
+    ensures { IfErr result (λ failure. (failure ≡ Failure.OutOfMemory) ⊎ (failure ≡ Failure.Usage)) }
+{
     match env::args(rt) {
         Ok(mut args) => {
             args.next();

@@ -1,7 +1,7 @@
 -- The list that a row was painted into holds its pieces. Assumes nothing.
 use mathlib.Core.Bool.{Bool, true, false, cond}
 use mathlib.Core.List.{List}
-use mathlib.Core.Option.{Option, none, some}
+use Rattle.std.specs.Prelude.{Option, None, Some}
 use Prim.Native.Nat.{ℕ, zero, suc, ◌+◌, ◌*◌, ◌/◌, ◌≤◌}
 use native.Mathlib.Omega.{arith}
 use lib.Dec.{ltb, eqb}
@@ -21,8 +21,8 @@ Holds o = piece-size * o.answer.pieces ≤ length o.list
 
 settled-holds : (x : Option rules.Painted) (d p l : List ℕ) → Holds (settled x d p l)
 unfolding settled
-settled-holds none d p l = omega arith
-settled-holds (some o) d p l = go (ltb (length l / piece-size) (length o.pieces))
+settled-holds None d p l = omega arith
+settled-holds (Some o) d p l = go (ltb (length l / piece-size) (length o.pieces))
   where
     go : (b : Bool) → Holds (cond b (out (refused 14) d p l) (left o l))
     go true = omega arith

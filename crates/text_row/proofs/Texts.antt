@@ -13,11 +13,10 @@ use Rattle.text.specs.Texts.{Text, text, Wrote}
 use Rattle.text.proofs.Laws.{then, within}
 use Rattle.paint_command.specs.Painting as painting
 use Rattle.paint_command.specs.Painting.{RowLent, lent, out}
-use Rattle.paint_screen.specs.declared.step.Stepped.{Stepped}
-use Rattle.paint_screen.specs.Stepping.{Attributes, painted-of, stepped}
+use Rattle.paint_pieces.specs.Answers.{Painted}
+use Rattle.paint_screen.specs.Stepping.{Attributes, stepped}
 use Rattle.paint_whole.specs.Running.{row-painted}
-use Rattle.text_screen.specs.declared.Listing.{Listing}
-use Rattle.text_screen.specs.Listed.{TextOut, listing, left}
+use Rattle.text_screen.specs.Listed.{Listing, TextOut, listing, text-out}
 use Rattle.text_screen.proofs.Writing.{written-done, written-full}
 use Rattle.text_details.specs.Bytes.{detail-room, details-text}
 use Rattle.text_details.specs.Tables.{paint-lines, layer-lines, filter-lines}
@@ -27,14 +26,14 @@ use Rattle.text_row.specs.Dumped.{row_out, row-dumped, pieces-written, Stopped, 
 use Rattle.text_row.proofs.Holds.{row-holds}
 
 -- the number of a step that is tried
-pub stopped-at : (s : Screen) (r : ℕ) (a : Attributes) (l : RowLent) (q : Stepped) {d p ws : List ℕ}
-    → out (painted-of q) d p ws ≡ stepped s r a l → stopped-out (listing q.number 0) d p ≡ stopped s r a l
+pub stopped-at : (s : Screen) (r : ℕ) (a : Attributes) (l : RowLent) (q : Painted) {d p ws : List ℕ}
+    → out q d p ws ≡ stepped s r a l → stopped-out (listing q.number 0) d p ≡ stopped s r a l
 unfolding stopped
 stopped-at s r a l q e = ap (λ (o : painting.StepOut). stopped-out (listing o.answer.number 0) o.depth o.painting) e
 
 -- a row
-module _ (v : Bool) (s : Screen) (r : ℕ) (a : Attributes) (l : RowLent) (q : Stepped) {d p ws : List ℕ}
-    (e : out (painted-of q) d p ws ≡ row-painted s r a l) (bs : List ℕ) where
+module _ (v : Bool) (s : Screen) (r : ℕ) (a : Attributes) (l : RowLent) (q : Painted) {d p ws : List ℕ}
+    (e : out q d p ws ≡ row-painted s r a l) (bs : List ℕ) where
   pub row-refused : (q.number ≡ 0 → ⊥) → row_out (listing q.number 0) d p ws bs ≡ row-dumped v s r a l bs
   unfolding row-dumped
   row-refused h = rw (← e, ne_eqb q.number 0 h)
@@ -48,23 +47,23 @@ module _ (v : Bool) (s : Screen) (r : ℕ) (a : Attributes) (l : RowLent) (q : S
     unfolding row-dumped
     row-ended k j = ap (λ (o : Stopped). row_out o.answer o.depth o.painting ws bs) j ∙ rw (← e, eq-eqb q.number 0 h, k)
 
-    pub row_done : {z : Listing} {cs : List ℕ} → q.finished ≡ true → left z cs ≡ pieces-written v r ws q.pieces bs → row_out z d p ws cs ≡ row-dumped v s r a l bs
+    pub row_done : {z : Listing} {cs : List ℕ} → q.finished ≡ true → text-out z cs ≡ pieces-written v r ws q.pieces bs → row_out z d p ws cs ≡ row-dumped v s r a l bs
     unfolding row-dumped
     row_done k j = ap (λ (o : TextOut). row_out o.answer d p ws o.bytes) j ∙ rw (← e, eq-eqb q.number 0 h, k)
 
 -- its lines
 module _ (v : Bool) (r : ℕ) (ws : List ℕ) (n : ℕ) (bs : List ℕ) where
-  pub many-pieces : 65536 < n → left (listing 14 0) bs ≡ pieces-written v r ws n bs
+  pub many-pieces : 65536 < n → text-out (listing 14 0) bs ≡ pieces-written v r ws n bs
   unfolding pieces-written
   many-pieces h = rw (lt-ltb 65536 n h)
 
   module _ (h : n ≤ 65536) where
-    pub lines-full : length bs < length (details-text v (row-lines r ws n)) → left (listing 14 0) bs ≡ pieces-written v r ws n bs
+    pub lines-full : length bs < length (details-text v (row-lines r ws n)) → text-out (listing 14 0) bs ≡ pieces-written v r ws n bs
     unfolding pieces-written
     lines-full g = written-full (details-text v (row-lines r ws n)) bs g ∙ rw (le-ltb 65536 n h)
 
     pub lines-done : {m k : ℕ} {cs : List ℕ} → length (details-text v (row-lines r ws n)) ≤ length bs → Wrote (details-text v (row-lines r ws n)) m (text bs 0) (text cs k)
-        → left (listing 0 k) cs ≡ pieces-written v r ws n bs
+        → text-out (listing 0 k) cs ≡ pieces-written v r ws n bs
     unfolding pieces-written
     lines-done g x = written-done (details-text v (row-lines r ws n)) g x ∙ rw (le-ltb 65536 n h)
 
@@ -97,16 +96,16 @@ good s t e =
     }
 
 module _ (v : Bool) (s : Screen) (t : AttrTables) (bs : List ℕ) where
-  pub attrs-bad : good-tables s t ≡ false → left (listing 4 0) bs ≡ attrs-dumped v s t bs
+  pub attrs-bad : good-tables s t ≡ false → text-out (listing 4 0) bs ≡ attrs-dumped v s t bs
   unfolding attrs-dumped
   attrs-bad e = rw e
 
   module _ (e : good-tables s t ≡ true) where
-    pub attrs-full : length bs < length (attrs-text v s t) → left (listing 14 0) bs ≡ attrs-dumped v s t bs
+    pub attrs-full : length bs < length (attrs-text v s t) → text-out (listing 14 0) bs ≡ attrs-dumped v s t bs
     unfolding attrs-dumped
     attrs-full h = written-full (attrs-text v s t) bs h ∙ rw e
 
-    pub attrs-done : {n k : ℕ} {cs : List ℕ} → length (attrs-text v s t) ≤ length bs → Wrote (attrs-text v s t) n (text bs 0) (text cs k) → left (listing 0 k) cs ≡ attrs-dumped v s t bs
+    pub attrs-done : {n k : ℕ} {cs : List ℕ} → length (attrs-text v s t) ≤ length bs → Wrote (attrs-text v s t) n (text bs 0) (text cs k) → text-out (listing 0 k) cs ≡ attrs-dumped v s t bs
     unfolding attrs-dumped
     attrs-done h x = written-done (attrs-text v s t) h x ∙ rw e
 

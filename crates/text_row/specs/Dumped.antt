@@ -7,11 +7,11 @@ use Rattle.paint_command.specs.Painting.{RowLent, lent, StepOut}
 use Rattle.paint_screen.specs.Stepping.{Attributes, stepped}
 use Rattle.paint_whole.specs.Running.{row-painted}
 use Rattle.text_screen.specs.Listed as list
-use Rattle.text_screen.specs.Listed.{listing, written, left}
-use Rattle.text_screen.specs.declared.Listing.{Listing}
+use Rattle.text_screen.specs.Listed.{Listing, listing, written, text-out}
 use Rattle.text_details.specs.Bytes.{detail-room, piece-room, details-text}
 use Rattle.text_details.specs.Tables.{paint-lines, layer-lines, filter-lines}
 use Rattle.text_row.specs.Pieces.{most-pieces, row-lines}
+use Rattle.text_row.specs.declared.Tables.{Tables}
 
 -- what a call on a row leaves: its answer, the lent words, the bytes
 pub record RowOut : Type 0 where
@@ -26,7 +26,7 @@ row_out a d p l bs = record { answer = a; depth = d; painting = p; list = l; byt
 
 -- the lines of a painted row; 14 for more than 65,536 pieces (a row has at most 2,048 steps, of at most 32 pieces each)
 unfoldable pub pieces-written : Bool → ℕ → List ℕ → ℕ → List ℕ → list.TextOut
-pieces-written v r ws n bs = cond (ltb 65536 n) (left (listing NoRoom 0) bs) (written (details-text v (row-lines r ws n)) bs)
+pieces-written v r ws n bs = cond (ltb 65536 n) (text-out (listing NoRoom 0) bs) (written (details-text v (row-lines r ws n)) bs)
 
 -- a row that stands at a step that is refused: that step's number, tried with no list
 pub record Stopped : Type 0 where
@@ -55,7 +55,7 @@ row-dumped v s r a l bs =
     let e = row-painted s r a l in
     cond (eqb e.answer.number Done)
     (cond e.answer.finished (with-text e (pieces-written v r e.list e.answer.pieces bs)) (row-stopped s r a l e bs))
-    (with-text e (left (listing e.answer.number 0) bs))
+    (with-text e (text-out (listing e.answer.number 0) bs))
 
 -- the tables of attributes
 pub record AttrTables : Type 0 where
@@ -66,6 +66,10 @@ pub record AttrTables : Type 0 where
 
 abbrev pub tables : List ℕ → List ℕ → List Float → List ℤ → AttrTables
 tables a b c d = record { paints = a; layers = b; opacities = c; filters = d }
+
+-- what those that are lent hold
+abbrev pub tables_of : Tables → AttrTables
+tables_of t = tables t.paint_attrs.now t.layer_attrs.now t.opacities.now t.filter_paints.now
 
 -- answer 4: counts within their limits, tables of their lengths
 abbrev pub good-lengths : Screen → ℕ → ℕ → ℕ → ℕ → Bool
@@ -95,4 +99,4 @@ attrs-text v s t =
     ++ (details-text v (layer-lines t.layers t.opacities s.layer_attrs) ++ details-text v (filter-lines t.filters s.filter_paints))
 
 unfoldable pub attrs-dumped : Bool → Screen → AttrTables → List ℕ → list.TextOut
-attrs-dumped v s t bs = cond (good-tables s t) (written (attrs-text v s t) bs) (left (listing BadRecord 0) bs)
+attrs-dumped v s t bs = cond (good-tables s t) (written (attrs-text v s t) bs) (text-out (listing BadRecord 0) bs)

@@ -1,6 +1,6 @@
 -- The lines of a row's pieces.
 use Rattle.std.specs.Prelude.{ℕ, ◌+◌, ◌*◌, ◌||◌, cond, List, [], ◌∷◌, get_or, drop, leb, eqb}
-use Rattle.std.proofs.Math.Option.{Option, none, some}
+use Rattle.std.specs.Prelude.{Option, None, Some}
 use Rattle.sizes.specs.Sizes.{most-runs, piece-size, program-buckets, program-room}
 use Rattle.text_details.specs.Details.{Detail, painted, p, l}
 use Rattle.text_screen.specs.Places.{joined}
@@ -18,7 +18,7 @@ abbrev pub word : List ℕ → ℕ → ℕ
 word ws i = get_or ws i 0
 
 abbrev pub alpha-of : ℕ → ℕ → Option ℕ
-alpha-of tag a = cond (eqb tag 2 || eqb tag 4) (some a) none
+alpha-of tag a = cond (eqb tag 2 || eqb tag 4) (Some a) None
 
 -- p for a paint, l for a layer
 abbrev pub letter-of : ℕ → ℕ

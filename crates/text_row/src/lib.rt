@@ -6,29 +6,27 @@ ghost use Rattle.std.specs.Prelude.{◌≡◌, true, false, ◌&&◌, [], ◌∷
 ghost use Rattle.sizes.specs.Sizes.{most-attrs, most-filters, piece-size};
 ghost use Rattle.rules.specs.Lines.{alpha-bytes};
 ghost use Rattle.text_details.specs.Details.{painted};
-ghost use Rattle.span.specs.Spans.{alpha};
 ghost use Rattle.text.specs.Texts.{text, far, Wrote};
 ghost use Rattle.text_details.specs.Bytes.{piece-room, panel-bytes, detail-bytes, details-text, piece_bytes};
 ghost use Rattle.paint_command.specs.Painting.{lent};
 ghost use Rattle.paint_screen.specs.Stepping.{attributes};
-ghost use Rattle.text_screen.specs.Listed.{left};
+ghost use Rattle.text_screen.specs.Listed.{left, listing_of};
 ghost use Rattle.text_row.specs.Pieces.{most-pieces, piece-list, alpha-of, letter-of, piece-at, row-lines};
-ghost use Rattle.text_row.specs.Dumped.{pieces-written, stopped-out, stopped, row_out, row-dumped, tables, good-lengths, good-tables, attrs-room, attrs-text, attrs-dumped};
+ghost use Rattle.text_row.specs.Dumped.{pieces-written, stopped-out, stopped, row_out, row-dumped, tables_of, good-tables, attrs-room, attrs-text, attrs-dumped};
 
+use paint_screen::Stored;
 use paint_whole::{paint_row, paint_step};
 use screen::Screen;
-use sizes::answers::{BAD_RECORD, DONE, NO_ROOM};
+use sizes::answers::Refusal;
 use sizes::{
     FILTER_TABLE, LAYER_TABLE, MOST_ATTRS, MOST_FILTERS, MOST_RUNS, OPACITIES, PAINT_TABLE, PIECE,
     PROGRAM_BUCKETS, PROGRAM_ROOM,
 };
-use span::Alpha;
 use text::{put_byte, put_number, put_text};
 use text_details::{
     DETAIL, PIECE_LINE, put_filter_paints, put_layer_attrs, put_paint_attrs, put_panel,
 };
 use text_lines::put_alpha;
-use text_screen::Listing;
 
 // The most pieces of a row of the programs' screens, and the words of a list that holds them.
 pub const PIECES: usize = PROGRAM_BUCKETS + MOST_RUNS * PROGRAM_ROOM as usize;
@@ -41,17 +39,20 @@ fn tied() -> [usize; 2]
     [PIECES, PIECE_LIST]
 }
 
+// What a host lends of a screen's attributes, to be read.
+#[derive(Clone, Copy)]
+pub struct Tables<'a> {
+    pub paint_attrs: &'a [u32],
+    pub layer_attrs: &'a [u32],
+    pub opacities: &'a [f32],
+    pub filter_paints: &'a [i32],
+}
+
 // The alpha index that a piece's tag says it has.
-fn alpha_of(tag: u32, index: u32) -> Alpha
-    ensures { alpha result ≡ alpha-of tag index }
+fn alpha_of(tag: u32, index: u32) -> Option<u32>
+    ensures { result ≡ alpha-of tag index }
 {
-    if tag == 2 {
-        return Alpha::At(index);
-    }
-    if tag == 4 {
-        return Alpha::At(index);
-    }
-    Alpha::Solid
+    matches!(tag, 2 | 4).then_some(index)
 }
 
 // What a p and an l have in common.
@@ -61,13 +62,13 @@ fn put_piece_fields(
     attribute: u32,
     first: u32,
     end: u32,
-    index: Alpha,
+    index: Option<u32>,
     nesting: u32,
     panel: u32,
     panels: bool,
 ) -> usize
     requires { at + 66 ≤ far }
-    ensures { Wrote (piece_bytes attribute first «end» (alpha-bytes (alpha index)) nesting (panel-bytes panels panel)) 66 (text out.old at) (text out.new result) }
+    ensures { Wrote (piece_bytes attribute first «end» (alpha-bytes index) nesting (panel-bytes panels panel)) 66 (text out.old at) (text out.new result) }
 {
     let a = put_number(out, at, attribute);
     let b = put_number(out, a, first);
@@ -81,10 +82,7 @@ fn put_piece_fields(
 fn letter(tag: u32) -> u8
     ensures { result ≡ letter-of tag }
 {
-    if tag <= 2 {
-        return b'p';
-    }
-    b'l'
+    if tag <= 2 { b'p' } else { b'l' }
 }
 
 // The piece at place k of a list.
@@ -128,10 +126,8 @@ fn put_pieces(out: &mut [u8], row: u32, list: &[u32], n: usize, panels: bool) ->
     ensures { Wrote (details-text panels (row-lines row list.now n)) (piece-room * (1 + n)) (text out.old 0) (text out.new result) }
 {
     let mut place = put_painted(out, 0, row, n as u32);
-    let mut k = 0;
-    while k < n {
+    for k in 0..n {
         place = put_piece(out, place, list, k, panels);
-        k += 1;
     }
     place
 }
@@ -141,69 +137,42 @@ fn is_short_row(row: u32, list: &[u32], n: usize, panels: bool, room: usize) -> 
     requires { (piece-size * n ≤ length list.now) × (n ≤ 65536) }
     ensures { result ≡ (ltb room (piece-room * (1 + n)) && ltb room (length (details-text panels (row-lines row list.now n)))) }
 {
-    if PIECE_LINE * (1 + n) <= room {
-        return false;
-    }
-    let mut none = [0u8; 0];
-    room < put_pieces(&mut none, row, list, n, panels)
+    room < PIECE_LINE * (1 + n) && room < put_pieces(&mut [], row, list, n, panels)
 }
 
-// The lines of a painted row, given its first n pieces.
-fn write_pieces(row: u32, list: &[u32], n: usize, panels: bool, out: &mut [u8]) -> Listing
+// The lines of a painted row, given its first n pieces, and how many bytes they have.
+fn write_pieces(
+    row: u32,
+    list: &[u32],
+    n: usize,
+    panels: bool,
+    out: &mut [u8],
+) -> Result<usize, Refusal>
     requires { piece-size * n ≤ length list.now }
     ensures { left result out.new ≡ pieces-written panels row list.now n out.old }
 {
     if 65536 < n {
-        return Listing {
-            number: NO_ROOM,
-            bytes: 0,
-        };
+        return Err(Refusal::NoRoom);
     }
     if is_short_row(row, list, n, panels, out.len()) {
-        return Listing {
-            number: NO_ROOM,
-            bytes: 0,
-        };
+        return Err(Refusal::NoRoom);
     }
-    let bytes = put_pieces(out, row, list, n, panels);
-    Listing {
-        number: DONE,
-        bytes,
-    }
+    Ok(put_pieces(out, row, list, n, panels))
 }
 
-// The number of the step that a row stands at, which is refused: it is tried with no list.
+// The refusal of the step that a row stands at: it is tried with no list.
 fn refused_at(
     screen: Screen,
     row: usize,
-    rows: &[u32],
-    render: &[u32],
-    fills: &[u32],
+    stored: &Stored<'_>,
     depth: &mut [u32],
     painting: &mut [u32],
-    paint_attrs: &[u32],
-    layer_attrs: &[u32],
-) -> Listing
-    ensures { stopped-out result depth.new painting.new
-        ≡ stopped screen row (attributes paint_attrs.now layer_attrs.now) (lent rows.now render.now fills.now depth.old painting.old []) }
+) -> Result<usize, Refusal>
+    ensures { stopped-out (listing_of result) depth.new painting.new
+        ≡ stopped screen row (attributes stored.now.paint_attrs.now stored.now.layer_attrs.now) (lent stored.now.rows.now stored.now.render.now stored.now.fills.now depth.old painting.old []) }
 {
-    let mut none = [0u32; 0];
-    let step = paint_step(
-        screen,
-        row,
-        rows,
-        render,
-        fills,
-        depth,
-        painting,
-        paint_attrs,
-        layer_attrs,
-        &mut none,
-    );
-    Listing {
-        number: step.number,
-        bytes: 0,
-    }
+    paint_step(screen, row, stored, depth, painting, &mut [])?;
+    Ok(0)
 }
 
 // The text of a row: painted to its end, its pieces in the list and as lines. The screen's painting has begun, and the row stands at its
@@ -212,83 +181,33 @@ pub fn row_text(
     screen: Screen,
     row: u32,
     panels: bool,
-    rows: &[u32],
-    render: &[u32],
-    fills: &[u32],
+    stored: &Stored<'_>,
     depth: &mut [u32],
     painting: &mut [u32],
-    paint_attrs: &[u32],
-    layer_attrs: &[u32],
     list: &mut [u32],
     out: &mut [u8],
-) -> Listing
-    ensures { row_out result depth.new painting.new list.new out.new
-        ≡ row-dumped panels screen row (attributes paint_attrs.now layer_attrs.now) (lent rows.now render.now fills.now depth.old painting.old list.old) out.old }
+) -> Result<usize, Refusal>
+    ensures { row_out (listing_of result) depth.new painting.new list.new out.new
+        ≡ row-dumped panels screen row (attributes stored.now.paint_attrs.now stored.now.layer_attrs.now) (lent stored.now.rows.now stored.now.render.now stored.now.fills.now depth.old painting.old list.old) out.old }
 {
-    let done = paint_row(
-        screen,
-        row as usize,
-        rows,
-        render,
-        fills,
-        depth,
-        painting,
-        paint_attrs,
-        layer_attrs,
-        list,
-    );
-    let n = done.number;
-    if n != DONE {
-        return Listing {
-            number: n,
-            bytes: 0,
-        };
-    }
+    let done = paint_row(screen, row as usize, stored, depth, painting, list)?;
     if !done.finished {
-        return refused_at(
-            screen,
-            row as usize,
-            rows,
-            render,
-            fills,
-            depth,
-            painting,
-            paint_attrs,
-            layer_attrs,
-        );
+        return refused_at(screen, row as usize, stored, depth, painting);
     }
     write_pieces(row, list, done.pieces, panels, out)
 }
 
 // Answer 4: counts within their limits, tables of their lengths.
-fn is_good_tables(
-    screen: Screen,
-    paints: usize,
-    layers: usize,
-    opacities: usize,
-    filters: usize,
-) -> bool
-    ensures { result ≡ good-lengths screen paints layers opacities filters }
+fn is_good_tables(screen: Screen, tables: &Tables<'_>) -> bool
+    ensures { result ≡ good-tables screen (tables_of tables.now) }
 {
-    if MOST_ATTRS < screen.paint_attrs {
-        return false;
-    }
-    if MOST_ATTRS < screen.layer_attrs {
-        return false;
-    }
-    if MOST_FILTERS < screen.filter_paints {
-        return false;
-    }
-    if paints != PAINT_TABLE {
-        return false;
-    }
-    if layers != LAYER_TABLE {
-        return false;
-    }
-    if opacities != OPACITIES {
-        return false;
-    }
-    filters == FILTER_TABLE
+    screen.paint_attrs <= MOST_ATTRS
+        && screen.layer_attrs <= MOST_ATTRS
+        && screen.filter_paints <= MOST_FILTERS
+        && tables.paint_attrs.len() == PAINT_TABLE
+        && tables.layer_attrs.len() == LAYER_TABLE
+        && tables.opacities.len() == OPACITIES
+        && tables.filter_paints.len() == FILTER_TABLE
 }
 
 // What the text of a screen's attributes has at most.
@@ -303,100 +222,44 @@ fn attrs_room(screen: Screen) -> usize
 }
 
 // The lines of tables that are judged.
-fn put_attrs(
-    out: &mut [u8],
-    screen: Screen,
-    panels: bool,
-    paint_attrs: &[u32],
-    layer_attrs: &[u32],
-    opacities: &[f32],
-    filter_paints: &[i32],
-) -> usize
-    requires { good-tables screen (tables paint_attrs.now layer_attrs.now opacities.now filter_paints.now) ≡ true }
-    ensures { Wrote (attrs-text panels screen (tables paint_attrs.now layer_attrs.now opacities.now filter_paints.now)) (attrs-room screen) (text out.old 0) (text out.new result) }
+fn put_attrs(out: &mut [u8], screen: Screen, panels: bool, tables: &Tables<'_>) -> usize
+    requires { good-tables screen (tables_of tables.now) ≡ true }
+    ensures { Wrote (attrs-text panels screen (tables_of tables.now)) (attrs-room screen) (text out.old 0) (text out.new result) }
 {
-    let a = put_paint_attrs(out, 0, paint_attrs, screen.paint_attrs, panels);
-    let b = put_layer_attrs(out, a, layer_attrs, opacities, screen.layer_attrs, panels);
-    put_filter_paints(out, b, filter_paints, screen.filter_paints)
+    let a = put_paint_attrs(out, 0, tables.paint_attrs, screen.paint_attrs, panels);
+    let b = put_layer_attrs(
+        out,
+        a,
+        tables.layer_attrs,
+        tables.opacities,
+        screen.layer_attrs,
+        panels,
+    );
+    put_filter_paints(out, b, tables.filter_paints, screen.filter_paints)
 }
 
 // Whether that text is longer than so many bytes.
-fn is_short_attrs(
-    screen: Screen,
-    panels: bool,
-    paint_attrs: &[u32],
-    layer_attrs: &[u32],
-    opacities: &[f32],
-    filter_paints: &[i32],
-    room: usize,
-) -> bool
-    requires { good-tables screen (tables paint_attrs.now layer_attrs.now opacities.now filter_paints.now) ≡ true }
-    ensures { result ≡ (ltb room (attrs-room screen) && ltb room (length (attrs-text panels screen (tables paint_attrs.now layer_attrs.now opacities.now filter_paints.now)))) }
+fn is_short_attrs(screen: Screen, panels: bool, tables: &Tables<'_>, room: usize) -> bool
+    requires { good-tables screen (tables_of tables.now) ≡ true }
+    ensures { result ≡ (ltb room (attrs-room screen) && ltb room (length (attrs-text panels screen (tables_of tables.now)))) }
 {
-    if attrs_room(screen) <= room {
-        return false;
-    }
-    let mut none = [0u8; 0];
-    room < put_attrs(
-        &mut none,
-        screen,
-        panels,
-        paint_attrs,
-        layer_attrs,
-        opacities,
-        filter_paints,
-    )
+    room < attrs_room(screen) && room < put_attrs(&mut [], screen, panels, tables)
 }
 
-// The text of a screen's attributes and filter paints.
+// The text of a screen's attributes and filter paints, and how many bytes it has.
 pub fn attrs_text(
     screen: Screen,
     panels: bool,
-    paint_attrs: &[u32],
-    layer_attrs: &[u32],
-    opacities: &[f32],
-    filter_paints: &[i32],
+    tables: &Tables<'_>,
     out: &mut [u8],
-) -> Listing
-    ensures { left result out.new ≡ attrs-dumped panels screen (tables paint_attrs.now layer_attrs.now opacities.now filter_paints.now) out.old }
+) -> Result<usize, Refusal>
+    ensures { left result out.new ≡ attrs-dumped panels screen (tables_of tables.now) out.old }
 {
-    if !is_good_tables(
-        screen,
-        paint_attrs.len(),
-        layer_attrs.len(),
-        opacities.len(),
-        filter_paints.len(),
-    ) {
-        return Listing {
-            number: BAD_RECORD,
-            bytes: 0,
-        };
+    if !is_good_tables(screen, tables) {
+        return Err(Refusal::BadRecord);
     }
-    if is_short_attrs(
-        screen,
-        panels,
-        paint_attrs,
-        layer_attrs,
-        opacities,
-        filter_paints,
-        out.len(),
-    ) {
-        return Listing {
-            number: NO_ROOM,
-            bytes: 0,
-        };
+    if is_short_attrs(screen, panels, tables, out.len()) {
+        return Err(Refusal::NoRoom);
     }
-    let bytes = put_attrs(
-        out,
-        screen,
-        panels,
-        paint_attrs,
-        layer_attrs,
-        opacities,
-        filter_paints,
-    );
-    Listing {
-        number: DONE,
-        bytes,
-    }
+    Ok(put_attrs(out, screen, panels, tables))
 }

@@ -1,7 +1,7 @@
 -- Where a screen's words stand for the rules' rows, their lines are the rules' lines. Assumes nothing.
 use mathlib.Core.Path.{◌≡◌, refl, ap, ◌∙◌}
 use mathlib.Core.List.{List, [], ◌∷◌, ◌++◌, map, append_assoc, append-nil}
-use mathlib.Core.Option.{Option, some}
+use Rattle.std.specs.Prelude.{Option, Some}
 use Prim.Native.Nat.{ℕ, zero, suc, ◌+◌, ◌-◌, ◌≤◌, ◌<◌}
 use native.Mathlib.Nat.{zero-add}
 use native.Mathlib.Omega.{arith}
@@ -28,14 +28,14 @@ no-fill = record { buckets = span 0 0; attribute = 0 }
 pub record Stands (n : ℕ) (r : Row) (w : Words) : Type 0 where
   pub renders : word 0 w ≡ length r.commands
   pub depths : word 1 w ≡ length r.fills
-  pub commands-at : (k : ℕ) → k < length r.commands → command-at w.render k ≡ some (get_or r.commands k pop-buf)
-  pub fills-at : (k : ℕ) → k < length r.fills → depth-fill-at n w.fills k ≡ some (get_or r.fills k no-fill)
+  pub commands-at : (k : ℕ) → k < length r.commands → command-at w.render k ≡ Some (get_or r.commands k pop-buf)
+  pub fills-at : (k : ℕ) → k < length r.fills → depth-fill-at n w.fills k ≡ Some (get_or r.fills k no-fill)
 
 map-two : {A : Type 0} (f : A → Line) (xs ys : List A) → map f (xs ++ ys) ≡ map f xs ++ map f ys
 map-two f [] ys = refl
 map-two f (x ∷ xs) ys = ap (λ (l : List Line). f x ∷ l) (map-two f xs ys)
 
-module _ {A : Type 0} (f : A → Line) (d : A) (xs : List A) (g : ℕ → Option A) (h : (k : ℕ) → k < length xs → g k ≡ some (get_or xs k d)) where
+module _ {A : Type 0} (f : A → Line) (d : A) (xs : List A) (g : ℕ → Option A) (h : (k : ℕ) → k < length xs → g k ≡ Some (get_or xs k d)) where
   first-lines : (k : ℕ) → k ≤ length xs → joined (λ (i : ℕ). shown f (g i)) k ≡ map f (take k xs)
   unfolding joined
   first-lines zero p = refl

@@ -1,56 +1,30 @@
 -- What words stand for, one by one. Assumes nothing.
 use mathlib.Core.Path.{◌≡◌, refl}
 use mathlib.Core.Bool.{Bool, true, false, ◌&&◌, cond}
-use mathlib.Core.Option.{Option, none, some}
 use Prim.Native.Nat.{ℕ, zero, suc, ◌+◌, ◌*◌, ◌≤◌, ◌<◌}
 use native.Mathlib.Omega.{arith}
 use native.Mathlib.Nat.{mul-le-mul}
 use lib.ListN.{length}
 use lib.Dec.{leb, eqb}
-use borrow.Author.Tests.{le-leb, lt-leb, ne_eqb, leb-true}
+use borrow.Author.Tests.{ne_eqb, leb-true}
 use Rattle.sizes.specs.Widths.{bucket-tiles}
 use Rattle.rules.proofs.All.{both}
 use Rattle.row.specs.Words.{Words, word}
 use Rattle.row_screen.specs.Arena.{sizes, row_at, Arenas}
 use Rattle.row_screen.proofs.Laws.{at-state, at-render, at-fills}
-use Rattle.text_screen.specs.Places.{is_some}
 use Rattle.rules.specs.Boxes.{rows_of, buckets-of}
 use Rattle.rect.specs.Rects.{box_of}
 use Rattle.screen.specs.declared.Screen.{Screen}
 use Rattle.screen.specs.Judging.{judged}
-use Rattle.screen.proofs.Laws.{few-rows, few-buckets, bounds}
+use Rattle.screen.proofs.Laws.{few_rows, few-buckets, bounds}
 use Rattle.screen.proofs.Passed.{passed}
-use Rattle.text_screen.specs.Listed.{good-depths, good-commands, good-row, good-rows, screen-room, list-number, Few, ListedRow}
+use Rattle.text_screen.specs.Listed.{good-depths, good-commands, good_row, good-rows, screen-room, list-number, Few, ListedRow}
 use Rattle.text_screen.proofs.Runs.{below_at}
-
-pub not_there : {A : Type 0} {x y : Option A} → x ≡ y → x ≡ none → false ≡ is_some y
-not_there e h = rw (← e, h)
-
-pub there : {A : Type 0} {x y : Option A} {z : A} → x ≡ y → x ≡ some z → true ≡ is_some y
-there e h = rw (← e, h)
 
 -- a row
 module _ (c d n : ℕ) (w : Words) where
-  pub row-commands : c < word 0 w → false ≡ good-row c d n w
-  unfolding good-row
-  row-commands h = rw (lt-leb (word 0 w) c h)
-
-  module _ (h : word 0 w ≤ c) where
-    pub row-depths : d < word 1 w → false ≡ good-row c d n w
-    unfolding good-row
-    row-depths g = rw (le-leb (word 0 w) c h, lt-leb (word 1 w) d g)
-
-    module _ (g : word 1 w ≤ d) where
-      pub row-bad : good-depths n w.fills (word 1 w) ≡ false → false ≡ good-row c d n w
-      unfolding good-row
-      row-bad e = rw (le-leb (word 0 w) c h, le-leb (word 1 w) d g, e)
-
-      pub row_last : good-depths n w.fills (word 1 w) ≡ true → good-commands w.render (word 0 w) ≡ good-row c d n w
-      unfolding good-row
-      row_last e = rw (le-leb (word 0 w) c h, le-leb (word 1 w) d g, e)
-
-  pub row-few : good-row c d n w ≡ true → Few c d w
-  unfolding good-row
+  pub row-few : good_row c d n w ≡ true → Few c d w
+  unfolding good_row
   row-few e =
       let a = both (leb (word 0 w) c) (leb (word 1 w) d && (good-depths n w.fills (word 1 w) && good-commands w.render (word 0 w))) e in
       let b = both (leb (word 1 w) d) (good-depths n w.fills (word 1 w) && good-commands w.render (word 0 w)) a.1 in
@@ -79,7 +53,7 @@ module _ (s : Screen) (w : Words) where
         let o = passed s (length w.state) (length w.render) (length w.fills) e in
         rw p
         (record {
-          rows = few-rows _ o.view;
+          rows = few_rows _ o.view;
           c = o.c-room.few;
           d = o.d-room.few;
           long = record { state = o.row_words; render = o.render-words; fills = o.fill-words };

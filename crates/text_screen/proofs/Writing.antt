@@ -17,7 +17,7 @@ use Rattle.row_screen.specs.Arena.{sizes}
 use Rattle.row.specs.Words.{Words}
 use Rattle.text.specs.Texts.{Text, text, put, Wrote}
 use Rattle.screen.specs.declared.Screen.{Screen}
-use Rattle.text_screen.specs.Listed.{left, listing, rows-lines, screen-lines, text_of, row_room, screen-room, list-number, written, listed}
+use Rattle.text_screen.specs.Listed.{text-out, listing, rows-lines, screen-lines, text_of, row_room, screen-room, list-number, written, listed}
 use Rattle.text_screen.proofs.Runs.{line-then}
 
 -- how long a text is that is written on no bytes
@@ -25,27 +25,27 @@ pub measured : {ws : List ℕ} {n k : ℕ} {bs cs : List ℕ} → Wrote ws n (te
 measured w = w.moved ∙ zero-add _
 
 module _ {n k : ℕ} {bs cs : List ℕ} where
-  pub written-done : (ws : List ℕ) → length ws ≤ length bs → Wrote ws n (text bs 0) (text cs k) → left (listing 0 k) cs ≡ written ws bs
+  pub written-done : (ws : List ℕ) → length ws ≤ length bs → Wrote ws n (text bs 0) (text cs k) → text-out (listing 0 k) cs ≡ written ws bs
   unfolding put written
   written-done ws h w =
       let e : text cs k ≡ put ws (text bs 0) = w.is (rw (zero-add (length ws)) h) in
-      ap (λ (t : Text). left (listing 0 t.at) t.bytes) e ∙ rw (zero-add (length ws), le-ltb (length bs) (length ws) h)
+      ap (λ (t : Text). text-out (listing 0 t.at) t.bytes) e ∙ rw (zero-add (length ws), le-ltb (length bs) (length ws) h)
 
   module _ (s : Screen) (w : Words) (e : list-number s w ≡ 0) where
     pub listed-done : length (text_of (screen-lines s w)) ≤ length bs → Wrote (text_of (screen-lines s w)) n (text bs 0) (text cs k)
-        → left (listing 0 k) cs ≡ listed s w bs
+        → text-out (listing 0 k) cs ≡ listed s w bs
     unfolding listed
     listed-done h x = written-done (text_of (screen-lines s w)) h x ∙ rw (eq-eqb (list-number s w) 0 e)
 
-pub written-full : (ws bs : List ℕ) → length bs < length ws → left (listing 14 0) bs ≡ written ws bs
+pub written-full : (ws bs : List ℕ) → length bs < length ws → text-out (listing 14 0) bs ≡ written ws bs
 unfolding written
 written-full ws bs h = rw (lt-ltb (length bs) (length ws) h)
 
-pub listed-full : (s : Screen) (w : Words) (bs : List ℕ) → list-number s w ≡ 0 → length bs < length (text_of (screen-lines s w)) → left (listing 14 0) bs ≡ listed s w bs
+pub listed-full : (s : Screen) (w : Words) (bs : List ℕ) → list-number s w ≡ 0 → length bs < length (text_of (screen-lines s w)) → text-out (listing 14 0) bs ≡ listed s w bs
 unfolding listed
 listed-full s w bs e h = written-full (text_of (screen-lines s w)) bs h ∙ rw (eq-eqb (list-number s w) 0 e)
 
-pub listed-refused : (s : Screen) (w : Words) (bs : List ℕ) (n : ℕ) → n ≡ list-number s w → (n ≡ 0 → ⊥) → left (listing n 0) bs ≡ listed s w bs
+pub listed-refused : (s : Screen) (w : Words) (bs : List ℕ) (n : ℕ) → n ≡ list-number s w → (n ≡ 0 → ⊥) → text-out (listing n 0) bs ≡ listed s w bs
 unfolding listed
 listed-refused s w bs n e h = rw (← e, ne_eqb n 0 h)
 

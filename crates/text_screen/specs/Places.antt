@@ -1,6 +1,6 @@
 -- Runs of places.
 use Rattle.std.specs.Prelude.{ℕ, zero, suc, Bool, true, false, ◌&&◌, List, [], ◌++◌}
-use Rattle.std.proofs.Math.Option.{Option, none, some}
+use Rattle.std.specs.Prelude.{Option, None, Some}
 
 -- the test says yes at each place below n
 unfoldable pub all-below : (ℕ → Bool) → ℕ → Bool
@@ -13,5 +13,5 @@ joined f zero = []
 joined f (suc n) = joined f n ++ f n
 
 abbrev pub is_some : {A : Type 0} → Option A → Bool
-is_some none = false
-is_some (some x) = true
+is_some None = false
+is_some (Some x) = true

@@ -1,37 +1,33 @@
-// The lines of a screen's words, as text (document 01, "The recording file"). `list_screen` and `refusal_line` are public calls; the others
+// The lines of a screen's words, as text. `list_screen` and `refusal_line` are public calls; the others
 // are their parts.
 #![tactic(auto)]
 
-ghost use Rattle.std.specs.Prelude.{◌≡◌, ℕ, ◌+◌, ◌*◌, ◌≤◌, ◌<◌, ◌&&◌, length, get_or, ltb};
+ghost use Rattle.std.specs.Prelude.{◌≡◌, ℕ, ◌+◌, ◌*◌, ◌≤◌, ◌<◌, ◌&&◌, length, get_or, ltb, option_map};
 ghost use Rattle.sizes.specs.Sizes.{most-room, most-rows, row-size};
+ghost use Rattle.sizes.specs.Refusals.{answer_number};
+ghost use Rattle.rules.specs.Boxes.{rows_of};
 ghost use Rattle.rules.specs.Lines.{depth-line, command-line};
-ghost use Rattle.cmd.specs.Commands.{read_of};
-ghost use Rattle.cmd.specs.DepthFills.{read-depth-of};
+ghost use Rattle.rect.specs.Rects.{box_of};
+ghost use Rattle.cmd.specs.Commands.{command};
+ghost use Rattle.cmd.specs.DepthFills.{depth-fill};
 ghost use Rattle.text.specs.Texts.{text, far, Wrote};
 ghost use Rattle.row.specs.Words.{words};
 ghost use Rattle.row_screen.specs.Arena.{sizes, row_at, Arenas};
-ghost use Rattle.text_screen.specs.Places.{is_some};
-ghost use Rattle.text_screen.specs.Listed.{depth-fill-at, command-at, shown, depth-lines, command-lines, row-lines, rows-lines, screen-lines, text_of, good-depths, good-commands, good-row, good-rows, row_room, screen-room, list-number, left, listed, refused-listed, Few, ListedRow};
+ghost use Rattle.row_screen.specs.Rows.{all-held};
+ghost use Rattle.text_screen.specs.Listed.{depth-fill-at, command-at, shown, depth-lines, command-lines, row-lines, rows-lines, screen-lines, text_of, good-depths, good-commands, good_row, good-rows, row_room, screen-room, list-number, left, listed, refused-listed, Few, ListedRow};
 
-use cmd::command::{CmdWords, ReadCmd};
-use cmd::depth_fill::{DepthWords, ReadDepth};
-use row_screen::part;
+use cmd::command::{CmdWords, RenderCmd};
+use cmd::depth_fill::{DepthFill, DepthWords};
+use row_screen::{Rows, part};
 use screen::{Screen, judge_screen};
-use sizes::answers::{BAD_RECORD, DONE, NO_ROOM};
-use sizes::{DEPTHS, RENDERS, ROW, wide};
+use sizes::answers::Refusal;
+use sizes::{DEPTHS, RENDERS, ROW};
 use text_lines::{LINE, put_command_line, put_depth_line, put_header, put_refused, put_row_line};
 
-// number: document 01's answer. bytes: how many are written, at the start of the lent ones.
-#[derive(Clone, Copy)]
-pub struct Listing {
-    pub number: u32,
-    pub bytes: usize,
-}
-
 // The two words at place k.
-fn read_depth(fills: &[u32], k: usize, buckets: u32) -> ReadDepth
+fn read_depth(fills: &[u32], k: usize, buckets: u32) -> Option<DepthFill>
     requires { 2 * k + 2 ≤ length fills.now }
-    ensures { read-depth-of result ≡ depth-fill-at buckets fills.now k }
+    ensures { option_map depth-fill result ≡ depth-fill-at buckets fills.now k }
 {
     let at = 2 * k;
     let words = DepthWords {
@@ -42,9 +38,9 @@ fn read_depth(fills: &[u32], k: usize, buckets: u32) -> ReadDepth
 }
 
 // The four words at place k.
-fn read_command(render: &[u32], k: usize) -> ReadCmd
+fn read_command(render: &[u32], k: usize) -> Option<RenderCmd>
     requires { 4 * k + 4 ≤ length render.now }
-    ensures { read_of result ≡ command-at render.now k }
+    ensures { option_map command result ≡ command-at render.now k }
 {
     let at = 4 * k;
     let words = CmdWords {
@@ -56,40 +52,12 @@ fn read_command(render: &[u32], k: usize) -> ReadCmd
     words.read()
 }
 
-fn is_depth(fills: &[u32], k: usize, buckets: u32) -> bool
-    requires { 2 * k + 2 ≤ length fills.now }
-    ensures { result ≡ is_some (depth-fill-at buckets fills.now k) }
-{
-    match read_depth(fills, k, buckets) {
-        ReadDepth::Bad => false,
-        ReadDepth::Fill(_) => true,
-    }
-}
-
-fn is_command(render: &[u32], k: usize) -> bool
-    requires { 4 * k + 4 ≤ length render.now }
-    ensures { result ≡ is_some (command-at render.now k) }
-{
-    match read_command(render, k) {
-        ReadCmd::Bad => false,
-        ReadCmd::Cmd(_) => true,
-    }
-}
-
 // Words stand for each of the first n depth fills.
 fn are_depths(fills: &[u32], n: usize, buckets: u32) -> bool
     requires { 2 * n ≤ length fills.now }
     ensures { result ≡ good-depths buckets fills.now n }
 {
-    let mut left = n;
-    while 0 < left {
-        let k = left - 1;
-        if !is_depth(fills, k, buckets) {
-            return false;
-        }
-        left = k;
-    }
-    true
+    (0..n).all(|k| read_depth(fills, k, buckets).is_some())
 }
 
 // .. and for each of the first n commands.
@@ -97,82 +65,44 @@ fn are_commands(render: &[u32], n: usize) -> bool
     requires { 4 * n ≤ length render.now }
     ensures { result ≡ good-commands render.now n }
 {
-    let mut left = n;
-    while 0 < left {
-        let k = left - 1;
-        if !is_command(render, k) {
-            return false;
-        }
-        left = k;
-    }
-    true
+    (0..n).all(|k| read_command(render, k).is_some())
 }
 
 // Answer 4: a row by its words.
+#[tactic(auto, unfolding(crate::specs::Listed::good_row))]
 fn is_good_row(state: &[u32], render: &[u32], fills: &[u32], c: u32, d: u32, buckets: u32) -> bool
     requires { (length state.now ≡ row-size) × (length render.now ≡ 4 * c) × (length fills.now ≡ 2 * d) }
-    ensures { result ≡ good-row c d buckets (words state.now render.now fills.now) }
+    ensures { result ≡ good_row c d buckets (words state.now render.now fills.now) }
 {
     let renders = state[RENDERS];
     let depths = state[DEPTHS];
-    if c < renders {
-        return false;
-    }
-    if d < depths {
-        return false;
-    }
-    if !are_depths(fills, wide(depths), buckets) {
-        return false;
-    }
-    are_commands(render, wide(renders))
+    renders <= c
+        && depths <= d
+        && are_depths(fills, depths as usize, buckets)
+        && are_commands(render, renders as usize)
 }
 
-// Answer 4: row r of m.
-fn judge_row(
-    rows: &[u32],
-    render: &[u32],
-    fills: &[u32],
-    m: usize,
-    c: u32,
-    d: u32,
-    buckets: u32,
-    r: usize,
-) -> bool
-    requires { Arenas c d m (words rows.now render.now fills.now) × (r < m) }
-    ensures { result ≡ good-row c d buckets (row_at (sizes c d) r (words rows.now render.now fills.now)) }
+// Answer 4: row r.
+fn judge_row(screen: Screen, rows: &Rows<'_>, buckets: u32, r: usize) -> bool
+    requires { Arenas screen.c screen.d (rows_of (box_of screen.viewport)) (all-held rows.now) × (r < rows_of (box_of screen.viewport)) }
+    ensures { result ≡ good_row screen.c screen.d buckets (row_at (sizes screen.c screen.d) r (all-held rows.now)) }
 {
     is_good_row(
-        part(rows, ROW, r),
-        part(render, 4 * (c as usize), r),
-        part(fills, 2 * (d as usize), r),
-        c,
-        d,
+        part(rows.state, ROW, r),
+        part(rows.render, 4 * screen.c as usize, r),
+        part(rows.fills, 2 * screen.d as usize, r),
+        screen.c,
+        screen.d,
         buckets,
     )
 }
 
 // Answer 4: all m rows.
-fn judge_rows(
-    rows: &[u32],
-    render: &[u32],
-    fills: &[u32],
-    m: usize,
-    c: u32,
-    d: u32,
-    buckets: u32,
-) -> bool
-    requires { Arenas c d m (words rows.now render.now fills.now) }
-    ensures { result ≡ good-rows c d buckets (words rows.now render.now fills.now) m }
+fn judge_rows(screen: Screen, rows: &Rows<'_>, m: usize, buckets: u32) -> bool
+    requires { Arenas screen.c screen.d m (all-held rows.now) × (m ≡ rows_of (box_of screen.viewport)) }
+    ensures { result ≡ good-rows screen.c screen.d buckets (all-held rows.now) m }
 {
-    let mut left = m;
-    while 0 < left {
-        let r = left - 1;
-        if !judge_row(rows, render, fills, m, c, d, buckets, r) {
-            return false;
-        }
-        left = r;
-    }
-    true
+    (0..m).all(|r| judge_row(screen, rows, buckets, r))
 }
 
 // The depth fill at place k, if words stand for one.
@@ -181,8 +111,8 @@ fn put_depth(out: &mut [u8], at: usize, fills: &[u32], k: usize, buckets: u32) -
     ensures { Wrote (text_of (shown depth-line (depth-fill-at buckets fills.now k))) 64 (text out.old at) (text out.new result) }
 {
     match read_depth(fills, k, buckets) {
-        ReadDepth::Bad => at,
-        ReadDepth::Fill(fill) => put_depth_line(out, at, fill),
+        None => at,
+        Some(fill) => put_depth_line(out, at, fill),
     }
 }
 
@@ -192,8 +122,8 @@ fn put_command(out: &mut [u8], at: usize, render: &[u32], k: usize) -> usize
     ensures { Wrote (text_of (shown command-line (command-at render.now k))) 64 (text out.old at) (text out.new result) }
 {
     match read_command(render, k) {
-        ReadCmd::Bad => at,
-        ReadCmd::Cmd(cmd) => put_command_line(out, at, cmd),
+        None => at,
+        Some(cmd) => put_command_line(out, at, cmd),
     }
 }
 
@@ -203,10 +133,8 @@ fn put_depths(out: &mut [u8], at: usize, fills: &[u32], n: usize, buckets: u32) 
     ensures { Wrote (text_of (depth-lines buckets fills.now n)) (64 * n) (text out.old at) (text out.new result) }
 {
     let mut place = at;
-    let mut k = 0;
-    while k < n {
+    for k in 0..n {
         place = put_depth(out, place, fills, k, buckets);
-        k += 1;
     }
     place
 }
@@ -217,10 +145,8 @@ fn put_commands(out: &mut [u8], at: usize, render: &[u32], n: usize) -> usize
     ensures { Wrote (text_of (command-lines render.now n)) (64 * n) (text out.old at) (text out.new result) }
 {
     let mut place = at;
-    let mut k = 0;
-    while k < n {
+    for k in 0..n {
         place = put_command(out, place, render, k);
-        k += 1;
     }
     place
 }
@@ -241,32 +167,28 @@ fn put_row(
     let renders = state[RENDERS];
     let depths = state[DEPTHS];
     let a = put_row_line(out, at, r, depths, renders);
-    let b = put_depths(out, a, fills, wide(depths), buckets);
-    put_commands(out, b, render, wide(renders))
+    let b = put_depths(out, a, fills, depths as usize, buckets);
+    put_commands(out, b, render, renders as usize)
 }
 
-// Row r of m.
+// Row r.
 fn put_row_at(
     out: &mut [u8],
     at: usize,
-    rows: &[u32],
-    render: &[u32],
-    fills: &[u32],
-    m: usize,
-    c: u32,
-    d: u32,
+    screen: Screen,
+    rows: &Rows<'_>,
     buckets: u32,
     r: usize,
 ) -> usize
-    requires { Arenas c d m (words rows.now render.now fills.now) × (r < m) × Few c d (row_at (sizes c d) r (words rows.now render.now fills.now)) × (at + row_room c d ≤ far) }
-    ensures { Wrote (text_of (row-lines buckets r (row_at (sizes c d) r (words rows.now render.now fills.now)))) (row_room c d) (text out.old at) (text out.new result) }
+    requires { Arenas screen.c screen.d (rows_of (box_of screen.viewport)) (all-held rows.now) × (r < rows_of (box_of screen.viewport)) × Few screen.c screen.d (row_at (sizes screen.c screen.d) r (all-held rows.now)) × (at + row_room screen.c screen.d ≤ far) }
+    ensures { Wrote (text_of (row-lines buckets r (row_at (sizes screen.c screen.d) r (all-held rows.now)))) (row_room screen.c screen.d) (text out.old at) (text out.new result) }
 {
     put_row(
         out,
         at,
-        part(rows, ROW, r),
-        part(render, 4 * (c as usize), r),
-        part(fills, 2 * (d as usize), r),
+        part(rows.state, ROW, r),
+        part(rows.render, 4 * screen.c as usize, r),
+        part(rows.fills, 2 * screen.d as usize, r),
         buckets,
         r as u32,
     )
@@ -276,22 +198,17 @@ fn put_row_at(
 fn put_rows(
     out: &mut [u8],
     at: usize,
-    rows: &[u32],
-    render: &[u32],
-    fills: &[u32],
+    screen: Screen,
+    rows: &Rows<'_>,
     m: usize,
-    c: u32,
-    d: u32,
     buckets: u32,
 ) -> usize
-    requires { Arenas c d m (words rows.now render.now fills.now) × ((r : ℕ) → r < m → Few c d (row_at (sizes c d) r (words rows.now render.now fills.now))) × (at + m * row_room c d ≤ far) }
-    ensures { Wrote (text_of (rows-lines (sizes c d) buckets (words rows.now render.now fills.now) m)) (m * row_room c d) (text out.old at) (text out.new result) }
+    requires { Arenas screen.c screen.d m (all-held rows.now) × (m ≡ rows_of (box_of screen.viewport)) × ((r : ℕ) → r < m → Few screen.c screen.d (row_at (sizes screen.c screen.d) r (all-held rows.now))) × (at + m * row_room screen.c screen.d ≤ far) }
+    ensures { Wrote (text_of (rows-lines (sizes screen.c screen.d) buckets (all-held rows.now) m)) (m * row_room screen.c screen.d) (text out.old at) (text out.new result) }
 {
     let mut place = at;
-    let mut r = 0;
-    while r < m {
-        place = put_row_at(out, place, rows, render, fills, m, c, d, buckets, r);
-        r += 1;
+    for r in 0..m {
+        place = put_row_at(out, place, screen, rows, buckets, r);
     }
     place
 }
@@ -301,92 +218,62 @@ fn screen_room(m: usize, c: u32, d: u32) -> usize
     requires { (m ≤ most-rows) × (c ≤ most-room) × (d ≤ most-room) }
     ensures { result ≡ 64 + m * row_room c d }
 {
-    LINE + m * (LINE * (1 + (wide(c) + wide(d))))
+    LINE + m * (LINE * (1 + (c as usize + d as usize)))
 }
 
-// 2, 1 and 4, or 0.
-fn judge_list(screen: Screen, rows: &[u32], render: &[u32], fills: &[u32]) -> u32
-    ensures { result ≡ list-number screen (words rows.now render.now fills.now) }
+// 2, 1 and 4.
+fn judge_list(screen: Screen, rows: &Rows<'_>) -> Result<(), Refusal>
+    ensures { answer_number result ≡ list-number screen (all-held rows.now) }
 {
-    let n = judge_screen(screen, rows.len(), render.len(), fills.len());
-    if n != DONE {
-        return n;
+    judge_screen(
+        screen,
+        rows.state.len(),
+        rows.render.len(),
+        rows.fills.len(),
+    )?;
+    if !judge_rows(screen, rows, screen.rows(), screen.buckets() as u32) {
+        return Err(Refusal::BadRecord);
     }
-    let m = screen.rows();
-    let buckets = screen.buckets() as u32;
-    if !judge_rows(rows, render, fills, m, screen.c, screen.d, buckets) {
-        return BAD_RECORD;
-    }
-    DONE
+    Ok(())
 }
 
 // The lines of a screen that is judged.
-fn put_screen(out: &mut [u8], screen: Screen, rows: &[u32], render: &[u32], fills: &[u32]) -> usize
-    requires { list-number screen (words rows.now render.now fills.now) ≡ 0 }
-    ensures { Wrote (text_of (screen-lines screen (words rows.now render.now fills.now))) (screen-room screen) (text out.old 0) (text out.new result) }
+fn put_screen(out: &mut [u8], screen: Screen, rows: &Rows<'_>) -> usize
+    requires { list-number screen (all-held rows.now) ≡ 0 }
+    ensures { Wrote (text_of (screen-lines screen (all-held rows.now))) (screen-room screen) (text out.old 0) (text out.new result) }
 {
     let m = screen.rows();
     let buckets = screen.buckets() as u32;
     let a = put_header(out, 0, m as u32, buckets, screen.next_draw_id - 1);
-    put_rows(out, a, rows, render, fills, m, screen.c, screen.d, buckets)
+    put_rows(out, a, screen, rows, m, buckets)
 }
 
 // Whether the text is longer than so many bytes: it is measured only where they are fewer than it can have at most.
-fn is_short(screen: Screen, rows: &[u32], render: &[u32], fills: &[u32], room: usize) -> bool
-    requires { list-number screen (words rows.now render.now fills.now) ≡ 0 }
-    ensures { result ≡ (ltb room (screen-room screen) && ltb room (length (text_of (screen-lines screen (words rows.now render.now fills.now))))) }
+fn is_short(screen: Screen, rows: &Rows<'_>, room: usize) -> bool
+    requires { list-number screen (all-held rows.now) ≡ 0 }
+    ensures { result ≡ (ltb room (screen-room screen) && ltb room (length (text_of (screen-lines screen (all-held rows.now))))) }
 {
-    if screen_room(screen.rows(), screen.c, screen.d) <= room {
-        return false;
-    }
-    let mut none = [0u8; 0];
-    room < put_screen(&mut none, screen, rows, render, fills)
+    room < screen_room(screen.rows(), screen.c, screen.d)
+        && room < put_screen(&mut [], screen, rows)
 }
 
-// The text of a screen: the header, then each row with its depth fills and commands, as stored.
-pub fn list_screen(
-    screen: Screen,
-    rows: &[u32],
-    render: &[u32],
-    fills: &[u32],
-    out: &mut [u8],
-) -> Listing
-    ensures { left result out.new ≡ listed screen (words rows.now render.now fills.now) out.old }
+// The text of a screen: the header, then each row with its depth fills and commands, as stored. How many bytes it has, at the start of the lent ones.
+pub fn list_screen(screen: Screen, rows: &Rows<'_>, out: &mut [u8]) -> Result<usize, Refusal>
+    ensures { left result out.new ≡ listed screen (all-held rows.now) out.old }
 {
-    let n = judge_list(screen, rows, render, fills);
-    if n != DONE {
-        return Listing {
-            number: n,
-            bytes: 0,
-        };
+    judge_list(screen, rows)?;
+    if is_short(screen, rows, out.len()) {
+        return Err(Refusal::NoRoom);
     }
-    if is_short(screen, rows, render, fills, out.len()) {
-        return Listing {
-            number: NO_ROOM,
-            bytes: 0,
-        };
-    }
-    let bytes = put_screen(out, screen, rows, render, fills);
-    Listing {
-        number: DONE,
-        bytes,
-    }
+    Ok(put_screen(out, screen, rows))
 }
 
-// The line of a refusal.
-pub fn refusal_line(n: u32, out: &mut [u8]) -> Listing
+// The line of a refusal, and how many bytes it has.
+pub fn refusal_line(n: u32, out: &mut [u8]) -> Result<usize, Refusal>
     ensures { left result out.new ≡ refused-listed n out.old }
 {
-    let mut none = [0u8; 0];
-    if out.len() < put_refused(&mut none, 0, n) {
-        return Listing {
-            number: NO_ROOM,
-            bytes: 0,
-        };
+    if out.len() < put_refused(&mut [], 0, n) {
+        return Err(Refusal::NoRoom);
     }
-    let bytes = put_refused(out, 0, n);
-    Listing {
-        number: DONE,
-        bytes,
-    }
+    Ok(put_refused(out, 0, n))
 }

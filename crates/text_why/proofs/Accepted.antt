@@ -2,13 +2,16 @@
 use mathlib.Core.Path.{◌≡◌, refl, sym, ap, ◌∙◌}
 use mathlib.Core.Bool.{Bool, true, false, not, ◌||◌, cond}
 use mathlib.Core.List.{List, [], ◌∷◌}
-use mathlib.Core.Option.{Option, none, some}
+use Rattle.std.specs.Prelude.{Option, None, Some, Result, Ok, Err}
+use Rattle.sizes.specs.declared.answers.Refusal.{Refusal}
+use Rattle.sizes.specs.Refusals.{number_of}
+use Rattle.sizes.proofs.Refusals.{not_done}
 use Prim.Native.Nat.{ℕ, ◌+◌}
 use native.Mathlib.Omega.{arith}
 use lib.Dec.{leb, ltb, eqb}
 use borrow.Author.Tests.{eq-eqb, eqb-true}
 use Rattle.rules.specs.Answers.{Answer, answer, settle, first_of, Done, BadForm}
-use Rattle.rules.specs.Boxes.{Box, good-viewport, rows_of}
+use Rattle.rules.specs.Boxes.{Box, good_viewport, rows_of}
 use Rattle.rules.specs.Rows.{Row, fresh-row, row-ops}
 use Rattle.rules.specs.Plans.{Frame, bucket}
 use Rattle.rules.specs.Setups.{Setup, frame}
@@ -23,18 +26,18 @@ use Rattle.rules_picture.proofs.Walked.{all-walks}
 use Rattle.rules_reason.specs.Reasons.{Asked, reason}
 use Rattle.rules_reason.specs.Answers.{Question, answer-lines, history, off-screen, tile-answer, refused-bytes, recording-answer, answer-in, why-words}
 use Rattle.file_form.specs.declared.Layout.{Layout}
-use Rattle.file_form.specs.declared.Form.TheVariants as form
-use Rattle.file_form.specs.Layouts.{form_of, sections-at}
+use Rattle.file_form.specs.Layouts.{form_of, sections_at}
 use Rattle.file_form.specs.Places.{recorded}
 use Rattle.file_form.proofs.Laid.{GoodForm, good-form, bad-form}
 use Rattle.file_form.proofs.Reading.{reads}
 use Rattle.file_nodes.specs.Ready.{WalkReady}
+use Rattle.tile_steps.specs.declared.Tale.{Tale}
 use Rattle.tile_steps.specs.Telling.{Telling, tell-at, nothing-told}
-use Rattle.tile_steps.specs.Places.{Says}
+use Rattle.tile_steps.specs.Places.{Says, ToldTo}
 use Rattle.tile_reason.specs.Reading.{reason-read}
 use Rattle.refine_tile.proofs.Walked.{tile-told}
 use Rattle.refine_tile.proofs.Reasons.{reason-told}
-use Rattle.text_why.specs.Questions.{read_by}
+use Rattle.text_why.specs.Questions.{read_by, ToldOf}
 use Rattle.text_why.proofs.Lines.{same_answer}
 
 -- what the first of four tests that holds would say
@@ -78,13 +81,13 @@ module _ (p : Place) (old : Screen Row) (r : Recording) where
       go true e z = (eqb-true _ _ e, walked (eqb walk.number Done) refl z)
       go false e z = never (sym (eq-eqb _ _ z) ∙ e)
 
-  records-good : judge-records p r ≡ 0 → (good-viewport (frame-of p r).viewport ≡ true) × (good-records r ≡ true)
+  records-good : judge-records p r ≡ 0 → (good_viewport (frame-of p r).viewport ≡ true) × (good-records r ≡ true)
   unfolding judge-records
   records-good e =
       let f = frame-of p r in
       let v = f.viewport in
-      let h = none-holds (not (good-viewport v) || ltb p.limit (rows_of v)) (not (good-arenas f p.arenas)) (not (good-records r)) (not (good-order r)) e in
-      (good_of (good-viewport v) _ h.0, not-bad (good-records r) h.1)
+      let h = none-holds (not (good_viewport v) || ltb p.limit (rows_of v)) (not (good-arenas f p.arenas)) (not (good-records r)) (not (good-order r)) e in
+      (good_of (good_viewport v) _ h.0, not-bad (good-records r) h.1)
 
   logged-done : walk.number ≡ 0 → (walk-logged Row row-ops fresh-row (frame-of p r) r).number ≡ 0
   unfolding walk-logged
@@ -101,7 +104,7 @@ pub record Told (f : Frame) (r : Recording) (row tile : ℕ) (ls : List ℕ) : T
   pub layers : (story f r row tile ls).value.layers ≡ (tell-steps (bucket f) f.viewport row tile (history f r) untold).layers
   pub reasons : (a : Asked) → reason-read a (story f r row tile ls).value.lines ((story f r row tile ls).value.paints + (story f r row tile ls).value.layers) ≡ reason (bucket f) f.viewport row tile (history f r) a
 
-told-true : (f : Frame) (r : Recording) (row tile : ℕ) (ls : List ℕ) → good-viewport f.viewport ≡ true → (walk-logged Row row-ops fresh-row f r).number ≡ 0 → Told f r row tile ls
+told-true : (f : Frame) (r : Recording) (row tile : ℕ) (ls : List ℕ) → good_viewport f.viewport ≡ true → (walk-logged Row row-ops fresh-row f r).number ≡ 0 → Told f r row tile ls
 told-true f r row tile ls g z =
     let t = tile-told (bucket f) f r row tile ls g z in
     record { done = t.0; paints = t.1.paints; layers = t.1.layers; reasons = reason-told (bucket f) f r row tile ls g z }
@@ -125,16 +128,18 @@ done-answer : (u : Setup) (a : Answer (Screen Row)) (o : Option (List (List (Lis
     → cond (eqb a.number Done) (answer-in u o row tile q) (refused-bytes a.number) ≡ answer-in u o row tile q
 done-answer u a o row tile q z = rw (eq-eqb a.number 0 z)
 
-module _ (u : Setup) (ws : List ℕ) (accepted : (rowlist-screen u ws).number ≡ 0) (row tile : ℕ) (q : Question) where
-  words-answer : why-words u ws row tile q ≡ answer-in u (sections shape ws) row tile q
+module _ (u : Setup) (ws : List ℕ) (accepted : (rowlist-screen u ws).number ≡ 0) (row tile : ℕ) where
+  words-answer : (q : Question) → why-words u ws row tile q ≡ answer-in u (sections shape ws) row tile q
   unfolding why-words
-  words-answer = done-answer u (rowlist-screen u ws) (sections shape ws) row tile q accepted
+  words-answer q = done-answer u (rowlist-screen u ws) (sections shape ws) row tile q accepted
 
   -- where there is no form the call has refused
-  pub formless : form.Bad ≡ form_of ws → why-words u ws row tile q ≡ refused-bytes 3
-  formless e = words-answer ∙ ap (λ (o : Option (List (List (List ℕ)))). answer-in u o row tile q) (bad-form ws e)
+  pub formless : {r : Refusal} → Err r ≡ form_of ws → (q : Question) → why-words u ws row tile q ≡ refused-bytes (number_of r)
+  formless e q =
+      let b = bad-form ws e in
+      rw b.0 (words-answer q ∙ ap (λ (o : Option (List (List (List ℕ)))). answer-in u o row tile q) b.1)
 
-  module _ (l : Layout) (e : form.Good l ≡ form_of ws) where
+  module _ (l : Layout) (e : Ok l ≡ form_of ws) where
     abbrev r : Recording
     r = recorded l ws
 
@@ -145,12 +150,12 @@ module _ (u : Setup) (ws : List ℕ) (accepted : (rowlist-screen u ws).number �
     good : GoodForm ws l
     good = good-form ws l e
 
-    same-recording : recording (sections-at l ws) ≡ r
+    same-recording : recording (sections_at l ws) ≡ r
     same-recording = reads l ws good.fits
 
-    recording-there : why-words u ws row tile q ≡ recording-answer f r row tile q
-    recording-there =
-        words-answer
+    recording-there : (q : Question) → why-words u ws row tile q ≡ recording-answer f r row tile q
+    recording-there q =
+        words-answer q
         ∙ ap (λ (o : Option (List (List (List ℕ)))). answer-in u o row tile q) good.same
         ∙ ap (λ (x : Recording). recording-answer (frame u x.viewport) x row tile q) same-recording
 
@@ -162,54 +167,63 @@ module _ (u : Setup) (ws : List ℕ) (accepted : (rowlist-screen u ws).number �
 
         by-sections : Option (List (List (List ℕ))) → Answer (Screen Row)
         by-sections o = elim o [
-          | none ↦ answer BadForm old
-          | some ss ↦ play-records (Screen Row) (call Row row-ops) (reset fresh-row) (rowlist-place u ws) old (recording ss)
+          | None ↦ answer BadForm old
+          | Some ss ↦ play-records (Screen Row) (call Row row-ops) (reset fresh-row) (rowlist-place u ws) old (recording ss)
         ]
 
         accepted-play : (by-sections (sections shape ws)).number ≡ 0
         accepted-play = unfold play in accepted
 
-        by : (o : Option (List (List (List ℕ)))) → o ≡ some (sections-at l ws) → (by-sections o).number ≡ 0 → (by-sections (some (sections-at l ws))).number ≡ 0
+        by : (o : Option (List (List (List ℕ)))) → o ≡ Some (sections_at l ws) → (by-sections o).number ≡ 0 → (by-sections (Some (sections_at l ws))).number ≡ 0
         by o s z = rw s at z
 
     facts : (judge-records (rowlist-place u ws) r ≡ 0) × ((walk (rowlist-place u ws) (reset fresh-row nothing) r).number ≡ 0)
     facts = judged-walked (rowlist-place u ws) (reset fresh-row nothing) r played
 
-    goods : (good-viewport f.viewport ≡ true) × (good-records r ≡ true)
+    goods : (good_viewport f.viewport ≡ true) × (good-records r ≡ true)
     goods = records-good (rowlist-place u ws) (reset fresh-row nothing) r facts.0
 
     pub ready : WalkReady ws l
     ready = record { fits = good.fits; good = goods.1 }
 
-    pub good-view : good-viewport f.viewport ≡ true
+    pub good-view : good_viewport f.viewport ≡ true
     good-view = goods.0
 
-    off-there : off-screen f.viewport row tile ≡ true → recording-answer f r row tile q ≡ refused-bytes 12
+    off-there : off-screen f.viewport row tile ≡ true → (q : Question) → recording-answer f r row tile q ≡ refused-bytes 12
     unfolding recording-answer
-    off-there h = rw h
+    off-there h q = rw h
 
-    on-there : off-screen f.viewport row tile ≡ false → recording-answer f r row tile q ≡ tile-answer f row tile (history f r) q
+    on-there : off-screen f.viewport row tile ≡ false → (q : Question) → recording-answer f r row tile q ≡ tile-answer f row tile (history f r) q
     unfolding recording-answer
-    on-there h = rw h
+    on-there h q = rw h
 
     told : (ls : List ℕ) → Told f r row tile ls
     told ls = told-true f r row tile ls goods.0 (logged-done (rowlist-place u ws) (reset fresh-row nothing) r facts.1)
 
     -- the viewport v that the screen has
     module _ (v : Box) (view : f.viewport ≡ v) where
-      pub off-answer : off-screen v row tile ≡ true → why-words u ws row tile q ≡ refused-bytes 12
-      off-answer h = recording-there ∙ off-there (ap (λ (b : Box). off-screen b row tile) view ∙ h)
+      pub off-answer : off-screen v row tile ≡ true → (q : Question) → why-words u ws row tile q ≡ refused-bytes 12
+      off-answer h q = recording-there q ∙ off-there (ap (λ (b : Box). off-screen b row tile) view ∙ h) q
 
-      module _ (on : off-screen v row tile ≡ false) (ls : List ℕ) {n : ℕ} {t : Telling} (says : Says (walk-all Telling (tell-at (bucket f) v row tile) r (nothing-told ls)) n t) where
-        there : Says (story f r row tile ls) n t
-        there = rw (← view) at says
+      module _ (on : off-screen v row tile ≡ false) (ls : List ℕ) where
+        abbrev seen : Answer Telling
+        seen = walk-all Telling (tell-at (bucket f) v row tile) r (nothing-told ls)
 
-        pub told-done : n ≡ 0
-        told-done = sym there.number ∙ (told ls).done
+        same-story : story f r row tile ls ≡ seen
+        same-story = ap (λ (b : Box). walk-all Telling (tell-at (bucket f) b row tile) r (nothing-told ls)) view
 
-        pub answered : why-words u ws row tile q ≡ told-answer t q
-        answered =
-            recording-there
-            ∙ on-there (ap (λ (b : Box). off-screen b row tile) view ∙ on)
+        pub told-done : seen.number ≡ 0
+        told-done = rw same-story at (told ls).done
+
+        pub answered : {t : Telling} → Says seen 0 t → (q : Question) → why-words u ws row tile q ≡ told-answer t q
+        answered s q =
+            recording-there q
+            ∙ on-there (ap (λ (b : Box). off-screen b row tile) view ∙ on) q
             ∙ sym (answer-true f r row tile ls (told ls) q)
-            ∙ ap (λ (x : Telling). told-answer x q) (there.value told-done)
+            ∙ ap (λ (x : Answer Telling). told-answer x.value q) same-story
+            ∙ ap (λ (x : Telling). told-answer x q) (s.value refl)
+
+        -- what the code tells of the tile
+        pub told-of : (x : Result Tale Refusal) (cs : List ℕ) → ToldTo seen x cs → ToldOf u ws row tile x cs
+        told-of (Ok t) cs s = (s.1, answered s.0)
+        told-of (Err r) cs s = absurd (not_done r (sym s ∙ told-done))

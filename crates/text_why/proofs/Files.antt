@@ -2,12 +2,17 @@
 use mathlib.Core.Path.{◌≡◌, refl, sym, ap, ◌∙◌}
 use mathlib.Core.Bool.{Bool, true, false, cond}
 use mathlib.Core.List.{List, [], ◌∷◌, ◌++◌, append-nil}
-use mathlib.Core.Option.{Option, none, some}
+use Rattle.std.specs.Prelude.{Option, None, Some, Result, Ok, Err}
+use Rattle.std.specs.Result.{is_err}
+use Rattle.sizes.specs.declared.answers.Refusal.{Refusal}
+use Rattle.sizes.specs.Refusals.{answer_number}
+use Rattle.sizes.proofs.Refusals.{not_done}
+use Rattle.rules.proofs.All.{never}
 use Prim.Native.Nat.{ℕ, ◌+◌, ◌%◌, ◌/◌, ◌≤◌, ◌<◌}
 use native.Mathlib.Omega.{arith}
 use lib.Dec.{leb, ltb, eqb}
 use lib.ListN.{length, take, drop}
-use lib.Seq.{take_at, take_all}
+use lib.Seq.{take_all}
 use borrow.Author.Tests.{le-ltb, lt-ltb, leb-true, leb-false, eqb-true}
 use Rattle.rules.specs.Answers.{Answer, Done, BadForm}
 use Rattle.rules.specs.Rows.{Row}
@@ -48,18 +53,18 @@ module _ (u : Setup) (fs : List ℕ) (row tile : ℕ) (q : Question) where
 
   abbrev by-words : Option (List ℕ) → List ℕ × List ℕ
   by-words o =
-      (elim o [ none ↦ refused-bytes BadForm | some ws ↦ why-words u ws row tile q ], text_of (elim o [ none ↦ refused BadForm ∷ [] | some ws ↦ rowlist-words u ws ]))
+      (elim o [ None ↦ refused-bytes BadForm | Some ws ↦ why-words u ws row tile q ], text_of (elim o [ None ↦ refused BadForm ∷ [] | Some ws ↦ rowlist-words u ws ]))
 
   abbrev by_size : Bool → List ℕ × List ℕ
   by_size b = (
     elim b [
       | true ↦ refused-bytes BadForm
-      | false ↦ elim (words_of fs) [ none ↦ refused-bytes BadForm | some ws ↦ why-words u ws row tile q ]
+      | false ↦ elim (words_of fs) [ None ↦ refused-bytes BadForm | Some ws ↦ why-words u ws row tile q ]
     ],
     text_of
         (elim b [
           | true ↦ refused BadForm ∷ []
-          | false ↦ elim (words_of fs) [ none ↦ refused BadForm ∷ [] | some ws ↦ rowlist-words u ws ]
+          | false ↦ elim (words_of fs) [ None ↦ refused BadForm ∷ [] | Some ws ↦ rowlist-words u ws ]
         ]),
   )
 
@@ -70,7 +75,7 @@ module _ (u : Setup) (fs : List ℕ) (row tile : ℕ) (q : Question) where
   long-both : 65536 < length fs → both ≡ by_size true
   long-both g = sized ∙ ap by_size (lt-ltb 65536 (length fs) g)
 
-  short-both : length fs ≤ 65536 → both ≡ by-words (cond (eqb (length fs % 4) 0) (some (words-in fs)) none)
+  short-both : length fs ≤ 65536 → both ≡ by-words (cond (eqb (length fs % 4) 0) (Some (words-in fs)) None)
   short-both g = sized ∙ ap by_size (le-ltb 65536 (length fs) g) ∙ ap by-words (rules-words fs)
 
   -- where the recording is refused, what is printed is the same line
@@ -82,9 +87,9 @@ module _ (u : Setup) (fs : List ℕ) (row tile : ℕ) (q : Question) where
       refused-answer u a (sections shape ws) row tile q e ∙ sym (one_line a.number) ∙ sym (ap text_of (refused-lines a e))
 
   abbrev number_of : Option (List ℕ) → ℕ
-  number_of o = elim o [ none ↦ BadForm | some ws ↦ (rowlist-screen u ws).number ]
+  number_of o = elim o [ None ↦ BadForm | Some ws ↦ (rowlist-screen u ws).number ]
 
-  by_number : length fs ≤ 65536 → rowlist-number u fs ≡ number_of (cond (eqb (length fs % 4) 0) (some (words-in fs)) none)
+  by_number : length fs ≤ 65536 → rowlist-number u fs ≡ number_of (cond (eqb (length fs % 4) 0) (Some (words-in fs)) None)
   unfolding rowlist-number
   by_number g =
       ap (λ (b : Bool). elim b [ true ↦ BadForm | false ↦ number_of (words_of fs) ]) (le-ltb 65536 (length fs) g) ∙ ap number_of (rules-words fs)
@@ -99,10 +104,10 @@ module _ (u : Setup) (fs : List ℕ) (row tile : ℕ) (q : Question) where
       go : (x y : Bool) → leb (length fs) 65536 ≡ x → eqb (length fs % 4) 0 ≡ y → (rowlist-number u fs ≡ 0 → ⊥) → why-text u fs row tile q ≡ rowlist-text u fs
       go false y p s d = equal (by_size true) (long-both (leb-false _ _ p)) (sym (one_line BadForm))
       go true false p s d =
-          equal (by-words none) (short-both (leb-true _ _ p) ∙ ap (λ (b : Bool). by-words (cond b (some (words-in fs)) none)) s) (sym (one_line BadForm))
+          equal (by-words None) (short-both (leb-true _ _ p) ∙ ap (λ (b : Bool). by-words (cond b (Some (words-in fs)) None)) s) (sym (one_line BadForm))
       go true true p s d =
-          equal (by-words (some (words-in fs))) (short-both (leb-true _ _ p) ∙ ap (λ (b : Bool). by-words (cond b (some (words-in fs)) none)) s)
-          (same-refusal (words-in fs) (λ z. d (by_number (leb-true _ _ p) ∙ ap (λ (b : Bool). number_of (cond b (some (words-in fs)) none)) s ∙ z)))
+          equal (by-words (Some (words-in fs))) (short-both (leb-true _ _ p) ∙ ap (λ (b : Bool). by-words (cond b (Some (words-in fs)) None)) s)
+          (same-refusal (words-in fs) (λ z. d (by_number (leb-true _ _ p) ∙ ap (λ (b : Bool). number_of (cond b (Some (words-in fs)) None)) s ∙ z)))
 
   pub refused-text : (bs : List ℕ) {n : ℕ} {cs : List ℕ} → (rowlist-number u fs ≡ 0 → ⊥) → n ≡ length (rowlist-text u fs) → cs ≡ first (rowlist-text u fs) bs
       → (n ≡ length (why-text u fs row tile q)) × (take n cs ≡ why-text u fs row tile q)
@@ -124,16 +129,25 @@ module _ (u : Setup) (fs : List ℕ) (row tile : ℕ) (q : Question) where
       go : (x y : Bool) → leb (length fs) 65536 ≡ x → eqb (length fs % 4) 0 ≡ y → rowlist-number u fs ≡ 0 → Accepted
       go false y p s z = absurd (let e : ◌≡◌ {A = ℕ} 3 0 = sym (long-number (leb-false _ _ p)) ∙ z in omega arith)
       go true false p s z =
-          absurd (let e : ◌≡◌ {A = ℕ} 3 0 = sym (by_number (leb-true _ _ p) ∙ ap (λ (b : Bool). number_of (cond b (some (words-in fs)) none)) s) ∙ z in omega arith)
+          absurd (let e : ◌≡◌ {A = ℕ} 3 0 = sym (by_number (leb-true _ _ p) ∙ ap (λ (b : Bool). number_of (cond b (Some (words-in fs)) None)) s) ∙ z in omega arith)
       go true true p s z =
           record {
             few = leb-true _ _ p;
-            done = sym (by_number (leb-true _ _ p) ∙ ap (λ (b : Bool). number_of (cond b (some (words-in fs)) none)) s) ∙ z;
-            text = ap (λ (o : List ℕ × List ℕ). o.0) (short-both (leb-true _ _ p) ∙ ap (λ (b : Bool). by-words (cond b (some (words-in fs)) none)) s);
+            done = sym (by_number (leb-true _ _ p) ∙ ap (λ (b : Bool). number_of (cond b (Some (words-in fs)) None)) s) ∙ z;
+            text = ap (λ (o : List ℕ × List ℕ). o.0) (short-both (leb-true _ _ p) ∙ ap (λ (b : Bool). by-words (cond b (Some (words-in fs)) None)) s);
           }
 
+-- whether an answer is a refusal, by its number
+pub is-refused : {T : Type 0} (x : Result T Refusal) → is_err x ≡ true → answer_number x ≡ 0 → ⊥
+is-refused (Ok y) e z = never (sym e)
+is-refused (Err r) e z = not_done r z
+
+pub is-done : {T : Type 0} (x : Result T Refusal) → is_err x ≡ false → answer_number x ≡ 0
+is-done (Ok y) e = refl
+is-done (Err r) e = never e
+
 -- a text that was written at the start of bytes with room for it
-pub written-first : (ws : List ℕ) (most : ℕ) (cs : List ℕ) {r : ℕ} {ds : List ℕ} → most ≤ length cs → Wrote ws most (text cs 0) (text ds r) → (r ≡ length ws) × (take r ds ≡ ws)
+pub written-first : (ws : List ℕ) (most : ℕ) (cs : List ℕ) {r : ℕ} {ds : List ℕ} → most ≤ length cs → Wrote ws most (text cs 0) (text ds r) → (r ≡ length ws) × (ds ≡ first ws cs)
 unfolding put
 written-first ws most cs {r} {ds} room w =
     let z : 0 + length ws ≡ length ws = omega arith in
@@ -141,7 +155,7 @@ written-first ws most cs {r} {ds} room w =
     let near = w.near in
     let n : r ≡ length ws = moved ∙ z in
     let is : ds ≡ ws ++ drop (length ws) cs = ap (λ (t : Text). t.bytes) (w.is (omega (arith, moved, near))) ∙ rw z in
-    (n, rw (is, n) (take_at ws _ (length ws) refl))
+    (n, is)
 
 -- the words of the bytes
 module _ (fs ws : List ℕ) (few : length fs ≤ 65536) (long : 16384 ≡ length ws) {n : ℕ} {vs : List ℕ} (f : filled n vs ≡ filled-with fs ws) where

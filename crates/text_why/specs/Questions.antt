@@ -1,8 +1,13 @@
 -- The code's questions as the rules', and the reasons that words tell.
-use Rattle.std.specs.Prelude.{ℕ, ◌+◌, ◌*◌, List}
+use Rattle.std.specs.Prelude.{ℕ, ◌+◌, ◌*◌, ◌≡◌, List, Result, Ok, Err}
 use Rattle.sizes.specs.Sizes.{most-attrs}
+use Rattle.sizes.specs.declared.answers.Refusal.{Refusal}
+use Rattle.sizes.specs.Refusals.{number_of}
+use Rattle.rules.specs.Setups.{Setup}
 use Rattle.rules_reason.specs.Reasons.{Reason, Asked}
 use Rattle.rules_reason.specs.Answers as rule
+use Rattle.tile_steps.specs.declared.Tale.{Tale}
+use Rattle.tile_steps.specs.Places.{Low}
 use Rattle.tile_reason.specs.Reading.{reason-read}
 use Rattle.tile_reason.specs.Reasons.{asked_of}
 use Rattle.text_why.specs.declared.Question.{Question}
@@ -15,6 +20,12 @@ question-of (asks.One a) = rule.one (asked_of a)
 -- the reasons that the first n lines ws give
 abbrev pub read_by : List ℕ → ℕ → Asked → Reason
 read_by ws n a = reason-read a ws n
+
+-- what is told of an accepted recording's tile, its counts and lines, answers every question about it; or a refusal does
+abbrev pub ToldOf : Setup → List ℕ → ℕ → ℕ → Result Tale Refusal → List ℕ → Type 0
+ToldOf u ws row tile (Ok t) lines =
+    Low t × ((q : rule.Question) → rule.why-words u ws row tile q ≡ rule.answer-lines (read_by lines (t.paints + t.layers)) t.paints t.layers q)
+ToldOf u ws row tile (Err r) lines = (q : rule.Question) → rule.why-words u ws row tile q ≡ rule.refused-bytes (number_of r)
 
 -- The bytes at most: of a panel at the end of a reason, of a reason's words, and with the line feed; of the attribute that it is about, of the two in a
 -- line, and of an answer's lines

@@ -2,24 +2,24 @@
 #![tactic(auto)]
 
 ghost use Rattle.std.specs.Prelude.{◌≡◌, ◌+◌, ◌*◌, ◌≤◌, length, take};
-ghost use Rattle.sizes.specs.Sizes.{most-attrs, file-bytes};
+ghost use Rattle.sizes.specs.Sizes.{most-attrs, file-bytes, line-size, line-table};
 ghost use Rattle.rules.specs.Lines.{rowlist-screen};
 ghost use Rattle.rules_reason.specs.Answers.{panel-bytes, reason-text, reason-bytes, kind-text, asked-bytes, attribute-line, kind-lines, answer-lines, why-words, why-text, question-line};
 ghost use Rattle.screen.specs.Screens.{setup-of};
 ghost use Rattle.file_form.specs.Words.{words-in};
 ghost use Rattle.text.specs.Texts.{text, far, Wrote};
-ghost use Rattle.sizes.specs.Sizes.{line-size, line-table};
 ghost use Rattle.tile_steps.specs.Places.{Low};
 ghost use Rattle.tile_reason.specs.Reasons.{reason-of as said_of, asked_of};
 ghost use Rattle.text_file.specs.Files.{Usual};
-ghost use Rattle.text_why.specs.Questions.{question-of, read_by, panel-most, words-most, reason-most, asked-most, line-most, answer-most};
+ghost use Rattle.text_programs.specs.Programs.{first};
+ghost use Rattle.text_why.specs.Questions.{question-of, read_by, ToldOf, panel-most, words-most, reason-most, asked-most, line-most, answer-most};
 
-use file_form::{Form, read_form, words_of_bytes};
+use file_form::{read_form, words_of_bytes};
 use file_judge::box_at;
-use rect::Viewport;
+use file_steps::Recording;
 use screen::Setup;
-use sizes::answers::{BAD_FORM, BAD_RUN, BAD_VIEWPORT, DONE};
-use sizes::{LINE_TABLE, wide};
+use sizes::LINE_TABLE;
+use sizes::answers::Refusal;
 use text::{put_byte, put_digits, put_number, put_text};
 use text_lines::put_refused;
 use text_programs::list_file;
@@ -128,14 +128,8 @@ fn put_kind_lines(
     ensures { Wrote (kind-lines (read_by lines.now n) layer count) (line-most * count) (text out.old at) (text out.new result) }
 {
     let mut place = at;
-    let mut i = 0;
-    while i < count {
-        let asked = Asked {
-            layer,
-            attribute: i,
-        };
-        place = put_line(out, place, lines, n, asked);
-        i += 1;
+    for attribute in 0..count {
+        place = put_line(out, place, lines, n, Asked { layer, attribute });
     }
     place
 }
@@ -145,7 +139,7 @@ fn put_answer(out: &mut [u8], lines: &[u32], tale: Tale, question: Question) -> 
     requires { Low tale × (length lines.now ≡ line-table) }
     ensures { Wrote (answer-lines (read_by lines.now (tale.paints + tale.layers)) tale.paints tale.layers (question-of question)) answer-most (text out.old 0) (text out.new result) }
 {
-    let n = wide(tale.paints + tale.layers);
+    let n = (tale.paints + tale.layers) as usize;
     match question {
         Question::Every => {
             let p = put_kind_lines(out, 0, lines, n, false, tale.paints);
@@ -155,36 +149,43 @@ fn put_answer(out: &mut [u8], lines: &[u32], tale: Tale, question: Question) -> 
     }
 }
 
+// The story of a tile of a recording that is accepted, told into the lines; 12 for a tile off the screen.
+fn tell_words(
+    words: &[u32],
+    setup: Setup,
+    row: u32,
+    tile: u32,
+    lines: &mut [u32],
+) -> Result<Tale, Refusal>
+    requires { ((rowlist-screen (setup-of setup) words.now).number ≡ 0) × (length lines.old ≡ line-table) }
+    ensures { ToldOf (setup-of setup) words.now row tile result lines.new }
+{
+    let layout = read_form(words)?;
+    let viewport = box_at(words, 1).viewport_in(setup.mode)?;
+    if is_off_screen(viewport, row, tile) {
+        return Err(Refusal::BadRun);
+    }
+    let file = Recording { words, layout };
+    tell_tile(&file, viewport, setup.width, row, tile, lines)
+}
+
 // The text of a question about a recording that is accepted, from its words.
 fn words_text(
-    file: &[u32],
+    words: &[u32],
     setup: Setup,
     row: u32,
     tile: u32,
     question: Question,
     out: &mut [u8],
 ) -> usize
-    requires { (rowlist-screen (setup-of setup) file.now).number ≡ 0 }
-    ensures { Wrote (why-words (setup-of setup) file.now row tile (question-of question)) answer-most (text out.old 0) (text out.new result) }
+    requires { (rowlist-screen (setup-of setup) words.now).number ≡ 0 }
+    ensures { Wrote (why-words (setup-of setup) words.now row tile (question-of question)) answer-most (text out.old 0) (text out.new result) }
 {
-    let Form::Good(l) = read_form(file) else {
-        return put_refused(out, 0, BAD_FORM);
-    };
-    let mode = setup.mode;
-    let Viewport::Good(viewport) = box_at(file, 1).viewport_in(mode) else {
-        return put_refused(out, 0, BAD_VIEWPORT);
-    };
-    if is_off_screen(viewport, row, tile) {
-        return put_refused(out, 0, BAD_RUN);
-    }
-    let width = setup.width;
     let mut lines = [0u32; LINE_TABLE];
-    let told = tell_tile(file, l, viewport, width, row, tile, &mut lines);
-    if told.number != DONE {
-        return put_refused(out, 0, told.number);
+    match tell_words(words, setup, row, tile, &mut lines) {
+        Ok(tale) => put_answer(out, &lines, tale, question),
+        Err(refusal) => put_refused(out, 0, refusal.number()),
     }
-    let tale = told.tale;
-    put_answer(out, &lines, tale, question)
 }
 
 // The same, from its bytes.
@@ -219,7 +220,7 @@ pub fn why_text(
     ensures out_after { take result out.new ≡ why-text (setup-of setup) file.now row tile (question-of question) }
 {
     let text = list_file(file, setup, out);
-    if text.number != DONE {
+    if text.answer.is_err() {
         return text.bytes;
     }
     accepted_text(file, setup, row, tile, question, out)
@@ -229,7 +230,7 @@ pub fn why_text(
 pub fn question_text(i: u64, out: &mut [u8]) -> usize
     requires { 30 ≤ length out.old }
     ensures value { result ≡ length (question-line i) }
-    ensures out_after { take result out.new ≡ question-line i }
+    ensures out_after { out.new ≡ first (question-line i) out.old }
 {
     let a = put_text(out, 0, b"question ");
     let b = put_digits(out, a, i, 20);

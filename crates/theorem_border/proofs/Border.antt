@@ -1,4 +1,4 @@
--- Demand 3, `can_skip` and recordings at the border, from the same about the calls at the words. A refused painting call gives nothing and
+-- The picture, `can_skip` and recordings at the border, from the same about the calls at the words. A refused painting call gives nothing and
 -- alters nothing: it is left out of picture's schedule. Assumes nothing.
 use Prim.Native.Nat.{ℕ}
 use native.Mathlib.Omega.{arith}
@@ -29,7 +29,7 @@ use Rattle.theorem_picture.proofs.Rows.{rows-picture}
 use Rattle.theorem_picture.proofs.Skip as picture
 use Rattle.theorem_picture.specs.Skip as lent
 use Rattle.theorem_border.specs.Hosted.{Host, Hosted, Call, one-step, whole_row, turn_in, begin-at, paint-out}
-use Rattle.theorem_border.specs.Border.{gave-words, painted, log, finished-at, finished, Demand-3, Clear}
+use Rattle.theorem_border.specs.Border.{gave-words, painted, log, finished-at, finished, Picture, Clear}
 use Rattle.theorem_border.proofs.Words.{host-of, hosted, begin-on, call-of, paint-on, paint-done, paint-kept, skip-on}
 use Rattle.theorem_border.proofs.Holds.{holds}
 
@@ -115,7 +115,7 @@ or-either : (a b c : Bool) → (a || b) ≡ true → (b ≡ true → c ≡ true)
 or-either true b c e f = refl
 or-either false b c e f = f e
 
-pub border-picture : Demand-3
+pub border-picture : Picture
 border-picture f xs h z e cs r t there on fin =
     let y = holds z in
     let l = y.words in

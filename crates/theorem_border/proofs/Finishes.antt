@@ -1,17 +1,15 @@
 -- A host can paint every row to its end by `coarse_paint_step`, so `border-picture` speaks of every hosted screen. A step that says finished is
 -- done, so that its result words say so too. Assumes nothing.
-use Prim.Native.Nat.{ℕ, ◌/◌, ◌<◌}
+use Prim.Native.Nat.{ℕ, ◌/◌}
 use mathlib.Core.Path.{◌≡◌, refl, sym, ap, ◌∙◌}
 use mathlib.Core.Bool.{Bool, true, false, ◌&&◌, ◌||◌, cond}
 use mathlib.Core.List.{List, [], ◌∷◌, map}
-use mathlib.Core.Option.{Option, none, some}
+use Rattle.std.specs.Prelude.{Option, None, Some}
 use lib.Dec.{eqb, ltb}
 use lib.ListN.{length}
 use Rattle.sizes.specs.Sizes.{piece-size}
 use Rattle.sizes.specs.Widths.{bucket-tiles}
 use Rattle.rules.specs.Answers.{Answer, Done, NoRoom}
-use Rattle.rules.specs.Boxes.{rows_of}
-use Rattle.rules.specs.Plans.{Frame, Step}
 use Rattle.rules.specs.Painting as rules
 use Rattle.rules.proofs.All.{never}
 use Rattle.screen.specs.declared.Screen.{Screen}
@@ -23,8 +21,8 @@ use Rattle.host_screen.specs.State.{screen-words}
 use Rattle.theorem_picture.specs.Turns as turns
 use Rattle.theorem_picture.specs.Reached as reached
 use Rattle.theorem_picture.proofs.Finishes.{finishes}
-use Rattle.theorem_border.specs.Hosted.{Host, host, with-painting, Hosted, Call, one-step, begin-at, paint-out, paint-at}
-use Rattle.theorem_border.specs.Border.{gave-words, painted, log, finished-at, finished}
+use Rattle.theorem_border.specs.Hosted.{Host, host, with-painting, Call, one-step, begin-at, paint-out, paint-at}
+use Rattle.theorem_border.specs.Border.{gave-words, painted, log, finished-at, finished, Finishes}
 use Rattle.theorem_border.proofs.Words.{host-of, hosted, begin-on, paint-lent}
 use Rattle.theorem_border.proofs.Holds.{holds}
 use Rattle.theorem_border.proofs.Border.{left-read}
@@ -32,8 +30,8 @@ use Rattle.theorem_border.proofs.Border.{left-read}
 -- what says finished is done
 row_done : (o : Option rules.Painted) (d p l : List ℕ) → (paint.settled o d p l).answer.finished ≡ true → (paint.settled o d p l).answer.number ≡ Done
 unfolding paint.settled
-row_done none d p l e = never (sym e)
-row_done (some o) d p l e = go (ltb (length l / piece-size) (length o.pieces)) e
+row_done None d p l e = never (sym e)
+row_done (Some o) d p l e = go (ltb (length l / piece-size) (length o.pieces)) e
   where
     go : (b : Bool) → (cond b (paint.out (paint.refused NoRoom) d p l) (paint.left o l)).answer.finished ≡ true
         → (cond b (paint.out (paint.refused NoRoom) d p l) (paint.left o l)).answer.number ≡ Done
@@ -87,8 +85,7 @@ all_said r (t ∷ ts) l e =
     (λ z. ap (λ (x : Host). said-finished r (log (map lend ts) x)) (turn-words t l) ∙ all_said r ts (reached.paint-at t.row t.list l) z)
 
 -- a schedule after which every row has finished
-pub border-finishes : (f : Frame) (xs : List Step) (h : Host) → Hosted f xs h → (begin-at h).number ≡ Done
-    → (cs : List Call) × ((r : ℕ) → r < rows_of f.viewport → finished r cs (begin-at h).value ≡ true)
+pub border-finishes : Finishes
 border-finishes f xs h z e =
     let y = holds z in
     let l = y.words in

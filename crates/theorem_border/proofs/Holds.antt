@@ -2,7 +2,7 @@
 use Prim.Native.Nat.{ℕ}
 use mathlib.Core.Path.{◌≡◌, refl, sym, ap, ◌∙◌}
 use mathlib.Core.List.{List, []}
-use mathlib.Core.Option.{Option, none, some}
+use Rattle.std.specs.Prelude.{Option, None, Some}
 use lib.Dec.{eqb}
 use borrow.Author.Tests.{eqb-true, eqb-false}
 use Rattle.rules.specs.Answers.{Answer, Done}
@@ -13,14 +13,14 @@ use Rattle.rules.specs.Recording.{recording}
 use Rattle.rules.specs.Walk.{frame-of}
 use Rattle.rect.specs.declared.Rect.{Rect}
 use Rattle.rect.specs.Rects.{box_of}
-use Rattle.screen.specs.Tables.{ScreenLent, reset-to}
+use Rattle.screen.specs.Tables.{ScreenLent, reset_to}
 use Rattle.file_call.specs.Recorded.{recorded}
 use Rattle.host_screen.specs.declared.SetupWords.{SetupWords}
 use Rattle.host.specs.Building.{props, picture}
 use Rattle.rules_picture.specs.Recorded.{history, Readable, said}
 use Rattle.rules_picture.proofs.Cases.{by}
 use Rattle.host_screen.specs.State.{screen-words}
-use Rattle.host.specs.Painting.{write-call}
+use Rattle.host.specs.Painting.{write_call}
 use Rattle.theorem_picture.specs.Calls as calls
 use Rattle.theorem_picture.specs.Rows as rows
 use Rattle.theorem_picture.specs.Reached as reached
@@ -46,8 +46,8 @@ number_of a b q e = sym (ap (λ (x : Answer Host). x.number) q) ∙ e
 
 -- words have one recording
 parts_in : Option (List (List (List ℕ))) → List (List (List ℕ))
-parts_in none = []
-parts_in (some ss) = ss
+parts_in None = []
+parts_in (Some ss) = ss
 
 pub said-once : {ws : List ℕ} (w v : Readable ws) → said w ≡ said v
 unfolding parts_in
@@ -70,7 +70,7 @@ module _ {f : Frame} {xs : List Step} {h : Host} (z : Holds f xs h) where
 
   write-holds : (i id : ℕ) (t : Span) (list count : List ℕ) → Holds f xs (write-at i id t list count h)
   write-holds i id t list count =
-      by (eqb (write-call i t id (screen-words l.screen) l.tables.depth list count).number Done)
+      by (eqb (write_call i t id (screen-words l.screen) l.tables.depth list count).number Done)
       (λ y. record {
         words = reached.write-at i id t list l;
         reached = reached.by-write i id t list z.reached;
@@ -84,7 +84,7 @@ reset-holds v w q h a e (nothing n) = absurd (reset-never h n w q a v e)
 reset-holds v w q h a e (these l s) =
     let k = ap (reset-at v w) s ∙ reset-on w q a l v in
     let f = frame q (box_of v) in
-    made _ (reset-to f l) k (reached.by-reset f l (number_of _ (reset-to f l) k e))
+    made _ (reset_to f l) k (reached.by-reset f l (number_of _ (reset_to f l) k e))
 
 recording-holds : (file : List ℕ) (w : SetupWords) (q : Setup) (h : Host) (r : Readable file) → Asks w q → (recording-at file w h).number ≡ Done → Known h
     → Holds (frame-of (place q h) (said r)) (history (place q h) (said r)) (recording-at file w h).value

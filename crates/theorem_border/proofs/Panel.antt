@@ -5,7 +5,7 @@ use native.Mathlib.Omega.{arith}
 use mathlib.Core.Path.{◌≡◌, refl, ◌∙◌}
 use mathlib.Core.Bool.{true, false}
 use mathlib.Core.List.{List, [], ◌∷◌}
-use mathlib.Core.Option.{none}
+use Rattle.std.specs.Prelude.{None}
 use lib.ListN.{get_or}
 use Rattle.sizes.specs.Sizes.{paint-attr-size}
 use Rattle.rules.specs.Plans.{bucket}
@@ -60,7 +60,7 @@ panel-picture cs e t on = border-picture own-frame steps with-panel.value panel-
 
 -- a paint fill with attribute i on a solid tile, no layer being open, and who drew it
 abbrev drawn : ℕ → Entry
-drawn i = record { layer = false; attribute = i; alpha = none; nesting = 0; panel = by i }
+drawn i = record { layer = false; attribute = i; alpha = None; nesting = 0; panel = by i }
 
 -- attribute 0 has paint 0, the banner, and attribute 1 paint 1, the panel
 banner-paint : get_or with-panel.value.tables.paint-attrs (paint-attr-size * 0) 0 ≡ 0

@@ -11,7 +11,7 @@ use Rattle.file_call.specs.Recorded.{recorded}
 use Rattle.host_screen.specs.declared.SetupWords.{SetupWords}
 use Rattle.theorem_picture.specs.Recorded as lent
 use Rattle.theorem_picture.proofs.Recorded.{recorded-reached, recorded-refused}
-use Rattle.host_screen.proofs.Asked.{no-setup-late}
+use Rattle.sizes.proofs.Refusals.{not_done}
 use Rattle.theorem_border.specs.Hosted.{Host, Asks, by-recording, reset-at, recording-at, begin-at}
 use Rattle.theorem_border.specs.Border.{Accepted, Refused, kept, emptied}
 use Rattle.theorem_border.proofs.Words.{host-of, hosted, Asking, for-none, for_some, asking, reset-none, recording-none, unasked-late, reset-on, recording_on, begin-on, Known, nothing, these, known, recording-never, recording-left}
@@ -21,7 +21,7 @@ pub reset-asks : (v : Rect) (w : SetupWords) (h : Host) → (reset-at v w h).num
 reset-asks v w h e = go (asking w)
   where
     go : Asking w → (q : Setup) × Asks w q
-    go (for-none n) = let z = sym (ap (λ (a : Answer Host). a.number) (reset-none w n h v)) ∙ e in absurd (no-setup-late w z)
+    go (for-none r n) = let z = sym (ap (λ (a : Answer Host). a.number) (reset-none w r n h v)) ∙ e in absurd (not_done r z)
     go (for_some q a) = (q, a)
 
 module _ (file : List ℕ) (w : SetupWords) where
@@ -56,11 +56,11 @@ module _ (file : List ℕ) (w : SetupWords) where
         rw s (refused-on l (recorded-refused file q l (λ e. z (ap (λ (a : Answer Host). a.number) k ∙ e))))
 
   accepted : (h : Host) → Asking w → (recording-at file w h).number ≡ Done → Accepted file w h
-  accepted h (for-none n) e = absurd (unasked-late w file (sym (ap (λ (a : Answer Host). a.number) (recording-none w n h file)) ∙ e))
+  accepted h (for-none r n) e = absurd (unasked-late r file (sym (ap (λ (a : Answer Host). a.number) (recording-none w r n h file)) ∙ e))
   accepted h (for_some q a) e = accepted-in q a h (known h) e
 
   refused : (h : Host) → Asking w → ((recording-at file w h).number ≡ Done → ⊥) → Refused file w h
-  refused h (for-none n) z = kept (ap (λ (a : Answer Host). a.value) (recording-none w n h file))
+  refused h (for-none r n) z = kept (ap (λ (a : Answer Host). a.value) (recording-none w r n h file))
   refused h (for_some q a) z = refused-in q a h (known h) z
 
   module _ (h : Host) where

@@ -4,8 +4,11 @@ use Prim.Native.Nat.{ℕ}
 use native.Mathlib.Omega.{arith}
 use mathlib.Core.Path.{◌≡◌, refl, sym, ap, ◌∙◌}
 use mathlib.Core.Bool.{Bool, true, false, ◌&&◌, cond}
-use mathlib.Core.List.{List, []}
-use mathlib.Core.Option.{Option, none, some}
+use mathlib.Core.List.{List}
+use Rattle.std.specs.Prelude.{Option, None, Some, Result, Ok, Err}
+use Rattle.sizes.specs.declared.answers.Refusal.{Refusal}
+use Rattle.sizes.specs.Refusals.{number_of}
+use Rattle.sizes.proofs.Refusals.{not_done}
 use lib.Dec.{ltb, leb, eqb}
 use lib.Ieee.{Float}
 use lib.IntN.{ℤ}
@@ -22,7 +25,7 @@ use Rattle.rect.specs.declared.Rect.{Rect}
 use Rattle.rect.specs.Rects.{box_of}
 use Rattle.row.specs.Words.{Words}
 use Rattle.screen.specs.declared.Screen.{Screen}
-use Rattle.screen.specs.Tables.{Tables, ScreenLent, lent, reset-to}
+use Rattle.screen.specs.Tables.{Tables, ScreenLent, lent, reset_to}
 use Rattle.step_fill.specs.declared.Draw.{Draw}
 use Rattle.step_fill.specs.Fills as fills
 use Rattle.step_fill.specs.Fills.{filled}
@@ -37,18 +40,15 @@ use Rattle.paint_screen.specs.Beginning.{canvas, beginning}
 use Rattle.paint_screen.specs.Rows.{skip-of-row}
 use Rattle.file_call.specs.Recorded.{recorded}
 use Rattle.file_steps.specs.Steps.{rows_words, pop-part}
-use Rattle.host_screen.specs.declared.Held.{Held}
-use Rattle.host_screen.specs.declared.Held.TheVariants as held
-use Rattle.host_screen.specs.State.{screen-words, screen-at, screen-of, before-4, refused-at, at_held, on}
+use Rattle.host_screen.specs.State.{screen-words, screen-at, screen_of, before_4, refused_at, at_held, on}
 use Rattle.host_screen.specs.declared.SetupWords.{SetupWords}
-use Rattle.host_screen.specs.Asked.{asked-setup, no-setup}
-use Rattle.host_screen.proofs.Asked.{no-setup-late}
+use Rattle.host_screen.specs.Asked.{asked_setup}
 use Rattle.host_screen.proofs.Words.{read_back, written_back}
-use Rattle.host.specs.Border.{unasked, unasked-number}
-use Rattle.host.specs.Building.{tables-left, reset-in, reset-call, recording-in, recording-call, fill-left, fill-call, props, push-left, push-call, pop-left, pop-call, picture, filter-left, filter-call}
+use Rattle.host.specs.Border.{unasked, unasked_number}
+use Rattle.host.specs.Building.{tables-left, reset_in, recording_in, fill-left, fill_call, props, push-left, push_call, pop-left, pop_call, picture, filter-left, filter_call}
 use Rattle.host_results.specs.Results.{skip-left}
-use Rattle.host.specs.Painting.{begin-left, begin-call, step_left, step_call, row-call, write-call, skip-call}
-use Rattle.host.proofs.Asked.{reset-unasked, recording-unasked, reset-asked, recording-asked}
+use Rattle.host.specs.Painting.{begin-left, begin_call, step_left, step_call, row_call, write_call, skip_call}
+use Rattle.host.proofs.Asked.{reset_unasked, recording_unasked, reset_asked, recording_asked}
 use Rattle.host.proofs.Kept.{step-refused, row-refused, write-refused}
 use Rattle.theorem_picture.specs.Calls as calls
 use Rattle.theorem_picture.specs.Reached as reached
@@ -63,126 +63,126 @@ abbrev pub hosted : Answer ScreenLent → Answer Host
 hosted a = answer a.number (host-of a.value)
 
 -- a refusal at the border is no 0
-late : (n : ℕ) → before-4 n ≡ Done → ⊥
-unfolding before-4
+late : (n : ℕ) → before_4 n ≡ Done → ⊥
+unfolding before_4
 late n = go (ltb 0 n && ltb n BadRecord) refl
   where
     go : (b : Bool) → (ltb 0 n && ltb n BadRecord) ≡ b → cond b n BadRecord ≡ Done → ⊥
     go true q e = let h = ltb-true 0 n (both (ltb 0 n) (ltb n BadRecord) q).0 in omega arith
     go false q e = omega arith
 
-never_done : (st : List ℕ) (f : Screen → ℕ) → refused-at st f ≡ Done → ⊥
-unfolding refused-at
+never_done : (st : List ℕ) (f : Screen → ℕ) → refused_at st f ≡ Done → ⊥
+unfolding refused_at
 never_done st f = go (eqb (length st) state-size)
   where
-    go : (b : Bool) → cond b (before-4 (f (screen-at st))) BadRecord ≡ Done → ⊥
+    go : (b : Bool) → cond b (before_4 (f (screen-at st))) BadRecord ≡ Done → ⊥
     go true e = late (f (screen-at st)) e
     go false e = omega arith
 
 module _ {T : Type 0} (t : T) (f : Screen → Answer T) where
   -- a call on the words of the screen s
   on-screen : (s : Screen) → on true (screen-words s) t f ≡ f s
-  on-screen s = ap (λ (h : Held). at_held h (screen-words s) t f) (read_back s)
+  on-screen s = ap (λ (h : Option Screen). at_held h (screen-words s) t f) (read_back s)
 
   -- .. done, whatever else is asked
   on-done : (good : Bool) (s : Screen) → (on good (screen-words s) t f).number ≡ Done → on good (screen-words s) t f ≡ f s
-  unfolding screen-of
+  unfolding screen_of
   on-done true s e = on-screen s
   on-done false s e = absurd (never_done (screen-words s) (λ (s : Screen). (f s).number) e)
 
 -- `coarse_can_skip`
-pub skip-on : (l : ScreenLent) (r : ℕ) (t : Span) (id : ℕ) (old : List ℕ) → (skip-call r t id (screen-words l.screen) l.tables.rows old).number ≡ Done
-    → skip-call r t id (screen-words l.screen) l.tables.rows old ≡ skip-left old (skip-of-row l.screen r l.tables.rows t id)
-unfolding skip-call
+pub skip-on : (l : ScreenLent) (r : ℕ) (t : Span) (id : ℕ) (old : List ℕ) → (skip_call r t id (screen-words l.screen) l.tables.rows old).number ≡ Done
+    → skip_call r t id (screen-words l.screen) l.tables.rows old ≡ skip-left old (skip-of-row l.screen r l.tables.rows t id)
+unfolding skip_call
 skip-on l r t id old e = on-done {T = List ℕ} _ _ (eqb (length old) 1) l.screen e
 
 -- what a host's words ask for
 pub data Asking (w : SetupWords) : Type 0 where
-  for-none : none ≡ asked-setup w → Asking w
+  for-none : (r : Refusal) → Err r ≡ asked_setup w → Asking w
   for_some : (q : Setup) → Asks w q → Asking w
 
 pub asking : (w : SetupWords) → Asking w
-asking w = go (asked-setup w) refl
+asking w = go (asked_setup w) refl
   where
-    go : (o : Option Setup) → o ≡ asked-setup w → Asking w
-    go none e = for-none e
-    go (some q) e = for_some q e
+    go : (o : Result Setup Refusal) → o ≡ asked_setup w → Asking w
+    go (Err r) e = for-none r e
+    go (Ok q) e = for_some q e
 
 -- a call's answer as what the host then holds
 abbrev holding : Answer (List ℕ × Tables) → Answer Host
 holding a = answer a.number (host a.value.0 a.value.1)
 
 -- asked for no setup, a reset and a recording leave everything as it was
-module _ (w : SetupWords) (e : none ≡ asked-setup w) (h : Host) where
-  pub reset-none : (v : Rect) → reset-at v w h ≡ answer (no-setup w) h
+module _ (w : SetupWords) (r : Refusal) (e : Err r ≡ asked_setup w) (h : Host) where
+  pub reset-none : (v : Rect) → reset-at v w h ≡ answer (number_of r) h
   unfolding reset-at
-  reset-none v = sym (ap holding (reset-unasked w e (no-setup w) refl v h.state h.tables))
+  reset-none v = sym (ap holding (reset_unasked w r e v h.state h.tables))
 
-  pub recording-none : (file : List ℕ) → recording-at file w h ≡ answer (unasked-number file (no-setup w)) h
+  pub recording-none : (file : List ℕ) → recording-at file w h ≡ answer (unasked_number file r) h
   unfolding recording-at
-  recording-none file = sym (ap holding (recording-unasked w e (no-setup w) refl file _ refl h.state h.tables))
+  recording-none file = sym (ap holding (recording_unasked w r e file h.state h.tables))
 
-pub unasked-late : (w : SetupWords) (file : List ℕ) → unasked-number file (no-setup w) ≡ Done → ⊥
-unfolding unasked-number
-unasked-late w file = go (sections shape file)
+pub unasked-late : (r : Refusal) (file : List ℕ) → unasked_number file r ≡ Done → ⊥
+unfolding unasked_number
+unasked-late r file = go (sections shape file)
   where
-    go : (o : Option (List (List (List ℕ)))) → unasked o (no-setup w) ≡ Done → ⊥
-    go none e = omega arith
-    go (some ss) e = no-setup-late w e
+    go : (o : Option (List (List (List ℕ)))) → unasked o r ≡ Done → ⊥
+    go None e = omega arith
+    go (Some ss) e = not_done r e
 
 -- a reset and a recording in the setup q, on a screen's words
 module _ (w : SetupWords) (q : Setup) (a : Asks w q) where
-  reset-is : (v : Rect) (h : Host) → reset-at v w h ≡ holding (reset-in v q h.state h.tables)
+  reset-is : (v : Rect) (h : Host) → reset-at v w h ≡ holding (reset_in v q h.state h.tables)
   unfolding reset-at
-  reset-is v h = sym (ap holding (reset-asked w q a v h.state h.tables refl))
+  reset-is v h = sym (ap holding (reset_asked w q a v h.state h.tables refl))
 
-  recording-is : (file : List ℕ) (h : Host) → recording-at file w h ≡ holding (recording-in file q h.state h.tables)
+  recording-is : (file : List ℕ) (h : Host) → recording-at file w h ≡ holding (recording_in file q h.state h.tables)
   unfolding recording-at
-  recording-is file h = sym (ap holding (recording-asked w q a file h.state h.tables refl))
+  recording-is file h = sym (ap holding (recording_asked w q a file h.state h.tables refl))
 
   module _ (l : ScreenLent) where
-    pub reset-on : (v : Rect) → reset-at v w (host-of l) ≡ hosted (reset-to (frame q (box_of v)) l)
-    unfolding reset-in
+    pub reset-on : (v : Rect) → reset-at v w (host-of l) ≡ hosted (reset_to (frame q (box_of v)) l)
+    unfolding reset_in
     reset-on v =
         reset-is v (host-of l)
-        ∙ ap holding (on-screen (screen-words l.screen, l.tables) (λ (s : Screen). tables-left (reset-to (frame q (box_of v)) (lent s l.tables))) l.screen)
+        ∙ ap holding (on-screen (screen-words l.screen, l.tables) (λ (s : Screen). tables-left (reset_to (frame q (box_of v)) (lent s l.tables))) l.screen)
 
     pub recording_on : (file : List ℕ) → recording-at file w (host-of l) ≡ hosted (recorded file q l)
-    unfolding recording-in
+    unfolding recording_in
     recording_on file =
         recording-is file (host-of l)
         ∙ ap holding (on-screen (screen-words l.screen, l.tables) (λ (s : Screen). tables-left (recorded file q (lent s l.tables))) l.screen)
 
 -- words that are a screen's, or no call on them is done
 pub data Known (h : Host) : Type 0 where
-  nothing : held.Nothing ≡ screen-of true h.state → Known h
+  nothing : None ≡ screen_of true h.state → Known h
   these : (l : ScreenLent) → h ≡ host-of l → Known h
 
 pub known : (h : Host) → Known h
-known h = go (screen-of true h.state) refl
+known h = go (screen_of true h.state) refl
   where
-    go : (k : Held) → k ≡ screen-of true h.state → Known h
-    go held.Nothing q = nothing q
-    go (held.Good s) q = these (lent s h.tables) (ap (λ (st : List ℕ). host st h.tables) (sym (written_back true h.state s q)))
+    go : (k : Option Screen) → k ≡ screen_of true h.state → Known h
+    go None q = nothing q
+    go (Some s) q = these (lent s h.tables) (ap (λ (st : List ℕ). host st h.tables) (sym (written_back true h.state s q)))
 
 -- on words that are no screen's
-module _ (h : Host) (n : held.Nothing ≡ screen-of true h.state) (w : SetupWords) (q : Setup) (a : Asks w q) where
+module _ (h : Host) (n : None ≡ screen_of true h.state) (w : SetupWords) (q : Setup) (a : Asks w q) where
   pub reset-never : (v : Rect) → (reset-at v w h).number ≡ Done → ⊥
-  unfolding reset-in
+  unfolding reset_in
   reset-never v e =
-      let d : (reset-in v q h.state h.tables).number ≡ Done = sym (ap (λ (x : Answer Host). x.number) (reset-is w q a v h)) ∙ e in
+      let d : (reset_in v q h.state h.tables).number ≡ Done = sym (ap (λ (x : Answer Host). x.number) (reset-is w q a v h)) ∙ e in
       never_done h.state _ (rw (← n) at d)
 
   pub recording-never : (file : List ℕ) → (recording-at file w h).number ≡ Done → ⊥
-  unfolding recording-in
+  unfolding recording_in
   recording-never file e =
-      let d : (recording-in file q h.state h.tables).number ≡ Done = sym (ap (λ (x : Answer Host). x.number) (recording-is w q a file h)) ∙ e in
+      let d : (recording_in file q h.state h.tables).number ≡ Done = sym (ap (λ (x : Answer Host). x.number) (recording-is w q a file h)) ∙ e in
       never_done h.state _ (rw (← n) at d)
 
   pub recording-left : (file : List ℕ) → (recording-at file w h).value ≡ h
-  unfolding recording-in
+  unfolding recording_in
   recording-left file =
-      let d : (holding (recording-in file q h.state h.tables)).value ≡ h = rw (← n) in
+      let d : (holding (recording_in file q h.state h.tables)).value ≡ h = rw (← n) in
       ap (λ (x : Answer Host). x.value) (recording-is w q a file h) ∙ d
 
 -- the building calls on a screen's words
@@ -191,7 +191,7 @@ module _ (l : ScreenLent) where
   t = l.tables
 
   pub fill_on : (ps ss : List ℕ) (d : Draw) → fill-at ps ss d (host-of l) ≡ hosted (calls.fill-at ps ss d l)
-  unfolding fill-at fill-call calls.fill-at
+  unfolding fill-at fill_call calls.fill-at
   fill_on ps ss d =
       ap (λ (a : Answer (List ℕ × Words × List ℕ)). answer a.number
       (host a.value.0 (with_rows t a.value.1 t.layers t.opacities a.value.2 t.layer-attrs t.filter-paints)))
@@ -199,7 +199,7 @@ module _ (l : ScreenLent) where
 
   pub push-on : (mix compose opacity mask flag : ℕ) (clip : Clip) (panel : ℕ) → (push_at mix compose opacity mask flag clip panel (host-of l)).number ≡ Done
       → push_at mix compose opacity mask flag clip panel (host-of l) ≡ hosted (calls.push_at (props mix compose opacity mask flag clip panel) l)
-  unfolding push_at push-call calls.push_at
+  unfolding push_at push_call calls.push_at
   push-on mix compose opacity mask flag clip panel e =
       let p = props mix compose opacity mask flag clip panel in
       ap (λ (a : Answer (List ℕ × Words × List ℕ × List Float)). answer a.number
@@ -208,7 +208,7 @@ module _ (l : ScreenLent) where
       (λ (s : Screen). push-left (pushed p (push.lent s (rows_words t) t.layers t.opacities))) (leb flag 1) l.screen e)
 
   pub pop-on : (ss : List ℕ) → pop-at ss (host-of l) ≡ hosted (calls.pop-at ss l)
-  unfolding pop-at pop-call calls.pop-at
+  unfolding pop-at pop_call calls.pop-at
   pop-on ss =
       ap (λ (a : Answer (List ℕ × pop.PopLent)). answer a.number
       (host a.value.0
@@ -217,7 +217,7 @@ module _ (l : ScreenLent) where
 
   pub filter-on : (p : Placement) (flag m n q : ℕ) → (filter-at p flag m n q (host-of l)).number ≡ Done
       → filter-at p flag m n q (host-of l) ≡ hosted (calls.filter-at (given p (picture flag m) n q) l)
-  unfolding filter-at filter-call calls.filter-at
+  unfolding filter-at filter_call calls.filter-at
   filter-on p flag m n q e =
       ap (λ (a : Answer (List ℕ × Words × List ℕ × List ℤ)). answer a.number
       (host a.value.0 (with_rows t a.value.1 t.layers t.opacities a.value.2 t.layer-attrs a.value.3)))
@@ -225,7 +225,7 @@ module _ (l : ScreenLent) where
       (λ (s : Screen). filter-left (filtered (given p (picture flag m) n q) (filter.lent s (rows_words t) t.paint-attrs t.filter-paints))) (leb flag 1) l.screen e)
 
   pub begin-on : begin-at (host-of l) ≡ hosted (reached.begin-at l)
-  unfolding begin-at begin-call reached.begin-at
+  unfolding begin-at begin_call reached.begin-at
   begin-on =
       ap (λ (a : Answer (List ℕ × List ℕ × List ℕ)). answer a.number (host a.value.0 (with-painting t a.value.1 a.value.2)))
       (on-screen (screen-words l.screen, t.depth, t.painting) (λ (s : Screen). begin-left (beginning (canvas s t.depth t.painting))) l.screen)
@@ -239,7 +239,7 @@ abbrev Painted : Type 0
 Painted = List ℕ × List ℕ × List ℕ × List ℕ
 
 pub paint-on : (c : Call) (l : ScreenLent) → (paint-out c (host-of l)).number ≡ Done → paint-out c (host-of l) ≡ step_left (turn_in c).result (rows.call-out (call-of c) l)
-unfolding paint-out step_call row-call reached.paint-out rows.row_out
+unfolding paint-out step_call row_call reached.paint-out rows.row_out
 paint-on (one-step t) l e = on-done {T = Painted} _ _ (eqb (length t.result) 2) l.screen e
 paint-on (whole_row t) l e = on-done {T = Painted} _ _ (eqb (length t.result) 2) l.screen e
 
@@ -262,13 +262,13 @@ paint-kept (whole_row t) h q =
 -- a writing run, done or refused
 module _ (i id : ℕ) (b : Span) (list count : List ℕ) (l : ScreenLent) where
   abbrev a : Answer Painted
-  a = write-call i b id (screen-words l.screen) l.tables.depth list count
+  a = write_call i b id (screen-words l.screen) l.tables.depth list count
 
   abbrev put : Answer Painted → Host
   put x = host x.value.0 (with-painting l.tables x.value.1 l.tables.painting)
 
   pub write_done : a.number ≡ Done → write-at i id b list count (host-of l) ≡ host-of (reached.write-at i id b list l)
-  unfolding write-at write-call reached.write-out
+  unfolding write-at write_call reached.write-out
   write_done e = ap put (on-done {T = Painted} _ _ (eqb (length count) 1) l.screen e)
 
   pub write_kept : (a.number ≡ Done → ⊥) → write-at i id b list count (host-of l) ≡ host-of l

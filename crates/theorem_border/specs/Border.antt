@@ -1,4 +1,4 @@
--- Demand 3, `can_skip` and recordings about the calls that a host links, by the words that it reads.
+-- The picture, `can_skip` and recordings about the calls that a host links, by the words that it reads.
 use Rattle.std.specs.Prelude.{ℕ, ◌/◌, ◌≤◌, ◌<◌, ◌≡◌, Bool, true, ◌&&◌, ◌||◌, cond, List, [], ◌∷◌, get_or, eqb}
 use Rattle.sizes.specs.Widths.{bucket-tiles}
 use Rattle.rules.specs.Answers.{Answer, answer, Done, BadForm}
@@ -9,6 +9,7 @@ use Rattle.rules.specs.Setups.{Setup}
 use Rattle.rules.specs.Painting.{received}
 use Rattle.rules.specs.Plain.{plain}
 use Rattle.rules.specs.Walk.{frame-of}
+use Rattle.rect.specs.declared.Rect.{Rect}
 use Rattle.rect.specs.Rects.{rect-of}
 use Rattle.paint_screen.specs.Judging.{wide}
 use Rattle.paint_screen.specs.Stepping.{part}
@@ -17,7 +18,7 @@ use Rattle.rules_picture.specs.Recorded.{history, Readable, said}
 use Rattle.theorem_picture.specs.Turns.{pieces-in}
 use Rattle.host_screen.specs.declared.SetupWords.{SetupWords}
 use Rattle.host_screen.specs.State.{screen-at}
-use Rattle.host.specs.Painting.{skip-call}
+use Rattle.host.specs.Painting.{skip_call}
 use Rattle.theorem_border.specs.Hosted.{Host, Hosted, Asks, Call, one-step, turn_in, paint-out, paint-at, place, reset-at, recording-at, begin-at}
 
 -- What a host reads after a painting call of row r. Done: the first result word is 1 where the row has finished, the second says how many
@@ -49,13 +50,13 @@ finished-at h r = (gave-words r (paint-out (one-step (record { row = r; list = [
 abbrev pub finished : ℕ → List Call → Host → Bool
 finished r cs h = said-finished r (log cs h) || finished-at (painted cs h) r
 
--- Demand 3. A host has reset a screen to the frame f, or played a recording, and has called what it likes, each call given what the last one left; xs are its
+-- The picture. A host has reset a screen to the frame f, or played a recording, and has called what it likes, each call given what the last one left; xs are its
 -- done building calls, and `coarse_begin_painting` has just answered 0. From then on it calls nothing but painting steps and rows painted by
 -- one call, cs. When row r has finished, each of its tiles has received, by the words of the calls' lists, exactly what plain draw order gives
 -- it, in that order and at that nesting, less what came before the newest eligible solid segment that, once cut to the screen, covers the
 -- tile's whole bucket; where there is none, it has received everything.
-abbrev pub Demand-3 : Type 0
-Demand-3 =
+abbrev pub Picture : Type 0
+Picture =
     (f : Frame) (xs : List Step) (h : Host) → Hosted f xs h → (begin-at h).number ≡ Done
     → (cs : List Call) (r t : ℕ) → r < rows_of f.viewport → t < width f.viewport / 4
     → finished r cs (begin-at h).value ≡ true
@@ -66,7 +67,7 @@ Demand-3 =
 abbrev pub Clear : Host → Type 0
 Clear h =
     get_or h.state 15 0 ≡ 1 → (r : ℕ) (t : Span) (id : ℕ) (old : List ℕ)
-    → skip-call r t id h.state h.tables.rows old ≡ answer Done (1 ∷ [])
+    → skip_call r t id h.state h.tables.rows old ≡ answer Done (1 ∷ [])
     → (x : ℕ) → t.first ≤ x → x < t.end
     → get_or (part (wide (screen-at h.state)) r h.tables.depth) (x / bucket-tiles (screen-at h.state).width) 0 ≤ id
 
@@ -83,3 +84,27 @@ pub data Refused (file : List ℕ) (w : SetupWords) (h : Host) : Type 0 where
   kept : (recording-at file w h).value ≡ h → Refused file w h
   emptied : (words : Readable file) → BadForm < (recording-at file w h).number → (reset-at (rect-of (said words).viewport) w h).number ≡ Done
       → (recording-at file w h).value ≡ (reset-at (rect-of (said words).viewport) w h).value → Refused file w h
+
+-- Painting ends: once `coarse_begin_painting` has answered 0, there are painting calls after which every row has finished.
+abbrev pub Finishes : Type 0
+Finishes =
+    (f : Frame) (xs : List Step) (h : Host) → Hosted f xs h → (begin-at h).number ≡ Done
+    → (cs : List Call) × ((r : ℕ) → r < rows_of f.viewport → finished r cs (begin-at h).value ≡ true)
+
+-- An accepted recording leaves hosted words, reached by the steps of its walk, and painting can begin there: the picture speaks of it.
+abbrev pub RecordingAccepted : Type 0
+RecordingAccepted = (file : List ℕ) (w : SetupWords) (h : Host) → (recording-at file w h).number ≡ Done → Accepted file w h
+
+-- A refused one leaves every word as it was, or what a reset to the file's viewport leaves.
+abbrev pub RecordingRefused : Type 0
+RecordingRefused = (file : List ℕ) (w : SetupWords) (h : Host) → ((recording-at file w h).number ≡ Done → ⊥) → Refused file w h
+
+-- With 1, 2 or 3 it leaves them as they were.
+abbrev pub RecordingEarly : Type 0
+RecordingEarly =
+    (file : List ℕ) (w : SetupWords) (h : Host) → 0 < (recording-at file w h).number → (recording-at file w h).number ≤ 3
+    → (recording-at file w h).value ≡ h
+
+-- A done reset was asked for a setup.
+abbrev pub ResetAsks : Type 0
+ResetAsks = (v : Rect) (w : SetupWords) (h : Host) → (reset-at v w h).number ≡ Done → (q : Setup) × Asks w q

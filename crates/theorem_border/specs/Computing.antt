@@ -1,27 +1,27 @@
 -- All that has to unfold to compute with a host's calls of reset, fill and painting: a theorem by computation says `unfolding on-words computing`.
-use Rattle.cmd.specs.Reading.{command-of, depth-fill-of}
+use Rattle.cmd.specs.Reading.{command_of, depth_fill_of}
 use Rattle.segments.specs.Segs.{seg-at, segs}
 use Rattle.screen.specs.Judging as screens
-use Rattle.screen.specs.Judging.{judged-reset}
-use Rattle.screen.specs.Screens.{good-clip, good-screen, state-of, screen-after}
-use Rattle.screen.specs.Tables.{zeros, reset-to}
+use Rattle.screen.specs.Judging.{judged_reset}
+use Rattle.screen.specs.Screens.{good_clip, good_screen, state-of, screen-after}
+use Rattle.screen.specs.Tables.{reset_to}
 use Rattle.row_screen.specs.Arena.{cut, lay}
-use Rattle.row.specs.Words.{hull-word, include-span, put-command, put-depth}
+use Rattle.row.specs.Words.{hull_word, include_span, put_command, put_depth}
 use Rattle.row_judge.specs.Building as building
-use Rattle.row_judge.specs.Building.{good-row, good-rows}
-use Rattle.step_fill.specs.Fills.{paints, first-number, fill-number, fill_done}
-use Rattle.paint_runs.specs.Summaries.{shown-runs}
-use Rattle.paint_command.specs.Painting.{attrs-at, given, fill-shown, command-shown, depth-step, command-step, next-step, settled, painted-row}
+use Rattle.row_judge.specs.Building.{good_row, good_rows}
+use Rattle.step_fill.specs.Fills.{paints, first_number, fill_number, fill_done}
+use Rattle.paint_runs.specs.Summaries.{shown_runs}
+use Rattle.paint_command.specs.Painting.{attrs-at, fill-shown, command-shown, depth-step, command-step, next-step, settled, painted-row}
 use Rattle.paint_pieces.specs.Pieces.{runs-at}
 use Rattle.paint_screen.specs.Judging as painter
-use Rattle.paint_screen.specs.Judging.{begin-number}
+use Rattle.paint_screen.specs.Judging.{begin_number}
 use Rattle.paint_screen.specs.Beginning.{beginning}
 use Rattle.paint_screen.specs.Stepping.{row_step, stepped}
 use Rattle.paint_whole.specs.Running.{one_more, run, row-painted}
-use Rattle.host_screen.specs.State.{screen-of}
-use Rattle.host_screen.specs.Asked.{asked-setup}
-use Rattle.host.specs.Building.{reset-in, reset-call, fill-call}
-use Rattle.host.specs.Painting.{begin-call, step_call, row-call}
+use Rattle.host_screen.specs.State.{screen_of}
+use Rattle.host_screen.specs.Asked.{asked_setup}
+use Rattle.host.specs.Building.{reset_in, reset_call, fill_call}
+use Rattle.host.specs.Painting.{begin_call, step_call, row_call}
 use Rattle.rules_picture.specs.Turns.{from, said-finished}
 use Rattle.theorem_picture.specs.Turns.{pieces-in}
 use Rattle.theorem_border.specs.Hosted.{reset-at, fill-at, begin-at, paint-out}
@@ -29,14 +29,14 @@ use Rattle.theorem_border.specs.Border.{painted, log}
 
 -- reset and fill
 unfoldable pub on-fills : Unit {0}
-unfolding command-of depth-fill-of seg-at segs screens.judged judged-reset good-clip good-screen state-of screen-after zeros reset-to cut lay hull-word include-span put-command put-depth building.step-number good-row good-rows paints first-number fill-number fill_done asked-setup reset-in reset-call fill-call reset-at fill-at
+unfolding command_of depth_fill_of seg-at segs screens.judged judged_reset good_clip good_screen state-of screen-after reset_to cut lay hull_word include_span put_command put_depth building.step_number good_row good_rows paints first_number fill_number fill_done asked_setup reset_in reset_call fill_call reset-at fill-at
 on-fills = tt
 
 -- painting
 unfoldable pub on-painting : Unit {0}
-unfolding shown-runs attrs-at given fill-shown command-shown depth-step command-step next-step settled painted-row runs-at painter.judged begin-number painter.step-number beginning row_step stepped one_more run row-painted begin-call step_call row-call
+unfolding shown_runs attrs-at fill-shown command-shown depth-step command-step next-step settled painted-row runs-at painter.judged begin_number painter.step_number beginning row_step stepped one_more run row-painted begin_call step_call row_call
 on-painting = tt
 
 unfoldable pub on-words : Unit {0}
-unfolding screen-of from said-finished pieces-in begin-at paint-out painted log on-fills on-painting
+unfolding screen_of from said-finished pieces-in begin-at paint-out painted log on-fills on-painting
 on-words = tt

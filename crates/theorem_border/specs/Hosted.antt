@@ -1,6 +1,6 @@
 -- What a host holds from call to call, and the `coarse_` calls on it: each by the definition that its contract cites.
 use Rattle.std.specs.Prelude.{ℕ, ◌≡◌, List, [], ◌∷◌, ◌++◌, Float, ℤ}
-use Rattle.std.proofs.Math.Option.{some}
+use Rattle.std.specs.Prelude.{Ok}
 use Rattle.sizes.specs.Sizes.{most-rows}
 use Rattle.rules.specs.Answers.{Answer, answer, Done}
 use Rattle.rules.specs.Spans.{Span}
@@ -23,9 +23,9 @@ use Rattle.file_steps.specs.Steps.{rows_words}
 use Rattle.rules_picture.specs.Recorded.{history, Readable, said}
 use Rattle.theorem_picture.specs.Calls.{fill-said, pop-said, filter-said}
 use Rattle.host_screen.specs.declared.SetupWords.{SetupWords}
-use Rattle.host_screen.specs.Asked.{asked-setup}
-use Rattle.host.specs.Building.{reset-call, recording-call, fill-call, said-props, props, push-call, pop-call, picture, filter-call}
-use Rattle.host.specs.Painting.{begin-call, step_call, row-call, write-call}
+use Rattle.host_screen.specs.Asked.{asked_setup}
+use Rattle.host.specs.Building.{reset_call, recording_call, fill_call, said-props, props, push_call, pop_call, picture, filter_call}
+use Rattle.host.specs.Painting.{begin_call, step_call, row_call, write_call}
 
 -- the state's words and the ten tables
 pub record Host : Type 0 where
@@ -46,28 +46,28 @@ with-painting t depth painting =
 
 -- the setup that a host's words ask for
 abbrev pub Asks : SetupWords → Setup → Type 0
-Asks w q = some q ≡ asked-setup w
+Asks w q = Ok q ≡ asked_setup w
 
 -- `coarse_reset`
 unfoldable pub reset-at : Rect → SetupWords → Host → Answer Host
-reset-at v w h = let a = reset-call v w h.state h.tables in answer a.number (host a.value.0 a.value.1)
+reset-at v w h = let a = reset_call v w h.state h.tables in answer a.number (host a.value.0 a.value.1)
 
 -- `coarse_bucket_recording`
 unfoldable pub recording-at : List ℕ → SetupWords → Host → Answer Host
-recording-at file w h = let a = recording-call file w h.state h.tables in answer a.number (host a.value.0 a.value.1)
+recording-at file w h = let a = recording_call file w h.state h.tables in answer a.number (host a.value.0 a.value.1)
 
 -- `coarse_fill`: any words as paints and as segments
 unfoldable pub fill-at : List ℕ → List ℕ → Draw → Host → Answer Host
 fill-at ps ss d h =
     let t = h.tables in
-    let a = fill-call ps ss d h.state (rows_words t) t.paint-attrs in
+    let a = fill_call ps ss d h.state (rows_words t) t.paint-attrs in
     answer a.number (host a.value.0 (with_rows t a.value.1 t.layers t.opacities a.value.2 t.layer-attrs t.filter-paints))
 
 -- `coarse_push_layer`: any numbers
 unfoldable pub push_at : ℕ → ℕ → ℕ → ℕ → ℕ → Clip → ℕ → Host → Answer Host
 push_at mix compose opacity mask flag clip panel h =
     let t = h.tables in
-    let a = push-call flag (props mix compose opacity mask flag clip panel) h.state (rows_words t) t.layers t.opacities in
+    let a = push_call flag (props mix compose opacity mask flag clip panel) h.state (rows_words t) t.layers t.opacities in
     answer a.number (host a.value.0 (with_rows t a.value.1 a.value.2 a.value.3 t.paint-attrs t.layer-attrs t.filter-paints))
 
 abbrev pub push-said : ℕ → ℕ → ℕ → ℕ → ℕ → Clip → ℕ → Step
@@ -78,7 +78,7 @@ push-said mix compose opacity mask flag clip panel =
 unfoldable pub pop-at : List ℕ → Host → Answer Host
 pop-at ss h =
     let t = h.tables in
-    let a = pop-call ss h.state (pop.lent (rows_words t) t.layers t.opacities t.layer-attrs) in
+    let a = pop_call ss h.state (pop.lent (rows_words t) t.layers t.opacities t.layer-attrs) in
     let l = a.value.1 in
     answer a.number (host a.value.0 (with_rows t l.words l.layers l.opacities t.paint-attrs l.attrs t.filter-paints))
 
@@ -86,13 +86,13 @@ pop-at ss h =
 unfoldable pub filter-at : Placement → ℕ → ℕ → ℕ → ℕ → Host → Answer Host
 filter-at p flag m n q h =
     let t = h.tables in
-    let a = filter-call flag (given p (picture flag m) n q) h.state (rows_words t) t.paint-attrs t.filter-paints in
+    let a = filter_call flag (given p (picture flag m) n q) h.state (rows_words t) t.paint-attrs t.filter-paints in
     answer a.number (host a.value.0 (with_rows t a.value.1 t.layers t.opacities a.value.2 t.layer-attrs a.value.3))
 
 -- `coarse_begin_painting`
 unfoldable pub begin-at : Host → Answer Host
 begin-at h =
-    let a = begin-call h.state h.tables.depth h.tables.painting in
+    let a = begin_call h.state h.tables.depth h.tables.painting in
     answer a.number (host a.value.0 (with-painting h.tables a.value.1 a.value.2))
 
 -- one call of `coarse_paint_step` or of `coarse_paint_row`: any row, there or not, the words of any list, any result words
@@ -118,7 +118,7 @@ own-words list h = let t = h.tables in paint.lent t.rows t.render t.fills t.dept
 -- its number; the depth and painting words, the list and the result afterwards
 unfoldable pub paint-out : Call → Host → Answer (List ℕ × List ℕ × List ℕ × List ℕ)
 paint-out (one-step t) h = step_call t.row (own-attributes h) h.state (own-words t.list h) t.result
-paint-out (whole_row t) h = row-call t.row (own-attributes h) h.state (own-words t.list h) t.result
+paint-out (whole_row t) h = row_call t.row (own-attributes h) h.state (own-words t.list h) t.result
 
 abbrev pub paint-at : Call → Host → Host
 paint-at c h = let o = (paint-out c h).value in host h.state (with-painting h.tables o.0 o.1)
@@ -126,7 +126,7 @@ paint-at c h = let o = (paint-out c h).value in host h.state (with-painting h.ta
 -- `coarse_unset_runs_and_write` over the buckets t of row i with an id
 unfoldable pub write-at : ℕ → ℕ → Span → List ℕ → List ℕ → Host → Host
 write-at i id t list count h =
-    let a = write-call i t id h.state h.tables.depth list count in
+    let a = write_call i t id h.state h.tables.depth list count in
     host a.value.0 (with-painting h.tables a.value.1 h.tables.painting)
 
 -- where a recording is played: the setup, and how much is lent of the arenas

@@ -3,7 +3,7 @@
 use mathlib.Core.Path.{◌≡◌, refl, sym, ap, ◌∙◌}
 use mathlib.Core.List.{List}
 use Prim.Native.Nat.{ℕ, ◌/◌}
-use lib.ListN.{length, replicate}
+use lib.ListN.{length}
 use seplogic.Ra.Ura.{Ura}
 use base.Logic.{SProp, emp}
 use prog.Memory.{Memory}
@@ -13,42 +13,42 @@ use contract.Monad.{Fun, fact}
 use contract.Lifetimes.{Lfts}
 use denote.Triple.Entry.{Args}
 use denote.Triple.Clauses.{AtExit}
-use Rattle.rules.specs.Split.{split-answer}
-use Rattle.rules.specs.Depth.{no-depth, included, can-skip-answer, visible-answer, unset-answer}
+use Rattle.rules.specs.Split.{split_answer}
+use Rattle.rules.specs.Depth.{no-depth, included, can_skip_answer, visible_answer, unset_answer}
 use Rattle.span.specs.Spans.{tiles, buckets}
 use Rattle.sizes.specs.Sizes.{most-runs}
+use Rattle.std.specs.Prelude.{Bool, Result, Ok, Err}
+use Rattle.sizes.specs.declared.answers.Refusal.{Refusal}
+use Rattle.sizes.proofs.Refusals.{result_of, refusal_there}
 use Rattle.sizes.specs.Widths.{bucket-tiles}
 use Rattle.span.specs.declared.TileSpan.{TileSpan}
 use Rattle.span.specs.declared.BucketRange.{BucketRange}
 use Rattle.sizes.specs.declared.width.Width.{Width}
 use Rattle.depth.specs.declared.split.Split.{Split}
 use Rattle.depth.specs.declared.state.DepthState.{DepthState}
-use Rattle.depth.specs.declared.state.Skip.{Skip}
-use Rattle.depth.specs.declared.runs.Runs.{Runs}
-use Rattle.depth.specs.Answers.{split-of, summary, skip-of}
+use Rattle.depth.specs.Answers.{split_of, summary, skip_of}
 use Rattle.depth.specs.Listing.{out, out-write, listing, writing}
 use Rattle.depth.proofs.Once.{split-once, summary-once, skip-once, out_once, write-once}
 use Rattle.depth_forms.specs.declared.spans.Visible.{Visible}
-use Rattle.depth_forms.specs.Spans.{no_span}
 use Rattle.depth_forms.specs.Listing as spans
-use Rattle.depth.specs.contracts.split.split_opaque_span as split-call
+use Rattle.depth.specs.contracts.split.split_opaque_span as split_call
 use Rattle.depth.specs.contracts.state.DepthState.new as fresh-call
 use Rattle.depth.specs.contracts.state.DepthState.include_span as include-call
-use Rattle.depth.specs.contracts.state.DepthState.can_skip as skip-call
-use Rattle.depth.specs.contracts.runs.visible_runs as visible-call
-use Rattle.depth.specs.contracts.runs.unset_runs as unset-call
-use Rattle.depth.specs.contracts.runs.unset_runs_and_write as write-call
+use Rattle.depth.specs.contracts.state.DepthState.can_skip as skip_call
+use Rattle.depth.specs.contracts.runs.visible_runs as visible_call
+use Rattle.depth.specs.contracts.runs.unset_runs as unset_call
+use Rattle.depth.specs.contracts.runs.unset_runs_and_write as write_call
 use Rattle.depth_forms.specs.contracts.summary.included_span as included-call
 use Rattle.depth_forms.specs.contracts.summary.include_span as there-call
-use Rattle.depth_forms.specs.contracts.spans.visible_spans as spans-call
+use Rattle.depth_forms.specs.contracts.spans.visible_spans as spans_call
 use Rattle.depth_forms.specs.contracts.listed.list_visible_spans as list-call
 
 -- `split_opaque_span`
 module _ (span : TileSpan) (width : Width) where
-  abbrev pub Splits : Split → Type 0
-  Splits r = split-of r ≡ split-answer (bucket-tiles width) (tiles span)
+  abbrev pub Splits : Result Split Refusal → Type 0
+  Splits r = split_of r ≡ split_answer (bucket-tiles width) (tiles span)
 
-  pub one_split : (r q : Split) → Splits r → Splits q → r ≡ q
+  pub one_split : (r q : Result Split Refusal) → Splits r → Splits q → r ≡ q
   one_split r q e f = split-once r q (e ∙ sym f)
 
 -- `DepthState::new`
@@ -68,34 +68,34 @@ module _ (state : DepthState) (span : TileSpan) (id : ℕ) where
 
 -- `DepthState::can_skip`
 module _ (state : DepthState) (span : TileSpan) (id : ℕ) where
-  abbrev pub Skips : Skip → Type 0
-  Skips r = skip-of r ≡ can-skip-answer (summary state) (tiles span) id
+  abbrev pub Skips : Result Bool Refusal → Type 0
+  Skips r = skip_of r ≡ can_skip_answer (summary state) (tiles span) id
 
-  pub one-skip : (r q : Skip) → Skips r → Skips q → r ≡ q
+  pub one-skip : (r q : Result Bool Refusal) → Skips r → Skips q → r ≡ q
   one-skip r q e f = skip-once r q (e ∙ sym f)
 
 -- `visible_runs`
 module _ (depth : List ℕ) (span : TileSpan) (id : ℕ) (list : List ℕ) (width : Width) where
-  abbrev pub ListsVisible : Runs → List ℕ → Type 0
-  ListsVisible r l = out r l ≡ listing (visible-answer (bucket-tiles width) depth id (tiles span) (length list / 2)) list
+  abbrev pub ListsVisible : Result ℕ Refusal → List ℕ → Type 0
+  ListsVisible r l = out r l ≡ listing (visible_answer (bucket-tiles width) depth id (tiles span) (length list / 2)) list
 
-  pub one-visible : (r q : Runs) (l m : List ℕ) → ListsVisible r l → ListsVisible q m → (r ≡ q) × (l ≡ m)
+  pub one-visible : (r q : Result ℕ Refusal) (l m : List ℕ) → ListsVisible r l → ListsVisible q m → (r ≡ q) × (l ≡ m)
   one-visible r q l m e f = out_once r q l m (e ∙ sym f)
 
 -- `unset_runs`
 module _ (depth : List ℕ) (span : TileSpan) (list : List ℕ) (width : Width) where
-  abbrev pub ListsUnset : Runs → List ℕ → Type 0
-  ListsUnset r l = out r l ≡ listing (unset-answer (bucket-tiles width) depth (tiles span) (length list / 2)) list
+  abbrev pub ListsUnset : Result ℕ Refusal → List ℕ → Type 0
+  ListsUnset r l = out r l ≡ listing (unset_answer (bucket-tiles width) depth (tiles span) (length list / 2)) list
 
-  pub one-unset : (r q : Runs) (l m : List ℕ) → ListsUnset r l → ListsUnset q m → (r ≡ q) × (l ≡ m)
+  pub one-unset : (r q : Result ℕ Refusal) (l m : List ℕ) → ListsUnset r l → ListsUnset q m → (r ≡ q) × (l ≡ m)
   one-unset r q l m e f = out_once r q l m (e ∙ sym f)
 
 -- `unset_runs_and_write`
 module _ (depth : List ℕ) (range : BucketRange) (id : ℕ) (list : List ℕ) where
-  abbrev pub Writes : Runs → List ℕ → List ℕ → Type 0
+  abbrev pub Writes : Result ℕ Refusal → List ℕ → List ℕ → Type 0
   Writes r l d = out-write r l d ≡ writing depth id (buckets range) list
 
-  pub one_written : (r q : Runs) (l m d e : List ℕ) → Writes r l d → Writes q m e → (r ≡ q) × (l ≡ m) × (d ≡ e)
+  pub one_written : (r q : Result ℕ Refusal) (l m d e : List ℕ) → Writes r l d → Writes q m e → (r ≡ q) × (l ≡ m) × (d ≡ e)
   one_written r q l m d e h k = write-once r q l m d e (h ∙ sym k)
 
 -- `forms::include_span`, the summary where it stands: before and after
@@ -107,30 +107,49 @@ module _ (state : DepthState) (span : TileSpan) (id : ℕ) where
   one-there d e h k = summary-once d e (h ∙ sym k)
 
 -- what a result and its spans say together gives both
-spans-once : (r q : Runs) (l m : List TileSpan) → spans.out r l ≡ spans.out q m → (r ≡ q) × (l ≡ m)
-spans-once r q l m h = (ap (λ (x : spans.SpansOut). record { number = x.number; count = x.count }) h, ap (λ (x : spans.SpansOut). x.spans) h)
+its-result : (r : Result ℕ Refusal) (l : List TileSpan) → result_of (spans.out r l).number (spans.out r l).count ≡ r
+its-result (Ok n) l = refl
+its-result (Err k) l = refusal_there 0 k
+
+its-spans : (r : Result ℕ Refusal) (l : List TileSpan) → (spans.out r l).spans ≡ l
+its-spans (Ok n) l = refl
+its-spans (Err k) l = refl
+
+spans-once : (r q : Result ℕ Refusal) (l m : List TileSpan) → spans.out r l ≡ spans.out q m → (r ≡ q) × (l ≡ m)
+spans-once r q l m h = (
+  sym (its-result r l) ∙ ap (λ (x : spans.SpansOut). result_of x.number x.count) h ∙ its-result q m,
+  sym (its-spans r l) ∙ ap (λ (x : spans.SpansOut). x.spans) h ∙ its-spans q m,
+)
+
+-- .. by value
+abbrev visible-in : spans.SpansOut → Visible
+visible-in o = record { count = o.count; spans = o.spans }
+
+visible-there : (r : Result Visible Refusal) → result_of (spans.visible_out r).number (visible-in (spans.visible_out r)) ≡ r
+visible-there (Ok v) = refl
+visible-there (Err k) = refusal_there _ k
 
 -- `forms::visible_spans`
 module _ (depth : List ℕ) (span : TileSpan) (id : ℕ) (width : Width) where
-  abbrev pub ListsSpans : Visible → Type 0
-  ListsSpans r = spans.out r.runs r.spans ≡ spans.listing (visible-answer (bucket-tiles width) depth id (tiles span) most-runs) (replicate most-runs no_span)
+  abbrev pub ListsSpans : Result Visible Refusal → Type 0
+  ListsSpans r = spans.visible_out r ≡ spans.listing (visible_answer (bucket-tiles width) depth id (tiles span) most-runs) spans.no_spans
 
-  pub one-spans : (r q : Visible) → ListsSpans r → ListsSpans q → r ≡ q
-  one-spans r q e f = let o = spans-once r.runs q.runs r.spans q.spans (e ∙ sym f) in rw (o.0, o.1)
+  pub one-spans : (r q : Result Visible Refusal) → ListsSpans r → ListsSpans q → r ≡ q
+  one-spans r q e f = sym (visible-there r) ∙ ap (λ (x : spans.SpansOut). result_of x.number (visible-in x)) (e ∙ sym f) ∙ visible-there q
 
 -- `forms::list_visible_spans`: the result, and every entry of the lent list
 module _ (depth : List ℕ) (span : TileSpan) (id : ℕ) (list : List TileSpan) (width : Width) where
-  abbrev pub ListsThere : Runs → List TileSpan → Type 0
-  ListsThere r l = spans.out r l ≡ spans.listing (visible-answer (bucket-tiles width) depth id (tiles span) (length list)) list
+  abbrev pub ListsThere : Result ℕ Refusal → List TileSpan → Type 0
+  ListsThere r l = spans.out r l ≡ spans.listing (visible_answer (bucket-tiles width) depth id (tiles span) (length list)) list
 
-  pub one-listed : (r q : Runs) (l m : List TileSpan) → ListsThere r l → ListsThere q m → (r ≡ q) × (l ≡ m)
+  pub one-listed : (r q : Result ℕ Refusal) (l m : List TileSpan) → ListsThere r l → ListsThere q m → (r ≡ q) × (l ≡ m)
   one-listed r q l m e f = spans-once r q l m (e ∙ sym f)
 
 -- No call asks anything, and the promises are the sources' clauses: at the arguments a, the result r and the arguments at exit e.
 module _ {M : Type 1} {𝓤 : Ura M} (𝓛 : Logic 𝓤) (mem : Memory → SProp 𝓤) (run : Routine → Fun 𝓤) where
-  split-source : (a : Args split-call.signature tt) (r : Split) (e : AtExit split-call.ended tt)
-      → ((split-call.clauses 𝓛 mem run tt a).requires tt ≡ emp 𝓤)
-      × ((split-call.clauses 𝓛 mem run tt a).ensures tt r e ≡ fact 𝓤 (Splits a.0 a.1.0 r))
+  split-source : (a : Args split_call.signature tt) (r : Result Split Refusal) (e : AtExit split_call.ended tt)
+      → ((split_call.clauses 𝓛 mem run tt a).requires tt ≡ emp 𝓤)
+      × ((split_call.clauses 𝓛 mem run tt a).ensures tt r e ≡ fact 𝓤 (Splits a.0 a.1.0 r))
   split-source a r e = (refl, refl)
 
   fresh-source : (a : Args fresh-call.signature tt) (r : DepthState) (e : AtExit fresh-call.ended tt)
@@ -143,24 +162,24 @@ module _ {M : Type 1} {𝓤 : Ura M} (𝓛 : Logic 𝓤) (mem : Memory → SProp
       × ((include-call.clauses 𝓛 mem run tt a).ensures tt r e ≡ fact 𝓤 (Includes a.0 a.1.0 a.1.1.0 r))
   include-source a r e = (refl, refl)
 
-  skip_source : (a : Args skip-call.signature tt) (r : Skip) (e : AtExit skip-call.ended tt)
-      → ((skip-call.clauses 𝓛 mem run tt a).requires tt ≡ emp 𝓤)
-      × ((skip-call.clauses 𝓛 mem run tt a).ensures tt r e ≡ fact 𝓤 (Skips a.0 a.1.0 a.1.1.0 r))
+  skip_source : (a : Args skip_call.signature tt) (r : Result Bool Refusal) (e : AtExit skip_call.ended tt)
+      → ((skip_call.clauses 𝓛 mem run tt a).requires tt ≡ emp 𝓤)
+      × ((skip_call.clauses 𝓛 mem run tt a).ensures tt r e ≡ fact 𝓤 (Skips a.0 a.1.0 a.1.1.0 r))
   skip_source a r e = (refl, refl)
 
-  visible-source : (κs : Lfts (visible-call.signature).lifetimes) (a : Args visible-call.signature κs) (r : Runs) (e : AtExit visible-call.ended κs)
-      → ((visible-call.clauses 𝓛 mem run κs a).requires tt ≡ emp 𝓤)
-      × ((visible-call.clauses 𝓛 mem run κs a).ensures tt r e ≡ fact 𝓤 (ListsVisible a.0.now a.1.0 a.1.1.0 a.1.1.1.0.now a.1.1.1.1.0 r e.1.1.1.0.now))
+  visible-source : (κs : Lfts (visible_call.signature).lifetimes) (a : Args visible_call.signature κs) (r : Result ℕ Refusal) (e : AtExit visible_call.ended κs)
+      → ((visible_call.clauses 𝓛 mem run κs a).requires tt ≡ emp 𝓤)
+      × ((visible_call.clauses 𝓛 mem run κs a).ensures tt r e ≡ fact 𝓤 (ListsVisible a.0.now a.1.0 a.1.1.0 a.1.1.1.0.now a.1.1.1.1.0 r e.1.1.1.0.now))
   visible-source κs a r e = (refl, refl)
 
-  unset-source : (κs : Lfts (unset-call.signature).lifetimes) (a : Args unset-call.signature κs) (r : Runs) (e : AtExit unset-call.ended κs)
-      → ((unset-call.clauses 𝓛 mem run κs a).requires tt ≡ emp 𝓤)
-      × ((unset-call.clauses 𝓛 mem run κs a).ensures tt r e ≡ fact 𝓤 (ListsUnset a.0.now a.1.0 a.1.1.0.now a.1.1.1.0 r e.1.1.0.now))
+  unset-source : (κs : Lfts (unset_call.signature).lifetimes) (a : Args unset_call.signature κs) (r : Result ℕ Refusal) (e : AtExit unset_call.ended κs)
+      → ((unset_call.clauses 𝓛 mem run κs a).requires tt ≡ emp 𝓤)
+      × ((unset_call.clauses 𝓛 mem run κs a).ensures tt r e ≡ fact 𝓤 (ListsUnset a.0.now a.1.0 a.1.1.0.now a.1.1.1.0 r e.1.1.0.now))
   unset-source κs a r e = (refl, refl)
 
-  write-source : (κs : Lfts (write-call.signature).lifetimes) (a : Args write-call.signature κs) (r : Runs) (e : AtExit write-call.ended κs)
-      → ((write-call.clauses 𝓛 mem run κs a).requires tt ≡ emp 𝓤)
-      × ((write-call.clauses 𝓛 mem run κs a).ensures tt r e ≡ fact 𝓤 (Writes a.0.now a.1.0 a.1.1.0 a.1.1.1.0.now r e.1.1.1.0.now e.0.now))
+  write-source : (κs : Lfts (write_call.signature).lifetimes) (a : Args write_call.signature κs) (r : Result ℕ Refusal) (e : AtExit write_call.ended κs)
+      → ((write_call.clauses 𝓛 mem run κs a).requires tt ≡ emp 𝓤)
+      × ((write_call.clauses 𝓛 mem run κs a).ensures tt r e ≡ fact 𝓤 (Writes a.0.now a.1.0 a.1.1.0 a.1.1.1.0.now r e.1.1.1.0.now e.0.now))
   write-source κs a r e = (refl, refl)
 
   included-source : (a : Args included-call.signature tt) (r : DepthState) (e : AtExit included-call.ended tt)
@@ -173,12 +192,12 @@ module _ {M : Type 1} {𝓤 : Ura M} (𝓛 : Logic 𝓤) (mem : Memory → SProp
       × ((there-call.clauses 𝓛 mem run κs a).ensures tt r e ≡ fact 𝓤 (IncludesThere a.0.now a.1.0 a.1.1.0 e.0.now))
   there-source κs a r e = (refl, refl)
 
-  spans-source : (κs : Lfts (spans-call.signature).lifetimes) (a : Args spans-call.signature κs) (r : Visible) (e : AtExit spans-call.ended κs)
-      → ((spans-call.clauses 𝓛 mem run κs a).requires tt ≡ emp 𝓤)
-      × ((spans-call.clauses 𝓛 mem run κs a).ensures tt r e ≡ fact 𝓤 (ListsSpans a.0.now a.1.0 a.1.1.0 a.1.1.1.0 r))
+  spans-source : (κs : Lfts (spans_call.signature).lifetimes) (a : Args spans_call.signature κs) (r : Result Visible Refusal) (e : AtExit spans_call.ended κs)
+      → ((spans_call.clauses 𝓛 mem run κs a).requires tt ≡ emp 𝓤)
+      × ((spans_call.clauses 𝓛 mem run κs a).ensures tt r e ≡ fact 𝓤 (ListsSpans a.0.now a.1.0 a.1.1.0 a.1.1.1.0 r))
   spans-source κs a r e = (refl, refl)
 
-  list-source : (κs : Lfts (list-call.signature).lifetimes) (a : Args list-call.signature κs) (r : Runs) (e : AtExit list-call.ended κs)
+  list-source : (κs : Lfts (list-call.signature).lifetimes) (a : Args list-call.signature κs) (r : Result ℕ Refusal) (e : AtExit list-call.ended κs)
       → ((list-call.clauses 𝓛 mem run κs a).requires tt ≡ emp 𝓤)
       × ((list-call.clauses 𝓛 mem run κs a).ensures tt r e ≡ fact 𝓤 (ListsThere a.0.now a.1.0 a.1.1.0 a.1.1.1.0.now a.1.1.1.1.0 r e.1.1.1.0.now))
   list-source κs a r e = (refl, refl)

@@ -16,7 +16,7 @@ use Rattle.screen.specs.Tables.{ScreenLent}
 use Rattle.screen_layers.specs.declared.LayerProps.{LayerProps}
 use Rattle.step_fill.specs.declared.Draw.{Draw}
 use Rattle.step_filter.specs.Filter.{FilterGiven}
-use Rattle.file_read.specs.Reading.{props-in}
+use Rattle.file_read.specs.Reading.{props_in}
 use Rattle.file_steps.specs.Steps.{call_at}
 use Rattle.refine_steps.specs.Lent.{lent_of}
 use Rattle.rules.proofs.laws.Answers.{settle-kept}
@@ -43,7 +43,7 @@ module _ {f : Frame} {xs : List Step} {l : ScreenLent} (h : Stands f xs l) where
       → fill-at ps ss d l ≡ answer (step_call (fill-said ps ss d) k).number (canvas-words (step_call (fill-said ps ss d) k).value)
   fill-answer ps ss d p s = fill-whole ps ss d l p s ∙ step-answer (fill-said ps ss d)
 
-  pub push-answer : (p : LayerProps) (q : Props) → p ≡ props-in q → push_at p l ≡ answer (step_call (a-push q) k).number (canvas-words (step_call (a-push q) k).value)
+  pub push-answer : (p : LayerProps) (q : Props) → p ≡ props_in q → push_at p l ≡ answer (step_call (a-push q) k).number (canvas-words (step_call (a-push q) k).value)
   push-answer p q e = push-steps p q e l ∙ step-answer (a-push q)
 
   pub pop-answer : (ss : List ℕ) → length ss % 5 ≡ 0

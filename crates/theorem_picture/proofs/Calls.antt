@@ -17,7 +17,7 @@ use Rattle.rules.specs.Plans.{Plan, a-fill, a-push}
 use Rattle.rules.specs.Steps.{Screen, refusal, done}
 use Rattle.rules.proofs.All.{both, never}
 use Rattle.row.specs.Words.{Words, word-ops}
-use Rattle.row_judge.specs.Building.{step-number}
+use Rattle.row_judge.specs.Building.{step_number}
 use Rattle.rect.specs.Rects.{box_of}
 use Rattle.segments.specs.Segs.{segs, segs-of}
 use Rattle.screen.specs.declared.Screen as shown
@@ -26,14 +26,14 @@ use Rattle.screen.specs.Tables.{ScreenLent}
 use Rattle.screen_layers.specs.declared.LayerProps.{LayerProps}
 use Rattle.step_fill.specs.declared.Draw.{Draw}
 use Rattle.step_fill.specs.Fills as fills
-use Rattle.step_fill.specs.Fills.{draw-of, paints, paints-of, filled, fill-number, fill_done, first-number}
+use Rattle.step_fill.specs.Fills.{draw-of, paints, paints-of, filled, fill_number, fill_done, first_number}
 use Rattle.step_push.specs.Push as push
 use Rattle.step_push.specs.Push.{pushed, push-number}
 use Rattle.step_pop.specs.Pop as pop
-use Rattle.step_pop.specs.Pop.{popped, first, number-after, number, good-lengths, good-open}
+use Rattle.step_pop.specs.Pop.{popped, first, number-after, number, good_lengths, good-open}
 use Rattle.step_filter.specs.Filter as filter
 use Rattle.step_filter.specs.Filter.{FilterGiven, filtered, filter-number}
-use Rattle.file_read.specs.Reading.{props-in}
+use Rattle.file_read.specs.Reading.{props_in}
 use Rattle.rules.proofs.laws.Answers.{settle-number, settle-kept}
 use Rattle.file_steps.specs.Steps.{rows_words, fill-part, fill-into, push-part, push-into, pop-part, pop-into, filter-part, filter-into, with_value, call_at}
 use Rattle.file_steps.proofs.Calls.{same-fill, same-pop}
@@ -41,8 +41,8 @@ use Rattle.file_steps.proofs.Lists.{paints-words-length, segments-words-length, 
 use Rattle.theorem_picture.specs.Calls.{fill-at, push_at, pop-at, filter-at, fill-said, pop-said, filter-said}
 
 -- a done step has passed its first tests
-first_done : (k : ℕ) (g : Bool) (p : Plan) (s : Screen Words) → step-number k g p s ≡ Done → k ≡ Done
-unfolding step-number
+first_done : (k : ℕ) (g : Bool) (p : Plan) (s : Screen Words) → step_number k g p s ≡ Done → k ≡ Done
+unfolding step_number
 first_done k g p s e = go (eqb k Done) refl e
   where
     go : (b : Bool) → eqb k Done ≡ b → cond b (cond g (refusal Words word-ops p (done Words word-ops p s)) BadRecord) k ≡ Done → k ≡ Done
@@ -90,9 +90,9 @@ segs-long ss h = rw (segments-words-length (segs-of ss), segs-count ss 0 (length
 -- a done fill is lent whole records
 module _ (l : fills.FillLent) (ps ss : List ℕ) (d : Draw) where
   fill-lists : (filled l ps ss d).number ≡ Done → (length ps % 4 ≡ 0) × (length ss % 5 ≡ 0)
-  unfolding fill-number first-number
+  unfolding fill_number first_number
   fill-lists e =
-      let n = sym (settle-number (fill-number l ps ss d) l (fill_done l ps ss d)) ∙ e in
+      let n = sym (settle-number (fill_number l ps ss d) l (fill_done l ps ss d)) ∙ e in
       let w = l.words in
       let g = tested (judged l.screen (length w.state) (length w.render) (length w.fills)) _ (first_done _ _ _ _ n) in
       let a = both (eqb (length l.paint-attrs) paint-attr-table && eqb (length ps % 4) 0) (eqb (length ss % 5) 0) g in
@@ -118,7 +118,7 @@ unfolding paints
 shifted opaque handle x y ss d = refl
 
 -- a push is the step whose properties it is given
-pub push-steps : (p : LayerProps) (q : Props) → p ≡ props-in q → (l : ScreenLent) → push_at p l ≡ call_at (a-push q) l
+pub push-steps : (p : LayerProps) (q : Props) → p ≡ props_in q → (l : ScreenLent) → push_at p l ≡ call_at (a-push q) l
 unfolding push_at call_at
 push-steps p q e l = rw e
 
@@ -139,7 +139,7 @@ module _ (n : ℕ) (s u : shown.Screen) (l m : pop.PopLent) where
       go false e = refl
 
 pop-list : (l : ScreenLent) (ss : List ℕ) → (popped l.screen (pop-part l) ss).number ≡ Done → length ss % 5 ≡ 0
-unfolding popped number-after first good-lengths
+unfolding popped number-after first good_lengths
 pop-list l ss e =
     let w = rows_words l.tables in
     let n = sym (pop-number (number l.screen (pop-part l) ss) _ _ _ _) ∙ e in
@@ -164,7 +164,7 @@ filter_steps g l = refl
 module _ (l : ScreenLent) where
   pub fill-kept : (ps ss : List ℕ) (d : Draw) → eqb (fill-at ps ss d l).number Done ≡ false → (fill-at ps ss d l).value ≡ l
   unfolding fill-at
-  fill-kept ps ss d e = ap (fill-into l.tables) (settle-kept (fill-number (fill-part l) ps ss d) (fill-part l) (fill_done (fill-part l) ps ss d) e)
+  fill-kept ps ss d e = ap (fill-into l.tables) (settle-kept (fill_number (fill-part l) ps ss d) (fill-part l) (fill_done (fill-part l) ps ss d) e)
 
   pub push_kept : (p : LayerProps) → eqb (push_at p l).number Done ≡ false → (push_at p l).value ≡ l
   unfolding push_at pushed

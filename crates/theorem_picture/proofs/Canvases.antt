@@ -4,7 +4,7 @@ use Prim.Native.Nat.{ℕ}
 use mathlib.Core.Path.{◌≡◌, sym, ap, ◌∙◌}
 use mathlib.Core.Bool.{true}
 use mathlib.Core.List.{List}
-use mathlib.Core.Option.{some}
+use Rattle.std.specs.Prelude.{Some}
 use Rattle.rules.specs.Answers.{Answer, answer}
 use Rattle.rules.specs.Boxes.{rows_of}
 use Rattle.rules.specs.Plans.{Step}
@@ -38,7 +38,7 @@ step-held x k l h =
     }
 
 module _ (ws : List ℕ) (q : Setup) (k : Canvas)
-    (fit : (ss : List (List (List ℕ))) → sections shape ws ≡ some ss → good-tables (rows_of (frame q (recording ss).viewport).viewport) (lengths (canvas-words k).tables) ≡ true) where
+    (fit : (ss : List (List (List ℕ))) → sections shape ws ≡ Some ss → good-tables (rows_of (frame q (recording ss).viewport).viewport) (lengths (canvas-words k).tables) ≡ true) where
   -- the rules' call, with the arenas that are lent
   abbrev theirs : Answer Canvas
   theirs = record-call q (arenas (lengths (canvas-words k).tables)) ws k

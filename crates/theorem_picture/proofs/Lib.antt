@@ -12,3 +12,7 @@ pub mod Recorded
 pub mod Rows
 pub mod RowEnds
 pub mod Canvases
+pub mod Answered
+pub mod Refined
+pub mod Snapped
+pub mod Cases

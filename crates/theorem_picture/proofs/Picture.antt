@@ -1,4 +1,4 @@
--- Demand 3 about the calls as they are. Assumes nothing.
+-- The picture, about the calls as they are. Assumes nothing.
 use mathlib.Core.Path.{◌≡◌, sym, ap, ◌∙◌}
 use mathlib.Core.Bool.{true}
 use mathlib.Core.List.{List, [], map}
@@ -21,7 +21,7 @@ use Rattle.rules_picture.proofs.Picture.{built-on}
 use Rattle.theorem_picture.specs.Reached.{begin-at}
 use Rattle.theorem_picture.specs.Standing.{canvas-words}
 use Rattle.theorem_picture.specs.Turns.{Turn, turn-of, turned, log, finished-at}
-use Rattle.theorem_picture.specs.Picture.{finished, Demand-3}
+use Rattle.theorem_picture.specs.Picture.{finished, Picture}
 use Rattle.theorem_picture.proofs.Words.{paint-gives}
 use Rattle.theorem_picture.proofs.Reached.{reached}
 use Rattle.theorem_picture.proofs.Answers.{begin-answer}
@@ -46,7 +46,7 @@ finished-rules ts k w r h e =
     let z : finished-at (turned ts (canvas-words k)) r ≡ true = rw n at e in
     finished-words (turns (map turn-of ts) k).canvas (turns-whole (map turn-of ts) k w) r (rw (turned-words ts k w) at z))
 
-pub picture : Demand-3
+pub picture : Picture
 picture f xs l h e ts r t there on fin =
     let s = reached h in
     let k = s.canvas in

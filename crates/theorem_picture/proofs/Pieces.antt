@@ -2,7 +2,7 @@
 use mathlib.Core.Path.{◌≡◌, refl, sym, ap, ◌∙◌}
 use mathlib.Core.Bool.{Bool, true, false, ◌||◌, cond}
 use mathlib.Core.List.{List, [], ◌∷◌, ◌++◌}
-use mathlib.Core.Option.{Option, none, some}
+use Rattle.std.specs.Prelude.{Option, None, Some}
 use Prim.Native.Nat.{ℕ, suc}
 use native.Mathlib.Omega.{arith}
 use lib.Dec.{leb, ltb, eqb}
@@ -16,16 +16,16 @@ use Rattle.paint_pieces.specs.Pieces.{tag_of, index_of, piece-words, laid}
 use Rattle.theorem_picture.specs.Turns.{piece-in, pieces-in}
 
 layer-back : (b : Bool) (a : Option ℕ) → leb 3 (tag_of b a) ≡ b
-layer-back false none = refl
-layer-back false (some a) = refl
-layer-back true none = refl
-layer-back true (some a) = refl
+layer-back false None = refl
+layer-back false (Some a) = refl
+layer-back true None = refl
+layer-back true (Some a) = refl
 
-alpha-back : (b : Bool) (a : Option ℕ) → cond (eqb (tag_of b a) 2 || eqb (tag_of b a) 4) (some (index_of a)) none ≡ a
-alpha-back false none = refl
-alpha-back false (some a) = refl
-alpha-back true none = refl
-alpha-back true (some a) = refl
+alpha-back : (b : Bool) (a : Option ℕ) → cond (eqb (tag_of b a) 2 || eqb (tag_of b a) 4) (Some (index_of a)) None ≡ a
+alpha-back false None = refl
+alpha-back false (Some a) = refl
+alpha-back true None = refl
+alpha-back true (Some a) = refl
 
 joined_back : (ps : List Piece) (ys : List ℕ) → pieces-in (length ps) (join piece-words ps ++ ys) ≡ ps
 unfolding pieces-in

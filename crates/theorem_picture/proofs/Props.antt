@@ -1,8 +1,7 @@
 -- Every done push is a step of the rules: what it accepts are a layer's properties. The opacity is an f32, as every argument of the call is.
 -- Assumes nothing.
-use Prim.Native.Nat.{ℕ}
 use native.Mathlib.Omega.{arith}
-use mathlib.Core.Path.{◌≡◌, sym, ap, ◌∙◌}
+use mathlib.Core.Path.{◌≡◌, sym, ◌∙◌}
 use mathlib.Core.Bool.{true}
 use mathlib.Core.List.{List, [], ◌∷◌, ◌++◌}
 use lib.Dec.{T}
@@ -14,7 +13,7 @@ use Rattle.screen_layers.specs.declared.LayerProps.{LayerProps}
 use Rattle.screen_layers.specs.Layers.{good-given}
 use Rattle.step_push.specs.Push.{pushed, push-number, after}
 use Rattle.step_push.proofs.Laws.{bad-props, ready}
-use Rattle.file_read.specs.Reading.{props-in, props-said}
+use Rattle.file_read.specs.Reading.{props_in, props_said}
 use Rattle.file_read.proofs.Given.{good-props-said}
 use Rattle.rules.proofs.laws.Answers.{settle-number}
 use Rattle.file_steps.specs.Steps.{rows_words, push-part}
@@ -36,10 +35,10 @@ module _ (p : LayerProps) (l : ScreenLent) (e : (push_at p l).number ≡ Done) w
       let four = bad-props p l.screen w l.tables.layers l.tables.opacities y.zero y.layers y.opacities q in
       absurd (omega (arith, four, number-done)))
 
-  pub push-says : T (fits binary32 p.opacity) → p ≡ props-in (props-said p)
+  pub push-says : T (fits binary32 p.opacity) → p ≡ props_in (props_said p)
   push-says f = sym (good-props-said p f accepted).0
 
 -- any done push extends the history by the step that its properties say
 pub push-reached : {f : Frame} {xs : List Step} {l : ScreenLent} (p : LayerProps) → T (fits binary32 p.opacity) → Reached f xs l → (push_at p l).number ≡ Done
-    → Reached f (xs ++ (a-push (props-said p) ∷ [])) (push_at p l).value
-push-reached {l = l} p z r e = by-push p (props-said p) (push-says p l e z) r e
+    → Reached f (xs ++ (a-push (props_said p) ∷ [])) (push_at p l).value
+push-reached {l = l} p z r e = by-push p (props_said p) (push-says p l e z) r e

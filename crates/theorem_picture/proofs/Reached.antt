@@ -18,12 +18,10 @@ use Rattle.rules.proofs.Words as words_of
 use Rattle.rules.specs.Walk.{good-room}
 use Rattle.rules.specs.Calls.{Canvas, fresh-canvas, step_call, begin-call, paint-call, write-call, blank}
 use Rattle.rules.proofs.All.{both}
-use Rattle.rect.specs.declared.Rect.{Rect}
-use Rattle.rect.specs.Rects.{box_of}
-use Rattle.screen.specs.Judging.{good-fixed, judged-reset}
-use Rattle.screen.specs.Tables.{zeros, lengths, ScreenLent, reset-to}
-use Rattle.file_read.specs.Reading.{draw-in, props-in}
-use Rattle.file_steps.specs.Steps.{placement-in, call_at}
+use Rattle.screen.specs.Judging.{good-fixed, judged_reset}
+use Rattle.screen.specs.Tables.{zeros, lengths, ScreenLent, reset_to}
+use Rattle.file_read.specs.Reading.{draw_in, props_in}
+use Rattle.file_steps.specs.Steps.{placement_in, call_at}
 use Rattle.file_steps.proofs.Lists.{paints-said, segments-said}
 use Rattle.rules.proofs.laws.Answers.{settle-number}
 use Rattle.refine_steps.proofs.Reset.{judged-facts, rooms, fresh-sound, fresh-words}
@@ -34,7 +32,7 @@ use Rattle.refine_paint.proofs.Painted.{reset-whole, step-whole}
 use Rattle.refine_paint.proofs.Runs.{write-whole, same-screen}
 use Rattle.rules_picture.proofs.Turns.{call-screen}
 use Rattle.rules_picture.proofs.Walked.{built-append}
-use Rattle.rules_picture.specs.Built.{Built, no_step, then}
+use Rattle.rules_picture.specs.Built.{no_step, then}
 use Rattle.step_filter.specs.Filter.{given}
 use Rattle.theorem_picture.specs.Calls.{fill-at, push_at, pop-at, filter-at, fill-said, pop-said, filter-said}
 use Rattle.theorem_picture.specs.Reached.{Reached, by-reset, by-fill, by-push, by-pop, by-filter, by-begin, by-paint, by-write, begin-at, paint-at, write-at}
@@ -43,7 +41,7 @@ use Rattle.theorem_picture.proofs.Calls.{fill-steps, push-steps, pop-steps, filt
 use Rattle.theorem_picture.proofs.Words.{step_words, begin-words, paint-words, write-words, begin-screen}
 
 -- a done reset
-module _ (f : Frame) (l : ScreenLent) (z : judged-reset f (lengths l.tables) ≡ 0) where
+module _ (f : Frame) (l : ScreenLent) (z : judged_reset f (lengths l.tables) ≡ 0) where
   abbrev rows : ℕ
   rows = rows_of f.viewport
 
@@ -70,20 +68,20 @@ module _ (f : Frame) (l : ScreenLent) (z : judged-reset f (lengths l.tables) ≡
   count = (fresh-sound f l z).count
 
   zero-depth : zeros 0 l.tables.depth ≡ depth-of (blank fresh)
-  unfolding zeros reset
+  unfolding reset
   zero-depth = ap (λ (n : ℕ). replicate n 0) (depth-long ∙ ap (λ (m : ℕ). m * buckets) (sym count)) ∙ sym (blank-depth buckets (length fresh.rows))
 
   zero-painting : zeros 0 l.tables.painting ≡ painting-of (blank fresh)
-  unfolding zeros reset
+  unfolding reset
   zero-painting = ap (λ (n : ℕ). replicate n 0) (painting-long ∙ ap (λ (m : ℕ). m * 2) (sym count)) ∙ sym (blank-painting buckets (length fresh.rows))
 
   pub fresh-whole : WholeCanvas (fresh-canvas f)
   fresh-whole = reset-whole f (judged-facts f l z).0 (rooms f l z).0 (rooms f l z).1
 
-  pub reset-words : (reset-to f l).value ≡ canvas-words (fresh-canvas f)
+  pub reset-words : (reset_to f l).value ≡ canvas-words (fresh-canvas f)
   reset-words = ap (λ (a : Answer ScreenLent). a.value) (fresh-words f l z) ∙ rw (zero-depth, zero-painting)
 
-  reset-stands : Stands f [] (reset-to f l).value
+  reset-stands : Stands f [] (reset_to f l).value
   reset-stands = record { canvas = fresh-canvas f; whole = fresh-whole; built = no_step; same = reset-words }
 
 -- a done step of the rules
@@ -143,8 +141,8 @@ module _ {f : Frame} {xs : List Step} {l : ScreenLent} (h : Stands f xs l) where
 -- The refinement about the calls as they are: whatever calls were made, the lent words are those of a whole canvas of the rules, and its
 -- screen is built from the reset by the same done steps.
 pub reached : {f : Frame} {xs : List Step} {l : ScreenLent} → Reached f xs l → Stands f xs l
-unfolding reset-to
-reached (by-reset f l e) = reset-stands f l (sym (settle-number (judged-reset f (lengths l.tables)) l _) ∙ e)
+unfolding reset_to
+reached (by-reset f l e) = reset-stands f l (sym (settle-number (judged_reset f (lengths l.tables)) l _) ∙ e)
 reached (by-fill ps ss d r e) = called-stands (reached r) (fill-said ps ss d) _ (fill-steps ps ss d _ e) e
 reached (by-push p q s r e) = called-stands (reached r) (a-push q) _ (push-steps p q s _) e
 reached (by-pop ss r e) = called-stands (reached r) (pop-said ss) _ (pop-steps ss _ e) e
@@ -157,8 +155,8 @@ reached (by-write i id t list r) = write-stands (reached r) i id t list
 pub step-reached : {f : Frame} {xs : List Step} {l : ScreenLent} (x : Step) → Reached f xs l → (call_at x l).number ≡ Done → Reached f (xs ++ (x ∷ [])) (call_at x l).value
 unfolding call_at fill-at push_at pop-at filter-at
 step-reached (a-fill ps ss d) r e =
-    let h = by-fill (join words_of.paint-words ps) (join words_of.segment-words ss) (draw-in d) r e in
+    let h = by-fill (join words_of.paint-words ps) (join words_of.segment-words ss) (draw_in d) r e in
     rw (paints-said ps, segments-said ss) at h
-step-reached (a-push p) r e = by-push (props-in p) p refl r e
+step-reached (a-push p) r e = by-push (props_in p) p refl r e
 step-reached (a-pop ss) r e = let h = by-pop (join words_of.segment-words ss) r e in rw (segments-said ss) at h
-step-reached (a-filter n f q) r e = by-filter (given (placement-in f) f.pixmap n q) r e
+step-reached (a-filter n f q) r e = by-filter (given (placement_in f) f.pixmap n q) r e

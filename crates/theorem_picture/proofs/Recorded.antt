@@ -2,7 +2,7 @@
 use mathlib.Core.Path.{◌≡◌, refl, sym, ap, ◌∙◌}
 use mathlib.Core.Bool.{Bool, true, false, not, cond}
 use mathlib.Core.List.{List, [], ◌∷◌}
-use mathlib.Core.Option.{Option, none, some}
+use Rattle.std.specs.Prelude.{Option, None, Some}
 use Prim.Native.Nat.{ℕ, ◌≤◌, ◌<◌}
 use native.Mathlib.Omega.{arith}
 use lib.Dec.{eqb}
@@ -13,13 +13,13 @@ use Rattle.rules.specs.Answers.{Answer, answer, first_of, Done, BadRecord, BadOr
 use Rattle.rules.specs.Rows.{Row, fresh-row, row-ops}
 use Rattle.rules.specs.Plans.{Frame, Step, Layer}
 use Rattle.rules.specs.Steps.{Screen, reset}
-use Rattle.rules.specs.Recording.{Recording, shape, sections, recording, good-records, good-order}
+use Rattle.rules.specs.Recording.{Recording, shape, sections, good-records, good-order}
 use Rattle.rules.specs.Setups.{Setup}
 use Rattle.rules.specs.Walk.{Place, frame-of, go_on, ◌then◌, walk-all}
 use Rattle.rules.proofs.Logged.{Logged, logged-call, walk-logged}
 use Rattle.rules.specs.Calls.{begin-call}
-use Rattle.screen.specs.Judging.{judged-reset}
-use Rattle.screen.specs.Tables.{lengths, ScreenLent, reset-to}
+use Rattle.screen.specs.Judging.{judged_reset}
+use Rattle.screen.specs.Tables.{lengths, ScreenLent, reset_to}
 use Rattle.file_steps.specs.Steps.{call_at}
 use Rattle.file_judge.specs.Judging.{judged}
 use Rattle.file_call.specs.Recorded.{or-fresh, played, recorded-in, of-sections, recorded}
@@ -81,7 +81,7 @@ module _ (ws : List ℕ) (r : Readable ws) (q : Setup) (l : ScreenLent) where
   f = frame-of p (said r)
 
   abbrev fresh : Answer ScreenLent
-  fresh = reset-to f l
+  fresh = reset_to f l
 
   abbrev walk : Answer ScreenLent
   walk = walk-all ScreenLent call_at (said r) fresh.value
@@ -91,9 +91,9 @@ module _ (ws : List ℕ) (r : Readable ws) (q : Setup) (l : ScreenLent) where
 
   -- the walk from a done reset
   walked : fresh.number ≡ Done → Both (Logs f) logged walk
-  unfolding walk-logged reset-to
+  unfolding walk-logged reset_to
   walked e =
-      let z = sym (settle-number (judged-reset f (lengths l.tables)) l _) ∙ e in
+      let z = sym (settle-number (judged_reset f (lengths l.tables)) l _) ∙ e in
       walk-follows (Logs f) (logged-call Row row-ops) call_at (step-logs f) (said r)
       (record { screen = reset fresh-row f; log = [] }) fresh.value
       (record { refines = (reset-refines f l z).value; reached = by-reset f l e })
@@ -110,8 +110,8 @@ module _ (ws : List ℕ) (r : Readable ws) (q : Setup) (l : ScreenLent) where
   Result a = (a.number ≡ Done → Accepted p ws a.value) × ((a.number ≡ Done → ⊥) → Refused q ws l a)
 
   reset-refused : eqb fresh.number Done ≡ false → fresh.value ≡ l
-  unfolding reset-to
-  reset-refused e = settle-kept (judged-reset f (lengths l.tables)) l _ e
+  unfolding reset_to
+  reset-refused e = settle-kept (judged_reset f (lengths l.tables)) l _ e
 
   result : Result (recorded-in (said r) q l)
   unfolding recorded-in ◌then◌ played
@@ -141,8 +141,8 @@ module _ (ws : List ℕ) (q : Setup) (l : ScreenLent) where
   recorded-reached = go (sections shape ws) refl
     where
       go : (o : Option (List (List (List ℕ)))) → sections shape ws ≡ o → (of-sections o q l).number ≡ Done → Accepted (place q l) ws (of-sections o q l).value
-      go none e z = absurd (omega arith)
-      go (some ss) e z = (result ws (record { parts = ss; formed = e }) q l).0 z
+      go None e z = absurd (omega arith)
+      go (Some ss) e z = (result ws (record { parts = ss; formed = e }) q l).0 z
 
   -- A refused one leaves the words as they were, or those of the file's reset.
   pub recorded-refused : ((recorded ws q l).number ≡ Done → ⊥) → Refused q ws l (recorded ws q l)
@@ -150,8 +150,8 @@ module _ (ws : List ℕ) (q : Setup) (l : ScreenLent) where
   recorded-refused = go (sections shape ws) refl
     where
       go : (o : Option (List (List (List ℕ)))) → sections shape ws ≡ o → ((of-sections o q l).number ≡ Done → ⊥) → Refused q ws l (of-sections o q l)
-      go none e z = kept refl
-      go (some ss) e z = (result ws (record { parts = ss; formed = e }) q l).1 z
+      go None e z = kept refl
+      go (Some ss) e z = (result ws (record { parts = ss; formed = e }) q l).1 z
 
   -- With 1, 2 or 3 it leaves them as they were.
   pub recorded-early : 0 < (recorded ws q l).number → (recorded ws q l).number ≤ 3 → (recorded ws q l).value ≡ l

@@ -1,8 +1,8 @@
--- A row painted by one call is painting steps of it, one after the other; so demand 3 speaks of such calls too. Assumes nothing.
+-- A row painted by one call is painting steps of it, one after the other; so the picture speaks of such calls too. Assumes nothing.
 use mathlib.Core.Path.{◌≡◌, refl, sym, ap, ◌∙◌}
 use mathlib.Core.Bool.{Bool, true, false, ◌&&◌, ◌||◌, not, cond}
 use mathlib.Core.List.{List, [], ◌∷◌, ◌++◌, append-nil, append_assoc}
-use mathlib.Core.Option.{Option, none, some}
+use Rattle.std.specs.Prelude.{Option, None, Some}
 use Prim.Native.Nat.{ℕ, zero, suc, ◌+◌, ◌-◌, ◌*◌, ◌/◌, ◌≤◌, ◌<◌}
 use native.Mathlib.Nat.{zero-add, suc-add}
 use native.Mathlib.Omega.{arith}
@@ -30,7 +30,7 @@ use Rattle.rules_picture.proofs.Cases.{by}
 use Rattle.theorem_picture.specs.Reached.{Reached, by-paint, with-canvas, begin-at, paint-out, paint-at}
 use Rattle.theorem_picture.specs.Turns.{Turn, piece-in, pieces-in, gave-out, turned, log}
 use Rattle.theorem_picture.specs.Picture.{finished}
-use Rattle.theorem_picture.specs.Rows.{row_out, row_at, RowTurns, CallTurns, Call, one-step, whole_row, called, call-log, Demand-3-rows}
+use Rattle.theorem_picture.specs.Rows.{row_out, row_at, RowTurns, CallTurns, Call, one-step, whole_row, called, call-log, PictureByRows}
 use Rattle.theorem_picture.proofs.Pieces.{pieces-first}
 use Rattle.theorem_picture.proofs.Picture.{picture}
 
@@ -54,8 +54,8 @@ pieces-split (suc n) m xs ys h =
 -- a step's list holds its pieces
 settled-holds : (x : Option rules.Painted) (d p l : List ℕ) → piece-size * (settled x d p l).answer.pieces ≤ length (settled x d p l).list
 unfolding settled
-settled-holds none d p l = omega arith
-settled-holds (some o) d p l = go (ltb (length l / piece-size) (length o.pieces))
+settled-holds None d p l = omega arith
+settled-holds (Some o) d p l = go (ltb (length l / piece-size) (length o.pieces))
   where
     go : (b : Bool) → piece-size * (cond b (out (refused 14) d p l) (left o l)).answer.pieces ≤ length (cond b (out (refused 14) d p l) (left o l)).list
     go true = omega arith
@@ -290,7 +290,7 @@ calls-turns [] l = record { turns = []; words = unfold turned called in refl; pi
 calls-turns (one-step t ∷ cs) l = step-first t cs l (calls-turns cs (paint-at t.row t.list l))
 calls-turns (whole_row t ∷ cs) l = row_first t cs l (row-turns t.row l t.list) (calls-turns cs (row_at t.row t.list l))
 
-pub rows-picture : Demand-3-rows
+pub rows-picture : PictureByRows
 rows-picture f xs l h e cs r t there on fin =
     let z = calls-turns cs (begin-at l).value in
     let y : finished r z.turns (begin-at l).value ≡ true = rw (z.said r, z.words) fin in

@@ -1,4 +1,4 @@
--- Demand 3 about the calls as they are.
+-- The picture, about the calls as they are.
 use Rattle.std.specs.Prelude.{ℕ, ◌/◌, ◌<◌, ◌≡◌, Bool, true, ◌||◌, List}
 use Rattle.rules.specs.Answers.{Done}
 use Rattle.rules.specs.Boxes.{width, rows_of}
@@ -19,8 +19,8 @@ finished r ts l = said-finished r (log ts l) || finished-at (turned ts l) r
 -- length. When row r has finished, each of its tiles has received, by the words of its calls' lists, exactly what plain draw order gives
 -- it, in that order and at that nesting, less what came before the newest eligible solid segment that, once cut to the screen, covers
 -- the tile's whole bucket; where there is none, it has received everything.
-abbrev pub Demand-3 : Type 0
-Demand-3 =
+abbrev pub Picture : Type 0
+Picture =
     (f : Frame) (xs : List Step) (l : ScreenLent) → Reached f xs l → (begin-at l).number ≡ Done
     → (ts : List Turn) (r t : ℕ) → r < rows_of f.viewport → t < width f.viewport / 4
     → finished r ts (begin-at l).value ≡ true

@@ -5,11 +5,11 @@ use Rattle.rules.specs.Spans.{Span}
 use Rattle.rules.specs.Inputs.{Props}
 use Rattle.rules.specs.Plans.{Frame, Step, a-push}
 use Rattle.screen.specs.declared.Screen.{Screen}
-use Rattle.screen.specs.Tables.{tables, ScreenLent, lent, reset-to}
+use Rattle.screen.specs.Tables.{tables, ScreenLent, lent, reset_to}
 use Rattle.screen_layers.specs.declared.LayerProps.{LayerProps}
 use Rattle.step_fill.specs.declared.Draw.{Draw}
 use Rattle.step_filter.specs.Filter.{FilterGiven}
-use Rattle.file_read.specs.Reading.{props-in}
+use Rattle.file_read.specs.Reading.{props_in}
 use Rattle.paint_command.specs.Painting as paint
 use Rattle.paint_screen.specs.Beginning.{canvas, beginning}
 use Rattle.paint_screen.specs.Stepping.{attributes, stepped}
@@ -46,16 +46,16 @@ write-at i id t list l = let o = write-out i id t list l in with-canvas l o.scre
 
 -- The words l of a screen after a done reset to the frame f and calls on it; xs are the steps that its done building calls say, in order.
 -- `reset` makes the frame of what it is asked: in snapping mode it has the snapped box, and everything said of f speaks of that box.
--- Demand 3 calls such a screen *built*: nothing but its own calls has written its words, each given what the last one left. A building call
+-- The picture calls such a screen *built*: nothing but its own calls has written its words, each given what the last one left. A building call
 -- is lent any paints and segments, any properties that are a step's (those of every done push are: `push-says`), any placement. Painting
 -- calls and writing runs may come between, done or refused. A done recording is a reset and steps (`recorded-reached`), a row painted by one
 -- call is painting steps (`row-reached`). The other calls, and refused building calls (`fill-kept`, ..), leave every lent word as it was: they
 -- need no case.
 pub data Reached : Frame → List Step → ScreenLent → Type 0 where
-  by-reset : (f : Frame) (l : ScreenLent) → (reset-to f l).number ≡ Done → Reached f [] (reset-to f l).value
+  by-reset : (f : Frame) (l : ScreenLent) → (reset_to f l).number ≡ Done → Reached f [] (reset_to f l).value
   by-fill : {f : Frame} {xs : List Step} {l : ScreenLent} (ps ss : List ℕ) (d : Draw) → Reached f xs l → (fill-at ps ss d l).number ≡ Done
       → Reached f (xs ++ (fill-said ps ss d ∷ [])) (fill-at ps ss d l).value
-  by-push : {f : Frame} {xs : List Step} {l : ScreenLent} (p : LayerProps) (q : Props) → p ≡ props-in q → Reached f xs l → (push_at p l).number ≡ Done
+  by-push : {f : Frame} {xs : List Step} {l : ScreenLent} (p : LayerProps) (q : Props) → p ≡ props_in q → Reached f xs l → (push_at p l).number ≡ Done
       → Reached f (xs ++ (a-push q ∷ [])) (push_at p l).value
   by-pop : {f : Frame} {xs : List Step} {l : ScreenLent} (ss : List ℕ) → Reached f xs l → (pop-at ss l).number ≡ Done
       → Reached f (xs ++ (pop-said ss ∷ [])) (pop-at ss l).value

@@ -1,4 +1,4 @@
--- Demand 3 where rows are painted by one call, by steps, or by both in any mixture.
+-- The picture where rows are painted by one call, by steps, or by both in any mixture.
 use Rattle.std.specs.Prelude.{ℕ, ◌/◌, ◌<◌, ◌≡◌, Bool, true, ◌||◌, List, [], ◌∷◌, eqb}
 use Rattle.rules.specs.Lists.{every}
 use Rattle.rules.specs.Answers.{Done}
@@ -75,8 +75,8 @@ row-finished r cs l = said-finished r (call-log cs l) || finished-at (called cs 
 -- any mixture, into lists of any length. When row r has finished, each of its tiles has received, by the words of its calls' lists, exactly
 -- what plain draw order gives it, in that order and at that nesting, less what came before the newest eligible solid segment that, once cut
 -- to the screen, covers the tile's whole bucket; where there is none, it has received everything.
-abbrev pub Demand-3-rows : Type 0
-Demand-3-rows =
+abbrev pub PictureByRows : Type 0
+PictureByRows =
     (f : Frame) (xs : List Step) (l : ScreenLent) → Reached f xs l → (begin-at l).number ≡ Done
     → (cs : List Call) (r t : ℕ) → r < rows_of f.viewport → t < width f.viewport / 4
     → row-finished r cs (begin-at l).value ≡ true

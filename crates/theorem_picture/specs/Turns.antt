@@ -1,6 +1,5 @@
 -- Painting steps by turns at the lent words, and what their lists hold.
-use Rattle.std.specs.Prelude.{ℕ, zero, suc, ◌/◌, Bool, ◌||◌, cond, List, [], ◌∷◌, length, get_or, drop, leb, eqb}
-use Rattle.std.proofs.Math.Option.{none, some}
+use Rattle.std.specs.Prelude.{ℕ, zero, suc, ◌/◌, Bool, ◌||◌, cond, List, [], ◌∷◌, length, get_or, drop, leb, eqb, None, Some}
 use Rattle.sizes.specs.Sizes.{piece-size}
 use Rattle.rules.specs.Spans.{span}
 use Rattle.rules.specs.Painting.{Piece}
@@ -17,7 +16,7 @@ piece-in l =
       layer = leb 3 (get_or l 0 0);
       attribute = get_or l 1 0;
       tiles = span (get_or l 2 0) (get_or l 3 0);
-      alpha = cond (eqb (get_or l 0 0) 2 || eqb (get_or l 0 0) 4) (some (get_or l 4 0)) none;
+      alpha = cond (eqb (get_or l 0 0) 2 || eqb (get_or l 0 0) 4) (Some (get_or l 4 0)) None;
       nesting = get_or l 5 0;
       panel = get_or l 6 0;
     }

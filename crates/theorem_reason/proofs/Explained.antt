@@ -1,31 +1,28 @@
 -- The call `why` at the words: an accepted recording is walked to its end by the rules, so that its story is told to its end, and the reason read
 -- off it is the rules' reason of the file's history. Assumes nothing.
-use Prim.Native.Nat.{ℕ, ◌+◌, ◌/◌, ◌≤◌, ◌<◌}
+use Prim.Native.Nat.{ℕ, ◌/◌, ◌<◌}
 use mathlib.Core.Path.{◌≡◌, refl, sym, ap, ◌∙◌, subst}
-use mathlib.Core.Bool.{true, false, ◌||◌}
-use mathlib.Core.List.{List, [], ◌∷◌}
-use mathlib.Core.Option.{Option, some, get_or}
+use mathlib.Core.Bool.{true, false}
+use mathlib.Core.List.{List, []}
+use Rattle.std.specs.Prelude.{Option, unwrap_or}
 use lib.ListN.{replicate}
-use lib.Dec.{leb}
 use borrow.Author.Tests.{lt-leb}
 use Rattle.sizes.specs.Sizes.{line-table}
-use Rattle.rules.specs.Answers.{Answer, Done}
-use Rattle.rules.specs.Boxes.{Box, width, rows_of, good-viewport}
+use Rattle.rules.specs.Answers.{Done}
+use Rattle.rules.specs.Boxes.{Box, width, rows_of, good_viewport}
 use Rattle.rules.specs.Rows.{Row, fresh-row, row-ops}
-use Rattle.rules.specs.Plans.{Frame, bucket, Step}
+use Rattle.rules.specs.Plans.{Frame, bucket}
 use Rattle.rules.specs.Steps.{Screen, reset, call}
-use Rattle.rules.specs.Painting.{Entry, received}
-use Rattle.rules.specs.Plain.{plain}
-use Rattle.rules.specs.Recording.{Recording, shape, sections, recording}
+use Rattle.rules.specs.Painting.{Entry}
+use Rattle.rules.specs.Recording.{Recording, recording}
 use Rattle.rules.specs.Setups.{Setup, frame}
 use Rattle.rules.specs.Walk.{Place, frame-of, walk-all}
 use Rattle.rules.proofs.Logged.{walk-logged}
 use Rattle.rules_picture.specs.Built.{Built}
 use Rattle.rules_picture.specs.Recorded.{history, Readable, said}
-use Rattle.rules_picture.specs.Turns.{from}
 use Rattle.rules_picture.proofs.Walked.{all-walks}
-use Rattle.rules_reason.specs.Reasons.{Reason, shown-at, Asked, reason}
-use Rattle.screen.specs.Tables.{ScreenLent, reset-to}
+use Rattle.rules_reason.specs.Reasons.{Asked, reason}
+use Rattle.screen.specs.Tables.{ScreenLent, reset_to}
 use Rattle.file_call.specs.Recorded.{recorded-in, recorded}
 use Rattle.file_call.proofs.Accepted.{reset-judged, good-frame, walk-done}
 use Rattle.refine_steps.proofs.Refined.{reset-refines}
@@ -35,13 +32,11 @@ use Rattle.tile_steps.specs.Telling.{Telling, tell-at, nothing-told}
 use Rattle.refine_tile.proofs.Walked.{tile-told}
 use Rattle.refine_tile.proofs.Reasons as read
 use Rattle.rules_reason.specs.Answers.{off-screen}
-use Rattle.tile_call.specs.Explained.{Explained, told_of, reason-told, explained-of, explained-in, explained-as, no-reason, explained}
-use Rattle.theorem_picture.specs.Reached.{Reached, begin-at}
-use Rattle.theorem_picture.specs.Turns.{Turn, log}
-use Rattle.theorem_picture.specs.Picture.{finished}
+use Rattle.tile_call.specs.Explained.{Explained, told_of, explained-of, explained-as, explained}
+use Rattle.theorem_picture.specs.Reached.{Reached}
 use Rattle.theorem_picture.proofs.Picture.{picture}
 use Rattle.theorem_picture.proofs.Recorded.{recorded-reached}
-use Rattle.theorem_reason.specs.Reasons.{Listed, Unlisted, Painted}
+use Rattle.theorem_reason.specs.Reasons.{Listed, Unlisted}
 use Rattle.theorem_reason.specs.Explained.{Explained-true, Explained-painted}
 use Rattle.theorem_reason.proofs.Reasons.{shown-exact, not-shown}
 
@@ -62,7 +57,7 @@ module _ (ws : List ℕ) (q : Setup) (l : ScreenLent) (z : (recorded ws q l).num
   accepted : (recorded-in r q l).number ≡ Done
   accepted = rw there at z
 
-  view : good-viewport f.viewport ≡ true
+  view : good_viewport f.viewport ≡ true
   view = good-frame r q l accepted
 
   abbrev fresh : Screen Row
@@ -70,7 +65,7 @@ module _ (ws : List ℕ) (q : Setup) (l : ScreenLent) (z : (recorded ws q l).num
 
   rules-done : (walk-all (Screen Row) (call Row row-ops) r fresh).number ≡ Done
   rules-done =
-      sym (walk-refines r fresh (reset-to f l).value (reset-refines f l (reset-judged r q l accepted)).value).number ∙ walk-done r q l accepted
+      sym (walk-refines r fresh (reset_to f l).value (reset-refines f l (reset-judged r q l accepted)).value).number ∙ walk-done r q l accepted
 
   logged-done : (walk-logged Row row-ops fresh-row (frame-of p r) r).number ≡ Done
   unfolding walk-logged
@@ -117,7 +112,7 @@ explained-painted ws q l z r row tile h k ts fin a =
     let v = f.viewport in
     let xs = history p (said r) in
     let m = recorded-reached ws q l z in
-    let parts : m.words.parts ≡ r.parts = ap (λ (o : Option (List (List (List ℕ)))). get_or o []) (sym m.words.formed ∙ r.formed) in
+    let parts : m.words.parts ≡ r.parts = ap (λ (o : Option (List (List (List ℕ)))). unwrap_or o []) (sym m.words.formed ∙ r.formed) in
     let reached = subst (λ (ss : List (List (List ℕ))). Reached (frame-of p (recording ss)) (history p (recording ss)) (recorded ws q l).value) parts m.reached in
     let same = sym (picture (frame-of p (said r)) xs (recorded ws q l).value reached m.begins ts row tile h k fin) in
     let gives : (explained ws q row tile a l).reason ≡ reason (bucket f) v row tile xs a = ap (λ (x : Explained). x.reason) (explains ws q l z r row tile a (there-on v row tile h k)) in

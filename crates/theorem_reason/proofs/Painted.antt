@@ -1,4 +1,4 @@
--- Reasons beside painting: what demand 3 has a tile receive is what its reasons say.
+-- Reasons beside painting: what the picture has a tile receive is what its reasons say.
 use mathlib.Core.Path.{sym, subst}
 use mathlib.Core.List.{List}
 use Rattle.rules.specs.Painting.{Entry}

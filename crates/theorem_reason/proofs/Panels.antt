@@ -3,7 +3,7 @@ use Prim.Native.Nat.{ℕ}
 use native.Mathlib.Omega.{arith}
 use mathlib.Core.Path.{◌≡◌, refl, sym, ◌∙◌, ap, subst}
 use mathlib.Core.Bool.{Bool, true, false, ◌&&◌}
-use mathlib.Core.Option.{Option, none, some}
+use Rattle.std.specs.Prelude.{Option, None, Some}
 use mathlib.Core.List.{List, [], ◌∷◌, ◌++◌, map, append_assoc, append-nil}
 use lib.ListN.{length, get_or}
 use lib.Seq.{get_or-append_seam}
@@ -122,11 +122,11 @@ module _ (t : Attrs) where
   newest-has (older n) (cons p ps) = newest-has n ps
 
 -- the reason of an attribute that there is ends in its account's panel
-placed-panel : (o : Option ℕ) (ts : List Told) (q : ℕ) → panel-in (placed o ts q) ≡ some q
-placed-panel none ts q = refl
-placed-panel (some n) ts q = refl
+placed-panel : (o : Option ℕ) (ts : List Told) (q : ℕ) → panel-in (placed o ts q) ≡ Some q
+placed-panel None ts q = refl
+placed-panel (Some n) ts q = refl
 
-because-panel : (a : Asked) (k : Account) (ts : List Told) → panel-in (because a (some k) ts) ≡ some k.panel
+because-panel : (a : Asked) (k : Account) (ts : List Told) → panel-in (because a (Some k) ts) ≡ Some k.panel
 unfolding because
 because-panel a k ts = by k.covered
     (λ c. by k.kept
@@ -138,11 +138,11 @@ module _ (w : ℕ) (v : Box) (row tile : ℕ) (xs : List Step) (a : Asked) where
   abbrev asked : Option Account
   asked = account-of a (accounts w v row tile xs untold)
 
-  reason-none : asked ≡ none → panel-in (reason w v row tile xs a) ≡ none
+  reason-none : asked ≡ None → panel-in (reason w v row tile xs a) ≡ None
   unfolding reason because
   reason-none e = rw e
 
-  reason-some : (k : Account) → asked ≡ some k → panel-in (reason w v row tile xs a) ≡ some k.panel
+  reason-some : (k : Account) → asked ≡ Some k → panel-in (reason w v row tile xs a) ≡ Some k.panel
   unfolding reason
   reason-some k e = rw e (because-panel a k (tell-steps w v row tile xs untold).told)
 
@@ -168,14 +168,14 @@ panel-true f xs u g b row tile a =
         (told-has u.state.attrs has (told-exact f xs u g b row tile a))
 
     own : (q : ℕ) (o : Option Account) → asked (bucket f) f.viewport row tile xs a ≡ o
-        → panel-in (reason (bucket f) f.viewport row tile xs a) ≡ some q → panel-at a.layer a.attribute u.state.attrs ≡ q
-    own q none e z =
-        let y : ◌≡◌ {A = Option ℕ} none (some q) = sym (reason-none (bucket f) f.viewport row tile xs a e) ∙ z in
+        → panel-in (reason (bucket f) f.viewport row tile xs a) ≡ Some q → panel-at a.layer a.attribute u.state.attrs ≡ q
+    own q None e z =
+        let y : ◌≡◌ {A = Option ℕ} None (Some q) = sym (reason-none (bucket f) f.viewport row tile xs a e) ∙ z in
         let x : ◌≡◌ {A = ℕ} 0 1 = cc in
         absurd (omega arith)
-    own q (some k) e z =
+    own q (Some k) e z =
         let s = account-found a (accounts (bucket f) f.viewport row tile xs untold) k e in
         let (p, i) = kind-is k.layer a.layer k.attribute a.attribute s.of in
-        let y : ◌≡◌ {A = Option ℕ} (some k.panel) (some q) = sym (reason-some (bucket f) f.viewport row tile xs a k e) ∙ z in
+        let y : ◌≡◌ {A = Option ℕ} (Some k.panel) (Some q) = sym (reason-some (bucket f) f.viewport row tile xs a k e) ∙ z in
         let x : k.panel ≡ q = cc in
         (rw (p, i) at (place-all has s.at)) ∙ x

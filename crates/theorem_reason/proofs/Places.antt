@@ -4,7 +4,7 @@ use native.Mathlib.Nat.{add-zero}
 use native.Mathlib.Omega.{arith}
 use mathlib.Core.Path.{◌≡◌, refl, sym, ◌∙◌, ap, subst}
 use mathlib.Core.Bool.{Bool, true, false, ◌&&◌, ◌||◌, cond, beq}
-use mathlib.Core.Option.{Option, none, some}
+use Rattle.std.specs.Prelude.{Option, None, Some}
 use mathlib.Core.List.{List, [], ◌∷◌, ◌++◌, map}
 use lib.Dec.{leb, eqb}
 use borrow.Author.Tests.{eqb-true, eqb-false, eq-eqb, leb-true, leb-false}
@@ -136,12 +136,12 @@ module _ (a : Asked) where
     pub at : Place place ts told
     pub of : names a told ≡ true
 
-  pub place_found : (n m : ℕ) (ts : List Told) → place_of a n ts ≡ some m → Found n m ts
+  pub place_found : (n m : ℕ) (ts : List Told) → place_of a n ts ≡ Some m → Found n m ts
   unfolding place_of
   place_found n m [] e = let z : ◌≡◌ {A = ℕ} 0 1 = cc in absurd (omega arith)
   place_found n m (t ∷ ts) e = by (names a t)
       (λ y.
-      let q : ◌≡◌ {A = Option ℕ} (some n) (some m) = rw y at e in
+      let q : ◌≡◌ {A = Option ℕ} (Some n) (Some m) = rw y at e in
       let z : n ≡ m = cc in
       record { place = 0; is = omega arith; told = t; at = first; of = y })
       (λ z.
@@ -149,11 +149,11 @@ module _ (a : Asked) where
       let i = r.is in
       record { place = suc r.place; is = omega arith; told = r.told; at = later r.at; of = r.of })
 
-  pub place-missing : (n : ℕ) (ts : List Told) → place_of a n ts ≡ none → Unnamed a ts
+  pub place-missing : (n : ℕ) (ts : List Told) → place_of a n ts ≡ None → Unnamed a ts
   unfolding place_of
   place-missing n [] e = nil
   place-missing n (t ∷ ts) e = by (names a t)
-      (λ y. let q : ◌≡◌ {A = Option ℕ} (some n) none = rw y at e in let z : ◌≡◌ {A = ℕ} 0 1 = cc in absurd (omega arith))
+      (λ y. let q : ◌≡◌ {A = Option ℕ} (Some n) None = rw y at e in let z : ◌≡◌ {A = ℕ} 0 1 = cc in absurd (omega arith))
       (λ z. cons z (place-missing (suc n) ts (rw z at e)))
 
   -- at most one entry is named
@@ -166,7 +166,7 @@ module _ (a : Asked) where
   lone-shown all-lone = all-lone
   lone-shown (lone {ts = ts} f l) = by (hiding ts) (λ y. rw y (lone-shown l)) (λ n. rw n (lone f l))
 
-  pub place-lone : (n : ℕ) {p : ℕ} {t : Told} {ts : List Told} → Lone ts → Place p ts t → names a t ≡ true → place_of a n ts ≡ some (n + p)
+  pub place-lone : (n : ℕ) {p : ℕ} {t : Told} {ts : List Told} → Lone ts → Place p ts t → names a t ≡ true → place_of a n ts ≡ Some (n + p)
   unfolding place_of
   place-lone n all-lone x e = elim x [ ]
   place-lone n (lone f l) first e = rw (e, add-zero n)
@@ -174,7 +174,7 @@ module _ (a : Asked) where
       let m : suc n + p ≡ n + suc p = omega arith in
       by (names a u)
       (λ y. never (sym e ∙ place-all (f y) q))
-      (λ z. rw z (place-lone (suc n) l q e ∙ ap (λ (i : ℕ). some i) m))
+      (λ z. rw z (place-lone (suc n) l q e ∙ ap (λ (i : ℕ). Some i) m))
 
   -- an account tells its own entry, of its panel, or nothing
   pub record Fair (k : Account) : Type 0 where
@@ -216,24 +216,24 @@ module _ (a : Asked) where
     pub at : Place place ks k
     pub of : asks a k ≡ true
 
-  pub account-found : (ks : List Account) (k : Account) → account-of a ks ≡ some k → Standing k ks
+  pub account-found : (ks : List Account) (k : Account) → account-of a ks ≡ Some k → Standing k ks
   unfolding account-of
   account-found [] k e = let z : ◌≡◌ {A = ℕ} 0 1 = cc in absurd (omega arith)
   account-found (j ∷ ks) k e = by (asks a j)
       (λ y.
-      let q : ◌≡◌ {A = Option Account} (some j) (some k) = rw y at e in
+      let q : ◌≡◌ {A = Option Account} (Some j) (Some k) = rw y at e in
       let z : j ≡ k = cc in
       subst (λ (i : Account). Standing i (j ∷ ks)) z (record { place = 0; at = first; of = y }))
       (λ n. let r = account-found ks k (rw n at e) in record { place = suc r.place; at = later r.at; of = r.of })
 
-  account-missing : (ks : List Account) → account-of a ks ≡ none → All (λ (k : Account). asks a k ≡ false) ks
+  account-missing : (ks : List Account) → account-of a ks ≡ None → All (λ (k : Account). asks a k ≡ false) ks
   unfolding account-of
   account-missing [] e = nil
   account-missing (j ∷ ks) e = by (asks a j)
-      (λ y. let q : ◌≡◌ {A = Option Account} (some j) none = rw y at e in let z : ◌≡◌ {A = ℕ} 0 1 = cc in absurd (omega arith))
+      (λ y. let q : ◌≡◌ {A = Option Account} (Some j) None = rw y at e in let z : ◌≡◌ {A = ℕ} 0 1 = cc in absurd (omega arith))
       (λ n. cons n (account-missing ks (rw n at e)))
 
-  pub account-lone : {ks : List Account} {n : ℕ} {k : Account} → Once a ks → Place n ks k → asks a k ≡ true → account-of a ks ≡ some k
+  pub account-lone : {ks : List Account} {n : ℕ} {k : Account} → Once a ks → Place n ks k → asks a k ≡ true → account-of a ks ≡ Some k
   unfolding account-of
   account-lone none_left x e = elim x [ ]
   account-lone (once g o) first e = rw e
@@ -242,15 +242,15 @@ module _ (a : Asked) where
       (λ n. rw n (account-lone o p e))
 
   -- with no account nothing is told of it, nor by one that tells nothing; by one that tells, an entry
-  pub none_told : {ks : List Account} → All Fair ks → account-of a ks ≡ none → Unnamed a (told-all ks)
+  pub none_told : {ks : List Account} → All Fair ks → account-of a ks ≡ None → Unnamed a (told-all ks)
   none_told {ks} fs e = all-unnamed fs (account-missing ks e)
 
-  pub untold-by : {ks : List Account} (k : Account) → All Fair ks → Once a ks → account-of a ks ≡ some k → tells k ≡ false → Unnamed a (told-all ks)
+  pub untold-by : {ks : List Account} (k : Account) → All Fair ks → Once a ks → account-of a ks ≡ Some k → tells k ≡ false → Unnamed a (told-all ks)
   unfolding account-of
   untold-by k nil none_left e n = nil
   untold-by k (cons {x = j} {xs = ks} f fs) (once g o) e n = by (asks a j)
       (λ y.
-      let q : ◌≡◌ {A = Option Account} (some j) (some k) = rw y at e in
+      let q : ◌≡◌ {A = Option Account} (Some j) (Some k) = rw y at e in
       let z : j ≡ k = cc in
       let m : tells j ≡ false = ap (λ (i : Account). tells i) z ∙ n in
       subst (λ (ts : List Told). Unnamed a (ts ++ told-all ks)) (sym (told_none j f m)) (all-unnamed fs (g y)))
@@ -269,12 +269,12 @@ module _ (a : Asked) where
       (λ y. subst (λ (ts : List Told). All (Paneled k.panel) ts) (sym (told-one k f y)) (cons (λ z. f.panel) nil))
       (λ n. subst (λ (ts : List Told). All (Paneled k.panel) ts) (sym (told_none k f n)) nil)
 
-  pub told-panels : {ks : List Account} (k : Account) → All Fair ks → Once a ks → account-of a ks ≡ some k → All (Paneled k.panel) (told-all ks)
+  pub told-panels : {ks : List Account} (k : Account) → All Fair ks → Once a ks → account-of a ks ≡ Some k → All (Paneled k.panel) (told-all ks)
   unfolding account-of
   told-panels k nil none_left e = nil
   told-panels k (cons {x = j} {xs = ks} f fs) (once g o) e = by (asks a j)
       (λ y.
-      let q : ◌≡◌ {A = Option Account} (some j) (some k) = rw y at e in
+      let q : ◌≡◌ {A = Option Account} (Some j) (Some k) = rw y at e in
       let z : j ≡ k = cc in
       all_append (subst (λ (i : Account). All (Paneled i.panel) j.told) z (own-panel j f)) (none-paneled k.panel (all-unnamed fs (g y))))
       (λ z. all_append (none-paneled k.panel (told-unnamed j f z)) (told-panels k fs o (rw z at e)))
@@ -285,12 +285,12 @@ module _ (a : Asked) where
     pub at : Place place ts told
     pub of : names a told ≡ true
 
-  pub told-by-it : {ks : List Account} (k : Account) → All Fair ks → account-of a ks ≡ some k → tells k ≡ true → Stood (told-all ks)
+  pub told-by-it : {ks : List Account} (k : Account) → All Fair ks → account-of a ks ≡ Some k → tells k ≡ true → Stood (told-all ks)
   unfolding account-of
   told-by-it k nil e y = let z : ◌≡◌ {A = ℕ} 0 1 = cc in absurd (omega arith)
   told-by-it k (cons {x = j} {xs = ks} f fs) e y = by (asks a j)
       (λ x.
-      let q : ◌≡◌ {A = Option Account} (some j) (some k) = rw x at e in
+      let q : ◌≡◌ {A = Option Account} (Some j) (Some k) = rw x at e in
       let z : j ≡ k = cc in
       let m : tells j ≡ true = ap (λ (i : Account). tells i) z ∙ y in
       subst (λ (ts : List Told). Stood (ts ++ told-all ks)) (sym (told-one j f m)) (record { place = 0; told = f.entry; at = first; of = f.of ∙ x }))
@@ -321,7 +321,7 @@ module _ (a : Asked) where
   above_more {p} {l} (a-layer e i m) h (cons x n) =
       let z : (beq true a.layer && eqb l a.attribute) ≡ false = rw (e, i) at x in above_more m (no-layer a.layer a.attribute p l h z) n
 
-  pub numbered-above : {p l : ℕ} {ks : List Account} → Numbered 0 0 ks p l → account-of a ks ≡ none → of-kind a p l ≤ a.attribute
+  pub numbered-above : {p l : ℕ} {ks : List Account} → Numbered 0 0 ks p l → account-of a ks ≡ None → of-kind a p l ≤ a.attribute
   numbered-above {ks = ks} n e = above_more n (start a.layer a.attribute) (account-missing ks e)
     where
       start : (b : Bool) (i : ℕ) → cond b 0 0 ≤ i

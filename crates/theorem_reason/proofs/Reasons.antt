@@ -5,14 +5,14 @@ use native.Mathlib.Omega.{arith}
 use mathlib.Core.Path.{◌≡◌, refl, sym, ◌∙◌, ap, subst}
 use mathlib.Core.Logic.{◌↔◌}
 use mathlib.Core.Bool.{Bool, true, false, ◌&&◌, cond}
-use mathlib.Core.Option.{Option, none, some, get_or}
+use Rattle.std.specs.Prelude.{Option, None, Some, unwrap_or}
 use mathlib.Core.List.{List, [], ◌∷◌, map}
 use lib.ListN.{length}
 use lib.Dec.{ltb}
 use borrow.Author.Tests.{ltb-true, ltb-false}
 use Rattle.rules.specs.Lists.{is-empty, is_none}
 use Rattle.rules.specs.Spans.{covers, solid-tiles}
-use Rattle.rules.specs.Boxes.{Box, span_of, good-viewport}
+use Rattle.rules.specs.Boxes.{Box, span_of, good_viewport}
 use Rattle.rules.specs.Segments.{Segment, Cut}
 use Rattle.rules.specs.Inputs.{draw-segments, draw-paint, Filter}
 use Rattle.rules.specs.Rows.{Row, fresh-row}
@@ -83,20 +83,20 @@ told-parts false k t e = never (sym e)
 
 -- what is known of the account, if there is one
 abbrev covered_of : Option Account → Bool
-covered_of none = true
-covered_of (some k) = k.covered
+covered_of None = true
+covered_of (Some k) = k.covered
 
 abbrev kept_of : Option Account → Bool
-kept_of none = true
-kept_of (some k) = k.kept
+kept_of None = true
+kept_of (Some k) = k.kept
 
 abbrev touched-of : Option Account → Bool
-touched-of none = true
-touched-of (some k) = k.touched
+touched-of None = true
+touched-of (Some k) = k.touched
 
 abbrev panel-of : Option Account → ℕ
-panel-of none = 0
-panel-of (some k) = k.panel
+panel-of None = 0
+panel-of (Some k) = k.panel
 
 module _ (w : ℕ) (v : Box) (row tile : ℕ) (xs : List Step) (a : Asked) (fairs : All (Fair a) (accounts w v row tile xs untold)) where
   abbrev ks : List Account
@@ -121,29 +121,29 @@ module _ (w : ℕ) (v : Box) (row tile : ℕ) (xs : List Step) (a : Asked) (fair
   one_entry = subst (λ (us : List Told). Lone a us) (sym same-told) (told_lone a fairs one-account)
 
   -- the account
-  abbrev reckoned : (k : Account) → asked ≡ some k → Reckoned w v row tile xs a
+  abbrev reckoned : (k : Account) → asked ≡ Some k → Reckoned w v row tile xs a
   reckoned k e =
       let r = account-found a ks k e in
       let (p, q) = kind-is k.layer a.layer k.attribute a.attribute r.of in
       record { place = r.place; account = k; at = r.at; of = record { layer = p; attribute = q } }
 
-  is-reckoned : (r : Reckoned w v row tile xs a) → asked ≡ some r.account
+  is-reckoned : (r : Reckoned w v row tile xs a) → asked ≡ Some r.account
   is-reckoned r =
       account-lone a one-account r.at
       (kind-yes r.account.layer a.layer r.account.attribute a.attribute r.of.layer r.of.attribute)
 
-  above : asked ≡ none → attributes w v row tile xs a ≤ a.attribute
+  above : asked ≡ None → attributes w v row tile xs a ≤ a.attribute
   above e = numbered-above a (accounts-numbered w v row tile xs) e
 
-  below : (k : Account) → asked ≡ some k → a.attribute < attributes w v row tile xs a
+  below : (k : Account) → asked ≡ Some k → a.attribute < attributes w v row tile xs a
   below k e = let r = account-found a ks k e in numbered_below a (accounts-numbered w v row tile xs) r.at r.of
 
   -- the entries of the asked attribute have its account's panel
-  panels : (k : Account) → asked ≡ some k → All (Paneled a k.panel) ts
+  panels : (k : Account) → asked ≡ Some k → All (Paneled a k.panel) ts
   panels k e = subst (λ (us : List Told). All (Paneled a k.panel) us) (sym same-told) (told-panels a k fairs one-account e)
 
   -- the tile's list
-  is-listed : (p : ℕ) → where-shown ≡ some p → (q : ℕ) × Listed a p q (plain w v row tile xs)
+  is-listed : (p : ℕ) → where-shown ≡ Some p → (q : ℕ) × Listed a p q (plain w v row tile xs)
   unfolding plain
   is-listed p e =
       let r = place_found a 0 p (shown ts) e in
@@ -157,14 +157,14 @@ module _ (w : ℕ) (v : Box) (row tile : ℕ) (xs : List Step) (a : Asked) (fair
         },
       )
 
-  listed_at : (p q : ℕ) → Listed a p q (plain w v row tile xs) → where-shown ≡ some p
+  listed_at : (p q : ℕ) → Listed a p q (plain w v row tile xs) → where-shown ≡ Some p
   unfolding plain
   listed_at p q l =
       let r = place-told (shown ts) l.at in
       let e : EntryOf a r.told.entry = subst (λ (x : Entry). EntryOf a x) (sym r.is) l.of in
-      place-lone a 0 (lone-shown a one_entry) r.at (naming a r.told e) ∙ ap (λ (n : ℕ). some n) (zero-add p)
+      place-lone a 0 (lone-shown a one_entry) r.at (naming a r.told e) ∙ ap (λ (n : ℕ). Some n) (zero-add p)
 
-  listed-panel : (k : Account) → asked ≡ some k → (p q : ℕ) → Listed a p q (plain w v row tile xs) → k.panel ≡ q
+  listed-panel : (k : Account) → asked ≡ Some k → (p q : ℕ) → Listed a p q (plain w v row tile xs) → k.panel ≡ q
   unfolding plain
   listed-panel k y p q l =
       let r = place-told (shown ts) l.at in
@@ -172,21 +172,21 @@ module _ (w : ℕ) (v : Box) (row tile : ℕ) (xs : List Step) (a : Asked) (fair
       let (m, at) = shown-told ts r.at in
       sym (place-all (panels k y) at (naming a r.told e)) ∙ ap (λ (x : Entry). x.panel) r.is ∙ l.panel
 
-  is-unlisted : where-shown ≡ none → Unlisted a (plain w v row tile xs)
+  is-unlisted : where-shown ≡ None → Unlisted a (plain w v row tile xs)
   unfolding plain
   is-unlisted e = unlisted a (place-missing a 0 (shown ts) e)
 
-  unlisted-at : Unlisted a (plain w v row tile xs) → where-shown ≡ none
+  unlisted-at : Unlisted a (plain w v row tile xs) → where-shown ≡ None
   unlisted-at u = go where-shown refl
     where
-      go : (o : Option ℕ) → where-shown ≡ o → where-shown ≡ none
-      go none e = e
-      go (some p) e = let (q, l) = is-listed p e in absurd (place-all u l.at l.of)
+      go : (o : Option ℕ) → where-shown ≡ o → where-shown ≡ None
+      go None e = e
+      go (Some p) e = let (q, l) = is-listed p e in absurd (place-all u l.at l.of)
 
   -- an entry is told exactly by an account that tells
   record Teller : Type 0 where
     account : Account
-    is : asked ≡ some account
+    is : asked ≡ Some account
     does : tells account ≡ true
 
   teller : {n : ℕ} (t : Told) → Place n ts t → EntryOf a t.entry → Teller
@@ -196,8 +196,8 @@ module _ (w : ℕ) (v : Box) (row tile : ℕ) (xs : List Step) (a : Asked) (fair
       unnamed u = never (sym (naming a t e) ∙ place-all u p)
 
       go : (o : Option Account) → asked ≡ o → Teller
-      go none q = absurd (unnamed (subst (λ (us : List Told). Unnamed a us) (sym same-told) (none_told a fairs q)))
-      go (some k) q = by (tells k)
+      go None q = absurd (unnamed (subst (λ (us : List Told). Unnamed a us) (sym same-told) (none_told a fairs q)))
+      go (Some k) q = by (tells k)
           (λ y. record { account = k; is = q; does = y })
           (λ n. absurd (unnamed (subst (λ (us : List Told). Unnamed a us) (sym same-told) (untold-by a k fairs one-account q n))))
 
@@ -210,7 +210,7 @@ module _ (w : ℕ) (v : Box) (row tile : ℕ) (xs : List Step) (a : Asked) (fair
       teller r.told at e
 
   -- told, and not in the list: something hides it
-  is_hidden : (k : Account) → asked ≡ some k → tells k ≡ true → where-shown ≡ none
+  is_hidden : (k : Account) → asked ≡ Some k → tells k ≡ true → where-shown ≡ None
       → Hidden w v row tile xs a (newest-hider ts).attribute (newest-hider ts).panel k.panel
   is_hidden k e y n =
       let r = told-by-it a k fairs e y in
@@ -230,27 +230,27 @@ module _ (w : ℕ) (v : Box) (row tile : ℕ) (xs : List Step) (a : Asked) (fair
       }
 
   -- the reason by what is known
-  gives-unknown : asked ≡ none → reason w v row tile xs a ≡ unknown-attribute
+  gives-unknown : asked ≡ None → reason w v row tile xs a ≡ unknown-attribute
   unfolding reason because
   gives-unknown e = rw e
 
-  gives-uncovered : (k : Account) → asked ≡ some k → k.covered ≡ false → reason w v row tile xs a ≡ no-segment k.panel
+  gives-uncovered : (k : Account) → asked ≡ Some k → k.covered ≡ false → reason w v row tile xs a ≡ no-segment k.panel
   unfolding reason because
   gives-uncovered k e c = rw (e, c)
 
-  gives_cut : (k : Account) → asked ≡ some k → k.covered ≡ true → k.kept ≡ false → reason w v row tile xs a ≡ cut-away k.panel
+  gives_cut : (k : Account) → asked ≡ Some k → k.covered ≡ true → k.kept ≡ false → reason w v row tile xs a ≡ cut-away k.panel
   unfolding reason because
   gives_cut k e c m = rw (e, c, m)
 
-  gives-untouched : (k : Account) → asked ≡ some k → k.covered ≡ true → k.kept ≡ true → k.touched ≡ false → reason w v row tile xs a ≡ row-untouched k.panel
+  gives-untouched : (k : Account) → asked ≡ Some k → k.covered ≡ true → k.kept ≡ true → k.touched ≡ false → reason w v row tile xs a ≡ row-untouched k.panel
   unfolding reason because
   gives-untouched k e c m t = rw (e, c, m, t)
 
-  gives-hidden : (k : Account) → asked ≡ some k → tells k ≡ true → where-shown ≡ none → reason w v row tile xs a ≡ hidden-for (newest-hider ts) k.panel
+  gives-hidden : (k : Account) → asked ≡ Some k → tells k ≡ true → where-shown ≡ None → reason w v row tile xs a ≡ hidden-for (newest-hider ts) k.panel
   unfolding reason because
   gives-hidden k e y n = let (c, m, t) = told-parts k.covered k.kept k.touched y in rw (e, c, m, t, n)
 
-  gives-shown : (k : Account) → asked ≡ some k → tells k ≡ true → (p : ℕ) → where-shown ≡ some p → reason w v row tile xs a ≡ shown-at p k.panel
+  gives-shown : (k : Account) → asked ≡ Some k → tells k ≡ true → (p : ℕ) → where-shown ≡ Some p → reason w v row tile xs a ≡ shown-at p k.panel
   unfolding reason because
   gives-shown k e y p n = let (c, m, t) = told-parts k.covered k.kept k.touched y in rw (e, c, m, t, n)
 
@@ -258,12 +258,12 @@ module _ (w : ℕ) (v : Box) (row tile : ℕ) (xs : List Step) (a : Asked) (fair
   abbrev True : Reason → Type 0
   True r = Holds w v row tile xs a r
 
-  is-unknown : True unknown-attribute → asked ≡ none
+  is-unknown : True unknown-attribute → asked ≡ None
   is-unknown (unknown le) = go asked refl
     where
-      go : (o : Option Account) → asked ≡ o → asked ≡ none
-      go none e = e
-      go (some k) e = let h = below k e in absurd (omega arith)
+      go : (o : Option Account) → asked ≡ o → asked ≡ None
+      go None e = e
+      go (Some k) e = let h = below k e in absurd (omega arith)
 
   is-uncovered : {q : ℕ} → True (no-segment q) → covered_of asked ≡ false
   is-uncovered (uncovered r e) = ap covered_of (is-reckoned r) ∙ e
@@ -299,8 +299,8 @@ module _ (w : ℕ) (v : Box) (row tile : ℕ) (xs : List Step) (a : Asked) (fair
   shown-panel {p} {q} l = let t = listed-teller p q l in listed-panel t.account t.is p q l
 
   -- none of the first n holds
-  none_before : (n : ℕ) → (0 < n → asked ≡ none → ⊥) → (1 < n → covered_of asked ≡ false → ⊥) → (2 < n → kept_of asked ≡ false → ⊥) → (3 < n → touched-of asked ≡ false → ⊥)
-      → (4 < n → where-shown ≡ none → ⊥) → n ≤ 5 → (s : Reason) → rank s < n → True s → ⊥
+  none_before : (n : ℕ) → (0 < n → asked ≡ None → ⊥) → (1 < n → covered_of asked ≡ false → ⊥) → (2 < n → kept_of asked ≡ false → ⊥) → (3 < n → touched-of asked ≡ false → ⊥)
+      → (4 < n → where-shown ≡ None → ⊥) → n ≤ 5 → (s : Reason) → rank s < n → True s → ⊥
   unfolding rank
   none_before n a₀ a₁ a₂ a₃ a₄ le unknown-attribute l h = a₀ l (is-unknown h)
   none_before n a₀ a₁ a₂ a₃ a₄ le (no-segment q) l h = a₁ l (is-uncovered h)
@@ -312,14 +312,14 @@ module _ (w : ℕ) (v : Box) (row tile : ℕ) (xs : List Step) (a : Asked) (fair
   abbrev Earliest : Reason → Type 0
   Earliest r = First w v row tile xs a r
 
-  there-is : (k : Account) → asked ≡ some k → asked ≡ none → ⊥
-  there-is k e n = let q : ◌≡◌ {A = Option Account} (some k) none = sym e ∙ n in let z : ◌≡◌ {A = ℕ} 0 1 = cc in omega arith
+  there-is : (k : Account) → asked ≡ Some k → asked ≡ None → ⊥
+  there-is k e n = let q : ◌≡◌ {A = Option Account} (Some k) None = sym e ∙ n in let z : ◌≡◌ {A = ℕ} 0 1 = cc in omega arith
 
-  first-unknown : asked ≡ none → Earliest unknown-attribute
+  first-unknown : asked ≡ None → Earliest unknown-attribute
   unfolding rank
   first-unknown e = record { holds = unknown (above e); earlier = λ s l h. absurd (omega arith) }
 
-  module _ (k : Account) (e : asked ≡ some k) where
+  module _ (k : Account) (e : asked ≡ Some k) where
     covers-it : k.covered ≡ true → covered_of asked ≡ false → ⊥
     covers-it c n = never (sym c ∙ sym (ap covered_of e) ∙ n)
 
@@ -353,7 +353,7 @@ module _ (w : ℕ) (v : Box) (row tile : ℕ) (xs : List Step) (a : Asked) (fair
           earlier = none_before 3 (λ l. there-is k e) (λ l. covers-it c) (λ l. keeps-it m) (λ l. absurd (omega arith)) (λ l. absurd (omega arith)) (omega arith);
         }
 
-    first-hidden : tells k ≡ true → where-shown ≡ none → Earliest (hidden-for (newest-hider ts) k.panel)
+    first-hidden : tells k ≡ true → where-shown ≡ None → Earliest (hidden-for (newest-hider ts) k.panel)
     unfolding rank
     first-hidden y n =
         let (c, m, t) = told-parts k.covered k.kept k.touched y in
@@ -362,7 +362,7 @@ module _ (w : ℕ) (v : Box) (row tile : ℕ) (xs : List Step) (a : Asked) (fair
           earlier = none_before 4 (λ l. there-is k e) (λ l. covers-it c) (λ l. keeps-it m) (λ l. touches-it t) (λ l. absurd (omega arith)) (omega arith);
         }
 
-    first-shown : tells k ≡ true → (p : ℕ) → where-shown ≡ some p → Earliest (shown-at p k.panel)
+    first-shown : tells k ≡ true → (p : ℕ) → where-shown ≡ Some p → Earliest (shown-at p k.panel)
     unfolding rank
     first-shown y p n =
         let (c, m, t) = told-parts k.covered k.kept k.touched y in
@@ -370,12 +370,12 @@ module _ (w : ℕ) (v : Box) (row tile : ℕ) (xs : List Step) (a : Asked) (fair
         record {
           holds = listed (subst (λ (i : ℕ). Listed a p i (plain w v row tile xs)) (sym (listed-panel k e p q l)) l);
           earlier = none_before 5 (λ l. there-is k e) (λ l. covers-it c) (λ l. keeps-it m) (λ l. touches-it t)
-              (λ l z. let q : ◌≡◌ {A = Option ℕ} (some p) none = sym n ∙ z in let x : ◌≡◌ {A = ℕ} 0 1 = cc in omega arith) (omega arith);
+              (λ l z. let q : ◌≡◌ {A = Option ℕ} (Some p) None = sym n ∙ z in let x : ◌≡◌ {A = ℕ} 0 1 = cc in omega arith) (omega arith);
         }
 
     first-told : tells k ≡ true → (o : Option ℕ) → where-shown ≡ o → Earliest (reason w v row tile xs a)
-    first-told y none n = subst Earliest (sym (gives-hidden k e y n)) (first-hidden y n)
-    first-told y (some p) n = subst Earliest (sym (gives-shown k e y p n)) (first-shown y p n)
+    first-told y None n = subst Earliest (sym (gives-hidden k e y n)) (first-hidden y n)
+    first-told y (Some p) n = subst Earliest (sym (gives-shown k e y p n)) (first-shown y p n)
 
     first-known : Earliest (reason w v row tile xs a)
     first-known = by k.covered
@@ -390,8 +390,8 @@ module _ (w : ℕ) (v : Box) (row tile : ℕ) (xs : List Step) (a : Asked) (fair
   is-first = go asked refl
     where
       go : (o : Option Account) → asked ≡ o → Earliest (reason w v row tile xs a)
-      go none e = subst Earliest (sym (gives-unknown e)) (first-unknown e)
-      go (some k) e = first-known k e
+      go None e = subst Earliest (sym (gives-unknown e)) (first-unknown e)
+      go (Some k) e = first-known k e
 
   -- a reason that holds, by its place in the order
   abbrev by_rank : ℕ → Reason
@@ -400,7 +400,7 @@ module _ (w : ℕ) (v : Box) (row tile : ℕ) (xs : List Step) (a : Asked) (fair
   by_rank (suc (suc zero)) = cut-away (panel-of asked)
   by_rank (suc (suc (suc zero))) = row-untouched (panel-of asked)
   by_rank (suc (suc (suc (suc zero)))) = hidden-for (newest-hider ts) (panel-of asked)
-  by_rank (suc (suc (suc (suc (suc n))))) = shown-at (get_or where-shown 0) (panel-of asked)
+  by_rank (suc (suc (suc (suc (suc n))))) = shown-at (unwrap_or where-shown 0) (panel-of asked)
 
   ranked : (r : Reason) → True r → r ≡ by_rank (rank r)
   unfolding rank
@@ -415,7 +415,7 @@ module _ (w : ℕ) (v : Box) (row tile : ℕ) (xs : List Step) (a : Asked) (fair
   ranked (shown-at p q) h =
       let l = lists-it h in
       let t = listed-teller p q l in
-      ap (shown-at p) (sym (ap panel-of t.is ∙ shown-panel l)) ∙ ap (λ (o : Option ℕ). shown-at (get_or o 0) (panel-of asked)) (sym (listed_at p q l))
+      ap (shown-at p) (sym (ap panel-of t.is ∙ shown-panel l)) ∙ ap (λ (o : Option ℕ). shown-at (unwrap_or o 0) (panel-of asked)) (sym (listed_at p q l))
 
   is-only : (r : Reason) → Earliest r → r ≡ reason w v row tile xs a
   is-only r f =
@@ -456,7 +456,7 @@ module _ (w : ℕ) (v : Box) (row tile : ℕ) (xs : List Step) (a : Asked) (fair
   )
 
 -- the accounts of a built screen tell what they say
-fairs : (f : Frame) (xs : List Step) (u : Screen Row) → good-viewport f.viewport ≡ true → Built xs (reset fresh-row f) u
+fairs : (f : Frame) (xs : List Step) (u : Screen Row) → good_viewport f.viewport ≡ true → Built xs (reset fresh-row f) u
     → (row tile : ℕ) (a : Asked) → All (Fair a) (accounts (bucket f) f.viewport row tile xs untold)
 fairs f xs u g b row tile a =
     let v = f.viewport in
@@ -487,7 +487,7 @@ pub hidden-exact : Hidden-exact
 hidden-exact f xs u g b row tile a = exact-hidden (bucket f) f.viewport row tile xs a (fairs f xs u g b row tile a)
 
 -- where the reason is none of shown-at, the tile's list has no entry of the attribute
-pub not-shown : (f : Frame) (xs : List Step) (u : Screen Row) → good-viewport f.viewport ≡ true → Built xs (reset fresh-row f) u
+pub not-shown : (f : Frame) (xs : List Step) (u : Screen Row) → good_viewport f.viewport ≡ true → Built xs (reset fresh-row f) u
     → (row tile : ℕ) (a : Asked) → ((p q : ℕ) → reason (bucket f) f.viewport row tile xs a ≡ shown-at p q → ⊥) → Unlisted a (plain (bucket f) f.viewport row tile xs)
 not-shown f xs u g b row tile a n = go (where-shown (bucket f) v row tile xs a h) refl
   where
@@ -498,7 +498,7 @@ not-shown f xs u g b row tile a n = go (where-shown (bucket f) v row tile xs a h
     h = fairs f xs u g b row tile a
 
     go : (o : Option ℕ) → where-shown (bucket f) f.viewport row tile xs a h ≡ o → Unlisted a (plain (bucket f) f.viewport row tile xs)
-    go none e = is-unlisted (bucket f) f.viewport row tile xs a h e
-    go (some p) e =
+    go None e = is-unlisted (bucket f) f.viewport row tile xs a h e
+    go (Some p) e =
         let (q, l) = is-listed (bucket f) f.viewport row tile xs a h p e in
         absurd (n p q ((exact-shown (bucket f) f.viewport row tile xs a h p q).1 l))

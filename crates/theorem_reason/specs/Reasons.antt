@@ -1,10 +1,10 @@
--- What a reason says (T-01), and the theorems about it: the one that is given holds, none before it in the order does, and no other is the first.
+-- What a reason says, and the theorems about it: the one that is given holds, none before it in the order does, and no other is the first.
 -- At the screen's own width, for tile and row of a screen that done steps built from its reset.
 use Rattle.std.specs.Prelude.{ℕ, suc, ◌/◌, ◌≤◌, ◌<◌, ◌≡◌, ◌↔◌, Bool, true, false, ◌&&◌, cond, List, [], ◌∷◌}
-use Rattle.std.proofs.Math.Option.{Option, none, some}
+use Rattle.std.specs.Prelude.{Option, None, Some}
 use Rattle.rules.specs.Lists.{keep}
 use Rattle.rules.specs.Answers.{Done}
-use Rattle.rules.specs.Boxes.{Box, width, rows_of, good-viewport}
+use Rattle.rules.specs.Boxes.{Box, width, rows_of, good_viewport}
 use Rattle.rules.specs.Rows.{Row, fresh-row}
 use Rattle.rules.specs.Plans.{Frame, bucket, Step}
 use Rattle.rules.specs.Steps.{Screen, reset}
@@ -100,7 +100,7 @@ pub record First (w : ℕ) (v : Box) (row tile : ℕ) (xs : List Step) (a : Aske
 -- what is told, at its own width, of any screen built from its reset by done steps xs, for any row and tile and any asked attribute
 abbrev pub Of-built : (ℕ → Box → ℕ → ℕ → List Step → Asked → Type 0) → Type 0
 Of-built P =
-    (f : Frame) (xs : List Step) (u : Screen Row) → good-viewport f.viewport ≡ true → Built xs (reset fresh-row f) u
+    (f : Frame) (xs : List Step) (u : Screen Row) → good_viewport f.viewport ≡ true → Built xs (reset fresh-row f) u
     → (row tile : ℕ) (a : Asked) → P (bucket f) f.viewport row tile xs a
 
 -- an account tells one entry, of its own attribute and panel, exactly if it is covered, kept and touched
@@ -133,29 +133,29 @@ Hidden-exact = Of-built (λ w v row tile xs a. (h b q : ℕ) → (reason w v row
 
 -- the panel that a reason ends in
 abbrev pub panel-in : Reason → Option ℕ
-panel-in unknown-attribute = none
-panel-in (no-segment q) = some q
-panel-in (cut-away q) = some q
-panel-in (row-untouched q) = some q
-panel-in (hidden-by h b q) = some q
-panel-in (shown-at p q) = some q
+panel-in unknown-attribute = None
+panel-in (no-segment q) = Some q
+panel-in (cut-away q) = Some q
+panel-in (row-untouched q) = Some q
+panel-in (hidden-by h b q) = Some q
+panel-in (shown-at p q) = Some q
 
 -- the panel of a layer's attribute, or of a draw's
 abbrev pub panel-at : Bool → ℕ → Attrs → ℕ
 panel-at true i t = layer-panel t i
 panel-at false i t = paint-panel t i
 
--- Beside the screen's attributes t (T-07): the reason ends in the asked attribute's panel, and what hides has its own
+-- Beside the screen's attributes t: the reason ends in the asked attribute's panel, and what hides has its own
 pub record Paneled (a : Asked) (r : Reason) (t : Attrs) : Type 0 where
-  pub own : (q : ℕ) → panel-in r ≡ some q → panel-at a.layer a.attribute t ≡ q
+  pub own : (q : ℕ) → panel-in r ≡ Some q → panel-at a.layer a.attribute t ≡ q
   pub hider : (h b q : ℕ) → r ≡ hidden-by h b q → paint-panel t h ≡ b
 
 abbrev pub Panel-true : Type 0
 Panel-true =
-    (f : Frame) (xs : List Step) (u : Screen Row) → good-viewport f.viewport ≡ true → Built xs (reset fresh-row f) u
+    (f : Frame) (xs : List Step) (u : Screen Row) → good_viewport f.viewport ≡ true → Built xs (reset fresh-row f) u
     → (row tile : ℕ) (a : Asked) → Paneled a (reason (bucket f) f.viewport row tile xs a) u.state.attrs
 
--- Beside painting (demand 3): where the reason is shown at p, the tile has received the attribute's entry at place p, with the reason's panel; where
+-- Beside painting: where the reason is shown at p, the tile has received the attribute's entry at place p, with the reason's panel; where
 -- it is any other, the tile has received no entry of the attribute
 pub record Painted (a : Asked) (r : Reason) (es : List Entry) : Type 0 where
   pub shown : (p q : ℕ) → r ≡ shown-at p q → Listed a p q es
@@ -163,7 +163,7 @@ pub record Painted (a : Asked) (r : Reason) (es : List Entry) : Type 0 where
 
 abbrev pub Reason-painted : Type 0
 Reason-painted =
-    (f : Frame) (xs : List Step) (k : Canvas) → good-viewport f.viewport ≡ true → Built xs (reset fresh-row f) k.screen → (begin-call k).number ≡ Done
+    (f : Frame) (xs : List Step) (k : Canvas) → good_viewport f.viewport ≡ true → Built xs (reset fresh-row f) k.screen → (begin-call k).number ≡ Done
     → (ts : List Turn) (r t : ℕ) → r < rows_of f.viewport → t < width f.viewport / 4
     → has-finished (painted ts k).canvas r ≡ true
     → (a : Asked) → Painted a (reason (bucket f) f.viewport r t xs a) (received t (from r (painted ts k).log))

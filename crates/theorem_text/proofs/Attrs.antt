@@ -5,11 +5,10 @@ use mathlib.Core.Bool.{Bool, true, false, cond}
 use mathlib.Core.List.{List, [], ◌∷◌, ◌++◌, map, append_assoc}
 use Prim.Native.Nat.{ℕ, zero, suc, ◌+◌, ◌-◌, ◌*◌, ◌≤◌, ◌<◌}
 use native.Mathlib.Omega.{arith}
-use lib.Dec.{T}
 use lib.ListN.{length, get_or, take, drop, replicate, length-append, length-map, length-replicate, get_or-append}
 use lib.Seq.{take-suc, take-length, get_or-append-add, drop_at, drop-drop}
 use lib.IntN.{ℤ, pos}
-use lib.Ieee.{Float, nan, is_nan, nan_bits, ne, binary32, of_bits, to_bits}
+use lib.Ieee.{Float, nan, is_nan, ne, binary32, of_bits, to_bits}
 use lib.Ieee.Bits.{nan_bits_is, to_bits-of_bits}
 use lib.Ieee.Compare.{differs_from_itself}
 use Rattle.sizes.specs.Sizes.{most-layers, most-attrs, paint-attr-size, paint-attr-table, layer-attr-size, layer-attr-table, filter-paint-size, filter-paint-table}
@@ -23,9 +22,9 @@ use Rattle.rules.specs.Steps.{Screen}
 use Rattle.text_details.specs.Details.{Detail, paint-attributes, layer-attributes, filter-paints, paint-attr-line, layer-attr-line, filter-paint-line, attr-lines, painted-row, painted-lines, detail-lines}
 use Rattle.screen.specs.Tables.{float-0}
 use Rattle.step_filter.specs.Filter.{filter-paint-words}
-use Rattle.file_read.specs.Reading.{pattern-of}
+use Rattle.file_read.specs.Reading.{pattern_of}
 use Rattle.refine_steps.specs.Sound.{Sound}
-use Rattle.refine_steps.specs.Lent.{screen-of, table, attr-words, attr-opacity, layers-opacities, lent_of}
+use Rattle.refine_steps.specs.Lent.{table, attr-words, attr-opacity, layers-opacities, lent_of}
 use Rattle.text_screen.specs.Places.{joined}
 use Rattle.text_screen.proofs.Joins.{join-append}
 use Rattle.text_details.specs.Bytes.{detail-bytes, details-text}
@@ -67,11 +66,11 @@ module _ {A : Type 0} (f : A → Detail) (d : A) (xs : List A) (g : ℕ → Deta
   all_lines = first-lines (length xs) (omega arith) ∙ rw (take-length xs)
 
 -- an opacity's pattern, from its f32 and what is kept beside it
-bits_back : (o : ℕ) → o < 4294967296 → opacity-bits (of_bits binary32 o) (pattern-of o) ≡ o
+bits_back : (o : ℕ) → o < 4294967296 → opacity-bits (of_bits binary32 o) (pattern_of o) ≡ o
 unfolding opacity-bits is_nan
 bits_back o h = go (ne (of_bits binary32 o) (of_bits binary32 o)) refl
   where
-    go : (b : Bool) → ne (of_bits binary32 o) (of_bits binary32 o) ≡ b → cond b (pattern-of o) (to_bits binary32 (of_bits binary32 o)) ≡ o
+    go : (b : Bool) → ne (of_bits binary32 o) (of_bits binary32 o) ≡ b → cond b (pattern_of o) (to_bits binary32 (of_bits binary32 o)) ≡ o
     go true e = rw (nan_bits_is binary32 o, differs_from_itself (of_bits binary32 o) (rw e tt))
     go false e = to_bits-of_bits binary32 o h (no_nan (of_bits binary32 o) e)
 

@@ -1,5 +1,5 @@
 -- On the words that hold a screen with no layer open painting begins, and every row waits at its first step. Assumes nothing.
-use mathlib.Core.Path.{◌≡◌, refl, sym, ap, ◌∙◌}
+use mathlib.Core.Path.{◌≡◌, sym, ap, ◌∙◌}
 use mathlib.Core.Bool.{Bool, true, false}
 use mathlib.Core.List.{List, []}
 use Prim.Native.Nat.{ℕ, ◌*◌, ◌<◌}
@@ -9,24 +9,24 @@ use borrow.Author.Tests.{eq-eqb}
 use Rattle.rules.specs.Answers.{Answer, answer, Done}
 use Rattle.rules.specs.Boxes.{Box, rows_of}
 use Rattle.rules.specs.Rows.{Row}
-use Rattle.rules.specs.Plans.{buckets-across, Layer}
+use Rattle.rules.specs.Plans.{buckets-across}
 use Rattle.rules.specs.Steps.{Screen}
-use Rattle.rules.specs.Painting.{Painter, begin}
+use Rattle.rules.specs.Painting.{begin}
 use Rattle.rules.specs.Calls.{Canvas, blank, begin-call}
 use Rattle.rules.proofs.All.{all_replicate, never}
-use Rattle.screen.specs.Tables.{zeros, ScreenLent}
-use Rattle.paint_screen.specs.Judging.{begin-number}
+use Rattle.screen.specs.Tables.{ScreenLent}
+use Rattle.paint_screen.specs.Judging.{begin_number}
 use Rattle.paint_screen.specs.Beginning.{beginning}
 use Rattle.refine_steps.specs.Sound.{Sound}
 use Rattle.refine_steps.specs.Lent.{lent_of}
 use Rattle.refine_paint.specs.Fair.{FairRows}
-use Rattle.refine_paint.specs.Canvases.{depth-of, painting-of, WholeCanvas}
+use Rattle.refine_paint.specs.Canvases.{WholeCanvas}
 use Rattle.refine_paint.proofs.Begin.{judged-0, blank-depth, blank-painting}
 use Rattle.refine_paint.proofs.Whole.{begin-whole}
 use Rattle.rules_picture.proofs.Turns.{begun-is, begun-paints, begun-painter}
 use Rattle.theorem_picture.specs.Reached.{begin-at}
 use Rattle.theorem_picture.specs.Standing.{canvas-words}
-use Rattle.theorem_text.proofs.Rows.{Waits}
+use Rattle.theorem_text.specs.Waits.{Waits}
 
 module _ (s : Screen Row) (sound : Sound s) (fair : FairRows s) (closed : s.state.layers ≡ []) where
   abbrev v : Box
@@ -59,7 +59,7 @@ module _ (s : Screen Row) (sound : Sound s) (fair : FairRows s) (closed : s.stat
 
   module _ (b : Bool) (de pa : List ℕ) (hd : length de ≡ rows_of v * n) (hp : length pa ≡ rows_of v * 2) where
     begun-words : begin-at (lent_of s b de pa) ≡ answer Done (lent_of s true (replicate (rows_of v * n) 0) (replicate (rows_of v * 2) 0))
-    unfolding begin-at beginning begin-number zeros lent_of
+    unfolding begin-at beginning begin_number lent_of
     begun-words =
         let j = judged-0 s sound b (eqb (length de) (rows_of v * n)) (eqb (length pa) (rows_of v * 2)) (eq-eqb _ _ hd) (eq-eqb _ _ hp) in
         rw (j, closed, hd, hp)

@@ -1,13 +1,13 @@
 -- A row that waits is painted to its end by one call of `paint_row` into a list of the programs' length: it has at most 64 buckets and 64 commands, and
 -- gives at most one piece for each bucket and 32 for each command. So `row_text` writes the rules' text of it wherever that fits. Assumes nothing.
-use mathlib.Core.Path.{◌≡◌, refl, sym, ap, ◌∙◌}
+use mathlib.Core.Path.{◌≡◌, refl, ap, ◌∙◌}
 use mathlib.Core.Bool.{Bool, true, false, cond}
-use mathlib.Core.List.{List, [], ◌∷◌, ◌++◌}
-use mathlib.Core.Option.{Option, none, some}
-use Prim.Native.Nat.{ℕ, zero, suc, ◌+◌, ◌-◌, ◌*◌, ◌/◌, ◌≤◌}
+use mathlib.Core.List.{List, [], ◌∷◌}
+use Rattle.std.specs.Prelude.{Option, None, Some}
+use Prim.Native.Nat.{ℕ, zero, suc, ◌+◌, ◌*◌, ◌/◌, ◌≤◌}
 use native.Mathlib.Omega.{arith}
 use lib.Dec.{ltb, eqb}
-use lib.ListN.{length, get_or, take, drop, length-append, length-drop, length-replicate}
+use lib.ListN.{length, get_or, length-append, length-drop, length-replicate}
 use lib.Seq.{length-take-le}
 use borrow.Author.Tests.{le-ltb, ltb-false}
 use Rattle.sizes.specs.Sizes.{piece-size}
@@ -34,26 +34,24 @@ use Rattle.text_details.specs.Bytes.{details-text}
 use Rattle.text_row.specs.Pieces.{most-pieces, piece-list}
 use Rattle.text_row.specs.Dumped.{with-text, row-most, row-dumped}
 use Rattle.refine_steps.specs.Sound.{Fitting}
-use Rattle.refine_paint.specs.Canvases.{given_out}
 use Rattle.refine_paint.proofs.Painters.{all-taken}
-use Rattle.rules_picture.specs.Turns.{next-step}
 use Rattle.rules_picture.proofs.Finishes.{work}
 use Rattle.rules_picture.proofs.Few.{step-few, steps-few, row-few}
 use Rattle.theorem_picture.specs.Standing.{canvas-words}
-use Rattle.theorem_picture.specs.Turns.{pieces-in}
 use Rattle.theorem_picture.specs.Rows.{row_out}
 use Rattle.theorem_picture.proofs.Words.{paint-gives}
 use Rattle.theorem_picture.proofs.Rows.{step, next, Holds, one_holds, row_number}
-use Rattle.theorem_picture.proofs.RowEnds.{left-of, room-done, row-ended}
+use Rattle.theorem_picture.proofs.RowEnds.{room-done, row-ended}
 use Rattle.theorem_text.proofs.Lines.{row-text-few}
 use Rattle.theorem_text.proofs.Attrs.{rows-parts}
-use Rattle.theorem_text.proofs.Rows.{many, row-gave, Waits, waiting-printed}
+pub use Rattle.theorem_text.specs.Waits.{Waits, Whole}
+use Rattle.theorem_text.proofs.Rows.{many, row-gave, waiting-printed}
 
 -- a list keeps its length, step by step
 settled-long : (x : Option rules.Painted) (d p l : List ℕ) → length (settled x d p l).list ≡ length l
 unfolding settled
-settled-long none d p l = refl
-settled-long (some o) d p l = go (ltb (length l / piece-size) (length o.pieces)) refl
+settled-long None d p l = refl
+settled-long (Some o) d p l = go (ltb (length l / piece-size) (length o.pieces)) refl
   where
     go : (b : Bool) → ltb (length l / piece-size) (length o.pieces) ≡ b → length (cond b (out (refused 14) d p l) (left o l)).list ≡ length l
     go true e = refl
@@ -88,12 +86,6 @@ module _ (i : ℕ) (l : ScreenLent) where
   pub row-long : (list : List ℕ) → length (row_out i list l).list ≡ length list
   unfolding row_out row-painted
   row-long list = run_long most 0 (standing l.tables.depth l.tables.painting list) (omega arith)
-
--- The call on a row that waits says finished, is not refused, and lists no more pieces than a row can have.
-pub record Whole (o : StepOut) : Type 0 where
-  pub number : o.answer.number ≡ 0
-  pub finished : o.answer.finished ≡ true
-  pub pieces : o.answer.pieces ≤ most-pieces
 
 module _ {s : Screen Row} {r : ℕ} {m : ScreenLent} (h : Waits s r m) (few : length (get_or s.rows r fresh-row).commands ≤ 64)
     (narrow : buckets-across s.state.frame ≤ 64) (list : List ℕ) (long : piece-list ≤ length list) where

@@ -1,26 +1,25 @@
 -- How long the lines of attributes and of pieces are at most. Assumes nothing.
-use mathlib.Core.Path.{◌≡◌, ap, ◌∙◌}
-use mathlib.Core.Bool.{Bool, true, false, ◌||◌, cond}
+use mathlib.Core.Path.{◌≡◌}
+use mathlib.Core.Bool.{Bool, true, false, ◌||◌}
 use mathlib.Core.List.{List, [], ◌∷◌, ◌++◌, map}
-use mathlib.Core.Option.{Option}
+use Rattle.std.specs.Prelude.{Option}
 use Prim.Native.Nat.{ℕ, suc, ◌+◌, ◌*◌, ◌≤◌}
 use native.Mathlib.Omega.{arith}
 use lib.Dec.{ltb}
-use lib.ListN.{length, length-append, length-map}
-use lib.IntN.{ℤ, pos, negsuc, nat_abs}
+use lib.ListN.{length, length-append}
+use lib.IntN.{ℤ, pos, negsuc}
 use borrow.Author.Tests.{ltb-false}
 use Rattle.sizes.specs.Sizes.{most-attrs, most-filters}
-use Rattle.rules.specs.Lists.{join}
 use Rattle.rules.specs.Attributes.{PaintAttr, LayerAttr, FilterPaint, Attrs, attrs-full}
 use Rattle.rules.specs.Painting.{Piece}
-use Rattle.rules.specs.Lines.{digits, number, alpha-bytes}
+use Rattle.rules.specs.Lines.{number, alpha-bytes}
 use Rattle.rules.proofs.All.{neither}
 use Rattle.rules_picture.proofs.Cases.{by}
 use Rattle.text.specs.Texts.{signed}
-use Rattle.text_details.specs.Details.{Detail, paint-attributes, A, layer-attributes, Y, filter-paints, F, painted, p, l, paint-attr-line, layer-attr-line, filter-paint-line, piece-line, attr-lines, painted-row}
+use Rattle.text_details.specs.Details.{Detail, paint-attributes, layer-attributes, filter-paints, painted, p, l, paint-attr-line, layer-attr-line, filter-paint-line, piece-line, attr-lines, painted-row}
 use Rattle.text_details.specs.Bytes.{pieces-text, detail-room, piece-room, panel-bytes, piece_bytes, detail-line, detail-bytes, details-text}
 use Rattle.text_row.specs.Dumped.{attrs-most}
-use Rattle.refine_text.proofs.Lengths.{plus, digits-few, number-few, alpha-few, join-few}
+use Rattle.refine_text.proofs.Lengths.{plus, digits-few, number-few, alpha-few}
 
 signed-few : (x : ℤ) → length (signed x) ≤ 12
 signed-few (pos n) = omega (arith, digits-few 10 n)

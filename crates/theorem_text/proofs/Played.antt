@@ -2,14 +2,13 @@
 use mathlib.Core.Path.{◌≡◌, refl, sym, ap, ◌∙◌}
 use mathlib.Core.Bool.{Bool, true, false, cond}
 use mathlib.Core.List.{List, []}
-use mathlib.Core.Option.{Option, none, some}
+use Rattle.std.specs.Prelude.{Option, None, Some}
 use Prim.Native.Nat.{ℕ}
 use native.Mathlib.Omega.{arith}
 use lib.Dec.{leb, eqb}
 use borrow.Author.Tests.{eq-eqb, eqb-true}
 use Rattle.rules.specs.Answers.{Answer, answer, settle, Done, BadForm}
 use Rattle.rules.specs.Rows.{Row, fresh-row, row-ops}
-use Rattle.rules.specs.Plans.{Layer}
 use Rattle.rules.specs.Steps.{Screen, reset, call}
 use Rattle.rules.specs.Recording.{Recording, shape, sections, recording}
 use Rattle.rules.specs.Walk.{Place, frame-of, judge-records, walk-all, play-records, play}
@@ -67,10 +66,10 @@ play-ended p old ws words = go (sections shape ws) refl
   where
     played : Option (List (List (List ℕ))) → Answer (Screen Row)
     played o = elim o [
-      | none ↦ answer BadForm old
-      | some qs ↦ play-records (Screen Row) (call Row row-ops) (reset fresh-row) p old (recording qs)
+      | None ↦ answer BadForm old
+      | Some qs ↦ play-records (Screen Row) (call Row row-ops) (reset fresh-row) p old (recording qs)
     ]
 
     go : (o : Option (List (List (List ℕ)))) → sections shape ws ≡ o → (played o).number ≡ 0 → Ended (played o).value
-    go none e z = absurd (omega arith)
-    go (some ss) e z = records-ended p old ss (said-small shape ws ss e words) z
+    go None e z = absurd (omega arith)
+    go (Some ss) e z = records-ended p old ss (said-small shape ws ss e words) z

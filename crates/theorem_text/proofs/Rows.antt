@@ -16,12 +16,11 @@ use Rattle.rules.specs.Plans.{Frame, bucket, buckets-across, Step}
 use Rattle.rules.specs.Steps.{Screen}
 use Rattle.rules.specs.Rows.{Row, fresh-row}
 use Rattle.rules.specs.Painting.{Piece, Painted, begin, paint-steps, paint-row}
-use Rattle.rules.specs.Calls.{Canvas, paints-on, bucket-on, painter-of, begin-call, paint-call}
-use Rattle.text_details.specs.Details.{Detail, painted, piece-line, painted-row}
+use Rattle.rules.specs.Calls.{Canvas, bucket-on, painter-of, begin-call, paint-call}
+use Rattle.text_details.specs.Details.{piece-line, painted-row}
 use Rattle.screen.specs.Tables.{ScreenLent}
 use Rattle.paint_command.specs.Painting as paint
 use Rattle.paint_screen.specs.Stepping.{attributes}
-use Rattle.paint_whole.specs.Running.{row-painted}
 use Rattle.text_screen.specs.Places.{joined}
 use Rattle.text_screen.specs.Listed.{written}
 use Rattle.text_details.specs.Bytes.{details-text}
@@ -33,14 +32,14 @@ use Rattle.refine_paint.proofs.Whole.{begin-whole}
 use Rattle.rules.proofs.All.{and_left, and_right}
 use Rattle.rules_picture.proofs.Turns.{all-given, by-turns, said-so, next-at, turns-screen, turns-paints, call-other, begun-is, begun-paints, begun-painter}
 use Rattle.rules_picture.proofs.Picture.{built-on}
-use Rattle.theorem_picture.specs.Reached.{Reached, begin-at}
-use Rattle.theorem_picture.specs.Standing.{canvas-words}
+use Rattle.theorem_picture.specs.Reached.{begin-at}
+use Rattle.theorem_picture.specs.Standing.{canvas-words, Stands}
 use Rattle.theorem_picture.specs.Turns.{Turn, turn-of, piece-in, pieces-in, turned}
 use Rattle.theorem_picture.specs.Rows.{row_out, row_at}
 use Rattle.theorem_picture.proofs.Words.{begin-words}
-use Rattle.theorem_picture.proofs.Reached.{reached}
 use Rattle.theorem_picture.proofs.Turns.{log-words, turned-words, turns-whole}
 use Rattle.theorem_picture.proofs.Rows.{row-turns}
+pub use Rattle.theorem_text.specs.Waits.{Waits}
 
 -- a tag is a paint's or a layer's
 either : {A : Type 0} (t : ℕ) (x y : A) → cond (leb t 2) x y ≡ cond (leb 3 t) y x
@@ -126,16 +125,6 @@ module _ (k : Canvas) (w : WholeCanvas k) (r : ℕ) (there : r < length k.screen
       let e : row-lines r o.list o.answer.pieces ≡ painted-row r theirs = lines_same r o.answer.pieces o.list ∙ ap (painted-row r) (row-gave f) in
       rw (eq-eqb o.answer.number 0 z, f, le-ltb 65536 o.answer.pieces h, e)
 
--- Words at which row r stands at its first step, painting having begun, on the screen s.
-pub record Waits (s : Screen Row) (r : ℕ) (m : ScreenLent) : Type 0 where
-  pub canvas : Canvas
-  pub whole : WholeCanvas canvas
-  pub screen : canvas.screen ≡ s
-  pub goes_on : paints-on canvas ≡ true
-  pub there : r < length canvas.screen.rows
-  pub fresh : painter-of canvas r ≡ begin (buckets-across canvas.screen.state.frame)
-  pub same : m ≡ canvas-words canvas
-
 -- steps of another row leave it there
 others : (i r : ℕ) → (i ≡ r → ⊥) → (ts : List Turn) → every (λ (t : Turn). eqb t.row i) ts ≡ true → (k : Canvas)
     → painter-of (turns (map turn-of ts) k).canvas r ≡ painter-of k r
@@ -147,10 +136,9 @@ others i r d (t ∷ ts) e k =
     others i r d ts (and_right (eqb t.row i) _ e) g.value.canvas ∙ call-other t.row (length t.list / piece-size) k r o
 
 -- Once painting has begun at reached words, every row does, ..
-pub begin-waits : {f : Frame} {xs : List Step} {l : ScreenLent} (h : Reached f xs l) → (begin-at l).number ≡ Done → (r : ℕ) → r < rows_of f.viewport
-    → Waits (reached h).canvas.screen r (begin-at l).value
-begin-waits {f} {xs} {l} h e r there =
-    let s = reached h in
+pub stands-wait : {f : Frame} {xs : List Step} {l : ScreenLent} (s : Stands f xs l) → (begin-at l).number ≡ Done → (r : ℕ) → r < rows_of f.viewport
+    → Waits s.canvas.screen r (begin-at l).value
+stands-wait {f} {xs} {l} s e r there =
     let k = s.canvas in
     let words = ap begin-at s.same ∙ begin-words k s.whole in
     let d : (begin-call k).number ≡ Done = sym (ap (λ (a : Answer ScreenLent). a.number) words) ∙ e in

@@ -1,27 +1,26 @@
 -- The words of a file are below 2^32, since bytes are below 256, and so is every opacity of the screen that its walk leaves. Assumes nothing.
-use mathlib.Core.Path.{◌≡◌, refl, sym, ap, ◌∙◌}
+use mathlib.Core.Path.{◌≡◌, refl}
 use mathlib.Core.Bool.{Bool, true, false, ◌&&◌, not, cond}
-use mathlib.Core.List.{List, [], ◌∷◌, ◌++◌, map}
-use mathlib.Core.Option
-use mathlib.Core.Option.{Option, none, some}
+use mathlib.Core.List.{List, [], ◌∷◌, map}
+use Rattle.std.specs.Prelude.{Option, None, Some, option_map}
 use Prim.Native.Nat.{ℕ, zero, suc, ◌+◌, ◌*◌, ◌/◌, ◌<◌}
 use native.Mathlib.Omega.{arith}
 use lib.Dec.{leb, eqb}
-use lib.ListN.{length, get_or, take, drop}
+use lib.ListN.{length, get_or, drop}
 use Rattle.rules.specs.Lists.{is-empty}
 use Rattle.rules.specs.Answers.{answer, Done, BadRecord}
 use Rattle.rules.specs.Boxes.{Box}
-use Rattle.rules.specs.Inputs.{Draw, Props, Filter, draw-segments, good-filter-fill}
+use Rattle.rules.specs.Inputs.{Filter, draw-segments, good-filter-fill}
 use Rattle.rules.specs.Attributes.{LayerAttr, Attrs}
 use Rattle.rules.specs.Rows.{Row, row-ops}
-use Rattle.rules.specs.Plans.{Layer, State, Step, a-fill, a-push, a-pop, a-filter, Plan, still, box_of, with-paint, filter-box, draws-nothing, plan-fill, plan-push, plan-pop, plan-filter-in, plan-filter, plan}
-use Rattle.rules.specs.Steps.{Screen, refusal, done, perform, touched, call}
-use Rattle.rules.specs.Recording.{Recording, LayerRec, layer-rec, good-count, records, sections, recording}
+use Rattle.rules.specs.Plans.{Layer, State, Step, a-fill, a-push, a-pop, a-filter, Plan, still, box_of, filter-box, draws-nothing, plan-fill, plan-push, plan-pop, plan-filter-in, plan-filter, plan}
+use Rattle.rules.specs.Steps.{Screen, refusal, done, perform, call}
+use Rattle.rules.specs.Recording.{LayerRec, layer-rec, good-count, records, sections, recording}
 use Rattle.rules.specs.Walk.{props-of, walk-all}
-use Rattle.rules.proofs.All.{All, nil, cons, all_append, all_take, all_drop, all-over, all-at}
+use Rattle.rules.proofs.All.{All, nil, cons, all_append, all_take, all_drop, all-over}
 use Rattle.rules.proofs.laws.Maps.{planned}
 use Rattle.file_form.specs.Each.{each}
-use Rattle.file_form.specs.Words.{word-from, words-in}
+use Rattle.file_form.specs.Words.{word_from, words-in}
 use Rattle.refine_text.proofs.Walked.{Keeps, walk-keeps-by}
 
 abbrev pub Word : ℕ → Type 0
@@ -29,11 +28,11 @@ Word n = n < 4294967296
 
 -- bytes make words
 module _ (bs : List ℕ) (byte : (i : ℕ) → get_or bs i 0 < 256) where
-  each_word : (p n : ℕ) → All Word (each word-from 4 bs p n)
-  unfolding each word-from
+  each_word : (p n : ℕ) → All Word (each word_from 4 bs p n)
+  unfolding each word_from
   each_word p zero = nil
   each_word p (suc n) =
-      let h : Word (word-from bs p) = omega (arith, byte p, byte (p + 1), byte (p + 2), byte (p + 3)) in
+      let h : Word (word_from bs p) = omega (arith, byte p, byte (p + 1), byte (p + 2), byte (p + 3)) in
       cons h (each_word (p + 4) n)
 
   pub words_small : All Word (words-in bs)
@@ -50,12 +49,12 @@ records-small k zero a = nil
 records-small k (suc n) a = cons (all_take k a) (records-small k n (all_drop k a))
 
 abbrev Sections : Option (List (List (List ℕ))) → Type 0
-Sections none = Unit {0}
-Sections (some ss) = All (All (All Word)) ss
+Sections None = Unit {0}
+Sections (Some ss) = All (All (All Word)) ss
 
-cons-small : {x : List (List ℕ)} → All (All Word) x → (o : Option (List (List (List ℕ)))) → Sections o → Sections (Option.map (λ xs. x ∷ xs) o)
-cons-small a none h = tt
-cons-small a (some ss) h = cons a h
+cons-small : {x : List (List ℕ)} → All (All Word) x → (o : Option (List (List (List ℕ)))) → Sections o → Sections (option_map (λ xs. x ∷ xs) o)
+cons-small a None h = tt
+cons-small a (Some ss) h = cons a h
 
 sections-small : (sh : List (ℕ × Bool)) {ws : List ℕ} → All Word ws → Sections (sections sh ws)
 unfolding sections
@@ -65,7 +64,7 @@ sections-small (s ∷ sh) nil = tt
 sections-small (s ∷ sh) (cons {x = n} {xs = ws} p a) = go (good-count s.1 n && leb (n * s.0) (length ws)) (sections-small sh (all_drop (n * s.0) a))
   where
     go : (b : Bool) → Sections (sections sh (drop (n * s.0) ws))
-        → Sections (elim b [ true ↦ Option.map (λ xs. records s.0 n ws ∷ xs) (sections sh (drop (n * s.0) ws)) | false ↦ none ])
+        → Sections (elim b [ true ↦ option_map (λ xs. records s.0 n ws ∷ xs) (sections sh (drop (n * s.0) ws)) | false ↦ None ])
     go true h = cons-small (records-small s.0 n a) (sections sh (drop (n * s.0) ws)) h
     go false h = tt
 
@@ -146,5 +145,5 @@ walk-small ss a =
     (step_small (a-pop r.segments) tt)
     (λ y. step_small (a-filter (length r.paints) y.filter y.panel) tt)
 
-pub said-small : (sh : List (ℕ × Bool)) (ws : List ℕ) (ss : List (List (List ℕ))) → sections sh ws ≡ some ss → All Word ws → All (All (All Word)) ss
+pub said-small : (sh : List (ℕ × Bool)) (ws : List ℕ) (ss : List (List (List ℕ))) → sections sh ws ≡ Some ss → All Word ws → All (All (All Word)) ss
 said-small sh ws ss e a = rw e at (sections-small sh a)

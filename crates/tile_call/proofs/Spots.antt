@@ -11,7 +11,7 @@ use Rattle.sizes.specs.Sizes.{most-layers, line-table}
 use Rattle.sizes.specs.declared.width.Width.{Width}
 use Rattle.sizes.specs.Widths.{bucket-tiles}
 use Rattle.rules.specs.Answers.{Answer}
-use Rattle.rules.specs.Boxes.{Box, width, whole, rows_of, good-viewport}
+use Rattle.rules.specs.Boxes.{Box, width, whole, rows_of, good_viewport}
 use Rattle.rules.specs.Plans.{Step}
 use Rattle.rules.specs.Walk.{walk-all, walk-nodes, walk-layer}
 use Rattle.rules.proofs.laws.Widths.{bucket-some, bucket-most}
@@ -20,8 +20,9 @@ use Rattle.rect.specs.Rects.{box_of, Small}
 use Rattle.rect.proofs.Boxes.{view, small-viewport}
 use Rattle.file_form.specs.declared.Layout.{Layout}
 use Rattle.file_form.specs.Places as file
+use Rattle.file_steps.specs.declared.Recording.{Recording}
 use Rattle.file_judge.proofs.Laws.{root-range}
-use Rattle.file_nodes.specs.Ready.{WalkReady}
+use Rattle.file_nodes.specs.Ready.{WalkReady, ReadyIn}
 use Rattle.file_nodes.proofs.Places.{node-count}
 use Rattle.tile_steps.specs.declared.Spot.{Spot}
 use Rattle.tile_steps.specs.declared.Within.{Within}
@@ -44,7 +45,7 @@ outermost clip = record { clip = clip; «open» = 0 }
 abbrev pub beginning : Tale
 beginning = record { next = 1; paints = 0; layers = 0; filters = 0; levels = 0 }
 
-module _ (v : Rect) (g : good-viewport (box_of v) ≡ true) where
+module _ (v : Rect) (g : good_viewport (box_of v) ≡ true) where
   spotted : (w : Width) (row tile : ℕ) → off-screen (box_of v) row tile ≡ false → Spotted (spot-at v w row tile)
   spotted w row tile o =
       let f = view (box_of v) g in
@@ -67,11 +68,11 @@ module _ (v : Rect) (g : good-viewport (box_of v) ≡ true) where
         record { left = omega arith; top = omega arith; right = omega (arith, f.wide); bottom = omega (arith, f.high) } in
         record { small = rw e small; few = omega arith }
 
-    pub ready_at : (w : Width) (ws : List ℕ) (l : Layout) (row tile : ℕ) (lines : List ℕ) → WalkReady ws l → off-screen (box_of v) row tile ≡ false
-        → length lines ≡ line-table → TaleReady ws l (spot-at v w row tile) (outermost clip) beginning lines
-    ready_at w ws l row tile lines r o n =
+    pub ready_at : (w : Width) (r : Recording) (row tile : ℕ) (lines : List ℕ) → ReadyIn r → off-screen (box_of v) row tile ≡ false
+        → length lines ≡ line-table → TaleReady r (spot-at v w row tile) (outermost clip) beginning lines
+    ready_at w r row tile lines y o n =
         record {
-          walk = r;
+          walk = y;
           spotted = spotted w row tile o;
           bounded = bounded;
           low = record { next = omega arith; paints = omega arith; layers = omega arith; filters = omega arith; levels = omega arith };
@@ -97,7 +98,7 @@ module _ (ws : List ℕ) (l : Layout) (w : ℕ) (v : Box) (row tile : ℕ) (t : 
   unfolding walk-all file.recorded
   from-root = refl
 
-  pub all_told : (a b : ℕ) → a ≡ get_or ws l.root.at 0 → b ≡ get_or ws (l.root.at + 1) 0 → (n : ℕ) (u : Telling)
-      → Says (walk-nodes Telling step (file.recorded l ws) (walk-layer Telling step (file.recorded l ws) most-layers) a b t) n u
+  pub all_told : (n : ℕ) (u : Telling)
+      → Says (walk-nodes Telling step (file.recorded l ws) (walk-layer Telling step (file.recorded l ws) most-layers) (get_or ws l.root.at 0) (get_or ws (l.root.at + 1) 0) t) n u
       → Says (walk-all Telling step (file.recorded l ws) t) n u
-  all_told a b p q n u s = rw from-root at (rw (p, q) at s)
+  all_told n u s = rw from-root at s

@@ -1,7 +1,8 @@
--- Why a tile of a recording shows what it shows, at a screen and all its words: the recording call, then the tile's story (T-01).
+-- Why a tile of a recording shows what it shows, at a screen and all its words: the recording call, then the tile's story.
 use Rattle.std.specs.Prelude.{ℕ, ◌+◌, ◌≡◌, cond, List, replicate, eqb}
-use Rattle.std.proofs.Math.Option.{Option, none, some}
+use Rattle.std.specs.Prelude.{Option, None, Some, Result, Ok, Err}
 use Rattle.sizes.specs.Sizes.{line-table}
+use Rattle.sizes.specs.declared.answers.Refusal.{Refusal}
 use Rattle.rules.specs.Answers.{Answer, answer, Done, BadForm, BadRun}
 use Rattle.rules.specs.Boxes.{Box}
 use Rattle.rules.specs.Plans.{Frame, bucket}
@@ -10,10 +11,11 @@ use Rattle.rules.specs.Recording.{Recording, shape, sections, recording}
 use Rattle.rules.specs.Walk.{walk-all}
 use Rattle.rules_reason.specs.Answers.{off-screen}
 use Rattle.rules_reason.specs.Reasons.{Reason, unknown-attribute, Asked}
-use Rattle.screen.specs.declared.Screen.{Screen}
-use Rattle.screen.specs.Tables.{Tables, ScreenLent, lent}
+use Rattle.screen.specs.Tables.{ScreenLent}
 use Rattle.file_call.specs.Recorded.{recorded}
 use Rattle.tile_steps.specs.Telling.{Telling, tell-at, nothing-told}
+use Rattle.tile_reason.specs.declared.Reason as said
+use Rattle.tile_reason.specs.Reasons.{reason-of}
 use Rattle.tile_reason.specs.Reading.{reason-read}
 
 -- what the call gives: its number, the screen with all its words, the reason. With a refusal the reason says nothing
@@ -27,6 +29,11 @@ explained-as n l r = record { number = n; lent = l; reason = r }
 
 abbrev pub no-reason : ℕ → ScreenLent → Explained
 no-reason n l = explained-as n l unknown-attribute
+
+-- .. and what the code's result says
+abbrev pub reason_said : Result said.Reason Refusal → Reason
+reason_said (Ok r) = reason-of r
+reason_said (Err _) = unknown-attribute
 
 -- the story of a tile of a recording's screen, which has the viewport v and w tiles a bucket, into blank lines
 unfoldable pub told_of : ℕ → Box → Recording → ℕ → ℕ → Answer Telling
@@ -44,8 +51,8 @@ explained-of f r row tile a l =
     cond (off-screen f.viewport row tile) (no-reason BadRun l) (reason-told a (told_of (bucket f) f.viewport r row tile) l)
 
 abbrev pub explained-in : Setup → Option (List (List (List ℕ))) → ℕ → ℕ → Asked → ScreenLent → Explained
-explained-in q none row tile a l = no-reason BadForm l
-explained-in q (some ss) row tile a l = let r = recording ss in explained-of (frame q r.viewport) r row tile a l
+explained-in q None row tile a l = no-reason BadForm l
+explained-in q (Some ss) row tile a l = let r = recording ss in explained-of (frame q r.viewport) r row tile a l
 
 -- A file's words: the recording's own number first; then 12; then the reason. The words are what the recording call leaves
 unfoldable pub explained : List ℕ → Setup → ℕ → ℕ → Asked → ScreenLent → Explained
@@ -53,8 +60,8 @@ explained ws q row tile a l =
     let b = recorded ws q l in
     cond (eqb b.number Done) (explained-in q (sections shape ws) row tile a b.value) (no-reason b.number b.value)
 
--- a number and a screen that the recording call gave of a file in a setup
-pub record GivenBy (ws : List ℕ) (q : Setup) (n : ℕ) (s : Screen) : Type 0 where
+-- the recording call accepted a file in a setup
+pub record Accepted (ws : List ℕ) (q : Setup) : Type 0 where
   pub before : ScreenLent
-  pub after : Tables
-  pub same : answer n (lent s after) ≡ recorded ws q before
+  pub after : ScreenLent
+  pub same : answer Done after ≡ recorded ws q before

@@ -1,5 +1,5 @@
 -- A reason, read off the lines that were told of a tile: one pass over them.
-use Rattle.std.specs.Prelude.{ℕ, zero, suc, ◌+◌, ◌*◌, Bool, true, false, ◌&&◌, ◌||◌, not, cond, List, [], ◌∷◌, get_or, leb, eqb}
+use Rattle.std.specs.Prelude.{ℕ, zero, suc, ◌+◌, ◌*◌, Bool, true, false, ◌&&◌, not, cond, List, [], ◌∷◌, get_or, leb, eqb}
 use Rattle.rules_reason.specs.Reasons.{Reason, unknown-attribute, no-segment, cut-away, row-untouched, shown-at, hidden, Hider, Asked}
 use Rattle.sizes.specs.Sizes.{line-size}
 use Rattle.tile_steps.specs.Telling.{line-panel-at}
@@ -11,8 +11,8 @@ pub record Mark : Type 0 where
   pub standing : ℕ
   pub panel : ℕ
 
-unfoldable pub mark-at : List ℕ → ℕ → Mark
-mark-at ws i =
+unfoldable pub mark_at : List ℕ → ℕ → Mark
+mark_at ws i =
     record {
       layer = get_or ws (line-size * i) 0;
       attribute = get_or ws (line-size * i + 1) 0;
@@ -23,7 +23,7 @@ mark-at ws i =
 -- k lines from line i on
 unfoldable pub marks : List ℕ → ℕ → ℕ → List Mark
 marks ws i zero = []
-marks ws i (suc k) = mark-at ws i ∷ marks ws (i + 1) k
+marks ws i (suc k) = mark_at ws i ∷ marks ws (i + 1) k
 
 -- What is known of the asked attribute after some lines. found: its line was there, with this standing, this panel and, where it was told, this place in
 -- the tile's list; hidden: what hides it came later. count: how long the tile's list is so far; hider: the newest that hides

@@ -1,10 +1,9 @@
 // Why a tile shows what it shows: a reason, read off the lines that were told of the tile. Parts.
 #![tactic(auto)]
 
-ghost use Rattle.std.specs.Prelude.{◌≡◌, ◌&&◌, cond, ◌+◌, ◌*◌, ◌≤◌, ◌<◌, length, eqb};
-ghost use Rattle.sizes.specs.Sizes.{most-attrs};
-ghost use Rattle.sizes.specs.Sizes.{line-size, line-table};
-ghost use Rattle.tile_reason.specs.Reading.{mark-at, read, reason-by, reason-read};
+ghost use Rattle.std.specs.Prelude.{◌≡◌, ◌+◌, ◌*◌, ◌≤◌, ◌<◌, length};
+ghost use Rattle.sizes.specs.Sizes.{most-attrs, line-size, line-table};
+ghost use Rattle.tile_reason.specs.Reading.{mark_at, is-asked, read, reason-by, reason-read};
 ghost use Rattle.tile_reason.specs.Reasons.{reason-of, asked_of, mark_of, search-of};
 
 use sizes::LINE;
@@ -52,9 +51,19 @@ struct Mark {
     panel: u32,
 }
 
+impl Mark {
+    // It is the asked attribute's.
+    fn is_of(self, asked: Asked) -> bool
+        ensures { result ≡ is-asked (asked_of asked) (mark_of self) }
+    {
+        self.layer == u32::from(asked.layer) && self.attribute == asked.attribute
+    }
+}
+
+#[tactic(auto, unfolding(crate::specs::Reading::mark_at))]
 fn mark_at(lines: &[u32], i: usize) -> Mark
     requires { (i < most-attrs + most-attrs) × (line-size * (i + 1) ≤ length lines.now) }
-    ensures { mark_of result ≡ mark-at lines.now i }
+    ensures { mark_of result ≡ mark_at lines.now i }
 {
     let at = LINE * i;
     Mark {
@@ -91,34 +100,17 @@ fn read_line(asked: Asked, search: Search, mark: Mark) -> Search
         next.hider = mark.attribute;
         next.hider_panel = mark.panel;
     }
-    if is_asked(asked, mark.layer, mark.attribute) {
-        if !search.found {
-            next.found = true;
-            next.standing = mark.standing;
-            next.place = next.count;
-            next.hidden = false;
-            next.panel = mark.panel;
-        }
+    if mark.is_of(asked) && !search.found {
+        next.found = true;
+        next.standing = mark.standing;
+        next.place = next.count;
+        next.hidden = false;
+        next.panel = mark.panel;
     }
     if TOLD <= mark.standing {
         next.count += 1;
     }
     next
-}
-
-fn is_asked(asked: Asked, layer: u32, attribute: u32) -> bool
-    ensures { result ≡ (eqb layer (cond asked.layer 1 0) && eqb attribute asked.attribute) }
-{
-    if asked.layer {
-        if layer != 1 {
-            return false;
-        }
-    } else {
-        if layer != 0 {
-            return false;
-        }
-    }
-    attribute == asked.attribute
 }
 
 // The first that holds.
@@ -165,10 +157,8 @@ pub fn reason_of(lines: &[u32], n: usize, asked: Asked) -> Reason
         hider_panel: 0,
         panel: 0,
     };
-    let mut i = 0;
-    while i < n {
+    for i in 0..n {
         search = read_line(asked, search, mark_at(lines, i));
-        i += 1;
     }
     reason_by(search)
 }

@@ -11,13 +11,12 @@ use Rattle.rules.specs.Segments.{good-segment}
 use Rattle.segments.specs.Segs.{segs, segs-of}
 use Rattle.segments.proofs.Laws.{segs-slice}
 use Rattle.screen_layers.specs.declared.Clip.{Clip}
-use Rattle.screen_layers.specs.declared.LayerClip.{LayerClip}
-use Rattle.screen_layers.specs.declared.LayerClip.TheVariants.{Present}
+use Rattle.std.specs.Prelude.{Option, Some}
 use Rattle.screen_layers.specs.Layers.{clip-of}
 use Rattle.tile_steps.specs.Telling.{Look, no-look, look, closing-look}
 use Rattle.tile_steps.specs.Places.{ClipReady}
 
-module _ (ws : List ℕ) {p : LayerClip} {c : Clip} {a b : ℕ} (e : p ≡ Present c) (x : a ≡ c.start) (y : b ≡ c.end) (r : ClipReady p ws) where
+module _ (ws : List ℕ) {p : Option Clip} {c : Clip} {a b : ℕ} (e : p ≡ Some c) (x : a ≡ c.start) (y : b ≡ c.end) (r : ClipReady p ws) where
   pub clip-ready : (a ≤ b) × (5 * b ≤ length ws) × (every good-segment (segs ws a (b - a)) ≡ true)
   clip-ready = rw (x, y) (rw e at r)
 

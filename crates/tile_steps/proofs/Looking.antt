@@ -1,66 +1,26 @@
 -- What a list of segments is to one tile: a stretch, one more segment, and the loop over them.
 use mathlib.Core.Path.{◌≡◌, refl, ap}
-use mathlib.Core.Bool.{Bool, true, false, ◌||◌}
+use mathlib.Core.Bool.{true}
 use mathlib.Core.List.{List, [], ◌∷◌}
-use mathlib.Core.Option.{Option, none, some}
+use Rattle.std.specs.Prelude.{Option, None, Some}
 use Prim.Native.Nat.{ℕ, ◌+◌, ◌-◌, ◌/◌, ◌≤◌, ◌<◌}
 use native.Mathlib.Omega.{arith}
-use lib.Dec.{leb, ltb}
-use borrow.Author.Tests.{eq-eqb, ne_eqb, leb-true, ltb-true}
+use borrow.Author.Tests.{eq-eqb}
 use Rattle.rules.specs.Lists.{every}
 use Rattle.rules.specs.Boxes.{Box, scene-tiles}
-use Rattle.rules.specs.Spans.{Span, span, covers}
+use Rattle.rules.specs.Spans.{Span}
 use Rattle.rules.specs.Segments.{Segment, good-segment, Cut, cut_in}
-use Rattle.rules.proofs.All.{both}
 use Rattle.cmd.specs.Good.{GoodAlpha}
-use Rattle.span.specs.declared.Alpha.{Alpha}
-use Rattle.span.specs.declared.Alpha.TheVariants.{Solid, At}
-use Rattle.span.specs.Spans.{alpha, Moves}
 use Rattle.segments.specs.Segs.{seg-at, segs}
 use Rattle.segments.proofs.Laws.{Index, segs-end, segs-first, good-first, good-rest}
 use Rattle.tile_steps.specs.Telling.{Look, no-look, noticed, cover, see, look}
 
--- a tile of a span
-pub record Within (s : Span) (t : ℕ) : Type 0 where
-  pub first : s.first ≤ t
-  pub end : t < s.end
-
-pub within : (s : Span) (t : ℕ) → covers s t ≡ true → Within s t
-within s t e =
-    let h = both (leb s.first t) (ltb t s.end) e in
-    record { first = leb-true _ _ h.0; end = ltb-true _ _ h.1 }
-
--- a good alpha index can be moved to any tile of its span
-pub moves-to : (a : Alpha) (s : Span) (t : ℕ) → t < s.end → GoodAlpha s (alpha a) → Moves a (t - s.first)
-moves-to Solid s t h g = tt
-moves-to (At a) s t h g = omega arith
-
 pub index-good : (s : Span) (o : Option ℕ) → Index o (s.end - s.first) → GoodAlpha s o
-index-good s none p = tt
-index-good s (some a) p = p
-
-or-true : (x : Bool) → (x || true) ≡ true
-or-true true = refl
-or-true false = refl
-
-or-false : (x : Bool) → (x || false) ≡ x
-or-false true = refl
-or-false false = refl
+index-good s None p = tt
+index-good s (Some a) p = p
 
 module _ (w : ℕ) (v : Box) (row tile : ℕ) where
-  -- whether the segment covers the tile before the cut
-  module _ (k : Look) (s : Segment) where
-    pub covered-now : covers (span s.first s.end) (tile + v.x0 / 4) ≡ true
-        → record { covered = true; reached = k.reached; kept = k.kept; alpha = k.alpha; whole = k.whole } ≡ cover w v row tile k s
-    covered-now e = rw (e, or-true k.covered)
-
-    pub covered-before : covers (span s.first s.end) (tile + v.x0 / 4) ≡ false → k ≡ cover w v row tile k s
-    covered-before e = rw (e, or-false k.covered)
-
   module _ (c : Box) (k n : Look) (s : Segment) where
-    pub seen-elsewhere : (s.row ≡ row + v.y0 / 4 → ⊥) → k ≡ see w v row tile c k s
-    seen-elsewhere h = rw (ne_eqb s.row (row + v.y0 / 4) h)
-
     module _ (h : s.row ≡ row + v.y0 / 4) (e : n ≡ cover w v row tile k s) where
       pub seen-away : [] ≡ cut_in v (scene-tiles v c) s → n ≡ see w v row tile c k s
       seen-away q = rw (eq-eqb s.row (row + v.y0 / 4) h, ← q) e

@@ -2,7 +2,7 @@
 use mathlib.Core.Path.{◌≡◌, ap, ◌∙◌}
 use mathlib.Core.Bool.{cond}
 use mathlib.Core.List.{List, [], ◌∷◌}
-use mathlib.Core.Option.{Option, none, some}
+use Rattle.std.specs.Prelude.{Option, None, Some}
 use Prim.Native.Nat.{ℕ, ◌+◌, ◌≤◌}
 use lib.ListN.{length, set}
 use Rattle.sizes.specs.Sizes.{line-size}
@@ -12,8 +12,8 @@ use Rattle.tile_steps.specs.Telling.{Line, alpha-words, after-alpha, line-words}
 
 -- an alpha index's two words, before others
 before-others : (f i : ℕ) (o : Option ℕ) (ws : List ℕ) → f ∷ i ∷ [] ≡ alpha-words o [] → f ∷ i ∷ ws ≡ alpha-words o ws
-before-others f i none ws e = cc
-before-others f i (some a) ws e = cc
+before-others f i None ws e = cc
+before-others f i (Some a) ws e = cc
 
 module _ (l : Line) (w f i : ℕ) (b : w ≡ cond l.layer 1 0) (e : f ∷ i ∷ [] ≡ alpha-words l.alpha []) where
   in_order : w ∷ l.attribute ∷ l.standing ∷ f ∷ i ∷ after-alpha l ≡ line-words l

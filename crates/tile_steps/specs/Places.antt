@@ -1,6 +1,8 @@
 -- The code's spot, layer at hand, counts and looks as the definitions'.
-use Rattle.std.specs.Prelude.{ℕ, ◌+◌, ◌-◌, ◌*◌, ◌≤◌, ◌<◌, true, ◌≡◌, List, length}
+use Rattle.std.specs.Prelude.{ℕ, ◌+◌, ◌-◌, ◌*◌, ◌≤◌, ◌<◌, true, ◌≡◌, List, [], ◌∷◌, length, Option, None, Some, Result, Ok, Err}
 use Rattle.sizes.specs.Sizes.{most-layers, most-attrs, most-filters, most-rows, last-id, tile-end}
+use Rattle.sizes.specs.declared.answers.Refusal.{Refusal}
+use Rattle.sizes.specs.Refusals.{number_of}
 use Rattle.rules.specs.Lists.{every}
 use Rattle.rules.specs.Answers.{Answer, Done}
 use Rattle.rules.specs.Boxes.{Box}
@@ -8,10 +10,8 @@ use Rattle.rules.specs.Segments.{good-segment}
 use Rattle.rules.specs.Inputs.{Props}
 use Rattle.rules.specs.Plans.{Layer, clip-box}
 use Rattle.rect.specs.Rects.{box_of, Small}
-use Rattle.span.specs.Spans.{alpha}
 use Rattle.segments.specs.Segs.{segs}
-use Rattle.screen_layers.specs.declared.LayerClip.{LayerClip}
-use Rattle.screen_layers.specs.declared.LayerClip.TheVariants.{Absent, Present}
+use Rattle.screen_layers.specs.declared.Clip.{Clip}
 use Rattle.tile_steps.specs.declared.Spot.{Spot}
 use Rattle.tile_steps.specs.declared.Within.{Within}
 use Rattle.tile_steps.specs.declared.Tale.{Tale}
@@ -26,13 +26,13 @@ line_of l =
       layer = l.layer;
       attribute = l.attribute;
       standing = l.standing;
-      alpha = alpha l.alpha;
+      alpha = l.alpha;
       nesting = l.nesting;
       panel = l.panel;
     }
 
 abbrev pub look-of : Look → tell.Look
-look-of k = record { covered = k.covered; reached = k.reached; kept = k.kept; alpha = alpha k.alpha; whole = k.whole }
+look-of k = record { covered = k.covered; reached = k.reached; kept = k.kept; alpha = k.alpha; whole = k.whole }
 
 -- the counts, with the open layers and the lines
 abbrev pub telling : Tale → List Layer → List ℕ → Telling
@@ -56,10 +56,19 @@ pub record Says (a : Answer Telling) (n : ℕ) (t : Telling) : Type 0 where
 abbrev pub layer-in : Props → Within → Layer
 layer-in p h = record { props = p; bounds = box_of h.clip }
 
+-- the open layers after a push, and after the innermost layer l closes; refused, those before
+abbrev pub opened_by : Result Within Refusal → Props → List Layer → List Layer
+opened_by (Ok w) p ls = layer-in p w ∷ ls
+opened_by (Err _) p ls = ls
+
+abbrev pub left_by : {T : Type 0} → Result T Refusal → Layer → List Layer → List Layer
+left_by (Ok _) l ls = ls
+left_by (Err _) l ls = l ∷ ls
+
 -- the segments of a clip: good ones, within the list
-abbrev pub ClipReady : LayerClip → List ℕ → Type 0
-ClipReady Absent ws = Unit
-ClipReady (Present c) ws =
+abbrev pub ClipReady : Option Clip → List ℕ → Type 0
+ClipReady None ws = Unit
+ClipReady (Some c) ws =
     (c.start ≤ c.end) × (5 * c.end ≤ length ws) × (every good-segment (segs ws c.start (c.end - c.start)) ≡ true)
 
 -- a row and a tile of a screen, at so many tiles a bucket
@@ -79,10 +88,20 @@ pub record Bounded (h : Within) : Type 0 where
   pub small : Small (box_of h.clip)
   pub few : h.«open» ≤ most-layers
 
--- counts within document 01's limits
+-- what a push gives: one layer more than there were
+abbrev pub Opens : Result Within Refusal → Within → Type 0
+Opens (Ok w) h = Bounded w × (w.«open» ≡ h.«open» + 1)
+Opens (Err _) h = Unit
+
+-- counts within the rules' limits
 pub record Low (t : Tale) : Type 0 where
   pub next : t.next ≤ last-id + 1
   pub paints : t.paints ≤ most-attrs
   pub layers : t.layers ≤ most-attrs
   pub filters : t.filters ≤ most-filters
   pub levels : t.levels ≤ most-layers
+
+-- what a whole story answers: its counts and lines, or a refusal
+abbrev pub ToldTo : Answer Telling → Result Tale Refusal → List ℕ → Type 0
+ToldTo a (Ok t) ws = Says a Done (telling t [] ws) × Low t
+ToldTo a (Err r) ws = a.number ≡ number_of r

@@ -1,7 +1,7 @@
 -- The story of one tile, told into lent words with no row: what each building step says of the tile, one line for each attribute that it adds.
--- At w tiles a bucket. A step is refused by 6, 8 and 9, as document 01 has them; no row can be full here.
+-- At w tiles a bucket. A step is refused by 6, 8 and 9, as the rules have them; no row can be full here.
 use Rattle.std.specs.Prelude.{ℕ, suc, ◌+◌, ◌-◌, ◌*◌, ◌/◌, min, Bool, true, false, ◌&&◌, ◌||◌, not, cond, List, [], ◌∷◌, length, leb, ltb, eqb}
-use Rattle.std.proofs.Math.Option.{Option, none, some}
+use Rattle.std.specs.Prelude.{Option, None, Some}
 use Rattle.sizes.specs.Sizes.{most-layers, most-attrs, most-filters, last-id}
 use Rattle.rules.specs.Lists.{is-empty, is_none}
 use Rattle.rules.specs.Answers.{Answer, settle, first_of, Done, Deep, NoLayer, Ids, FullAttrs}
@@ -37,8 +37,8 @@ abbrev pub standing-of : Bool → Bool → Bool → Bool → ℕ
 standing-of covered kept touched hides = cond (not covered) 0 (cond (not kept) 1 (cond (not touched) 2 (cond hides 4 3)))
 
 abbrev pub alpha-words : Option ℕ → List ℕ → List ℕ
-alpha-words none ws = 0 ∷ 0 ∷ ws
-alpha-words (some a) ws = 1 ∷ a ∷ ws
+alpha-words None ws = 0 ∷ 0 ∷ ws
+alpha-words (Some a) ws = 1 ∷ a ∷ ws
 
 -- the words after the alpha index
 abbrev pub after-alpha : Line → List ℕ
@@ -62,7 +62,7 @@ pub record Look : Type 0 where
   pub whole : Bool
 
 abbrev pub no-look : Look
-no-look = record { covered = false; reached = false; kept = false; alpha = none; whole = false }
+no-look = record { covered = false; reached = false; kept = false; alpha = None; whole = false }
 
 -- The lines of the steps, for attribute i of panel q with n layers open: of a draw that is k to the tile (e: its segments are eligible if solid),
 -- of a closing layer, of a filter fill
@@ -94,7 +94,7 @@ filter-line covered kept i n q =
       layer = false;
       attribute = i;
       standing = standing-of covered kept true false;
-      alpha = none;
+      alpha = None;
       nesting = n;
       panel = q;
     }
@@ -207,10 +207,10 @@ module _ (w : ℕ) (v : Box) (row tile : ℕ) where
 
   -- rule 9: what closes a layer: a clip's segments, cut by the parent's box; without a clip the layer's own box
   abbrev pub closing-look : Option Clip → Box → Box → List Segment → Look
-  closing-look none own parent ss =
+  closing-look None own parent ss =
       let k = met own row tile in
-      record { covered = true; reached = k; kept = k; alpha = none; whole = false }
-  closing-look (some c) own parent ss = look parent no-look (clip-segments (some c) ss)
+      record { covered = true; reached = k; kept = k; alpha = None; whole = false }
+  closing-look (Some c) own parent ss = look parent no-look (clip-segments (Some c) ss)
 
   -- the layer l closes, ls are those around it
   abbrev pub closed : Layer → List Layer → List Segment → Telling → Telling

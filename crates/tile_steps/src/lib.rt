@@ -3,7 +3,9 @@
 #![tactic(auto)]
 
 ghost use Rattle.std.specs.Prelude.{◌≡◌, true, ◌&&◌, not, List, ◌∷◌, ℕ, ◌+◌, ◌-◌, ◌*◌, ◌≤◌, length, ltb};
-ghost use Rattle.sizes.specs.Sizes.{last-id};
+ghost use Rattle.sizes.specs.Sizes.{last-id, line-table};
+ghost use Rattle.sizes.specs.Refusals.{answer_number};
+ghost use Rattle.rules.specs.Answers.{answer};
 ghost use Rattle.rules.specs.Lists.{every, is_none};
 ghost use Rattle.rules.specs.Boxes.{empty-box};
 ghost use Rattle.rules.specs.Blends.{destructive};
@@ -11,25 +13,21 @@ ghost use Rattle.rules.specs.Inputs.{Props, Filter, all-good};
 ghost use Rattle.rules.specs.Segments.{good-segment};
 ghost use Rattle.rules.specs.Plans.{Layer};
 ghost use Rattle.rect.specs.Rects.{box_of, Small};
-ghost use Rattle.span.specs.Spans.{alpha as alpha-of};
 ghost use Rattle.cmd.specs.Blends.{blend_of};
 ghost use Rattle.segments.specs.Segs.{segs, segs-of};
 ghost use Rattle.screen_layers.specs.Layers.{clip-of};
-ghost use Rattle.sizes.specs.Sizes.{line-table};
 ghost use Rattle.tile_steps.specs.Telling as tell;
-ghost use Rattle.step_filter.specs.Filter.{picture-of};
 ghost use Rattle.tile_steps.specs.Telling.{in_row};
-ghost use Rattle.tile_steps.specs.Places.{Spotted, Holds, Bounded, Low, Says, ClipReady, layer-in, look-of, telling};
+ghost use Rattle.tile_steps.specs.Places.{Spotted, Holds, Bounded, Low, ClipReady, Opens, opened_by, left_by, look-of, telling};
 
 use crate::lines::{Line, put_line, standing};
 use crate::looks::{Look, is_in_row, is_met, look_at};
 use cmd::blend::Blend;
 use rect::Rect;
-use screen_layers::{LayerClip, layer_box};
-use sizes::answers::{DEEP, DONE, FULL_ATTRS, IDS};
-use sizes::{LAST_ID, MOST_ATTRS, MOST_FILTERS, MOST_LAYERS, wide};
-use span::Alpha;
-use step_filter::{Pixmap, draws_nothing, filter_box};
+use screen_layers::{Clip, LayerProps, layer_box};
+use sizes::answers::Refusal;
+use sizes::{LAST_ID, MOST_ATTRS, MOST_FILTERS, MOST_LAYERS};
+use step_filter::{draws_nothing, filter_box};
 
 pub mod lines;
 pub mod looks;
@@ -60,10 +58,13 @@ pub struct Tale {
     pub levels: u32,
 }
 
+// A draw of this panel with the segments from start to end of a list; `eligible`: they are if solid.
 #[derive(Clone, Copy)]
-pub struct Told {
-    pub number: u32,
-    pub tale: Tale,
+pub struct Stroke {
+    pub start: usize,
+    pub end: usize,
+    pub eligible: bool,
+    pub panel: u32,
 }
 
 // Answer 8: no id remains.
@@ -75,79 +76,57 @@ fn is_out_of_ids(tale: Tale) -> bool
 
 // An eligible solid segment that covers the tile's whole bucket.
 fn is_hiding(eligible: bool, look: Look) -> bool
-    ensures { result ≡ (eligible && is_none (alpha-of look.alpha) && look.whole) }
+    ensures { result ≡ (eligible && is_none look.alpha && look.whole) }
 {
-    let alpha = look.alpha;
-    if !eligible {
-        return false;
-    }
-    match alpha {
-        Alpha::Solid => look.whole,
-        Alpha::At(_) => false,
-    }
+    eligible && look.alpha.is_none() && look.whole
 }
 
-// Rules 3, 4 and 6: a draw of this panel with the segments from start to end; `eligible`: they are if solid.
+// Rules 3, 4 and 6: a draw.
 pub fn tell_fill(
+    tale: &mut Tale,
     spot: Spot,
     within: Within,
-    tale: Tale,
     segments: &[u32],
-    start: usize,
-    end: usize,
-    eligible: bool,
-    panel: u32,
+    stroke: Stroke,
     lines: &mut [u32],
-) -> Told
-    requires { Spotted spot × Bounded within × Low tale × (length lines.old ≡ line-table) × (start ≤ «end») × (5 * «end» ≤ length segments.now) × (every good-segment (segs segments.now start («end» - start)) ≡ true) }
-    ensures { ((ls : List Layer) → Holds (box_of spot.viewport) within ls
-        → Says (tell.tell-fill spot.width (box_of spot.viewport) spot.row spot.tile (segs segments.now start («end» - start)) eligible panel (telling tale ls lines.old)) result.number (telling result.tale ls lines.new)) × Low result.tale }
+) -> Result<(), Refusal>
+    requires { Spotted spot × Bounded within × Low tale.old × (length lines.old ≡ line-table) × (stroke.start ≤ stroke.«end») × (5 * stroke.«end» ≤ length segments.now) × (every good-segment (segs segments.now stroke.start (stroke.«end» - stroke.start)) ≡ true) }
+    ensures low { Low tale.new }
+    ensures told { (ls : List Layer) → Holds (box_of spot.viewport) within ls
+        → answer (answer_number result) (telling tale.new ls lines.new)
+        ≡ tell.tell-fill spot.width (box_of spot.viewport) spot.row spot.tile (segs segments.now stroke.start (stroke.«end» - stroke.start)) stroke.eligible stroke.panel (telling tale.old ls lines.old) }
 {
-    if is_out_of_ids(tale) {
-        return Told { number: IDS, tale };
+    if is_out_of_ids(*tale) {
+        return Err(Refusal::Ids);
     }
-    let mut next = tale;
-    next.next = tale.next + 1;
-    if end <= start {
-        return Told {
-            number: DONE,
-            tale: next,
-        };
+    if stroke.end <= stroke.start {
+        tale.next += 1;
+        return Ok(());
     }
     if MOST_ATTRS <= tale.paints {
-        return Told {
-            number: FULL_ATTRS,
-            tale,
-        };
+        return Err(Refusal::FullAttrs);
     }
-    let clip = within.clip;
-    let look = look_at(spot, clip, segments, start, end);
-    let alpha = look.alpha;
+    let look = look_at(spot, within.clip, segments, stroke.start, stroke.end);
     let line = Line {
         layer: false,
         attribute: tale.paints,
-        standing: standing(look.covered, look.kept, true, is_hiding(eligible, look)),
-        alpha,
+        standing: standing(
+            look.covered,
+            look.kept,
+            true,
+            is_hiding(stroke.eligible, look),
+        ),
+        alpha: look.alpha,
         nesting: within.open,
-        panel,
+        panel: stroke.panel,
     };
-    put_line(lines, wide(tale.paints + tale.layers), line);
-    next.paints = tale.paints + 1;
+    put_line(lines, tale.paints + tale.layers, line);
+    tale.next += 1;
+    tale.paints += 1;
     if look.reached {
-        next.levels = within.open;
+        tale.levels = within.open;
     }
-    Told {
-        number: DONE,
-        tale: next,
-    }
-}
-
-// A push, and what holds within the layer.
-#[derive(Clone, Copy)]
-pub struct Pushed {
-    pub number: u32,
-    pub tale: Tale,
-    pub within: Within,
+    Ok(())
 }
 
 // A destructive blend touches the row, if its box is not empty and meets it.
@@ -155,173 +134,139 @@ fn touches(blend: Blend, bbox: Rect, row: u32) -> bool
     requires { Small (box_of bbox) }
     ensures { result ≡ (destructive blend.compose && not (empty-box (box_of bbox)) && in_row (box_of bbox) row) }
 {
-    if !blend.is_destructive() {
-        return false;
-    }
-    if bbox.is_empty() {
-        return false;
-    }
-    is_in_row(bbox, row)
+    blend.is_destructive() && !bbox.is_empty() && is_in_row(bbox, row)
 }
 
-// Rule 8: a layer with this blend and this clip is pushed; a destructive one touches the rows of its box.
-pub fn tell_push(spot: Spot, within: Within, tale: Tale, blend: Blend, clip: LayerClip) -> Pushed
-    requires { Spotted spot × Bounded within × Low tale × (all-good (clip-of clip) ≡ true) }
-    ensures { ((p : Props) (ls : List Layer) (ws : List ℕ) → p.blend ≡ blend_of blend → p.clip ≡ clip-of clip → Holds (box_of spot.viewport) within ls
-        → Says (tell.tell-push spot.width (box_of spot.viewport) spot.row spot.tile p (telling tale ls ws)) result.number (telling result.tale (layer-in p result.within ∷ ls) ws)
-        × (result.number ≡ 0 → Holds (box_of spot.viewport) result.within (layer-in p result.within ∷ ls))) × Low result.tale × Bounded result.within × (result.number ≡ 0 → result.within.«open» ≡ within.«open» + 1) }
+// Rule 8: a layer is pushed; a destructive one touches the rows of its box. What holds within the layer.
+pub fn tell_push(
+    tale: &mut Tale,
+    spot: Spot,
+    within: Within,
+    props: LayerProps,
+) -> Result<Within, Refusal>
+    requires { Spotted spot × Bounded within × Low tale.old × (all-good (clip-of props.clip) ≡ true) }
+    ensures low { Low tale.new }
+    ensures opens { Opens result within }
+    ensures told { (p : Props) (ls : List Layer) (ws : List ℕ) → p.blend ≡ blend_of props.blend → p.clip ≡ clip-of props.clip → Holds (box_of spot.viewport) within ls
+        → answer (answer_number result) (telling tale.new (opened_by result p ls) ws)
+        ≡ tell.tell-push spot.width (box_of spot.viewport) spot.row spot.tile p (telling tale.old ls ws) }
 {
     if MOST_LAYERS <= within.open {
-        return Pushed {
-            number: DEEP,
-            tale,
-            within,
-        };
+        return Err(Refusal::Deep);
     }
-    let viewport = spot.viewport;
-    let parent = within.clip;
-    let bbox = layer_box(viewport, parent, clip);
+    let bbox = layer_box(spot.viewport, within.clip, props.clip);
     let open = within.open + 1;
-    let mut next = tale;
-    if touches(blend, bbox, spot.row) {
-        next.levels = open;
+    if touches(props.blend, bbox, spot.row) {
+        tale.levels = open;
     }
-    Pushed {
-        number: DONE,
-        tale: next,
-        within: Within { clip: bbox, open },
-    }
+    Ok(Within { clip: bbox, open })
 }
 
 // Rule 9: what closes a layer with this clip, cut by the parent's box; without a clip its own box.
-fn closing_look(spot: Spot, own: Rect, parent: Rect, clip: LayerClip, segments: &[u32]) -> Look
+fn closing_look(spot: Spot, own: Rect, parent: Rect, clip: Option<Clip>, segments: &[u32]) -> Look
     requires { Spotted spot × Small (box_of own) × Small (box_of parent) × ClipReady clip segments.now }
     ensures { look-of result ≡ tell.closing-look spot.width (box_of spot.viewport) spot.row spot.tile (clip-of clip) (box_of own) (box_of parent) (segs-of segments.now) }
 {
     match clip {
-        LayerClip::Absent => {
+        None => {
             let kept = is_met(own, spot.row, spot.tile);
             Look {
                 covered: true,
                 reached: kept,
                 kept,
-                alpha: Alpha::Solid,
+                alpha: None,
                 whole: false,
             }
         }
-        LayerClip::Present(c) => look_at(spot, parent, segments, wide(c.start), wide(c.end)),
+        Some(c) => look_at(spot, parent, segments, c.start as usize, c.end as usize),
     }
 }
 
-// Rule 9: the innermost layer, of this panel, closes; `outer` holds outside of it. Its entry is told only in a touched row.
+// Rule 9: the innermost layer closes; `outer` holds outside of it. Its entry is told only in a touched row.
 pub fn tell_pop(
+    tale: &mut Tale,
     spot: Spot,
     within: Within,
     outer: Within,
-    tale: Tale,
-    clip: LayerClip,
-    panel: u32,
+    props: LayerProps,
     segments: &[u32],
     lines: &mut [u32],
-) -> Told
-    requires { Spotted spot × Bounded within × Bounded outer × (within.«open» ≡ outer.«open» + 1) × Low tale × (length lines.old ≡ line-table) × ClipReady clip segments.now }
-    ensures { ((l : Layer) (ls : List Layer) → l.props.clip ≡ clip-of clip → l.props.panel ≡ panel → l.bounds ≡ box_of within.clip → Holds (box_of spot.viewport) outer ls
-        → Says (tell.tell-pop spot.width (box_of spot.viewport) spot.row spot.tile (l ∷ ls) (segs-of segments.now) (telling tale (l ∷ ls) lines.old)) result.number (telling result.tale ls lines.new)) × Low result.tale }
+) -> Result<(), Refusal>
+    requires { Spotted spot × Bounded within × Bounded outer × (within.«open» ≡ outer.«open» + 1) × Low tale.old × (length lines.old ≡ line-table) × ClipReady props.clip segments.now }
+    ensures low { Low tale.new }
+    ensures told { (l : Layer) (ls : List Layer) → l.props.clip ≡ clip-of props.clip → l.props.panel ≡ props.panel → l.bounds ≡ box_of within.clip → Holds (box_of spot.viewport) outer ls
+        → answer (answer_number result) (telling tale.new (left_by result l ls) lines.new)
+        ≡ tell.tell-pop spot.width (box_of spot.viewport) spot.row spot.tile (l ∷ ls) (segs-of segments.now) (telling tale.old (l ∷ ls) lines.old) }
 {
-    if is_out_of_ids(tale) {
-        return Told { number: IDS, tale };
+    if is_out_of_ids(*tale) {
+        return Err(Refusal::Ids);
     }
     if MOST_ATTRS <= tale.layers {
-        return Told {
-            number: FULL_ATTRS,
-            tale,
-        };
+        return Err(Refusal::FullAttrs);
     }
-    let own = within.clip;
-    let parent = outer.clip;
-    let look = closing_look(spot, own, parent, clip, segments);
-    let alpha = look.alpha;
+    let look = closing_look(spot, within.clip, outer.clip, props.clip, segments);
     let touched = outer.open < tale.levels;
     let line = Line {
         layer: true,
         attribute: tale.layers,
         standing: standing(look.covered, look.kept, touched, false),
-        alpha,
+        alpha: look.alpha,
         nesting: within.open,
-        panel,
+        panel: props.panel,
     };
-    put_line(lines, wide(tale.paints + tale.layers), line);
-    let mut next = tale;
-    next.next = tale.next + 1;
-    next.layers = tale.layers + 1;
-    if touched {
-        next.levels = outer.open;
-    }
-    Told {
-        number: DONE,
-        tale: next,
-    }
+    put_line(lines, tale.paints + tale.layers, line);
+    tale.next += 1;
+    tale.layers += 1;
+    tale.levels = tale.levels.min(outer.open);
+    Ok(())
 }
 
 // Rule 11: a filter fill of this panel into a dest box, in each row of what the clip box leaves of it.
 pub fn tell_filter(
+    tale: &mut Tale,
     spot: Spot,
     within: Within,
-    tale: Tale,
     dest: Rect,
-    pixmap: Pixmap,
+    pixmap: Option<u32>,
     panel: u32,
     lines: &mut [u32],
-) -> Told
-    requires { Spotted spot × Bounded within × Low tale × (length lines.old ≡ line-table) × Small (box_of dest) }
-    ensures { ((f : Filter) (ls : List Layer) → f.dest ≡ box_of dest → f.pixmap ≡ picture-of pixmap → Holds (box_of spot.viewport) within ls
-        → Says (tell.tell-filter spot.width (box_of spot.viewport) spot.row spot.tile f panel (telling tale ls lines.old)) result.number (telling result.tale ls lines.new)) × Low result.tale }
+) -> Result<(), Refusal>
+    requires { Spotted spot × Bounded within × Low tale.old × (length lines.old ≡ line-table) × Small (box_of dest) }
+    ensures low { Low tale.new }
+    ensures told { (f : Filter) (ls : List Layer) → f.dest ≡ box_of dest → f.pixmap ≡ pixmap → Holds (box_of spot.viewport) within ls
+        → answer (answer_number result) (telling tale.new ls lines.new)
+        ≡ tell.tell-filter spot.width (box_of spot.viewport) spot.row spot.tile f panel (telling tale.old ls lines.old) }
 {
-    let viewport = spot.viewport;
-    let clip = within.clip;
-    let bbox = filter_box(viewport, clip, dest);
+    let bbox = filter_box(spot.viewport, within.clip, dest);
     if draws_nothing(pixmap, bbox) {
-        return Told { number: DONE, tale };
+        return Ok(());
     }
-    if is_out_of_ids(tale) {
-        return Told { number: IDS, tale };
+    if is_out_of_ids(*tale) {
+        return Err(Refusal::Ids);
     }
-    if MOST_ATTRS <= tale.paints {
-        return Told {
-            number: FULL_ATTRS,
-            tale,
-        };
-    }
-    if MOST_FILTERS <= tale.filters {
-        return Told {
-            number: FULL_ATTRS,
-            tale,
-        };
+    if MOST_ATTRS <= tale.paints || MOST_FILTERS <= tale.filters {
+        return Err(Refusal::FullAttrs);
     }
     let covered = is_met(
         dest,
-        spot.row + viewport.y0 / 4,
-        spot.tile + viewport.x0 / 4,
+        spot.row + spot.viewport.y0 / 4,
+        spot.tile + spot.viewport.x0 / 4,
     );
     let kept = is_met(bbox, spot.row, spot.tile);
     let line = Line {
         layer: false,
         attribute: tale.paints,
         standing: standing(covered, kept, true, false),
-        alpha: Alpha::Solid,
+        alpha: None,
         nesting: within.open,
         panel,
     };
-    put_line(lines, wide(tale.paints + tale.layers), line);
-    let mut next = tale;
-    next.next = tale.next + 1;
-    next.paints = tale.paints + 1;
-    next.filters = tale.filters + 1;
+    put_line(lines, tale.paints + tale.layers, line);
+    tale.next += 1;
+    tale.paints += 1;
+    tale.filters += 1;
     if is_in_row(bbox, spot.row) {
-        next.levels = within.open;
+        tale.levels = within.open;
     }
-    Told {
-        number: DONE,
-        tale: next,
-    }
+    Ok(())
 }

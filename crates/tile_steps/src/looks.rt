@@ -3,7 +3,7 @@ ghost use Rattle.std.specs.Prelude.{◌≡◌, true, ◌+◌, ◌-◌, ◌*◌, 
 ghost use Rattle.rules.specs.Lists.{every};
 ghost use Rattle.rules.specs.Spans as rule;
 ghost use Rattle.rules.specs.Segments.{good-segment};
-ghost use Rattle.span.specs.Spans.{tiles, alpha, stretch as stretch-of};
+ghost use Rattle.span.specs.Spans.{tiles, stretch as stretch-of};
 ghost use Rattle.cmd.specs.Good.{GoodAlpha};
 ghost use Rattle.rect.specs.Rects.{box_of, Small};
 ghost use Rattle.segments.specs.Segs.{segment-of, segs, SceneOf};
@@ -13,8 +13,8 @@ ghost use Rattle.tile_steps.specs.Places.{Spotted, look-of};
 
 use crate::Spot;
 use rect::Rect;
-use segments::{Placed, Scene, Segment, place, scene_of, segment_at};
-use span::{Alpha, Stretch, TileSpan};
+use segments::{Scene, Segment, place, scene_of, segment_at};
+use span::{Stretch, TileSpan, moved};
 
 // covered: a segment covers the tile before the cut; reached: one is left in its row; kept: one that is left covers it, with the tile's own alpha
 // index, and whether it covers the tile's whole bucket.
@@ -23,7 +23,7 @@ pub struct Look {
     pub covered: bool,
     pub reached: bool,
     pub kept: bool,
-    pub alpha: Alpha,
+    pub alpha: Option<u32>,
     pub whole: bool,
 }
 
@@ -31,10 +31,7 @@ pub struct Look {
 pub fn covers(span: TileSpan, tile: u32) -> bool
     ensures { result ≡ rule.covers (tiles span) tile }
 {
-    if tile < span.first {
-        return false;
-    }
-    tile < span.end
+    (span.first..span.end).contains(&tile)
 }
 
 // The box meets the row.
@@ -42,10 +39,7 @@ pub fn is_in_row(bbox: Rect, row: u32) -> bool
     requires { Small (box_of bbox) }
     ensures { result ≡ in_row (box_of bbox) row }
 {
-    if row < bbox.y0 / 4 {
-        return false;
-    }
-    row < (bbox.y1 + 3) / 4
+    (bbox.y0 / 4..(bbox.y1 + 3) / 4).contains(&row)
 }
 
 // The box meets the tile of the row.
@@ -53,10 +47,7 @@ pub fn is_met(bbox: Rect, row: u32, tile: u32) -> bool
     requires { Small (box_of bbox) }
     ensures { result ≡ met (box_of bbox) row tile }
 {
-    if !is_in_row(bbox, row) {
-        return false;
-    }
-    covers(bbox.bbox_span(), tile)
+    is_in_row(bbox, row) && covers(bbox.bbox_span(), tile)
 }
 
 // It covers the tile's whole bucket.
@@ -65,31 +56,42 @@ fn is_whole(spot: Spot, span: TileSpan) -> bool
     ensures { result ≡ tell.is_whole spot.width spot.tile (tiles span) }
 {
     let first = spot.tile / spot.width * spot.width;
-    if first < span.first {
-        return false;
-    }
-    first + spot.width <= span.end
+    span.first <= first && first + spot.width <= span.end
 }
 
 // What is left of a segment of the row.
 fn notice(spot: Spot, look: Look, stretch: Stretch) -> Look
-    requires { Spotted spot × GoodAlpha (tiles stretch.tiles) (alpha stretch.alpha) }
+    requires { Spotted spot × GoodAlpha (tiles stretch.tiles) stretch.alpha }
     ensures { look-of result ≡ tell.noticed spot.width spot.tile (look-of look) (stretch-of stretch) }
 {
-    let tiles = stretch.tiles;
-    let alpha = stretch.alpha;
-    if covers(tiles, spot.tile) {
+    if !covers(stretch.tiles, spot.tile) {
         return Look {
-            covered: look.covered,
             reached: true,
-            kept: true,
-            alpha: alpha.moved(spot.tile - tiles.first),
-            whole: is_whole(spot, tiles),
+            ..look
         };
     }
-    let mut next = look;
-    next.reached = true;
-    next
+    Look {
+        covered: look.covered,
+        reached: true,
+        kept: true,
+        alpha: moved(stretch.alpha, spot.tile - stretch.tiles.first),
+        whole: is_whole(spot, stretch.tiles),
+    }
+}
+
+// Whether it covers the tile before the cut.
+fn cover(spot: Spot, look: Look, segment: Segment) -> Look
+    requires { Spotted spot }
+    ensures { look-of result ≡ tell.cover spot.width (box_of spot.viewport) spot.row spot.tile (look-of look) (segment-of segment) }
+{
+    let own = TileSpan {
+        first: segment.first,
+        end: segment.end,
+    };
+    Look {
+        covered: look.covered || covers(own, spot.tile + spot.viewport.x0 / 4),
+        ..look
+    }
 }
 
 // One more segment; those of other rows say nothing.
@@ -97,22 +99,13 @@ fn see(spot: Spot, scene: Scene, clip: Rect, look: Look, segment: Segment) -> Lo
     requires { Spotted spot × (good-segment (segment-of segment) ≡ true) × SceneOf (box_of spot.viewport) (box_of clip) scene }
     ensures { look-of result ≡ tell.see spot.width (box_of spot.viewport) spot.row spot.tile (box_of clip) (look-of look) (segment-of segment) }
 {
-    let viewport = spot.viewport;
-    if segment.row != spot.row + viewport.y0 / 4 {
+    if segment.row != spot.row + spot.viewport.y0 / 4 {
         return look;
     }
-    let own = TileSpan {
-        first: segment.first,
-        end: segment.end,
-    };
-    let mut next = look;
-    if covers(own, spot.tile + viewport.x0 / 4) {
-        next.covered = true;
-    }
-    let placed = place(segment, scene);
-    match placed {
-        Placed::Nothing => next,
-        Placed::On(_, stretch) => notice(spot, next, stretch),
+    let next = cover(spot, look, segment);
+    match place(segment, scene) {
+        None => next,
+        Some(placed) => notice(spot, next, placed.stretch),
     }
 }
 
@@ -121,19 +114,16 @@ pub fn look_at(spot: Spot, clip: Rect, list: &[u32], start: usize, end: usize) -
     requires { Spotted spot × Small (box_of clip) × (start ≤ «end») × (5 * «end» ≤ length list.now) × (every good-segment (segs list.now start («end» - start)) ≡ true) }
     ensures { look-of result ≡ tell.look spot.width (box_of spot.viewport) spot.row spot.tile (box_of clip) no-look (segs list.now start («end» - start)) }
 {
-    let viewport = spot.viewport;
-    let scene = scene_of(viewport, clip);
+    let scene = scene_of(spot.viewport, clip);
     let mut look = Look {
         covered: false,
         reached: false,
         kept: false,
-        alpha: Alpha::Solid,
+        alpha: None,
         whole: false,
     };
-    let mut i = start;
-    while i < end {
+    for i in start..end {
         look = see(spot, scene, clip, look, segment_at(list, i));
-        i += 1;
     }
     look
 }

@@ -13,7 +13,7 @@ use Rattle.rules.specs.Recording.{Recording, LayerRec, layer-rec}
 use Rattle.rules.specs.Plans.{a-push, a-pop, a-filter}
 use Rattle.rules.specs.Walk.{◌then◌, when, props-of, walk-filter, walk-nodes, walk-layer}
 use Rattle.file_form.specs.declared.Layout.{Layout}
-use Rattle.file_form.specs.Places.{recorded, layer-from}
+use Rattle.file_form.specs.Places.{recorded, layer_from}
 use Rattle.file_steps.proofs.Runs.{then-none, none_then}
 use Rattle.file_nodes.proofs.Places.{layer-there}
 use Rattle.tile_steps.specs.declared.Spot.{Spot}
@@ -117,6 +117,6 @@ module _ (s : Spot) (l : Layout) (ws : List ℕ) (d k : ℕ) (x : Telling) where
   names-none z = says-itself (nothing z)
 
   pub names-one : (j : ℕ) → j ≡ k - 1 → (k ≡ 0 → ⊥) → k ≤ l.layers.count
-      → named ≡ walking s (recorded l ws) (layer-from ws (l.layers.at + 22 * j)) d x
+      → named ≡ walking s (recorded l ws) (layer_from ws (l.layers.at + 22 * j)) d x
   unfolding when
   names-one j e z h = rw (ne_eqb k 0 z, ← e, layer-there l ws j (omega arith))

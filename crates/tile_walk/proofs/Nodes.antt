@@ -14,7 +14,7 @@ use Rattle.rules.specs.Plans.{Layer, a-fill}
 use Rattle.rules.specs.Walk.{each, when, walk-node, walk-nodes, walk-layer}
 use Rattle.rect.specs.Rects.{box_of}
 use Rattle.file_form.specs.declared.Layout.{Layout}
-use Rattle.file_form.specs.Places.{recorded, draw-from, node-from}
+use Rattle.file_form.specs.Places.{recorded, draw_from, node_from}
 use Rattle.file_steps.proofs.Lists.{draws-count, draw-there}
 use Rattle.file_nodes.specs.Ready.{WalkReady}
 use Rattle.file_nodes.proofs.Places.{some-node, node-count, node-there}
@@ -48,9 +48,9 @@ module _ (s : Spot) (l : Layout) (ws : List ℕ) (g : WalkReady ws l) {b a i : �
   all-drawn = all_said (draw s l ws) (recorded l ws).draws b (draws s l ws b) (λ j t. refl) left
 
   module _ (k : i < b) (few : b ≤ l.draws.count) (n : ℕ) (z : List Layer → Telling)
-      (e : (ls : List Layer) → Holds (box_of s.viewport) h ls → Says (draw s l ws (draw-from ws (l.draws.at + 7 * i)) (y ls)) n (z ls)) where
+      (e : (ls : List Layer) → Holds (box_of s.viewport) h ls → Says (draw s l ws (draw_from ws (l.draws.at + 7 * i)) (y ls)) n (z ls)) where
     abbrev this : Draw
-    this = draw-from ws (l.draws.at + 7 * i)
+    this = draw_from ws (l.draws.at + 7 * i)
 
     room : b ≤ length (recorded l ws).draws
     room = rw (draws-count l ws g.fits) few
@@ -83,7 +83,7 @@ module _ (s : Spot) (l : Layout) (ws : List ℕ) (d : ℕ) {b a i : ℕ} {h : Wi
     space = rw (node-count l ws) few
 
     drawn : (ls : List Layer) → Holds (box_of s.viewport) h ls → Says (draws s l ws that.end that.start (y ls)) n (z ls)
-    unfolding node-from
+    unfolding node_from
     drawn ls o = rw (node-there l ws i (omega arith)) (e ls o)
 
     pub draws-refused : (n ≡ 0 → ⊥) → (ls : List Layer) → Holds (box_of s.viewport) h ls → Says (nodes s l ws d b a (x ls)) n (z ls)
@@ -95,7 +95,7 @@ module _ (s : Spot) (l : Layout) (ws : List ℕ) (d : ℕ) {b a i : ℕ} {h : Wi
     module _ (p : n ≡ 0) (m : ℕ) (u : List Layer → Telling)
         (f : (ls : List Layer) → Holds (box_of s.viewport) h ls → Says (layer s l ws d (get_or ws (l.nodes.at + 3 * i + 2) 0) (z ls)) m (u ls)) where
       done : (ls : List Layer) → Holds (box_of s.viewport) h ls → Says (node s l ws d that (y ls)) m (u ls)
-      unfolding walk-node node-from
+      unfolding walk-node node_from
       done ls o =
           goes_on (draws s l ws that.end that.start) (layer s l ws d that.layer) (y ls) (drawn ls o) p
           (rw (node-there l ws i (omega arith)) (f ls o))

@@ -4,7 +4,7 @@ use native.Mathlib.Omega.{arith}
 use mathlib.Core.Path.{◌≡◌, refl, ap, ◌∙◌}
 use mathlib.Core.Bool.{Bool, true, false, ◌&&◌, cond}
 use mathlib.Core.List.{List, [], ◌∷◌}
-use mathlib.Core.Option.{Option, none, some}
+use Rattle.std.specs.Prelude.{Option, None, Some}
 use lib.ListN.{length, take, drop, length-take, length-drop}
 use lib.Dec.{leb, ltb, eqb}
 use borrow.Author.Tests.{leb-true, ltb-true, eq-eqb}
@@ -22,13 +22,13 @@ use Rattle.segments.proofs.Laws.{segs-slice}
 use Rattle.screen_layers.specs.Layers.{clip-of}
 use Rattle.step_fill.specs.Fills.{paints-of}
 use Rattle.file_form.specs.declared.Layout.{Layout}
-use Rattle.file_form.specs.Places.{recorded, draw-from, layer-from, segment-from}
+use Rattle.file_form.specs.Places.{recorded, draw_from, layer_from, segment_from}
 use Rattle.file_form.proofs.Eaches.{each-length}
 use Rattle.file_form.proofs.Reading.{lent-paints, paints-width}
 use Rattle.file_judge.proofs.Laws.{record-facts, good-draw-at, good-layer-at}
 use Rattle.file_judge.proofs.Listed.{lent}
-use Rattle.file_read.specs.Reading.{clip-in, clip-read}
-use Rattle.file_steps.proofs.Lists.{paints-said, segments-said, paints-lent, segments-lent, paints-count, draws-count, draw-there}
+use Rattle.file_read.specs.Reading.{clip_in, clip_read}
+use Rattle.file_steps.proofs.Lists.{cut_is, paints-said, segments-said, paints-lent, segments-lent, paints-count, draws-count, draw-there}
 use Rattle.file_nodes.specs.Ready.{WalkReady}
 use Rattle.file_nodes.proofs.Places.{layer-count, layer-there}
 use Rattle.tile_steps.specs.Places.{ClipReady}
@@ -113,15 +113,15 @@ filter-dest r y e k =
     (both p d h1.0).1
 
 -- a clip, given back by the code's
-pub clip-back : (c : Option Clip) → clip-of (clip-in c) ≡ c
-clip-back none = refl
-clip-back (some c) = refl
+pub clip-back : (c : Option Clip) → clip-of (clip_in c) ≡ c
+clip-back None = refl
+clip-back (Some c) = refl
 
 -- a layer's clip is a good one
-pub clip-good : (r : Recording) (y : LayerRec) → good-layer-rec r y ≡ true → all-good (clip-of (clip-in (clip-read y))) ≡ true
-clip-good r y e = rw (clip-back (clip-read y)) (go (eqb y.flag 1) (clear r y e).clip)
+pub clip-good : (r : Recording) (y : LayerRec) → good-layer-rec r y ≡ true → all-good (clip-of (clip_in (clip_read y))) ≡ true
+clip-good r y e = rw (clip-back (clip_read y)) (go (eqb y.flag 1) (clear r y e).clip)
   where
-    go : (t : Bool) → cond t (good-clip-rec r y.clip) (zero-clip y.clip) ≡ true → all-good (cond t (some y.clip) none) ≡ true
+    go : (t : Bool) → cond t (good-clip-rec r y.clip) (zero-clip y.clip) ≡ true → all-good (cond t (Some y.clip) None) ≡ true
     go true q = (both (good-clip y.clip) (leb y.clip.end (length r.segments)) q).0
     go false q = refl
 
@@ -131,14 +131,14 @@ module _ (l : Layout) (ws : List ℕ) (g : WalkReady ws l) where
   segments-of = lent ws l.segments.at l.segments.count
 
   pub segments-are : segs-of segments-of ≡ (recorded l ws).segments
-  segments-are = segments-lent l ws g.fits ∙ segments-said (recorded l ws).segments
+  segments-are = rw (cut_is l.segments.at (5 * l.segments.count) ws) (segments-lent l ws g.fits ∙ segments-said (recorded l ws).segments)
 
   pub paints-are : paints-of (lent-paints l ws g.fits) ≡ (recorded l ws).paints
-  paints-are = paints-lent l ws g.fits ∙ paints-said (recorded l ws).paints
+  paints-are = rw (cut_is l.paints.at (4 * l.paints.count) ws) (paints-lent l ws g.fits ∙ paints-said (recorded l ws).paints)
 
   segments-count : length (recorded l ws).segments ≡ l.segments.count
   unfolding recorded
-  segments-count = each-length segment-from 5 ws l.segments.at l.segments.count
+  segments-count = each-length segment_from 5 ws l.segments.at l.segments.count
 
   segments-width : length segments-of ≡ 5 * l.segments.count
   segments-width = let h = g.fits.segments.ends in simp (length-take, length-drop) (omega arith)
@@ -163,13 +163,13 @@ module _ (l : Layout) (ws : List ℕ) (g : WalkReady ws l) where
 
   -- a draw's
   module _ (i : ℕ) (h : i < l.draws.count) where
-    pub draw-is : Drawable (recorded l ws) (draw-from ws (l.draws.at + 7 * i))
+    pub draw-is : Drawable (recorded l ws) (draw_from ws (l.draws.at + 7 * i))
     draw-is =
-        let d = draw-from ws (l.draws.at + 7 * i) in
+        let d = draw_from ws (l.draws.at + 7 * i) in
         drawable (recorded l ws) d
         (rw (draw-there l ws g.fits i d h) at (good-draw-at (recorded l ws) g.good i d (rw (draws-count l ws g.fits) h)))
 
-    pub paint-there : (draw-from ws (l.draws.at + 7 * i)).paint < length (lent-paints l ws g.fits) / 4
+    pub paint-there : (draw_from ws (l.draws.at + 7 * i)).paint < length (lent-paints l ws g.fits) / 4
     paint-there =
         let w = paints-width l ws g.fits in
         let n = paints-count l ws g.fits in
@@ -177,13 +177,13 @@ module _ (l : Layout) (ws : List ℕ) (g : WalkReady ws l) where
         omega arith
 
   -- a layer's
-  pub layer-good : (i : ℕ) → i < l.layers.count → good-layer-rec (recorded l ws) (layer-from ws (l.layers.at + 22 * i)) ≡ true
+  pub layer-good : (i : ℕ) → i < l.layers.count → good-layer-rec (recorded l ws) (layer_from ws (l.layers.at + 22 * i)) ≡ true
   layer-good i h = rw (layer-there l ws i h) at (good-layer-at (recorded l ws) g.good i (layer-rec []) (rw (layer-count l ws) h))
 
-  pub clip-ready : (y : LayerRec) → good-layer-rec (recorded l ws) y ≡ true → ClipReady (clip-in (clip-read y)) segments-of
+  pub clip-ready : (y : LayerRec) → good-layer-rec (recorded l ws) y ≡ true → ClipReady (clip_in (clip_read y)) segments-of
   clip-ready y e = go (eqb y.flag 1) (clear (recorded l ws) y e).clip
     where
-      go : (t : Bool) → cond t (good-clip-rec (recorded l ws) y.clip) (zero-clip y.clip) ≡ true → ClipReady (clip-in (cond t (some y.clip) none)) segments-of
+      go : (t : Bool) → cond t (good-clip-rec (recorded l ws) y.clip) (zero-clip y.clip) ≡ true → ClipReady (clip_in (cond t (Some y.clip) None)) segments-of
       go true q =
           let c = y.clip in
           let n = leb c.end (length (recorded l ws).segments) in

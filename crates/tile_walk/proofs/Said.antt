@@ -3,15 +3,20 @@ use Prim.Native.Nat.{ℕ, ◌+◌, ◌≤◌, ◌<◌}
 use mathlib.Core.Path.{◌≡◌, refl, sym, ap, ◌∙◌}
 use mathlib.Core.List.{List}
 use lib.ListN.{length, get_or}
+use Rattle.std.specs.Prelude.{Result, Ok, Err}
+use Rattle.sizes.specs.declared.answers.Refusal.{Refusal}
+use Rattle.sizes.specs.Refusals.{answer_number}
+use Rattle.sizes.proofs.Refusals.{not_done}
 use Rattle.rules.specs.Lists.{slice}
 use Rattle.rules.specs.Answers.{Answer, answer}
 use Rattle.rules.specs.Boxes.{Box}
 use Rattle.rules.specs.Plans.{Layer}
 use Rattle.rules.specs.Walk.{◌then◌, each}
 use Rattle.file_steps.proofs.Runs as runs
+use Rattle.tile_steps.specs.declared.Tale.{Tale}
 use Rattle.tile_steps.specs.declared.Within.{Within}
 use Rattle.tile_steps.specs.Telling.{Telling}
-use Rattle.tile_steps.specs.Places.{Holds, Says}
+use Rattle.tile_steps.specs.Places.{Holds, Says, telling, left_by}
 
 -- the same answer says the same
 pub said-by : {a b : Answer Telling} {n : ℕ} {v : Telling} → b ≡ a → Says a n v → Says b n v
@@ -20,6 +25,16 @@ said-by e s = record { number = ap (λ (x : Answer Telling). x.number) e ∙ s.n
 -- an answer says its own number and value
 pub says-itself : {a : Answer Telling} {n : ℕ} {v : Telling} → a ≡ answer n v → Says a n v
 says-itself e = record { number = ap (λ (x : Answer Telling). x.number) e; value = λ z. ap (λ (x : Answer Telling). x.value) e }
+
+-- .. and so does a promise of one
+pub says : {a : Answer Telling} {n : ℕ} {v : Telling} → answer n v ≡ a → Says a n v
+says e = says-itself (sym e)
+
+-- a layer that closes leaves those around it, where it is not refused
+pub says-left : {a : Answer Telling} {T : Type 0} (r : Result T Refusal) (l : Layer) {t : Tale} {ls : List Layer} {ws : List ℕ}
+    → answer (answer_number r) (telling t (left_by r l ls) ws) ≡ a → Says a (answer_number r) (telling t ls ws)
+says-left (Ok x) l e = says e
+says-left (Err r) l e = record { number = ap (λ (x : Answer Telling). x.number) (sym e); value = λ z. absurd (not_done r z) }
 
 -- a first step f that said the number n and the value v, and a second one
 module _ (f g : Telling → Answer Telling) (s : Telling) {n : ℕ} {v : Telling} (e : Says (f s) n v) where

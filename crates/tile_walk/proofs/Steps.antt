@@ -1,7 +1,7 @@
 -- What the calls promise, as the tile's steps: a draw, and the properties of a layer.
 use Prim.Native.Nat.{ℕ, ◌+◌, ◌-◌, ◌*◌, ◌<◌}
 use native.Mathlib.Omega.{arith}
-use mathlib.Core.Path.{◌≡◌, sym, ap, ◌∙◌}
+use mathlib.Core.Path.{◌≡◌, refl, sym, ap, ◌∙◌}
 use mathlib.Core.Bool.{Bool, true}
 use mathlib.Core.List.{List, [], ◌∷◌}
 use lib.ListN.{length}
@@ -9,6 +9,7 @@ use lib.Dec.{eqb}
 use borrow.Author.Tests.{eq-eqb, ne_eqb}
 use Rattle.rules.specs.Lists.{is-empty}
 use Rattle.rules.specs.Answers.{Answer}
+use Rattle.rules.specs.Boxes.{Box}
 use Rattle.rules.specs.Segments.{Segment}
 use Rattle.rules.specs.Inputs.{draw-paint, Props, needs-buffer, Filter, all-good}
 use Rattle.rules.specs.Recording.{Recording, LayerRec, good-layer-rec}
@@ -21,15 +22,15 @@ use Rattle.screen_layers.specs.declared.LayerProps.{LayerProps}
 use Rattle.screen_layers.specs.Layers.{clip-of}
 use Rattle.step_fill.specs.Fills.{paints-of}
 use Rattle.file_form.specs.declared.Layout.{Layout}
-use Rattle.file_form.specs.Places.{recorded, draw-from}
+use Rattle.file_form.specs.Places.{recorded, draw_from}
 use Rattle.file_form.proofs.Reading.{lent-paints}
-use Rattle.file_read.specs.Reading.{clip-read, props-in, buffered}
+use Rattle.file_read.specs.Reading.{clip_read, props_in, buffered}
 use Rattle.file_read.proofs.Opacity.{buffered-by-bits}
 use Rattle.file_nodes.specs.Ready.{WalkReady}
 use Rattle.tile_steps.specs.declared.Spot.{Spot}
 use Rattle.tile_steps.specs.declared.Within.{Within}
 use Rattle.tile_steps.specs.Telling.{Telling, tell-at, tell-fill, tell-push, tell-pop, tell-filter}
-use Rattle.tile_steps.specs.Places.{Holds, Says, ClipReady}
+use Rattle.tile_steps.specs.Places.{Holds, Says, ClipReady, layer-in}
 use Rattle.tile_walk.proofs.Said.{said-by}
 use Rattle.tile_walk.proofs.Records.{segments-of, segments-are, paints-are, range-is, draw-is, clip-back, clip-good, clip-ready}
 
@@ -45,9 +46,9 @@ none_open (x ∷ ls) n e = sym (ne_eqb n 0 (λ z. omega arith))
 module _ (s : Spot) (l : Layout) (ws : List ℕ) (g : WalkReady ws l) (i : ℕ) (h : i < l.draws.count) where
   pub draw-told : (w : Within) (x : Telling) → Holds (box_of s.viewport) w x.opened → {n : ℕ} {t : Telling}
       → Says (tell-fill s.width (box_of s.viewport) s.row s.tile
-      (segs (segments-of l ws g) (draw-from ws (l.draws.at + 7 * i)).start ((draw-from ws (l.draws.at + 7 * i)).end - (draw-from ws (l.draws.at + 7 * i)).start))
-      (eligible (eqb w.«open» 0) (draw-paint (paints-of (lent-paints l ws g.fits)) (draw-from ws (l.draws.at + 7 * i))) (draw-from ws (l.draws.at + 7 * i))) (draw-from ws (l.draws.at + 7 * i)).panel x) n t
-      → Says (told s (a-fill (recorded l ws).paints (recorded l ws).segments (draw-from ws (l.draws.at + 7 * i))) x) n t
+      (segs (segments-of l ws g) (draw_from ws (l.draws.at + 7 * i)).start ((draw_from ws (l.draws.at + 7 * i)).end - (draw_from ws (l.draws.at + 7 * i)).start))
+      (eligible (eqb w.«open» 0) (draw-paint (paints-of (lent-paints l ws g.fits)) (draw_from ws (l.draws.at + 7 * i))) (draw_from ws (l.draws.at + 7 * i))) (draw_from ws (l.draws.at + 7 * i)).panel x) n t
+      → Says (told s (a-fill (recorded l ws).paints (recorded l ws).segments (draw_from ws (l.draws.at + 7 * i))) x) n t
   unfolding tell-at
   draw-told w x o e =
       let d = draw-is l ws g i h in
@@ -71,13 +72,17 @@ module _ (s : Spot) {n : ℕ} {t : Telling} where
   pop-told l ws g x e =
       said-by (ap (λ (ss : List Segment). tell-pop s.width (box_of s.viewport) s.row s.tile x.opened ss x) (sym (segments-are l ws g))) e
 
+-- the layers that are open inside of a pushed one
+pub holds-inside : (v : Box) (p : Props) (h w : Within) (ls : List Layer) → w.«open» ≡ h.«open» + 1 → Holds v h ls → Holds v w (layer-in p w ∷ ls)
+holds-inside v p h w ls e o = let n = o.count in record { clip = refl; count = omega (arith, e, n) }
+
 -- the code's properties of a layer
-module _ {q : LayerProps} (y : LayerRec) (e : q ≡ props-in (props-of y)) where
+module _ {q : LayerProps} (y : LayerRec) (e : q ≡ props_in (props-of y)) where
   pub blend-told : (props-of y).blend ≡ blend_of q.blend
   blend-told = rw e
 
   pub clip-told : (props-of y).clip ≡ clip-of q.clip
-  clip-told = rw e (sym (clip-back (clip-read y)))
+  clip-told = rw e (sym (clip-back (clip_read y)))
 
   pub panel-told : (props-of y).panel ≡ q.panel
   panel-told = rw e

@@ -1,17 +1,16 @@
 -- What the walk of one tile's story goes by.
 use Rattle.std.specs.Prelude.{ℕ, ◌+◌, ◌≡◌, List, length}
-use Rattle.sizes.specs.Sizes.{most-layers}
-use Rattle.file_form.specs.declared.Layout.{Layout}
-use Rattle.file_nodes.specs.Ready.{WalkReady}
+use Rattle.sizes.specs.Sizes.{most-layers, line-table}
+use Rattle.file_steps.specs.declared.Recording.{Recording}
+use Rattle.file_nodes.specs.Ready.{ReadyIn}
 use Rattle.tile_steps.specs.declared.Spot.{Spot}
 use Rattle.tile_steps.specs.declared.Within.{Within}
 use Rattle.tile_steps.specs.declared.Tale.{Tale}
-use Rattle.sizes.specs.Sizes.{line-table}
 use Rattle.tile_steps.specs.Places.{Spotted, Bounded, Low}
 
 -- the form is good, and so is every record; the tile is one of the screen's; counts are within their limits, and there is a line for each attribute
-pub record TaleReady (ws : List ℕ) (l : Layout) (s : Spot) (h : Within) (t : Tale) (lines : List ℕ) : Type 0 where
-  pub walk : WalkReady ws l
+pub record TaleReady (r : Recording) (s : Spot) (h : Within) (t : Tale) (lines : List ℕ) : Type 0 where
+  pub walk : ReadyIn r
   pub spotted : Spotted s
   pub bounded : Bounded h
   pub low : Low t

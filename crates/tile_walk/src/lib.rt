@@ -3,6 +3,8 @@
 #![tactic(auto)]
 
 ghost use Rattle.std.specs.Prelude.{◌≡◌, true, not, List, [], ◌+◌, ◌-◌, ◌*◌, ◌≤◌, ◌<◌, eqb, length, get_or};
+ghost use Rattle.sizes.specs.Sizes.{line-table};
+ghost use Rattle.sizes.specs.Refusals.{answer_number};
 ghost use Rattle.rules.specs.Lists.{slice};
 ghost use Rattle.rules.specs.Inputs.{Draw as RuleDraw};
 ghost use Rattle.rules.specs.Boxes.{good-dest};
@@ -10,156 +12,129 @@ ghost use Rattle.rules.specs.Recording.{layer-rec, good-layer-rec};
 ghost use Rattle.rules.specs.Plans.{Layer, a-fill};
 ghost use Rattle.rules.specs.Walk.{when, each, walk-filter, walk-layer, walk-nodes};
 ghost use Rattle.rect.specs.Rects.{box_of};
-ghost use Rattle.file_form.specs.Places as file;
-ghost use Rattle.sizes.specs.Sizes.{line-table};
+ghost use Rattle.file_form.specs.Places.{draw_from, filter_from, layer_from};
+ghost use Rattle.file_steps.specs.Recordings.{recorded_in};
 ghost use Rattle.tile_steps.specs.Telling.{Telling, tell-at, tell-filter};
 ghost use Rattle.tile_steps.specs.Places.{Spotted, Bounded, Holds, Low, Says, telling};
 ghost use Rattle.tile_walk.specs.Ready.{TaleReady, Deep};
 
-use file_form::Layout;
 use file_judge::box_at;
 use file_read::{draw_at, needs_buffer, props_at};
-use file_steps::pixmap_of;
-use sizes::answers::DONE;
-use sizes::wide;
+use file_steps::{Recording, pixmap_of};
+use sizes::answers::Refusal;
 use step_fill::is_eligible;
-use tile_steps::{Spot, Tale, Told, Within, tell_fill, tell_filter, tell_pop, tell_push};
+use tile_steps::{Spot, Stroke, Tale, Within, tell_fill, tell_filter, tell_pop, tell_push};
 
 // What draw i says of the tile.
 fn tell_draw(
+    tale: &mut Tale,
     spot: Spot,
     within: Within,
-    tale: Tale,
-    w: &[u32],
-    l: Layout,
+    file: &Recording<'_>,
     i: usize,
     lines: &mut [u32],
-) -> Told
-    requires { TaleReady w.now l spot within tale lines.old × (i < l.draws.count) }
-    ensures { ((ls : List Layer) → Holds (box_of spot.viewport) within ls
-        → Says (tell-at spot.width (box_of spot.viewport) spot.row spot.tile (a-fill (file.recorded l w.now).paints (file.recorded l w.now).segments (file.draw-from w.now (l.draws.at + 7 * i))) (telling tale ls lines.old))
-        result.number (telling result.tale ls lines.new)) × Low result.tale }
+) -> Result<(), Refusal>
+    requires { TaleReady file.now spot within tale.old lines.old × (i < file.now.layout.draws.count) }
+    ensures low { Low tale.new }
+    ensures told { (ls : List Layer) → Holds (box_of spot.viewport) within ls
+        → Says (tell-at spot.width (box_of spot.viewport) spot.row spot.tile (a-fill (recorded_in file.now).paints (recorded_in file.now).segments (draw_from file.now.words.now (file.now.layout.draws.at + 7 * i))) (telling tale.old ls lines.old))
+        (answer_number result) (telling tale.new ls lines.new) }
 {
-    let paints = l.paints;
-    let segments = l.segments;
-    let draws = l.draws;
-    let a = paints.at;
-    let b = a + 4 * paints.count;
-    let s = segments.at;
-    let e = s + 5 * segments.count;
-    let draw = draw_at(w, draws.at + 7 * i);
-    let eligible = is_eligible(within.open, &w[a..b], draw);
+    let paints = file.layout.paints;
+    let segments = file.layout.segments;
+    let draw = draw_at(file.words, file.layout.draws.at + 7 * i);
+    let eligible = is_eligible(
+        within.open,
+        &file.words[paints.at..paints.at + 4 * paints.count],
+        draw,
+    );
     tell_fill(
+        tale,
         spot,
         within,
-        tale,
-        &w[s..e],
-        draw.start,
-        draw.end,
-        eligible,
-        draw.panel,
+        &file.words[segments.at..segments.at + 5 * segments.count],
+        Stroke {
+            start: draw.start,
+            end: draw.end,
+            eligible,
+            panel: draw.panel,
+        },
         lines,
     )
 }
 
 // The draws a to b, in order, up to the first that is refused.
 fn tell_draws(
+    tale: &mut Tale,
     spot: Spot,
     within: Within,
-    tale: Tale,
-    w: &[u32],
-    l: Layout,
+    file: &Recording<'_>,
     a: usize,
     b: usize,
     lines: &mut [u32],
-) -> Told
-    requires { TaleReady w.now l spot within tale lines.old × (a ≤ b) × (b ≤ l.draws.count) }
-    ensures { ((ls : List Layer) → Holds (box_of spot.viewport) within ls
-        → Says (each (λ (d : RuleDraw). tell-at spot.width (box_of spot.viewport) spot.row spot.tile (a-fill (file.recorded l w.now).paints (file.recorded l w.now).segments d)) (slice a b (file.recorded l w.now).draws) (telling tale ls lines.old))
-        result.number (telling result.tale ls lines.new)) × Low result.tale }
+) -> Result<(), Refusal>
+    requires { TaleReady file.now spot within tale.old lines.old × (a ≤ b) × (b ≤ file.now.layout.draws.count) }
+    ensures low { Low tale.new }
+    ensures told { (ls : List Layer) → Holds (box_of spot.viewport) within ls
+        → Says (each (λ (d : RuleDraw). tell-at spot.width (box_of spot.viewport) spot.row spot.tile (a-fill (recorded_in file.now).paints (recorded_in file.now).segments d)) (slice a b (recorded_in file.now).draws) (telling tale.old ls lines.old))
+        (answer_number result) (telling tale.new ls lines.new) }
 {
-    let mut current = tale;
-    let mut i = a;
-    while i < b {
-        let told = tell_draw(spot, within, current, w, l, i, lines);
-        if told.number != DONE {
-            return told;
-        }
-        current = told.tale;
-        i += 1;
+    for i in a..b {
+        tell_draw(tale, spot, within, file, i, lines)?;
     }
-    Told {
-        number: DONE,
-        tale: current,
-    }
+    Ok(())
 }
 
 // The filter fill of the layer at a place, of this panel.
 fn tell_picture(
+    tale: &mut Tale,
     spot: Spot,
     within: Within,
-    tale: Tale,
     w: &[u32],
     at: usize,
     panel: u32,
     lines: &mut [u32],
-) -> Told
-    requires { Spotted spot × Bounded within × Low tale × (length lines.old ≡ line-table) × (at + 22 ≤ length w.now) × (good-dest (file.filter-from w.now at).dest ≡ true) }
-    ensures { ((ls : List Layer) → Holds (box_of spot.viewport) within ls
-        → Says (tell-filter spot.width (box_of spot.viewport) spot.row spot.tile (file.filter-from w.now at) panel (telling tale ls lines.old))
-        result.number (telling result.tale ls lines.new)) × Low result.tale }
+) -> Result<(), Refusal>
+    requires { Spotted spot × Bounded within × Low tale.old × (length lines.old ≡ line-table) × (at + 22 ≤ length w.now) × (good-dest (filter_from w.now at).dest ≡ true) }
+    ensures low { Low tale.new }
+    ensures told { (ls : List Layer) → Holds (box_of spot.viewport) within ls
+        → Says (tell-filter spot.width (box_of spot.viewport) spot.row spot.tile (filter_from w.now at) panel (telling tale.old ls lines.old))
+        (answer_number result) (telling tale.new ls lines.new) }
 {
     let dest = box_at(w, at + 16);
     let pixmap = pixmap_of(w[at + 15]);
-    tell_filter(spot, within, tale, dest, pixmap, panel, lines)
+    tell_filter(tale, spot, within, dest, pixmap, panel, lines)
 }
 
 // The filter layer at a place: its nodes are not walked. It is pushed and popped only if it needs a buffer.
 fn tell_filter_layer(
+    tale: &mut Tale,
     spot: Spot,
     within: Within,
-    tale: Tale,
-    w: &[u32],
-    l: Layout,
+    file: &Recording<'_>,
     at: usize,
     lines: &mut [u32],
-) -> Told
-    requires { TaleReady w.now l spot within tale lines.old × (at + 22 ≤ length w.now) × (good-layer-rec (file.recorded l w.now) (file.layer-from w.now at) ≡ true) × (get_or w.now at 0 ≡ 1) }
-    ensures { ((ls : List Layer) → Holds (box_of spot.viewport) within ls
-        → Says (walk-filter Telling (tell-at spot.width (box_of spot.viewport) spot.row spot.tile) (file.recorded l w.now) (file.layer-from w.now at) (telling tale ls lines.old))
-        result.number (telling result.tale ls lines.new)) × Low result.tale }
+) -> Result<(), Refusal>
+    requires { TaleReady file.now spot within tale.old lines.old × (at + 22 ≤ length file.now.words.now) × (good-layer-rec (recorded_in file.now) (layer_from file.now.words.now at) ≡ true) × (get_or file.now.words.now at 0 ≡ 1) }
+    ensures low { Low tale.new }
+    ensures told { (ls : List Layer) → Holds (box_of spot.viewport) within ls
+        → Says (walk-filter Telling (tell-at spot.width (box_of spot.viewport) spot.row spot.tile) (recorded_in file.now) (layer_from file.now.words.now at) (telling tale.old ls lines.old))
+        (answer_number result) (telling tale.new ls lines.new) }
 {
-    let props = props_at(w, at);
+    let props = props_at(file.words, at);
     if !needs_buffer(props) {
-        return tell_picture(spot, within, tale, w, at, props.panel, lines);
+        return tell_picture(tale, spot, within, file.words, at, props.panel, lines);
     }
-    let blend = props.blend;
-    let clip = props.clip;
-    let pushed = tell_push(spot, within, tale, blend, clip);
-    if pushed.number != DONE {
-        return Told {
-            number: pushed.number,
-            tale,
-        };
-    }
-    let inner = pushed.within;
-    let begun = pushed.tale;
-    let drawn = tell_picture(spot, inner, begun, w, at, props.panel, lines);
-    if drawn.number != DONE {
-        return drawn;
-    }
-    let segments = l.segments;
-    let s = segments.at;
-    let e = s + 5 * segments.count;
-    let over = drawn.tale;
+    let inner = tell_push(tale, spot, within, props)?;
+    tell_picture(tale, spot, inner, file.words, at, props.panel, lines)?;
+    let segments = file.layout.segments;
     tell_pop(
+        tale,
         spot,
         inner,
         within,
-        over,
-        clip,
-        props.panel,
-        &w[s..e],
+        props,
+        &file.words[segments.at..segments.at + 5 * segments.count],
         lines,
     )
 }
@@ -168,43 +143,28 @@ fn tell_filter_layer(
 #[cycle(tell)]
 pub fn tell_nodes(
     depth: u32,
+    tale: &mut Tale,
     spot: Spot,
     within: Within,
-    tale: Tale,
-    w: &[u32],
-    l: Layout,
+    file: &Recording<'_>,
     a: usize,
     b: usize,
     lines: &mut [u32],
-) -> Told
-    requires { TaleReady w.now l spot within tale lines.old × Deep depth within × (a ≤ b) × (b ≤ l.nodes.count) }
-    ensures { ((ls : List Layer) → Holds (box_of spot.viewport) within ls
-        → Says (walk-nodes Telling (tell-at spot.width (box_of spot.viewport) spot.row spot.tile) (file.recorded l w.now) (walk-layer Telling (tell-at spot.width (box_of spot.viewport) spot.row spot.tile) (file.recorded l w.now) depth) a b (telling tale ls lines.old))
-        result.number (telling result.tale ls lines.new)) × Low result.tale }
+) -> Result<(), Refusal>
+    requires { TaleReady file.now spot within tale.old lines.old × Deep depth within × (a ≤ b) × (b ≤ file.now.layout.nodes.count) }
+    ensures low { Low tale.new }
+    ensures told { (ls : List Layer) → Holds (box_of spot.viewport) within ls
+        → Says (walk-nodes Telling (tell-at spot.width (box_of spot.viewport) spot.row spot.tile) (recorded_in file.now) (walk-layer Telling (tell-at spot.width (box_of spot.viewport) spot.row spot.tile) (recorded_in file.now) depth) a b (telling tale.old ls lines.old))
+        (answer_number result) (telling tale.new ls lines.new) }
 {
-    let nodes = l.nodes;
-    let mut current = tale;
-    let mut i = a;
-    while i < b {
-        let at = nodes.at + 3 * i;
-        let first = wide(w[at]);
-        let end = wide(w[at + 1]);
-        let drawn = tell_draws(spot, within, current, w, l, first, end, lines);
-        if drawn.number != DONE {
-            return drawn;
-        }
-        let over = drawn.tale;
-        let told = tell_layer(depth, spot, within, over, w, l, w[at + 2], lines);
-        if told.number != DONE {
-            return told;
-        }
-        current = told.tale;
-        i += 1;
+    for i in a..b {
+        let at = file.layout.nodes.at + 3 * i;
+        let first = file.words[at] as usize;
+        let end = file.words[at + 1] as usize;
+        tell_draws(tale, spot, within, file, first, end, lines)?;
+        tell_layer(depth, tale, spot, within, file, file.words[at + 2], lines)?;
     }
-    Told {
-        number: DONE,
-        tale: current,
-    }
+    Ok(())
 }
 
 // The layer that a node names by its number + 1; 0 names none. A regular layer is pushed, its nodes walked, popped. With no depth left 16 layers
@@ -212,57 +172,39 @@ pub fn tell_nodes(
 #[cycle(tell)]
 fn tell_layer(
     depth: u32,
+    tale: &mut Tale,
     spot: Spot,
     within: Within,
-    tale: Tale,
-    w: &[u32],
-    l: Layout,
+    file: &Recording<'_>,
     layer: u32,
     lines: &mut [u32],
-) -> Told
-    requires { TaleReady w.now l spot within tale lines.old × Deep depth within × (layer ≤ l.layers.count) }
-    ensures { ((ls : List Layer) → Holds (box_of spot.viewport) within ls
-        → Says (when (not (eqb layer 0)) (walk-layer Telling (tell-at spot.width (box_of spot.viewport) spot.row spot.tile) (file.recorded l w.now) depth (get_or (file.recorded l w.now).layers (layer - 1) (layer-rec []))) (telling tale ls lines.old))
-        result.number (telling result.tale ls lines.new)) × Low result.tale }
+) -> Result<(), Refusal>
+    requires { TaleReady file.now spot within tale.old lines.old × Deep depth within × (layer ≤ file.now.layout.layers.count) }
+    ensures low { Low tale.new }
+    ensures told { (ls : List Layer) → Holds (box_of spot.viewport) within ls
+        → Says (when (not (eqb layer 0)) (walk-layer Telling (tell-at spot.width (box_of spot.viewport) spot.row spot.tile) (recorded_in file.now) depth (get_or (recorded_in file.now).layers (layer - 1) (layer-rec []))) (telling tale.old ls lines.old))
+        (answer_number result) (telling tale.new ls lines.new) }
 {
     if layer == 0 {
-        return Told { number: DONE, tale };
+        return Ok(());
     }
-    let all = l.layers;
-    let at = all.at + 22 * wide(layer - 1);
-    if w[at] != 0 {
-        return tell_filter_layer(spot, within, tale, w, l, at, lines);
+    let at = file.layout.layers.at + 22 * (layer - 1) as usize;
+    if file.words[at] != 0 {
+        return tell_filter_layer(tale, spot, within, file, at, lines);
     }
-    let props = props_at(w, at);
-    let blend = props.blend;
-    let clip = props.clip;
-    let pushed = tell_push(spot, within, tale, blend, clip);
-    if pushed.number != DONE {
-        return Told {
-            number: pushed.number,
-            tale,
-        };
-    }
-    let inner = pushed.within;
-    let begun = pushed.tale;
-    let first = wide(w[at + 1]);
-    let end = wide(w[at + 2]);
-    let told = tell_nodes(depth - 1, spot, inner, begun, w, l, first, end, lines);
-    if told.number != DONE {
-        return told;
-    }
-    let segments = l.segments;
-    let s = segments.at;
-    let e = s + 5 * segments.count;
-    let over = told.tale;
+    let props = props_at(file.words, at);
+    let inner = tell_push(tale, spot, within, props)?;
+    let first = file.words[at + 1] as usize;
+    let end = file.words[at + 2] as usize;
+    tell_nodes(depth - 1, tale, spot, inner, file, first, end, lines)?;
+    let segments = file.layout.segments;
     tell_pop(
+        tale,
         spot,
         inner,
         within,
-        over,
-        clip,
-        props.panel,
-        &w[s..e],
+        props,
+        &file.words[segments.at..segments.at + 5 * segments.count],
         lines,
     )
 }

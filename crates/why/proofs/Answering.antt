@@ -1,9 +1,8 @@
 -- What is answered about a file, and about one that stands in a stream.
-use Rattle.std.proofs.Common.{◌≡◌, ℕ, ◌+◌, ◌-◌, ◌<◌, min, Bool, true, false, List, ◌++◌, length, take, drop, Option, None, Some, IfSome, Result, Ok, Err, OnOk, sym, ap, subst, ◌∙◌, arith, drop-drop}
+use Rattle.std.proofs.Common.{◌≡◌, ℕ, ◌-◌, ◌<◌, min, Bool, true, false, List, ◌++◌, length, take, drop, Option, None, Some, IfSome, Result, Ok, Err, OnOk, sym, ap, subst, ◌∙◌}
 use Rattle.std.proofs.KnownBytes.{Appends-trans}
 use Rattle.std.specs.Io.KnownBytes.{Appends}
 use borrow.Author.Tests.{lt-ltb}
-use Rattle.std.proofs.Math.Option.{none, some}
 use Rattle.rules.specs.Answers.{BadForm}
 use Rattle.rules.specs.Setups.{Setup}
 use Rattle.rules.specs.Lines.{words_of}
@@ -19,13 +18,13 @@ module _ (q : Setup) (row tile : ℕ) (x : Question) where
   long-why : (xs : List ℕ) → 65536 < length xs → why-text q xs row tile x ≡ refused-bytes BadForm
   unfolding why-text
   long-why xs h =
-      ap (λ (b : Bool). elim b [ true ↦ refused-bytes BadForm | false ↦ elim (words_of xs) [ none ↦ refused-bytes BadForm | some ws ↦ why-words q ws row tile x ] ])
+      ap (λ (b : Bool). elim b [ true ↦ refused-bytes BadForm | false ↦ elim (words_of xs) [ None ↦ refused-bytes BadForm | Some ws ↦ why-words q ws row tile x ] ])
       (lt-ltb 65536 (length xs) h)
 
   why-cut : (fs : List ℕ) → why-text q (take 65537 fs) row tile x ≡ why-text q fs row tile x
   why-cut = cut (λ fs. why-text q fs row tile x) (λ xs ys h k. long-why xs h ∙ sym (long-why ys k))
 
-  by_width-cut : (none : Bool) (fs : List ℕ) → by_width none (take 65537 fs) (why-text q (take 65537 fs) row tile x) ≡ by_width none fs (why-text q fs row tile x)
+  by_width-cut : (no-width : Bool) (fs : List ℕ) → by_width no-width (take 65537 fs) (why-text q (take 65537 fs) row tile x) ≡ by_width no-width fs (why-text q fs row tile x)
   by_width-cut true fs = no-width-cut fs
   by_width-cut false fs = why-cut fs
 

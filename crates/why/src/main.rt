@@ -12,7 +12,6 @@ ghost use Rattle.text_programs.specs.Streams.{first_item, after_item};
 ghost use Rattle.why.specs.Requests.{question_of, query_of, request_of};
 ghost use Rattle.why.specs.Printed.{answer, item_answer, stream_answers, reply, printed};
 
-use sizes::wide;
 use std::io;
 use std::io::{Input, Print, Read, Write};
 use std::process::ExitCode;
@@ -117,8 +116,7 @@ fn wanted_text(file: &[u8], want: Want, query: Query, out: &mut [u8]) -> usize
     if want.no_width {
         return no_width_text(file, out);
     }
-    let setup = want.setup;
-    why_text(file, setup, query.row, query.tile, query.question, out)
+    why_text(file, want.setup, query.row, query.tile, query.question, out)
 }
 
 fn print_answer<W: Write>(
@@ -206,7 +204,7 @@ fn next<R: Read, W: Write>(
         tile: word(&head, 8),
         question: Question::Every,
     };
-    answer_next(input, output, i, wide(word(&head, 0)), want, query)?;
+    answer_next(input, output, i, word(&head, 0) as usize, want, query)?;
     Ok(true)
 }
 

@@ -1,66 +1,39 @@
--- Each refusal before the walk leaves what the rules' `play` leaves: 3, 2 and 1 alter nothing, 4 and 5 come after the reset. An accepted walk gives
--- its own words, a refused one is followed by a second reset.
-use Rattle.std.proofs.Common.{[], refl}
+-- A refusal before the walk leaves what the rules' `play` leaves: 3, 2 and 1 alter nothing, 4 and 5 come after the reset. An accepted walk gives
+-- its own words; after a refused one all is as the reset left it.
+use mathlib.Core.Path.{refl}
+use Rattle.std.proofs.lemmas.Result.{err_from_is_err_and}
+use Rattle.sizes.proofs.Refusals.{not_done}
 use Rattle.screen.specs.Screens.{setup-of}
-use Rattle.screen.specs.Tables.{ScreenLent, lent, tables}
 use Rattle.file_form.proofs.Laid.{good-form, bad-form}
-use Rattle.file_call.proofs.Recordings.{bad-file, not-reset, all_done, left-fresh}
+use Rattle.file_call.proofs.Recordings.{bad-file, not-reset, all_done, left_fresh, same_lengths}
 use Rattle.file_call.proofs.bucket_recording.Goals as goal
 
-pub returns-in_default : goal.returns-in_default
-returns-in_default c = bad-file _ (setup-of c.args.setup) _ (bad-form _ c.in_default.ensures)
+pub returns-in_err-layout-clause-recorded : goal.returns-in_err-layout-clause-recorded
+returns-in_err-layout-clause-recorded c =
+    let p = err_from_is_err_and c.from_residual.result c.from_residual.ensures.1 in
+    let b = bad-form c.args.file.now c.in_err-layout.ensures in
+    rw (p.1, p.2, b.0) (bad-file _ (setup-of c.args.setup) _ b.1)
 
-pub box_at-viewport-requires : goal.box_at-viewport-requires
-box_at-viewport-requires c = (good-form c.args.file.now c.in-Good.l c.in-Good.ensures).fits.viewport.ends
+pub box_at-requires : goal.box_at-requires
+box_at-requires c = (good-form c.args.file.now c.in_ok-layout.layout c.in_ok-layout.ensures).fits.viewport.ends
 
-pub returns-then-started-ne-DONE : goal.returns-then-started-ne-DONE
-returns-then-started-ne-DONE c =
-    not-reset _ _ (good-form c.args.file.now c.in-Good.l c.in-Good.ensures) _ c.box_at-viewport.ensures (setup-of c.args.setup) _ _ _
-    c.reset-started.ensures c.if-started-ne-DONE.true
+pub returns-in_err-fresh-clause-recorded : goal.returns-in_err-fresh-clause-recorded
+returns-in_err-fresh-clause-recorded c =
+    let p = err_from_is_err_and c.from_residual-in_err-fresh.result c.from_residual-in_err-fresh.ensures.1 in
+    rw (p.1, p.2)
+    (not-reset _ _ (good-form c.args.file.now c.in_ok-layout.layout c.in_ok-layout.ensures) _ c.box_at.ensures (setup-of c.args.setup) _ _ _
+    (c.in_err-fresh.ensures.reset c.args.screen.now) (not_done _))
 
-pub play-played-requires : goal.play-played-requires
-play-played-requires c = (good-form c.args.file.now c.in-Good.l c.in-Good.ensures).fits
+pub play-requires : goal.play-requires
+play-requires c = (good-form c.args.file.now c.in_ok-layout.layout c.in_ok-layout.ensures).fits
 
-pub returns-then-played-eq-DONE : goal.returns-then-played-eq-DONE
-returns-then-played-eq-DONE c =
-    all_done _ _ (good-form c.args.file.now c.in-Good.l c.in-Good.ensures) _ c.box_at-viewport.ensures (setup-of c.args.setup) _ _ _
-    c.reset-started.ensures c.if-started-ne-DONE.false _ _
-    (c.play-played.ensures (tables [] [] c.reset-started.new.depth [] c.reset-started.new.painting [] [] [] [] [])) c.if-played-eq-DONE.true
+pub returns-in-Err-clause-recorded : goal.returns-in-Err-clause-recorded
+returns-in-Err-clause-recorded c =
+    left_fresh _ _ (good-form c.args.file.now c.in_ok-layout.layout c.in_ok-layout.ensures) _ c.box_at.ensures (setup-of c.args.setup) _ _ _
+    (c.in_ok-fresh.ensures.reset c.args.screen.now) refl _ _ c.in-Err.ensures.played (not_done _) _
+    (same_lengths c.in-Err.ensures.same) (same_lengths c.in_ok-fresh.ensures.same) c.clear.ensures.zeroed
 
-pub returns : goal.returns
-returns c =
-    let r = c.reset-started.new in
-    let p = c.play-played.new in
-    let fresh : ScreenLent =
-    lent c.reset-started.result.screen
-    (tables r.render r.fills r.depth r.rows r.painting r.layers r.opacities r.paint_attrs r.layer_attrs r.filter_paints) in
-    let after : ScreenLent =
-    lent c.play-played.result.screen
-    (tables p.render p.fills r.depth p.rows r.painting p.layers p.opacities p.paint_attrs p.layer_attrs p.filter_paints) in
-    left-fresh c.in-Good.l c.args.file.now (good-form c.args.file.now c.in-Good.l c.in-Good.ensures) _
-    c.box_at-viewport.ensures (setup-of c.args.setup) _ _ fresh c.reset-started.ensures c.if-started-ne-DONE.false _ after
-    (c.play-played.ensures (tables [] [] r.depth [] r.painting [] [] [] [] [])) c.if-played-eq-DONE.false _
-    (record {
-      render = c.play-played.auto.render;
-      fills = c.play-played.auto.fills;
-      depth = refl;
-      rows = c.play-played.auto.rows;
-      painting = refl;
-      layers = c.play-played.auto.layers;
-      opacities = c.play-played.auto.opacities;
-      paint-attrs = c.play-played.auto.paint_attrs;
-      layer-attrs = c.play-played.auto.layer_attrs;
-      filter-paints = c.play-played.auto.filter_paints;
-    })
-    (record {
-      render = c.reset-started.auto.render;
-      fills = c.reset-started.auto.fills;
-      depth = c.reset-started.auto.depth;
-      rows = c.reset-started.auto.rows;
-      painting = c.reset-started.auto.painting;
-      layers = c.reset-started.auto.layers;
-      opacities = c.reset-started.auto.opacities;
-      paint-attrs = c.reset-started.auto.paint_attrs;
-      layer-attrs = c.reset-started.auto.layer_attrs;
-      filter-paints = c.reset-started.auto.filter_paints;
-    }) _ _ c.reset-again.ensures
+pub returns-clause-recorded : goal.returns-clause-recorded
+returns-clause-recorded c =
+    all_done _ _ (good-form c.args.file.now c.in_ok-layout.layout c.in_ok-layout.ensures) _ c.box_at.ensures (setup-of c.args.setup) _ _ _
+    (c.in_ok-fresh.ensures.reset c.args.screen.now) refl _ _ c.in_default.ensures.played refl

@@ -1,17 +1,19 @@
 -- The records are judged, then the nodes from the root are walked.
-use native.Mathlib.Omega.{arith}
+use mathlib.Core.Path.{refl}
+use Rattle.std.proofs.lemmas.Result.{err_from_is_err_and}
+use Rattle.sizes.proofs.Refusals.{not_done}
 use Rattle.file_call.proofs.Recordings.{bad-records, ready, root, good-walk}
 use Rattle.file_call.proofs.play.Goals as goal
 
-pub returns-then-n-ne-DONE : goal.returns-then-n-ne-DONE
-returns-then-n-ne-DONE c = λ t. bad-records _ _ c.requires _ c.judge_records-n.ensures c.if-n-ne-DONE.true _
+pub returns-in_err-judge_records-clause-played : goal.returns-in_err-judge_records-clause-played
+returns-in_err-judge_records-clause-played c =
+    let p = err_from_is_err_and c.from_residual.result c.from_residual.ensures.1 in
+    rw (p.1, p.2) (bad-records _ _ c.requires _ c.in_err-judge_records.ensures (not_done _) _)
 
 pub walk_nodes-requires : goal.walk_nodes-requires
 walk_nodes-requires c =
-    let r = root c.args.l c.args.w.now c.requires c.judge_records-n.result c.judge_records-n.ensures c.if-n-ne-DONE.false in
-    (ready _ _ c.requires _ c.judge_records-n.ensures c.if-n-ne-DONE.false, (omega (arith, r.0), omega (arith, r.1)))
+    let r = root c.args.file.now.layout c.args.file.now.words.now c.requires _ c.in_ok-judge_records.ensures refl in
+    (ready _ _ c.requires _ c.in_ok-judge_records.ensures refl, r.0, r.1)
 
-pub returns : goal.returns
-returns c = λ t.
-    good-walk _ _ c.requires _ c.judge_records-n.ensures c.if-n-ne-DONE.false _ _
-    (rw (c.wide-first.ensures, c.wide-end.ensures) at (c.walk_nodes.ensures t))
+pub returns-clause-played : goal.returns-clause-played
+returns-clause-played c = good-walk _ _ c.requires _ c.in_ok-judge_records.ensures refl _ _ c.walk_nodes.ensures.walked

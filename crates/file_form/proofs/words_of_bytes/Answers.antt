@@ -1,7 +1,8 @@
+use mathlib.Core.Path.{refl}
 use native.Mathlib.Omega.{arith}
 use Rattle.file_form.proofs.Bytes.{put_next}
-use mathlib.Core.Path.{refl}
 use Rattle.file_form.specs.Each.{each}
+use Rattle.file_form.specs.Words.{word_from}
 use Rattle.file_form.proofs.words_of_bytes.Goals as goal
 
 pub loop-i-init : goal.loop-i-init
@@ -9,4 +10,5 @@ unfolding each
 loop-i-init c = (omega arith, refl)
 
 pub loop-i-preserved : goal.loop-i-preserved
-loop-i-preserved c = (omega arith, put_next _ _ _ _ c.loop-i.invariant.1 _ (omega arith) c.word_at.ensures)
+unfolding word_from
+loop-i-preserved c = (omega arith, put_next _ _ _ _ c.loop-i.invariant.1 _ (omega arith) (omega (arith, c.from_le_bytes.ensures)))

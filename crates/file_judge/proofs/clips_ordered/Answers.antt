@@ -1,26 +1,28 @@
-use Prim.Native.Nat.{◌/◌}
+use Prim.Native.Nat.{◌+◌, ◌*◌, ◌/◌}
 use native.Mathlib.Omega.{arith}
-use mathlib.Core.Path.{sym, ◌∙◌}
+use mathlib.Core.Path.{refl, ◌∙◌}
+use borrow.Author.Rules.{rules}
+use borrow.Author.Tests.{tests}
 use lib.ListN.{length}
-use Rattle.file_form.specs.Places.{layer-from}
-use Rattle.file_form.proofs.Eaches.{ended, refused, turned, every-at}
+use Rattle.std.proofs.lemmas.Iterator.{YieldsList-from_range, serves_from_Range}
+use Rattle.std.proofs.lemmas.Iterator.Search.{all_from_yields_List}
 use Rattle.segments.specs.Segs.{segs-of}
-use Rattle.file_judge.specs.Judging.{clip-ordered, clip-range}
+use Rattle.file_form.specs.Places.{layer_from}
+use Rattle.file_form.proofs.Eaches.{each_place, every-at}
+use Rattle.file_judge.specs.Judging.{clip_range, clip_ordered}
 use Rattle.file_judge.proofs.clips_ordered.Goals as goal
 
-pub is_clip_ordered-requires : goal.is_clip_ordered-requires
-is_clip_ordered-requires c = (omega arith, (every-at layer-from 22 _ (clip-range (length c.args.list.now / 5)) _ _ _ (omega arith) c.requires.1.0, c.requires.1.1))
-
-pub returns-then-not-is_clip_ordered : goal.returns-then-not-is_clip_ordered
-returns-then-not-is_clip_ordered c = refused layer-from 22 _ (clip-ordered (segs-of c.args.list.now)) _ _ _ (omega arith) c.loop-i.invariant.1 (sym
-    c.is_clip_ordered.ensures ∙ c.if-not-is_clip_ordered.true)
-
-pub loop-i-preserved : goal.loop-i-preserved
-loop-i-preserved c = (
-  omega arith,
-  turned layer-from 22 _ (clip-ordered (segs-of c.args.list.now)) _ _ _ (omega arith) c.loop-i.invariant.1 (sym
-      c.is_clip_ordered.ensures ∙ c.if-not-is_clip_ordered.false),
-)
+pub all-requires-clause-callable : goal.all-requires-clause-callable
+all-requires-clause-callable c =
+    serves_from_Range (λ x q k. search (rules, tests))
+    (λ x a b.
+    let r = every-at layer_from 22 c.args.w.now (clip_range (length c.args.list.now / 5)) c.args.layers.at c.args.layers.count x b c.requires.1.0 in
+    search (rules, tests, r))
 
 pub returns : goal.returns
-returns c = ended layer-from 22 _ (clip-ordered (segs-of c.args.list.now)) _ _ _ (omega arith) c.loop-i.invariant.1
+returns c =
+    let w = c.args.w.now in
+    let s = c.args.layers in
+    let test = clip_ordered (segs-of c.args.list.now) in
+    all_from_yields_List (λ i. test (layer_from w (s.at + 22 * i))) _ _ _ c.all.ensures.ran (YieldsList-from_range 0 s.count s.count refl (omega arith)) (λ x b q k. search (rules, tests))
+    ∙ each_place layer_from 22 w test s.at s.count

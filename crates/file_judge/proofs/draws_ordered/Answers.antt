@@ -1,29 +1,30 @@
-use Prim.Native.Nat.{◌/◌}
+use Prim.Native.Nat.{◌+◌, ◌*◌, ◌/◌}
 use native.Mathlib.Omega.{arith}
-use mathlib.Core.Path.{sym, ◌∙◌}
+use mathlib.Core.Path.{refl, ◌∙◌}
+use borrow.Author.Rules.{rules}
+use borrow.Author.Tests.{tests}
 use lib.ListN.{length}
-use Rattle.file_form.specs.Places.{draw-from}
-use Rattle.file_form.proofs.Eaches.{ended, refused, turned, every-at}
+use Rattle.std.proofs.lemmas.Iterator.{YieldsList-from_range, serves_from_Range}
+use Rattle.std.proofs.lemmas.Iterator.Search.{all_from_yields_List}
 use Rattle.segments.specs.Segs.{segs-of}
-use Rattle.file_judge.specs.Judging.{draw-ordered, draw-range}
+use Rattle.file_form.specs.Places.{draw_from}
+use Rattle.file_form.proofs.Eaches.{each_place, every-at}
+use Rattle.file_judge.specs.Judging.{draw_range, draw_ordered}
 use Rattle.file_judge.proofs.draws_ordered.Goals as goal
 
-pub is_ordered-requires : goal.is_ordered-requires
-unfolding draw-range draw-from
-is_ordered-requires c = (every-at draw-from 7 _ (draw-range (length c.args.list.now / 5)) _ _ _ (omega arith) c.requires.1.0, c.requires.1.1)
-
-pub returns-then-not-is_ordered : goal.returns-then-not-is_ordered
-unfolding draw-ordered draw-from
-returns-then-not-is_ordered c = refused draw-from 7 _ (draw-ordered (segs-of c.args.list.now)) _ _ _ (omega arith) c.loop-i.invariant.1 (sym c.is_ordered.ensures
-    ∙ c.if-not-is_ordered.true)
-
-pub loop-i-preserved : goal.loop-i-preserved
-unfolding draw-ordered draw-from
-loop-i-preserved c = (
-  omega arith,
-  turned draw-from 7 _ (draw-ordered (segs-of c.args.list.now)) _ _ _ (omega arith) c.loop-i.invariant.1 (sym
-      c.is_ordered.ensures ∙ c.if-not-is_ordered.false),
-)
+pub all-requires-clause-callable : goal.all-requires-clause-callable
+unfolding draw_range draw_from
+all-requires-clause-callable c =
+    serves_from_Range (λ x q k. search (rules, tests))
+    (λ x a b.
+    let r = every-at draw_from 7 c.args.w.now (draw_range (length c.args.list.now / 5)) c.args.draws.at c.args.draws.count x b c.requires.1.0 in
+    search (rules, tests, r))
 
 pub returns : goal.returns
-returns c = ended draw-from 7 _ (draw-ordered (segs-of c.args.list.now)) _ _ _ (omega arith) c.loop-i.invariant.1
+unfolding draw_ordered draw_from
+returns c =
+    let w = c.args.w.now in
+    let s = c.args.draws in
+    let test = draw_ordered (segs-of c.args.list.now) in
+    all_from_yields_List (λ i. test (draw_from w (s.at + 7 * i))) _ _ _ c.all.ensures.ran (YieldsList-from_range 0 s.count s.count refl (omega arith)) (λ x b q k. search (rules, tests))
+    ∙ each_place draw_from 7 w test s.at s.count

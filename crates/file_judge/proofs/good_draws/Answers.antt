@@ -1,20 +1,19 @@
+use Prim.Native.Nat.{◌+◌, ◌*◌}
 use native.Mathlib.Omega.{arith}
-use mathlib.Core.Path.{sym, ◌∙◌}
-use Rattle.file_judge.specs.Judging.{draw-fields}
-use Rattle.file_form.specs.Places.{draw-from}
-use Rattle.file_form.proofs.Eaches.{ended, refused, turned}
+use mathlib.Core.Path.{refl, ◌∙◌}
+use borrow.Author.Rules.{rules}
+use borrow.Author.Tests.{tests}
+use Rattle.std.proofs.lemmas.Iterator.{YieldsList-from_range}
+use Rattle.std.proofs.lemmas.Iterator.Search.{all_from_yields_List}
+use Rattle.file_form.specs.Places.{draw_from}
+use Rattle.file_form.proofs.Eaches.{each_place}
+use Rattle.file_judge.specs.Judging.{draw_fields}
 use Rattle.file_judge.proofs.good_draws.Goals as goal
 
-pub returns-then-not-is_good_draw : goal.returns-then-not-is_good_draw
-returns-then-not-is_good_draw c = refused draw-from 7 _ (draw-fields c.args.paints c.args.segments) _ _ _ (omega arith) c.loop-i.invariant.1 (sym
-    c.is_good_draw.ensures ∙ c.if-not-is_good_draw.true)
-
-pub loop-i-preserved : goal.loop-i-preserved
-loop-i-preserved c = (
-  omega arith,
-  turned draw-from 7 _ (draw-fields c.args.paints c.args.segments) _ _ _ (omega arith) c.loop-i.invariant.1 (sym
-      c.is_good_draw.ensures ∙ c.if-not-is_good_draw.false),
-)
-
 pub returns : goal.returns
-returns c = ended draw-from 7 _ (draw-fields c.args.paints c.args.segments) _ _ _ (omega arith) c.loop-i.invariant.1
+returns c =
+    let w = c.args.w.now in
+    let s = c.args.draws in
+    let test = draw_fields c.args.paints c.args.segments in
+    all_from_yields_List (λ i. test (draw_from w (s.at + 7 * i))) _ _ _ c.all.ensures.ran (YieldsList-from_range 0 s.count s.count refl (omega arith)) (λ x b q k. search (rules, tests))
+    ∙ each_place draw_from 7 w test s.at s.count

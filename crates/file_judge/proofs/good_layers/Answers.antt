@@ -1,20 +1,19 @@
+use Prim.Native.Nat.{◌+◌, ◌*◌}
 use native.Mathlib.Omega.{arith}
-use mathlib.Core.Path.{sym, ◌∙◌}
-use Rattle.file_judge.specs.Judging.{layer-fields}
-use Rattle.file_form.specs.Places.{layer-from}
-use Rattle.file_form.proofs.Eaches.{ended, refused, turned}
+use mathlib.Core.Path.{refl, ◌∙◌}
+use borrow.Author.Rules.{rules}
+use borrow.Author.Tests.{tests}
+use Rattle.std.proofs.lemmas.Iterator.{YieldsList-from_range}
+use Rattle.std.proofs.lemmas.Iterator.Search.{all_from_yields_List}
+use Rattle.file_form.specs.Places.{layer_from}
+use Rattle.file_form.proofs.Eaches.{each_place}
+use Rattle.file_judge.specs.Judging.{layer_fields}
 use Rattle.file_judge.proofs.good_layers.Goals as goal
 
-pub returns-then-not-is_good_layer : goal.returns-then-not-is_good_layer
-returns-then-not-is_good_layer c = refused layer-from 22 _ (layer-fields c.args.nodes c.args.segments) _ _ _ (omega arith) c.loop-i.invariant.1 (sym
-    c.is_good_layer.ensures ∙ c.if-not-is_good_layer.true)
-
-pub loop-i-preserved : goal.loop-i-preserved
-loop-i-preserved c = (
-  omega arith,
-  turned layer-from 22 _ (layer-fields c.args.nodes c.args.segments) _ _ _ (omega arith) c.loop-i.invariant.1 (sym
-      c.is_good_layer.ensures ∙ c.if-not-is_good_layer.false),
-)
-
 pub returns : goal.returns
-returns c = ended layer-from 22 _ (layer-fields c.args.nodes c.args.segments) _ _ _ (omega arith) c.loop-i.invariant.1
+returns c =
+    let w = c.args.w.now in
+    let s = c.args.layers in
+    let test = layer_fields c.args.nodes c.args.segments in
+    all_from_yields_List (λ i. test (layer_from w (s.at + 22 * i))) _ _ _ c.all.ensures.ran (YieldsList-from_range 0 s.count s.count refl (omega arith)) (λ x b q k. search (rules, tests))
+    ∙ each_place layer_from 22 w test s.at s.count

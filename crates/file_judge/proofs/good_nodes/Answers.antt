@@ -1,20 +1,19 @@
+use Prim.Native.Nat.{◌+◌, ◌*◌}
 use native.Mathlib.Omega.{arith}
-use mathlib.Core.Path.{sym, ◌∙◌}
-use Rattle.file_judge.specs.Judging.{node-fields}
-use Rattle.file_form.specs.Places.{node-from}
-use Rattle.file_form.proofs.Eaches.{ended, refused, turned}
+use mathlib.Core.Path.{refl, ◌∙◌}
+use borrow.Author.Rules.{rules}
+use borrow.Author.Tests.{tests}
+use Rattle.std.proofs.lemmas.Iterator.{YieldsList-from_range}
+use Rattle.std.proofs.lemmas.Iterator.Search.{all_from_yields_List}
+use Rattle.file_form.specs.Places.{node_from}
+use Rattle.file_form.proofs.Eaches.{each_place}
+use Rattle.file_judge.specs.Judging.{node_fields}
 use Rattle.file_judge.proofs.good_nodes.Goals as goal
 
-pub returns-then-not-is_good_node : goal.returns-then-not-is_good_node
-returns-then-not-is_good_node c = refused node-from 3 _ (node-fields c.args.draws c.args.layers) _ _ _ (omega arith) c.loop-node.invariant.1 (sym
-    c.is_good_node.ensures ∙ c.if-not-is_good_node.true)
-
-pub loop-node-preserved : goal.loop-node-preserved
-loop-node-preserved c = (
-  omega arith,
-  turned node-from 3 _ (node-fields c.args.draws c.args.layers) _ _ _ (omega arith) c.loop-node.invariant.1 (sym
-      c.is_good_node.ensures ∙ c.if-not-is_good_node.false),
-)
-
 pub returns : goal.returns
-returns c = ended node-from 3 _ (node-fields c.args.draws c.args.layers) _ _ _ (omega arith) c.loop-node.invariant.1
+returns c =
+    let w = c.args.w.now in
+    let s = c.args.nodes in
+    let test = node_fields c.args.draws c.args.layers in
+    all_from_yields_List (λ i. test (node_from w (s.at + 3 * i))) _ _ _ c.all.ensures.ran (YieldsList-from_range 0 s.count s.count refl (omega arith)) (λ x b q k. search (rules, tests))
+    ∙ each_place node_from 3 w test s.at s.count

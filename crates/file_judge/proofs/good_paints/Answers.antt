@@ -1,15 +1,18 @@
+use Prim.Native.Nat.{◌+◌, ◌*◌}
 use native.Mathlib.Omega.{arith}
-use mathlib.Core.Path.{sym, ◌∙◌}
+use mathlib.Core.Path.{refl, ◌∙◌}
+use borrow.Author.Rules.{rules}
+use borrow.Author.Tests.{tests}
+use Rattle.std.proofs.lemmas.Iterator.{YieldsList-from_range}
+use Rattle.std.proofs.lemmas.Iterator.Search.{all_from_yields_List}
 use Rattle.rules.specs.Inputs.{good-paint}
-use Rattle.file_form.specs.Places.{paint-from}
-use Rattle.file_form.proofs.Eaches.{ended, refused, turned}
+use Rattle.file_form.specs.Places.{paint_from}
+use Rattle.file_form.proofs.Eaches.{each_place}
 use Rattle.file_judge.proofs.good_paints.Goals as goal
 
-pub returns-then-not-is_good_paint : goal.returns-then-not-is_good_paint
-returns-then-not-is_good_paint c = refused paint-from 4 _ good-paint _ _ _ (omega arith) c.loop-i.invariant.1 (sym c.is_good_paint.ensures ∙ c.if-not-is_good_paint.true)
-
-pub loop-i-preserved : goal.loop-i-preserved
-loop-i-preserved c = (omega arith, turned paint-from 4 _ good-paint _ _ _ (omega arith) c.loop-i.invariant.1 (sym c.is_good_paint.ensures ∙ c.if-not-is_good_paint.false))
-
 pub returns : goal.returns
-returns c = ended paint-from 4 _ good-paint _ _ _ (omega arith) c.loop-i.invariant.1
+returns c =
+    let w = c.args.w.now in
+    let s = c.args.paints in
+    all_from_yields_List (λ i. good-paint (paint_from w (s.at + 4 * i))) _ _ _ c.all.ensures.ran (YieldsList-from_range 0 s.count s.count refl (omega arith)) (λ x b q k. search (rules, tests))
+    ∙ each_place paint_from 4 w good-paint s.at s.count

@@ -1,13 +1,16 @@
 use native.Mathlib.Omega.{arith}
-use mathlib.Core.Path.{sym, ◌∙◌}
-use Rattle.file_judge.proofs.Listed.{none_left, bad-one, good-one}
+use mathlib.Core.Path.{refl, ◌∙◌}
+use borrow.Author.Rules.{rules}
+use borrow.Author.Tests.{tests}
+use Rattle.std.proofs.lemmas.Iterator.{YieldsList-from_range}
+use Rattle.std.proofs.lemmas.Iterator.Search.{all_from_yields_List}
+use Rattle.rules.specs.Segments.{good-segment}
+use Rattle.segments.specs.Segs.{seg-at}
+use Rattle.file_judge.proofs.Listed.{lent, segments-tested}
 use Rattle.file_judge.proofs.good_segments.Goals as goal
 
-pub returns-then-not-is_good : goal.returns-then-not-is_good
-returns-then-not-is_good c = bad-one _ _ _ (omega arith) c.loop-i.invariant.1 _ c.segment_at-s.ensures (sym c.is_good.ensures ∙ c.if-not-is_good.true)
-
-pub loop-i-preserved : goal.loop-i-preserved
-loop-i-preserved c = (omega arith, good-one _ _ _ (omega arith) c.loop-i.invariant.1 _ c.segment_at-s.ensures (sym c.is_good.ensures ∙ c.if-not-is_good.false))
-
 pub returns : goal.returns
-returns c = none_left _ _ _ (omega arith) c.loop-i.invariant.1
+returns c =
+    let s = c.args.segments in
+    all_from_yields_List (λ i. good-segment (seg-at (lent c.args.w.now s.at s.count) i)) _ _ _ c.all.ensures.ran (YieldsList-from_range 0 s.count s.count refl (omega arith)) (λ x b q k. search (rules, tests))
+    ∙ segments-tested c.args.w.now s.at s.count (omega arith)

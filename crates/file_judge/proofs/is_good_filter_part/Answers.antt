@@ -1,14 +1,14 @@
 use mathlib.Core.Path.{◌∙◌}
 use borrow.Author.Tests.{eq-eqb, ne_eqb}
-use Rattle.file_form.specs.Places.{layer-from}
-use Rattle.file_judge.specs.Judging.{filter-part}
+use Rattle.file_form.specs.Places.{layer_from}
+use Rattle.file_judge.specs.Judging.{filter_part}
 use Rattle.file_judge.proofs.Fields.{filter-zeros}
 use Rattle.file_judge.proofs.is_good_filter_part.Goals as goal
 
 pub returns-then-w-at-eq1 : goal.returns-then-w-at-eq1
-unfolding filter-part layer-from
+unfolding filter_part layer_from
 returns-then-w-at-eq1 c = rw (eq-eqb _ _ c.if-w-at-eq1.true) c.is_good_filter.ensures
 
-pub returns : goal.returns
-unfolding filter-part layer-from
-returns c = rw (ne_eqb _ _ c.if-w-at-eq1.false) (c.zeros.ensures ∙ filter-zeros _ _)
+pub returns-else-w-at-eq1 : goal.returns-else-w-at-eq1
+unfolding filter_part layer_from
+returns-else-w-at-eq1 c = rw (ne_eqb _ _ c.if-w-at-eq1.false) (c.zeros.ensures ∙ filter-zeros _ _)

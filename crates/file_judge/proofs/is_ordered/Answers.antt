@@ -1,5 +1,6 @@
-use Rattle.file_judge.proofs.Listed.{range-judged}
+use mathlib.Core.Path.{◌∙◌}
+use Rattle.file_judge.proofs.Listed.{range-judged, fine}
 use Rattle.file_judge.proofs.is_ordered.Goals as goal
 
 pub returns : goal.returns
-returns c = rw (c.judge_segments.ensures, c.wide.ensures, c.wide-2.ensures) (range-judged _ _ _ c.requires.0 c.requires.1)
+returns c = c.is_ok.ensures.value ∙ fine _ ∙ rw c.judge_segments.ensures (range-judged _ _ _ c.requires.0 c.requires.1)

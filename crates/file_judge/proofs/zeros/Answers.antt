@@ -1,15 +1,17 @@
+use Prim.Native.Nat.{◌+◌, ◌-◌}
 use native.Mathlib.Omega.{arith}
-use native.Mathlib.Nat.{one-mul}
-use borrow.Author.Tests.{eq-eqb, ne_eqb}
-use Rattle.file_judge.specs.Judging.{word-from, is_zero}
-use Rattle.file_form.proofs.Eaches.{ended, refused, turned}
+use mathlib.Core.Path.{◌≡◌, ◌∙◌}
+use borrow.Author.Rules.{rules}
+use borrow.Author.Tests.{tests}
+use lib.ListN.{take, drop}
+use Rattle.std.proofs.lemmas.Iterator.{YieldsList-from_slice}
+use Rattle.std.proofs.lemmas.Iterator.Search.{all_from_yields_List}
+use Rattle.file_judge.specs.Judging.{is_zero}
+use Rattle.file_judge.proofs.Fields.{zeros-tested}
 use Rattle.file_judge.proofs.zeros.Goals as goal
 
-pub returns-then-w-a-ne0 : goal.returns-then-w-a-ne0
-returns-then-w-a-ne0 c = refused word-from 1 _ is_zero _ _ _ (omega arith) c.loop-i.invariant.1 (rw one-mul (ne_eqb _ _ c.if-w-a-ne0.true))
-
-pub loop-i-preserved : goal.loop-i-preserved
-loop-i-preserved c = (omega arith, turned word-from 1 _ is_zero _ _ _ (omega arith) c.loop-i.invariant.1 (rw one-mul (eq-eqb _ _ c.if-w-a-ne0.false)))
-
 pub returns : goal.returns
-returns c = ended word-from 1 _ is_zero _ _ _ (omega arith) c.loop-i.invariant.1
+returns c =
+    let e : c.args.a + c.args.n - c.args.a ≡ c.args.n = omega arith in
+    all_from_yields_List is_zero _ _ _ c.all.ensures.ran (YieldsList-from_slice (take (c.args.a + c.args.n - c.args.a) (drop c.args.a c.args.w.now)) cc) (λ x b q k. search (rules, tests))
+    ∙ rw e (zeros-tested c.args.w.now c.args.a c.args.n c.requires)

@@ -1,91 +1,98 @@
-use Rattle.std.proofs.Common.{arith, sym, ◌∙◌, ◌+◌, ◌*◌}
-use Rattle.file_form.specs.Places.{layer-from}
-use Rattle.file_steps.proofs.Calls.{push_step, pop_step}
+use Rattle.std.proofs.Common.{arith, rules, sym, ◌∙◌, ◌+◌, ◌*◌, ◌-◌}
+use mathlib.Core.Path.{refl}
+use Rattle.std.proofs.lemmas.Result.{err_from_is_err_and}
+use Rattle.sizes.proofs.Refusals.{not_done}
+use Rattle.file_form.specs.Places.{layer_from}
 use Rattle.file_nodes.proofs.Places.{node-range, layer-kind, layer-range}
 use Rattle.file_nodes.proofs.Layers.{as-filter, not-pushed, no-depth, not-walked, closed, names-none, names-one}
-use Rattle.file_nodes.proofs.Nodes.{draws-work, all-walked, draws-refused, layer-refused, node-turned}
+use Rattle.file_nodes.proofs.Nodes.{all_walked, draws_refused, layer_refused, node_turned}
 use Rattle.file_nodes.proofs.+walk.Goals as goal
 
-pub walk_layer-returns-then-layer-eq0 : goal.walk_layer-returns-then-layer-eq0
-walk_layer-returns-then-layer-eq0 t c = λ u. names-none c.args.l c.args.w.now _ _ _ c.if-layer-eq0.true
+pub walk_layer-returns-then-layer-eq0-clause-walked : goal.walk_layer-returns-then-layer-eq0-clause-walked
+walk_layer-returns-then-layer-eq0-clause-walked t c =
+    names-none c.args.file.now.layout c.args.file.now.words.now _ _ _ c.if-layer-eq0.true
 
-pub walk_layer-returns-then-w-at-ne0 : goal.walk_layer-returns-then-w-at-ne0
-unfolding layer-from
-walk_layer-returns-then-w-at-ne0 t c = λ u.
-    c.walk_filter.ensures u
-    ∙ as-filter _ (layer-from c.args.w.now (c.args.l.layers.at + 22 * c.wide.result)) _
-    (omega (arith, layer-kind c.args.l c.args.w.now c.requires.0 c.wide.result (omega arith))) _
-    ∙ sym (names-one c.args.l c.args.w.now _ _ _ _ c.wide.ensures c.if-layer-eq0.false c.requires.1)
+pub walk_layer-returns-then-file-at-ne0-clause-walked : goal.walk_layer-returns-then-file-at-ne0-clause-walked
+unfolding layer_from
+walk_layer-returns-then-file-at-ne0-clause-walked t c =
+    c.walk_filter.ensures.walked
+    ∙ as-filter _ (layer_from c.args.file.now.words.now (c.args.file.now.layout.layers.at + 22 * (c.args.layer - 1))) _
+    (omega (arith, layer-kind c.args.file.now.layout c.args.file.now.words.now c.requires.0 (c.args.layer - 1) (omega arith))) _
+    ∙ sym (names-one c.args.file.now.layout c.args.file.now.words.now _ _ _ (c.args.layer - 1) refl c.if-layer-eq0.false c.requires.1)
 
-pub walk_layer-returns-then-pushed-ne-DONE : goal.walk_layer-returns-then-pushed-ne-DONE
-unfolding layer-from
-walk_layer-returns-then-pushed-ne-DONE t c = λ u.
-    not-pushed _ (layer-from c.args.w.now (c.args.l.layers.at + 22 * c.wide.result)) c.if-w-at-ne0.false _ _ _
-    (push_step u _ _ _ _ _ _ _ _ _ _ _ _ _ (rw c.props_at-props.ensures at c.push_layer-pushed.ensures)) _ c.if-pushed-ne-DONE.true
-    ∙ sym (names-one c.args.l c.args.w.now _ _ _ _ c.wide.ensures c.if-layer-eq0.false c.requires.1)
+pub walk_layer-returns-in_err-push_at-clause-walked : goal.walk_layer-returns-in_err-push_at-clause-walked
+unfolding layer_from
+walk_layer-returns-in_err-push_at-clause-walked t c =
+    let p = err_from_is_err_and c.from_residual.result c.from_residual.ensures.1 in
+    rw (p.1, p.2)
+    (not-pushed _ (layer_from c.args.file.now.words.now (c.args.file.now.layout.layers.at + 22 * (c.args.layer - 1))) c.if-file-at-ne0.false _ _ _
+    (c.in_err-push_at.ensures.pushed _ c.props_at.ensures.props) _ (not_done _)
+    ∙ sym (names-one c.args.file.now.layout c.args.file.now.words.now _ _ _ (c.args.layer - 1) refl c.if-layer-eq0.false c.requires.1))
 
-pub walk_layer-returns-then-depth-eq0 : goal.walk_layer-returns-then-depth-eq0
-unfolding layer-from
-walk_layer-returns-then-depth-eq0 t c = λ u.
-    no-depth _ (layer-from c.args.w.now (c.args.l.layers.at + 22 * c.wide.result)) c.if-w-at-ne0.false _ _ _
-    (push_step u _ _ _ _ _ _ _ _ _ _ _ _ _ (rw c.props_at-props.ensures at c.push_layer-pushed.ensures)) _ c.if-depth-eq0.true
-    ∙ sym (names-one c.args.l c.args.w.now _ _ _ _ c.wide.ensures c.if-layer-eq0.false c.requires.1)
+pub walk_layer-returns-then-depth-eq0-clause-walked : goal.walk_layer-returns-then-depth-eq0-clause-walked
+unfolding layer_from
+walk_layer-returns-then-depth-eq0-clause-walked t c =
+    no-depth _ (layer_from c.args.file.now.words.now (c.args.file.now.layout.layers.at + 22 * (c.args.layer - 1))) c.if-file-at-ne0.false _ _ _
+    (c.in_ok-push_at.ensures.pushed _ c.props_at.ensures.props) _ c.if-depth-eq0.true
+    ∙ sym (names-one c.args.file.now.layout c.args.file.now.words.now _ _ _ (c.args.layer - 1) refl c.if-layer-eq0.false c.requires.1)
 
-pub walk_layer-walk_nodes-walked-requires : goal.walk_layer-walk_nodes-walked-requires
-walk_layer-walk_nodes-walked-requires t c =
-    let r = layer-range c.args.l c.args.w.now c.requires.0 c.wide.result (omega arith) in
-    (omega arith, (c.requires.0, (omega (arith, r.0), omega (arith, r.1))))
+pub walk_layer-walk_nodes-requires : goal.walk_layer-walk_nodes-requires
+walk_layer-walk_nodes-requires t c =
+    let r = layer-range c.args.file.now.layout c.args.file.now.words.now c.requires.0 (c.args.layer - 1) (omega arith) in
+    (omega arith, (c.requires.0, r.0, r.1))
 
-pub walk_layer-returns-then-walked-ne-DONE : goal.walk_layer-returns-then-walked-ne-DONE
-unfolding layer-from
-walk_layer-returns-then-walked-ne-DONE t c = λ u.
-    not-walked _ (layer-from c.args.w.now (c.args.l.layers.at + 22 * c.wide.result)) c.if-w-at-ne0.false _ _ _
-    (push_step u _ _ _ _ _ _ _ _ _ _ _ _ _ (rw c.props_at-props.ensures at c.push_layer-pushed.ensures)) _
-    c.if-depth-eq0.false c.if-pushed-ne-DONE.false _ _
-    (rw (c.wide-first.ensures, c.wide-end.ensures) at (c.walk_nodes-walked.ensures u)) c.if-walked-ne-DONE.true
-    ∙ sym (names-one c.args.l c.args.w.now _ _ _ _ c.wide.ensures c.if-layer-eq0.false c.requires.1)
+pub walk_layer-returns-in_err-walk_nodes-clause-walked : goal.walk_layer-returns-in_err-walk_nodes-clause-walked
+unfolding layer_from
+walk_layer-returns-in_err-walk_nodes-clause-walked t c =
+    let p = err_from_is_err_and c.from_residual-in_err-walk_nodes.result c.from_residual-in_err-walk_nodes.ensures.1 in
+    rw (p.1, p.2)
+    (not-walked _ (layer_from c.args.file.now.words.now (c.args.file.now.layout.layers.at + 22 * (c.args.layer - 1))) c.if-file-at-ne0.false _ _ _
+    (c.in_ok-push_at.ensures.pushed _ c.props_at.ensures.props) _ c.if-depth-eq0.false refl _ _
+    c.in_err-walk_nodes.ensures.walked (not_done _)
+    ∙ sym (names-one c.args.file.now.layout c.args.file.now.words.now _ _ _ (c.args.layer - 1) refl c.if-layer-eq0.false c.requires.1))
 
-pub walk_layer-returns : goal.walk_layer-returns
-unfolding layer-from
-walk_layer-returns t c = λ u.
-    closed _ (layer-from c.args.w.now (c.args.l.layers.at + 22 * c.wide.result)) c.if-w-at-ne0.false _ _ _
-    (push_step u _ _ _ _ _ _ _ _ _ _ _ _ _ (rw c.props_at-props.ensures at c.push_layer-pushed.ensures)) _
-    c.if-depth-eq0.false c.if-pushed-ne-DONE.false _ _
-    (rw (c.wide-first.ensures, c.wide-end.ensures) at (c.walk_nodes-walked.ensures u)) c.if-walked-ne-DONE.false _
-    (pop_step u _ _ _ _ _ _ _ _ _ _ _ _ _ _ c.pop_at.ensures)
-    ∙ sym (names-one c.args.l c.args.w.now _ _ _ _ c.wide.ensures c.if-layer-eq0.false c.requires.1)
+pub walk_layer-returns-clause-walked : goal.walk_layer-returns-clause-walked
+unfolding layer_from
+walk_layer-returns-clause-walked t c =
+    closed _ (layer_from c.args.file.now.words.now (c.args.file.now.layout.layers.at + 22 * (c.args.layer - 1))) c.if-file-at-ne0.false _ _ _
+    (c.in_ok-push_at.ensures.pushed _ c.props_at.ensures.props) _ c.if-depth-eq0.false refl _ _
+    c.in_ok-walk_nodes.ensures.walked refl _
+    c.pop_at.ensures.popped
+    ∙ sym (names-one c.args.file.now.layout c.args.file.now.words.now _ _ _ (c.args.layer - 1) refl c.if-layer-eq0.false c.requires.1)
 
-pub walk_nodes-walk_draws-drawn-requires : goal.walk_nodes-walk_draws-drawn-requires
-walk_nodes-walk_draws-drawn-requires t c =
-    let r = node-range c.args.l c.args.w.now c.requires.0 c.loop-i.i (omega arith) in
-    (c.requires.0.fits, (omega (arith, r.0), omega (arith, r.1.0)))
+pub walk_nodes-walk_draws-requires : goal.walk_nodes-walk_draws-requires
+walk_nodes-walk_draws-requires t c =
+    let r = node-range c.args.file.now.layout c.args.file.now.words.now c.requires.0 c.loop-i.i (omega arith) in
+    (c.requires.0.fits, r.0, r.1.0)
 
-pub walk_nodes-returns-then-drawn-ne-DONE : goal.walk_nodes-returns-then-drawn-ne-DONE
-walk_nodes-returns-then-drawn-ne-DONE t c =
-    draws-refused c.loop-i.invariant.1 c.loop-i-test.true c.requires.1.1 _ _
-    (λ u. draws-work c.args.l c.args.w.now _ _ u _ _ _ _ _ _ _ _ _ _ _
-    (λ v. rw (c.wide-first.ensures, c.wide-end.ensures) at (c.walk_draws-drawn.ensures v)))
-    c.if-drawn-ne-DONE.true
+pub walk_nodes-returns-in_err-walk_draws-clause-walked : goal.walk_nodes-returns-in_err-walk_draws-clause-walked
+walk_nodes-returns-in_err-walk_draws-clause-walked t c =
+    let p = err_from_is_err_and c.from_residual.result c.from_residual.ensures.1 in
+    rw (p.1, p.2)
+    (draws_refused _ _ _ _ _ _ c.loop-i-test.true c.requires.2 _ _
+    c.in_err-walk_draws.ensures.walked (not_done _)
+    ∙ c.loop-i.invariant.1)
 
-pub walk_nodes-walk_layer-walked-requires : goal.walk_nodes-walk_layer-walked-requires
-walk_nodes-walk_layer-walked-requires t c =
-    (omega arith, (c.requires.0, (node-range c.args.l c.args.w.now c.requires.0 c.loop-i.i (omega arith)).1.1))
+pub walk_nodes-walk_layer-requires : goal.walk_nodes-walk_layer-requires
+walk_nodes-walk_layer-requires t c =
+    (omega arith, (c.requires.0, (node-range c.args.file.now.layout c.args.file.now.words.now c.requires.0 c.loop-i.i (omega arith)).1.1))
 
-pub walk_nodes-returns-then-walked-ne-DONE : goal.walk_nodes-returns-then-walked-ne-DONE
-walk_nodes-returns-then-walked-ne-DONE t c =
-    layer-refused c.loop-i.invariant.1 c.loop-i-test.true c.requires.1.1 _ _
-    (λ u. draws-work c.args.l c.args.w.now _ _ u _ _ _ _ _ _ _ _ _ _ _
-    (λ v. rw (c.wide-first.ensures, c.wide-end.ensures) at (c.walk_draws-drawn.ensures v)))
-    c.if-drawn-ne-DONE.false _ _ c.walk_layer-walked.ensures c.if-walked-ne-DONE.true
+pub walk_nodes-returns-in_err-walk_layer-clause-walked : goal.walk_nodes-returns-in_err-walk_layer-clause-walked
+walk_nodes-returns-in_err-walk_layer-clause-walked t c =
+    let p = err_from_is_err_and c.from_residual-in_err-walk_layer.result c.from_residual-in_err-walk_layer.ensures.1 in
+    rw (p.1, p.2)
+    (layer_refused _ _ _ _ _ _ c.loop-i-test.true c.requires.2 _ _
+    c.in_ok-walk_draws.ensures.walked refl _ _ c.in_err-walk_layer.ensures.walked (not_done _)
+    ∙ c.loop-i.invariant.1)
 
 pub walk_nodes-loop-i-preserved : goal.walk_nodes-loop-i-preserved
 walk_nodes-loop-i-preserved t c = (
-  omega arith,
-  node-turned c.loop-i.invariant.1 c.loop-i-test.true c.requires.1.1 _ _
-      (λ u. draws-work c.args.l c.args.w.now _ _ u _ _ _ _ _ _ _ _ _ _ _
-      (λ v. rw (c.wide-first.ensures, c.wide-end.ensures) at (c.walk_draws-drawn.ensures v)))
-      c.if-drawn-ne-DONE.false _ _ c.walk_layer-walked.ensures c.if-walked-ne-DONE.false,
+  search rules,
+  node_turned _ _ _ _ _ _ c.loop-i-test.true c.requires.2 _ _
+      c.in_ok-walk_draws.ensures.walked refl _ _ c.in_ok-walk_layer.ensures.walked refl
+      ∙ c.loop-i.invariant.1,
 )
 
-pub walk_nodes-returns : goal.walk_nodes-returns
-walk_nodes-returns t c = all-walked c.loop-i.invariant.1 c.loop-i-test.false
+pub walk_nodes-returns-clause-walked : goal.walk_nodes-returns-clause-walked
+walk_nodes-returns-clause-walked t c =
+    all_walked _ _ _ _ _ _ c.loop-i-test.false ∙ c.loop-i.invariant.1

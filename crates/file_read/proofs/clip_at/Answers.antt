@@ -1,14 +1,10 @@
 use mathlib.Core.Path.{◌∙◌}
-use borrow.Author.Tests.{eq-eqb, ne_eqb}
-use Rattle.file_form.specs.Places.{layer-from, clip-from}
+use borrow.Author.Tests.{eq-eqb}
+use Rattle.file_form.specs.Places.{layer_from, clip_from}
 use Rattle.file_judge.proofs.Fields.{clip-box}
 use Rattle.file_read.proofs.Boxed.{boxed}
 use Rattle.file_read.proofs.clip_at.Goals as goal
 
-pub returns-then-w-at-ne1 : goal.returns-then-w-at-ne1
-unfolding layer-from
-returns-then-w-at-ne1 c = rw (ne_eqb _ _ c.if-w-at-ne1.true)
-
-pub returns : goal.returns
-unfolding layer-from clip-from
-returns c = rw (eq-eqb _ _ c.if-w-at-ne1.false, boxed _ _ (c.box_at-bbox.ensures ∙ clip-box _ _))
+pub returns-then-w-at-eq1 : goal.returns-then-w-at-eq1
+unfolding layer_from clip_from
+returns-then-w-at-eq1 c = rw (eq-eqb _ _ c.if-w-at-eq1.true, boxed _ _ (c.box_at.ensures ∙ clip-box _ _))

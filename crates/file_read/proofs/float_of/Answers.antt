@@ -1,9 +1,6 @@
-use mathlib.Core.Path.{◌∙◌}
-use Rattle.file_read.proofs.Opacity.{zero_by_zero, from_bits, by-division}
+use mathlib.Core.Path.{sym, ◌∙◌}
+use Rattle.file_read.proofs.Opacity.{zero_by_zero, by_division}
 use Rattle.file_read.proofs.float_of.Goals as goal
 
-pub float_from_bits-result : goal.float_from_bits-result
-float_from_bits-result c = from_bits _ c.if-bits-le2139095040.true
-
-pub returns-else-bits-le2139095040 : goal.returns-else-bits-le2139095040
-returns-else-bits-le2139095040 c = zero_by_zero ∙ by-division _ c.if-bits-le2139095040.false
+pub returns-then-is_nan_bits : goal.returns-then-is_nan_bits
+returns-then-is_nan_bits c = zero_by_zero ∙ by_division _ (sym c.is_nan_bits.ensures ∙ c.if-is_nan_bits.true)

@@ -1,10 +1,14 @@
-use mathlib.Core.Path.{◌∙◌}
-use Rattle.file_steps.proofs.Calls.{same-fill}
-use Rattle.file_steps.proofs.Lists.{paints-lent, paints-lent-length, segments-lent, segments-lent-length}
+use Rattle.std.proofs.Common.{rules, ◌∙◌, ◌+◌, ◌*◌}
+use Rattle.screen.specs.Lent.{whole}
+use Rattle.file_form.specs.Places.{draw_from}
+use Rattle.file_steps.specs.Recordings.{recorded_in}
+use Rattle.file_steps.proofs.Calls.{fill_step}
+use Rattle.file_steps.proofs.Lists.{same_filled}
 use Rattle.file_steps.proofs.fill_draw.Goals as goal
 
-pub returns : goal.returns
-returns c =
-    let f = c.requires.0 in
-    c.fill.ensures
-    ∙ rw c.draw_at-draw.ensures (same-fill _ _ _ _ _ _ (paints-lent _ _ f) (paints-lent-length _ _ f) (segments-lent _ _ f) (segments-lent-length _ _ f))
+pub returns-clause-filled : goal.returns-clause-filled
+returns-clause-filled c =
+    let e =
+    fill_step (whole c.args.screen.now c.args.lent.now) _ (recorded_in c.args.file.now) (draw_from c.args.file.now.words.now (c.args.file.now.layout.draws.at + 7 * c.args.i)) _
+    (c.fill.ensures.filled ∙ same_filled _ _ c.requires.0 _ c.records.ensures c.records-2.ensures c.draw_at.ensures) in
+    search (rules, e)

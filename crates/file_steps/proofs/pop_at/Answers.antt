@@ -1,7 +1,13 @@
-use mathlib.Core.Path.{◌∙◌}
-use Rattle.file_steps.proofs.Calls.{same-pop}
-use Rattle.file_steps.proofs.Lists.{segments-lent, segments-lent-length}
+use Rattle.std.proofs.Common.{rules, ◌∙◌}
+use Rattle.screen.specs.Lent.{whole}
+use Rattle.file_steps.specs.Recordings.{recorded_in}
+use Rattle.file_steps.proofs.Calls.{pop_step}
+use Rattle.file_steps.proofs.Lists.{same_popped}
 use Rattle.file_steps.proofs.pop_at.Goals as goal
 
-pub returns : goal.returns
-returns c = c.pop_layer.ensures ∙ same-pop _ _ _ _ (segments-lent _ _ c.requires) (segments-lent-length _ _ c.requires)
+pub returns-clause-popped : goal.returns-clause-popped
+returns-clause-popped c =
+    let e =
+    pop_step (whole c.args.screen.now c.args.lent.now) _ (recorded_in c.args.file.now).segments _ _
+    (c.pop_layer.ensures.popped ∙ same_popped _ _ c.requires _ _ c.records.ensures) in
+    search (rules, e)

@@ -1,16 +1,22 @@
-use Rattle.file_steps.proofs.Draws.{all-drawn, draw-refused, draw-turned}
-use native.Mathlib.Omega.{arith}
+use mathlib.Core.Path.{refl}
+use Rattle.std.proofs.Common.{rules, ◌∙◌}
+use Rattle.std.proofs.lemmas.Result.{err_from_is_err_and}
+use Rattle.sizes.proofs.Refusals.{not_done}
+use Rattle.file_steps.proofs.Draws.{all_filled, draw_refused, draw_turned}
 use Rattle.file_steps.proofs.walk_draws.Goals as goal
 
-pub returns-then-filled-ne-DONE : goal.returns-then-filled-ne-DONE
-returns-then-filled-ne-DONE c =
-    draw-refused c.loop-i.invariant.1 c.requires.0 c.loop-i-test.true c.requires.1.1 _ _ c.fill_draw-filled.ensures c.if-filled-ne-DONE.true
+pub returns-in_err-fill_draw-clause-walked : goal.returns-in_err-fill_draw-clause-walked
+returns-in_err-fill_draw-clause-walked c =
+    let p = err_from_is_err_and c.from_residual.result c.from_residual.ensures.1 in
+    rw (p.1, p.2)
+    (draw_refused _ _ _ _ _ c.requires.0 c.loop-i-test.true c.requires.2 _ _ c.in_err-fill_draw.ensures.filled (not_done _)
+    ∙ c.loop-i.invariant.1)
 
 pub loop-i-preserved : goal.loop-i-preserved
 loop-i-preserved c = (
-  omega arith,
-  draw-turned c.loop-i.invariant.1 c.requires.0 c.loop-i-test.true c.requires.1.1 _ _ c.fill_draw-filled.ensures c.if-filled-ne-DONE.false,
+  search rules,
+  draw_turned _ _ _ _ _ c.requires.0 c.loop-i-test.true c.requires.2 _ _ c.in_ok-fill_draw.ensures.filled refl ∙ c.loop-i.invariant.1,
 )
 
-pub returns : goal.returns
-returns c = all-drawn c.loop-i.invariant.1 c.loop-i-test.false
+pub returns-clause-walked : goal.returns-clause-walked
+returns-clause-walked c = all_filled _ _ _ _ _ c.loop-i-test.false ∙ c.loop-i.invariant.1

@@ -1,15 +1,11 @@
--- So far the draws before this one are filled as the rules' steps, none of them refused.
-use Rattle.file_steps.proofs.Draws.{Left}
-use Prim.Native.Nat.{◌-◌, ◌≤◌}
-use Rattle.row.specs.Words.{words}
-use Rattle.step_fill.specs.Fills as filling
+-- So far none of the draws is refused, and those that are left say what all of them say.
+use mathlib.Core.Path.{◌≡◌}
+use Rattle.screen.specs.Lent.{whole, SameLent}
+use Rattle.file_steps.proofs.Draws.{filled_from}
 use Rattle.file_steps.proofs.walk_draws.Given as goal
 
 abbrev pub invariant-loop-i : goal.invariant-loop-i
 invariant-loop-i l =
-    (l.i ≤ l.b)
-    × Left l.l l.w l.a l.b (filling.lent l.initial.current (words l.initial.rows l.initial.render l.initial.fills) l.initial.paint_attrs)
-    l.i (filling.lent l.current (words l.rows l.render l.fills) l.paint_attrs)
-
-abbrev pub decreases-loop-i : goal.decreases-loop-i
-decreases-loop-i l = l.b - l.i
+    SameLent l.initial.lent l.lent
+    × (filled_from l.file.layout l.file.words.now l.i l.b (whole l.screen l.lent)
+    ≡ filled_from l.file.layout l.file.words.now l.a l.b (whole l.initial.screen l.initial.lent))

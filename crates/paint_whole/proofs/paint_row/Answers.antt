@@ -1,14 +1,21 @@
-use mathlib.Core.Path.{sym, ◌∙◌}
+use mathlib.Core.Path.{sym}
 use native.Mathlib.Omega.{arith}
+use Rattle.std.proofs.lemmas.Result.{err_from_is_err_and}
+use Rattle.paint_command.specs.Painting.{lent}
+use Rattle.paint_screen.specs.Stepping.{attributes}
 use Rattle.paint_screen.proofs.Parts.{ready}
-use Rattle.paint_whole.proofs.Parts.{row-refused, row_done}
+use Rattle.paint_whole.proofs.Parts.{row_refused, row_done}
 use Rattle.paint_whole.proofs.paint_row.Goals as goal
 
-pub returns-then-n-ne-DONE : goal.returns-then-n-ne-DONE
-returns-then-n-ne-DONE c = row-refused _ _ _ _ _ c.judge_step-n.ensures c.if-n-ne-DONE.true
+pub returns-in_err-judge_step : goal.returns-in_err-judge_step
+returns-in_err-judge_step c =
+    let p = err_from_is_err_and c.from_residual.result c.from_residual.ensures.1 in
+    let a = c.args in
+    let s = a.stored.now in
+    rw (p.1, p.2) (row_refused a.screen a.row (attributes s.paint_attrs.now s.layer_attrs.now) (lent s.rows.now s.render.now s.fills.now a.depth.now a.painting.now a.list.now) _ c.in_err-judge_step.ensures)
 
 pub row_part-requires : goal.row_part-requires
-row_part-requires c = (omega arith, rw c.buckets.ensures (ready _ _ _ _ (sym c.judge_step-n.ensures ∙ c.if-n-ne-DONE.false)))
+row_part-requires c = (omega arith, ready _ _ _ _ (sym c.in_ok-judge_step.ensures))
 
 pub returns : goal.returns
-returns c = row_done _ _ _ _ _ c.judge_step-n.ensures _ c.if-n-ne-DONE.false (rw c.buckets.ensures at c.row_part.ensures)
+returns c = row_done _ _ _ _ _ c.in_ok-judge_step.ensures c.row_part.ensures

@@ -2,7 +2,7 @@
 use mathlib.Core.Path.{◌≡◌, refl}
 use mathlib.Core.Bool.{Bool, true, false, ◌&&◌, ◌||◌, not, cond}
 use mathlib.Core.List.{List, [], ◌∷◌}
-use mathlib.Core.Option.{Option, none, some}
+use Rattle.std.specs.Prelude.{Option, None, Some}
 use Prim.Native.Nat.{ℕ, ◌+◌, ◌-◌, ◌*◌, ◌/◌, ◌≤◌, ◌<◌, min, max}
 use native.Mathlib.Omega.{arith}
 use lib.Dec.{leb, ltb, eqb}
@@ -10,8 +10,8 @@ use lib.ListN.{length}
 use borrow.Author.Tests.{leb-true, ltb-true, eqb-true}
 use Rattle.rules.specs.Lists.{every, some_of}
 use Rattle.rules.specs.Answers.{answer, first_of, Done, BadRecord, BadOrder}
-use Rattle.rules.specs.Boxes.{Box, width, height, by_4, bounded, good-box, good-dest, good-viewport, empty-box, rows_in, span_of, scene-tiles}
-use Rattle.rules.specs.Spans.{Span, span, Stretch, common, meeting, cut_at, cut-when, cut-to}
+use Rattle.rules.specs.Boxes.{Box, width, height, by_4, bounded, good-box, good-dest, good_viewport, empty-box, rows_in, span_of, scene-tiles}
+use Rattle.rules.specs.Spans.{Span, span, Stretch, common, meeting, cut_at, cut-when, cut_to}
 use Rattle.rules.specs.Segments.{Segment, good-segment, ordered, judge-segments, stretch-of, Cut, localised, cut_in, cuts}
 use Rattle.rules.specs.Inputs.{Paint, Draw, Clip, Props, good-clip, good-handle, all-good, good-props, Filter, good-pixmap, good-filter, good-panel, good-filter-fill, draw-segments, good-fill}
 use Rattle.rules.specs.Blends.{good-blend}
@@ -103,8 +103,8 @@ judged-facts bad ss p = let h = judged bad (every good-segment ss) (ordered ss) 
 
 -- rule 4: what is left of a good segment
 data Left : Option Stretch → Type 0 where
-  nothing : Left none
-  something : (k : Stretch) → BoundedSpan k.tiles → Left (some k)
+  nothing : Left None
+  something : (k : Stretch) → BoundedSpan k.tiles → Left (Some k)
 
 localised-short : (v : Box) (row : ℕ) {o : Option Stretch} → Left o → All BoundedCut (localised v row o)
 localised-short v row nothing = nil
@@ -112,15 +112,15 @@ localised-short v row (something k s) =
     let t : BoundedSpan (span (k.tiles.first - v.x0 / 4) (k.tiles.end - v.x0 / 4)) = record { first = omega (arith, s.first); end = omega (arith, s.end) } in
     cons (record { tiles = t }) nil
 
-left-if : (t : Bool) {o : Option Stretch} → Left o → Left (cond t o none)
+left-if : (t : Bool) {o : Option Stretch} → Left o → Left (cond t o None)
 left-if true l = l
 left-if false l = nothing
 
-cut_short : (b : Span) (s : Stretch) → s.tiles.end ≤ 8192 → Left (cut-to b s)
-unfolding cut-to meeting
+cut_short : (b : Span) (s : Stretch) → s.tiles.end ≤ 8192 → Left (cut_to b s)
+unfolding cut_to meeting
 cut_short b s h = go (ltb (common s.tiles b).first (common s.tiles b).end) refl
   where
-    go : (t : Bool) → ltb (common s.tiles b).first (common s.tiles b).end ≡ t → Left (cut-when s (cond t (some (common s.tiles b)) none))
+    go : (t : Bool) → ltb (common s.tiles b).first (common s.tiles b).end ≡ t → Left (cut-when s (cond t (Some (common s.tiles b)) None))
     go true e = something (cut_at s (common s.tiles b)) (record { first = omega (arith, ltb-true (max s.tiles.first b.first) (min s.tiles.end b.end) e); end = omega arith })
     go false e = nothing
 
@@ -144,10 +144,10 @@ span-short b l r = record { first = omega arith; end = go (empty-box b) }
 -- what fills put on rows
 draw-ok : (e : Bool) (i id : ℕ) {s : Span} (a : Option ℕ) → BoundedSpan s → ActOk BoundedSpan (draw-act e i id s a)
 unfolding draw-act
-draw-ok true i id none h = splits h
-draw-ok true i id (some a) h = paints h
-draw-ok false i id none h = paints h
-draw-ok false i id (some a) h = paints h
+draw-ok true i id None h = splits h
+draw-ok true i id (Some a) h = paints h
+draw-ok false i id None h = paints h
+draw-ok false i id (Some a) h = paints h
 
 draws-ok : (e : Bool) (i id : ℕ) {ks : List Cut} → All BoundedCut ks → All (PutOk BoundedSpan) (draw-puts e i id ks)
 unfolding draw-puts
@@ -170,8 +170,8 @@ module _ (s : State) (f : Framed s) where
   box-inside = clip-inside s.layers f.boxes
 
   layer-inside : (p : Box) (c : Option Clip) → all-good c ≡ true → Inside s.frame.viewport p → Inside s.frame.viewport (layer-box s.frame.viewport p c)
-  layer-inside p none g i = i
-  layer-inside p (some c) g i =
+  layer-inside p None g i = i
+  layer-inside p (Some c) g i =
       let b = clip-facts c g in
       record { left = omega (arith, b.across, b.right, i.left); right = omega (arith, i.right); bottom = omega (arith, i.bottom) }
 
@@ -199,8 +199,8 @@ module _ (s : State) (f : Framed s) where
   closing-ok : (c : Option Clip) (v own parent : Box) (i : ℕ) (ss : List Segment) (touched : List ℕ) → BoundedSpan (span_of own)
       → All (λ (x : Segment). good-segment x ≡ true) (clip-segments c ss) → All (PutOk BoundedSpan) (closing c v own parent i ss touched)
   unfolding closing
-  closing-ok none v own parent i ss touched h g = all-mapped (on (close (span_of own) none i)) (λ x. record { act = closes h }) touched
-  closing-ok (some c) v own parent i ss touched h g = closes-ok i touched (cuts-short v parent g)
+  closing-ok None v own parent i ss touched h g = all-mapped (on (close (span_of own) None i)) (λ x. record { act = closes h }) touched
+  closing-ok (Some c) v own parent i ss touched h g = closes-ok i touched (cuts-short v parent g)
 
   pop_ok : (ls : List Layer) (ss : List Segment) (touched : List ℕ) → All (λ (l : Layer). Inside s.frame.viewport l.bounds) ls
       → (plan-pop ls ss touched s).refused ≡ Done → All (PutOk BoundedSpan) (plan-pop ls ss touched s).puts
@@ -214,7 +214,7 @@ module _ (s : State) (f : Framed s) where
 
   filter-in-ok : (b : Box) (count : ℕ) (q : Filter) (g : ℕ) → Inside s.frame.viewport b → All (PutOk BoundedSpan) (plan-filter-in b count q g s).puts
   unfolding plan-filter-in filter-puts
-  filter-in-ok b count q g i = all-mapped (on (paint (span_of b) none (length s.attrs.paints))) (λ x. record { act = paints (inside-short b i) }) (rows_in b)
+  filter-in-ok b count q g i = all-mapped (on (paint (span_of b) None (length s.attrs.paints))) (λ x. record { act = paints (inside-short b i) }) (rows_in b)
 
   filter-ok : (count : ℕ) (q : Filter) (g : ℕ) → All (PutOk BoundedSpan) (plan-filter count q g s).puts
   unfolding plan-filter
@@ -294,8 +294,8 @@ module _ (R : Type 0) (ops : RowOps R) where
       go false e = f
 
   -- and so does a reset
-  pub reset-framed : (fresh : R) (f : Frame) → good-viewport f.viewport ≡ true → Framed (reset fresh f).state
-  unfolding reset good-viewport
+  pub reset-framed : (fresh : R) (f : Frame) → good_viewport f.viewport ≡ true → Framed (reset fresh f).state
+  unfolding reset good_viewport
   reset-framed fresh f g =
       let v = f.viewport in
       let h2 = both (good-box v && leb (width v) 4096) (leb (height v) 2048) g in

@@ -2,7 +2,7 @@
 use mathlib.Core.Path.{◌≡◌, refl, sym, ap, ◌∙◌}
 use mathlib.Core.Bool.{Bool, true, false, cond}
 use mathlib.Core.List.{List, [], ◌∷◌, map, foldl}
-use mathlib.Core.Option.{Option, none}
+use Rattle.std.specs.Prelude.{Option, None}
 use Prim.Native.Nat.{ℕ, zero, suc, ◌+◌, ◌-◌, ◌≤◌, ◌<◌}
 use native.Mathlib.Omega.{arith}
 use lib.Dec.{ltb, eqb}
@@ -91,7 +91,7 @@ module _ {A B : Type 0} {oa : RowOps A} {ob : RowOps B} {h : A → B} {Fine : A 
   -- at any width
   module _ (w : ℕ) where
     one-part : (i id : ℕ) {p : Part} → PartOk Ok p → (a : A) → Fine a → goes h Fine (λ (x : A). put-part A oa w i id x p) (λ (y : B). put-part B ob w i id y p) a
-    one-part i id (of-tiles {s} o) a f = r.paints s none i o a f
+    one-part i id (of-tiles {s} o) a f = r.paints s None i o a f
     one-part i id (of-buckets {s} o) a f = r.fills w s i id o a f
 
     all-parts : (i id : ℕ) {ps : List Part} → All (PartOk Ok) ps → (a : A) → Fine a → goes h Fine (λ (x : A). foldl (put-part A oa w i id) x ps) (λ (y : B). foldl (put-part B ob w i id) y ps) a

@@ -1,6 +1,6 @@
 -- A filter layer's pixmap in a file, a picture's handle + 1 or 0 for none, and the choice that it says are the same both ways. Assumes nothing.
 use mathlib.Core.Path.{◌≡◌, refl}
-use mathlib.Core.Option.{Option, none, some}
+use Rattle.std.specs.Prelude.{Option, None, Some}
 use Prim.Native.Nat.{ℕ, zero, suc, ◌-◌}
 use native.Mathlib.Omega.{arith}
 use lib.Dec.{leb, eqb}
@@ -11,15 +11,15 @@ use Rattle.rules.specs.Recording.{pixmap-of}
 use Rattle.rules.proofs.Words.{pixmap-word}
 
 pub read_back : (p : Option ℕ) → pixmap-of (pixmap-word p) ≡ p
-read_back none = refl
-read_back (some h) = refl
+read_back None = refl
+read_back (Some h) = refl
 
 pub written_back : (n : ℕ) → pixmap-word (pixmap-of n) ≡ n
 written_back zero = refl
 written_back (suc h) = refl
 
 -- a word other than 0 says the handle before it
-pub present : (n : ℕ) → (n ≡ 0 → ⊥) → pixmap-of n ≡ some (n - 1)
+pub present : (n : ℕ) → (n ≡ 0 → ⊥) → pixmap-of n ≡ Some (n - 1)
 present zero p = absurd (p refl)
 present (suc h) p = let e : suc h - 1 ≡ h = omega arith in rw e
 

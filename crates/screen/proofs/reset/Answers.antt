@@ -1,23 +1,29 @@
 -- The viewport first, then what is lent; refused, nothing changes. Done, every table is cleared and the screen's numbers are those of the frame.
 use Rattle.std.proofs.Common.{rules}
+use Rattle.std.proofs.lemmas.Result.{err_from_is_err_and}
 use Rattle.screen.specs.Screens.{frame}
-use Rattle.screen.proofs.Resets.{refused, done, bad-box, begun, begun-good, begun-judged, all-zero}
+use Rattle.screen.proofs.Resets.{refused, done, bad-box, begun, begun-good, begun-judged}
 use Rattle.screen.proofs.reset.Goals as goal
 
-pub returns-in_default : goal.returns-in_default
-returns-in_default c = search (rules, bad-box)
+pub returns-in_err-seen-clause-reset : goal.returns-in_err-seen-clause-reset
+returns-in_err-seen-clause-reset c = λ s.
+    let p = err_from_is_err_and c.from_residual.result c.from_residual.ensures.1 in
+    rw (p.1, p.2) (bad-box c.args.setup c.args.viewport _ _ c.in_err-seen.ensures)
 
-pub judge_reset-n-requires : goal.judge_reset-n-requires
-judge_reset-n-requires c = search (rules, begun-good)
+pub judge_reset-requires : goal.judge_reset-requires
+judge_reset-requires c = search (rules, begun-good)
 
-pub returns-then-n-ne-DONE : goal.returns-then-n-ne-DONE
-returns-then-n-ne-DONE c = search (rules, refused, begun-judged)
-
-pub returns : goal.returns
-returns c =
+pub returns-in_err-judge_reset-clause-reset : goal.returns-in_err-judge_reset-clause-reset
+returns-in_err-judge_reset-clause-reset c = λ s.
     let q = c.args.setup in
     let v = c.args.viewport in
-    let judged = begun-judged q v _ c.in-Good.ensures _ c.fresh-begun.ensures _ c.judge_reset-n.ensures in
-    done (frame q v) _ _ judged c.if-n-ne-DONE.false _ _ (begun q v _ c.in-Good.ensures _ c.fresh-begun.ensures)
-    (all-zero _ c.clear.ensures c.clear-2.ensures c.clear-3.ensures c.clear-4.ensures c.clear-5.ensures
-    c.clear-6.ensures c.clear_floats.ensures c.clear-7.ensures c.clear-8.ensures c.clear_signed.ensures)
+    let p = err_from_is_err_and c.from_residual-in_err-judge_reset.result c.from_residual-in_err-judge_reset.ensures.1 in
+    rw (p.1, p.2)
+    (refused (frame q v) _ _ (begun-judged q v _ c.in_ok-seen.ensures _ c.fresh-screen.ensures _ (rw c.lengths.ensures at c.in_err-judge_reset.ensures)))
+
+pub returns-clause-reset : goal.returns-clause-reset
+returns-clause-reset c = λ s.
+    let q = c.args.setup in
+    let v = c.args.viewport in
+    let judged = begun-judged q v _ c.in_ok-seen.ensures _ c.fresh-screen.ensures _ (rw c.lengths.ensures at c.in_ok-judge_reset.ensures) in
+    done (frame q v) _ judged _ _ (begun q v _ c.in_ok-seen.ensures _ c.fresh-screen.ensures) c.clear.ensures.zeroed

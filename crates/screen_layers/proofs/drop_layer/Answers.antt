@@ -1,9 +1,8 @@
+use Prim.Native.Nat.{◌*◌}
 use native.Mathlib.Omega.{arith}
-use Rattle.screen_layers.proofs.Laws.{again, dropped}
+use Rattle.sizes.specs.Sizes.{open-layer-size}
+use Rattle.screen_layers.proofs.Laws.{dropped}
 use Rattle.screen_layers.proofs.drop_layer.Goals as goal
 
-pub loop-i-preserved : goal.loop-i-preserved
-loop-i-preserved c = again c.loop-i.invariant (omega arith)
-
 pub returns : goal.returns
-returns c = dropped c.loop-i.invariant (omega arith) (omega (arith, c.requires))
+returns c = dropped _ _ (open-layer-size * c.args.k) (omega (arith, c.requires)) (c.fill.ensures.after (λ y h. h))

@@ -1,8 +1,7 @@
-use mathlib.Core.Path.{sym, ap, ◌∙◌}
-use mathlib.Core.Bool.{not}
+use mathlib.Core.Path.{sym, ◌∙◌}
 use Rattle.segments.proofs.Judging.{nothing, first-bad, begun, all-ordered, some-broken, bad-here, again, broken, kept}
 use Rattle.segments.proofs.judge_segments.Goals as goal
-use Rattle.segments.proofs.judge_segments.Goals.{then-not-precedes, else-not-precedes}
+use Rattle.segments.proofs.judge_segments.Goals.{then-ordered, else-ordered}
 
 pub returns-then-end-start : goal.returns-then-end-start
 returns-then-end-start c = nothing c.args.list.now c.args.start c.args.end c.if-end-start.true
@@ -19,13 +18,13 @@ pub returns-then-not-is_good-2 : goal.returns-then-not-is_good-2
 returns-then-not-is_good-2 c = bad-here c.loop-i.invariant c.loop-i-test.true c.segment_at-next.ensures (sym c.is_good-in-loop-i.ensures ∙ c.if-not-is_good-2.true)
 
 pub loop-i-preserved : goal.loop-i-preserved
-loop-i-preserved c = again c.loop-i.invariant c.loop-i-test.true c.segment_at-next.ensures (sym c.is_good-in-loop-i.ensures ∙ c.if-not-is_good-2.false) (elim c.if-not-precedes.branch [
-  | then-not-precedes w ↦ broken c.loop-i.ordered c.precedes.ensures (ap not w.if-not-precedes.true) w.ordered-is
-  | else-not-precedes w ↦ kept c.loop-i.ordered c.precedes.ensures (ap not w.if-not-precedes.false) w.ordered-is
+loop-i-preserved c = again c.loop-i.invariant c.loop-i-test.true c.segment_at-next.ensures (sym c.is_good-in-loop-i.ensures ∙ c.if-not-is_good-2.false) (elim c.if-ordered.branch [
+  | then-ordered w ↦ kept w.if-ordered.true (w.ordered-is ∙ w.precedes-ordered.ensures)
+  | else-ordered w ↦ broken _ w.if-ordered.false (w.ordered-is ∙ w.if-ordered.false)
 ])
 
-pub returns-then-ordered : goal.returns-then-ordered
-returns-then-ordered c = all-ordered c.loop-i.invariant c.loop-i-test.false c.if-ordered.true
+pub returns-then-ordered-2 : goal.returns-then-ordered-2
+returns-then-ordered-2 c = all-ordered c.loop-i.invariant c.loop-i-test.false c.if-ordered-2.true
 
-pub returns-else-ordered : goal.returns-else-ordered
-returns-else-ordered c = some-broken c.loop-i.invariant c.loop-i-test.false c.if-ordered.false
+pub returns-else-ordered-2 : goal.returns-else-ordered-2
+returns-else-ordered-2 c = some-broken c.loop-i.invariant c.loop-i-test.false c.if-ordered-2.false

@@ -1,40 +1,37 @@
 -- The segment's row is tested against the scene's rows, its tiles are cut to the scene's, and what is left is made local.
 use mathlib.Core.Path.{◌≡◌}
-use mathlib.Core.Option.{some}
+use Rattle.std.specs.Prelude.{Some}
 use native.Mathlib.Omega.{arith}
-use Rattle.rules.specs.Spans.{cut-to}
+use Rattle.rules.specs.Spans.{cut_to}
 use Rattle.rules.specs.Segments.{stretch-of}
 use Rattle.span.specs.Spans.{tiles, stretch}
 use Rattle.segments.specs.Segs.{segment-of, origin, bounds}
 use Rattle.segments.proofs.Cutting.{Left, left_in, above, below, beside, across}
 use Rattle.segments.proofs.place.Goals as goal
+use Rattle.segments.proofs.place.Goals.{then-segment-scene-via-then-segment-scene, then-segment-scene-via-else-segment-scene+then-scene-segment}
 
-pub returns-then-segment-rows : goal.returns-then-segment-rows
-returns-then-segment-rows c = above (origin c.args.scene) (bounds c.args.scene) (segment-of c.args.segment) c.if-segment-rows.true
+pub returns-then-segment-scene : goal.returns-then-segment-scene
+returns-then-segment-scene c = elim c.then-segment-scene.branch [
+  | then-segment-scene-via-then-segment-scene w ↦ above (origin c.args.scene) (bounds c.args.scene) (segment-of c.args.segment) w.if-segment-scene.true
+  | then-segment-scene-via-else-segment-scene+then-scene-segment w ↦ below (origin c.args.scene) (bounds c.args.scene) (segment-of c.args.segment) w.if-segment-scene.false w.if-scene-segment.true
+]
 
-pub returns-then-rows-segment : goal.returns-then-rows-segment
-returns-then-rows-segment c = below (origin c.args.scene) (bounds c.args.scene) (segment-of c.args.segment) c.if-segment-rows.false c.if-rows-segment.true
+pub returns-in_err-left : goal.returns-in_err-left
+returns-in_err-left c = rw c.from_residual.ensures (beside (origin c.args.scene) (bounds c.args.scene) (segment-of c.args.segment) c.if-segment-scene.false c.if-scene-segment.false (rw c.alpha.ensures at c.in_err-left.ensures))
 
-pub overflow_sub-result-in-Left : goal.overflow_sub-result-in-Left
-overflow_sub-result-in-Left c =
-    let some_left : some (stretch c.in-Left.left) ≡ cut-to (tiles c.args.scene.columns) (stretch-of (segment-of c.args.segment)) = rw c.alpha.ensures at c.in-Left.ensures in
-    let lies : Left (tiles c.args.scene.columns) (stretch-of (segment-of c.args.segment)) (stretch c.in-Left.left) = left_in _ _ _ some_left in
-    let h = lies in
+pub overflow_sub-result-2 : goal.overflow_sub-result-2
+overflow_sub-result-2 c =
+    let some_left : Some (stretch c.in_ok-left.left) ≡ cut_to (tiles c.args.scene.columns) (stretch-of (segment-of c.args.segment)) = rw c.alpha.ensures at c.in_ok-left.ensures in
+    let h : Left (tiles c.args.scene.columns) (stretch-of (segment-of c.args.segment)) (stretch c.in_ok-left.left) = left_in _ _ _ some_left in
     omega (arith, c.requires.1.left, h.inside)
 
-pub overflow_sub-result-in-Left-2 : goal.overflow_sub-result-in-Left-2
-overflow_sub-result-in-Left-2 c =
-    let some_left : some (stretch c.in-Left.left) ≡ cut-to (tiles c.args.scene.columns) (stretch-of (segment-of c.args.segment)) = rw c.alpha.ensures at c.in-Left.ensures in
-    let lies : Left (tiles c.args.scene.columns) (stretch-of (segment-of c.args.segment)) (stretch c.in-Left.left) = left_in _ _ _ some_left in
-    let h = lies in
+pub overflow_sub-result-3 : goal.overflow_sub-result-3
+overflow_sub-result-3 c =
+    let some_left : Some (stretch c.in_ok-left.left) ≡ cut_to (tiles c.args.scene.columns) (stretch-of (segment-of c.args.segment)) = rw c.alpha.ensures at c.in_ok-left.ensures in
+    let h : Left (tiles c.args.scene.columns) (stretch-of (segment-of c.args.segment)) (stretch c.in_ok-left.left) = left_in _ _ _ some_left in
     omega (arith, c.requires.1.left, h.inside, h.wide)
 
-pub returns-in-Nothing : goal.returns-in-Nothing
-returns-in-Nothing c =
-    beside (origin c.args.scene) (bounds c.args.scene) (segment-of c.args.segment) c.if-segment-rows.false c.if-rows-segment.false (rw c.alpha.ensures at c.in-Nothing.ensures)
-
-pub returns-in-Left : goal.returns-in-Left
-returns-in-Left c =
-    let some_left : some (stretch c.in-Left.left) ≡ cut-to (tiles c.args.scene.columns) (stretch-of (segment-of c.args.segment)) = rw c.alpha.ensures at c.in-Left.ensures in
-    across (origin c.args.scene) (bounds c.args.scene) (segment-of c.args.segment) c.if-segment-rows.false c.if-rows-segment.false
-    (stretch c.in-Left.left) some_left
+pub returns : goal.returns
+returns c =
+    across (origin c.args.scene) (bounds c.args.scene) (segment-of c.args.segment) c.if-segment-scene.false c.if-scene-segment.false
+    (stretch c.in_ok-left.left) (rw c.alpha.ensures at c.in_ok-left.ensures)

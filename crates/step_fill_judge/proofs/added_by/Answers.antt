@@ -1,32 +1,15 @@
+use mathlib.Core.Path.{sym, ◌∙◌}
 use Rattle.span.specs.Spans.{tiles}
-use Rattle.sizes.specs.Widths.{bucket-tiles}
-use Rattle.step_fill_judge.proofs.Laws.{added-alpha, added-plain, found-one, found-more}
+use Rattle.step_fill_judge.proofs.Laws.{found-unsplit, found-whole, found-pieces}
 use Rattle.step_fill_judge.proofs.added_by.Goals as goal
 
+pub returns-then-is_unsplit : goal.returns-then-is_unsplit
+returns-then-is_unsplit c = found-unsplit c.args.width (tiles c.args.stretch.tiles) _ _ (sym c.is_unsplit.ensures ∙ c.if-is_unsplit.true)
+
 pub returns-then-high-low : goal.returns-then-high-low
-returns-then-high-low c =
-    let a = c.args in
-    rw (
-      c.in-Solid.is,
-      c.if-eligible.true,
-      found-one (bucket-tiles a.width) (tiles a.stretch.tiles) _ _ c.above-low.ensures c.below-high.ensures c.if-high-low.true,
-    )
+returns-then-high-low c = found-whole c.args.width (tiles c.args.stretch.tiles) _ _ (sym c.is_unsplit.ensures ∙ c.if-is_unsplit.false) c.above-low.ensures c.below-high.ensures c.if-high-low.true
 
-pub returns-then-eligible : goal.returns-then-eligible
-returns-then-eligible c =
-    let a = c.args in
-    rw (
-      c.in-Solid.is,
-      c.if-eligible.true,
-      found-more a.width (tiles a.stretch.tiles) _ _ c.above-low.ensures c.below-high.ensures c.if-high-low.false,
-      c.edge.ensures,
-      c.edge-then-eligible.ensures,
-      c.within.ensures,
-      c.within-then-eligible.ensures,
-    )
-
-pub returns-in-At : goal.returns-in-At
-returns-in-At c = rw (c.in-At.is, added-alpha)
-
-pub returns-else-eligible : goal.returns-else-eligible
-returns-else-eligible c = rw (c.in-Solid.is, c.if-eligible.false, added-plain)
+pub returns : goal.returns
+returns c =
+    rw (c.edge.ensures, c.edge-2.ensures, c.within.ensures, c.within-2.ensures)
+    (found-pieces c.args.width (tiles c.args.stretch.tiles) _ _ (sym c.is_unsplit.ensures ∙ c.if-is_unsplit.false) c.above-low.ensures c.below-high.ensures c.if-high-low.false)

@@ -6,7 +6,7 @@ use Rattle.step_fill_judge.proofs.has_room_at.Goals as goal
 pub has_room-requires : goal.has_room-requires
 has_room-requires c =
     let o = c.requires in (
-      rw c.part.ensures (record-long c.args.rows.now c.wide.result (omega (arith, o.0.long, o.0.bottom, o.0.starts.top))),
+      rw c.part-state.ensures (record-long c.args.rows.now _ (omega (arith, o.0.long, o.0.bottom, o.0.starts.top))),
       o.0.c,
       o.0.d,
       o.0.layers,

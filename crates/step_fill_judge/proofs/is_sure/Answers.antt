@@ -46,5 +46,5 @@ loop-i-preserved c =
       ],
     )
 
-pub returns : goal.returns
-returns c = λ e. all-sure c.loop-i.invariant.1 c.loop-i-test.false c.if-row-ge-TILE_END.false (c.has_room_at-2.ensures e)
+pub returns-then-row-lt-TILE_END : goal.returns-then-row-lt-TILE_END
+returns-then-row-lt-TILE_END c = λ e. all-sure c.loop-i.invariant.1 c.loop-i-test.false c.if-row-lt-TILE_END.true (c.has_room_at-then-row-lt-TILE_END.ensures e)

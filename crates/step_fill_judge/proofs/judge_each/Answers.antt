@@ -1,4 +1,6 @@
-use mathlib.Core.Path.{sym, ◌∙◌}
+use mathlib.Core.Path.{refl, sym, ◌∙◌}
+use Rattle.std.proofs.lemmas.Result.{err_from_is_err_and}
+use Rattle.row_room.proofs.Laws.{never_bad}
 use Rattle.step_fill_judge.proofs.Hands.{begun, bad-here, bad-record, again, told-at-last}
 use Rattle.step_fill_judge.proofs.judge_each.Goals as goal
 
@@ -8,15 +10,17 @@ loop-i-init c = begun c.requires.0 c.requires.1 c.requires.2
 pub returns-then-not-is_good : goal.returns-then-not-is_good
 returns-then-not-is_good c = bad-here c.loop-i.invariant c.loop-i-test.true c.segment_at-next.ensures (sym c.is_good.ensures ∙ c.if-not-is_good.true)
 
-pub returns-then-hand-eq-BAD_RECORD : goal.returns-then-hand-eq-BAD_RECORD
-returns-then-hand-eq-BAD_RECORD c =
-    bad-record c.loop-i.invariant c.loop-i-test.true c.segment_at-next.ensures (sym c.is_good.ensures ∙ c.if-not-is_good.false) c.precedes.result
-    (rw c.mark.ensures at c.judge_segment-hand.ensures) c.if-hand-eq-BAD_RECORD.true
+pub returns-in_err-hand : goal.returns-in_err-hand
+returns-in_err-hand c =
+    let p = err_from_is_err_and c.from_residual.result c.from_residual.ensures.1 in
+    rw (p.1, p.2, c.in_err-hand.ensures.0)
+    (bad-record c.loop-i.invariant c.loop-i-test.true c.segment_at-next.ensures (sym c.is_good.ensures ∙ c.if-not-is_good.false) c.precedes.result refl
+    (rw c.mark.ensures at c.in_err-hand.ensures.1))
 
 pub loop-i-preserved : goal.loop-i-preserved
 loop-i-preserved c =
     again c.loop-i.invariant c.loop-i-test.true c.segment_at-next.ensures (sym c.is_good.ensures ∙ c.if-not-is_good.false) c.precedes.result
-    (rw c.mark.ensures at c.judge_segment-hand.ensures) c.precedes.ensures c.if-hand-eq-BAD_RECORD.false
+    (rw c.mark.ensures at c.in_ok-hand.ensures) c.precedes.ensures (never_bad c.in_ok-hand.hand.found)
 
 pub returns : goal.returns
-returns c = told-at-last c.loop-i.invariant c.loop-i-test.false
+returns c = c.answer.ensures ∙ told-at-last c.loop-i.invariant c.loop-i-test.false

@@ -6,17 +6,20 @@ use Rattle.step_pop_rows.proofs.close_segments.Goals as goal
 
 pub close_segment-requires : goal.close_segment-requires
 close_segment-requires c = (
-  c.loop-i.invariant.rest.whole,
-  c.loop-i.invariant.rest.bottom,
+  c.loop-i.invariant.1.rest.whole,
+  c.loop-i.invariant.1.rest.bottom,
   omega arith,
-  good-here c.loop-i.invariant c.loop-i-test.true,
-  c.loop-i.invariant.rest.starts,
-  room-here c.loop-i.invariant c.loop-i-test.true,
+  good-here c.loop-i.invariant.1 c.loop-i-test.true,
+  c.loop-i.invariant.1.rest.starts,
+  room-here c.loop-i.invariant.1 c.loop-i-test.true,
 )
 
 pub loop-i-preserved : goal.loop-i-preserved
-loop-i-preserved c = clipping-on c.loop-i.invariant c.loop-i-test.true _ (long_after _ _ _ c.loop-i.invariant.rest.whole (search rules) (search rules)
-    (search rules)) c.close_segment.ensures
+loop-i-preserved c = (
+  search rules,
+  clipping-on c.loop-i.invariant.1 c.loop-i-test.true _ (long_after _ _ _ c.loop-i.invariant.1.rest.whole (search rules) (search rules) (search rules))
+      c.close_segment.ensures.rows,
+)
 
 pub returns : goal.returns
-returns c = clipping-done c.loop-i.invariant c.loop-i-test.false
+returns c = record { same = c.loop-i.invariant.0; rows = clipping-done c.loop-i.invariant.1 c.loop-i-test.false }

@@ -6,17 +6,18 @@ use Rattle.step_pop_rows.proofs.close_spans.Goals as goal
 
 pub close_span-requires : goal.close_span-requires
 close_span-requires c = (
-  c.loop-r.invariant.0,
+  c.loop-r.invariant.1,
   omega arith,
   c.requires.2,
-  going-here c.loop-r.invariant.1 c.loop-r-test.true,
+  going-here c.loop-r.invariant.2 c.loop-r-test.true,
 )
 
 pub loop-r-preserved : goal.loop-r-preserved
 loop-r-preserved c = (
-  long_after _ _ _ c.loop-r.invariant.0 (search rules) (search rules) (search rules),
-  going_on c.loop-r.invariant.1 c.loop-r-test.true c.close_span.ensures,
+  search rules,
+  long_after _ _ _ c.loop-r.invariant.1 (search rules) (search rules) (search rules),
+  going_on c.loop-r.invariant.2 c.loop-r-test.true c.close_span.ensures.rows,
 )
 
 pub returns : goal.returns
-returns c = going_done c.loop-r.invariant.1 c.loop-r-test.false
+returns c = record { same = c.loop-r.invariant.0; rows = going_done c.loop-r.invariant.2 c.loop-r-test.false }

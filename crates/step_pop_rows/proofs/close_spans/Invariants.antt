@@ -1,11 +1,11 @@
 -- So far the touched rows before r have their LayerFill; each from r on still has room for its own.
 use Prim.Native.Nat.{◌-◌}
-use mathlib.Core.Option.{none}
+use Rattle.std.specs.Prelude.{None}
 use Rattle.rules.specs.Plans.{close}
 use Rattle.span.specs.Spans.{tiles}
 use Rattle.screen.specs.Screens.{frame-of}
 use Rattle.sizes.specs.Widths.{bucket-tiles}
-use Rattle.row.specs.Words.{words}
+use Rattle.row_screen.specs.Rows.{all-held, SameRows}
 use Rattle.row_judge.specs.Building.{rows_at, Whole}
 use Rattle.step_pop_rows.specs.Closing.{Fillable}
 use Rattle.step_pop_rows.proofs.Going.{Going}
@@ -13,10 +13,8 @@ use Rattle.step_pop_rows.proofs.close_spans.Given as goal
 
 abbrev pub invariant-loop-r : goal.invariant-loop-r
 invariant-loop-r l =
-    Whole (frame-of l.screen) (words l.rows l.render l.fills)
-    × Going (close (tiles l.span) none l.screen.layer_attrs) (Fillable (tiles l.span) none l.screen.layer_attrs) (bucket-tiles l.screen.width)
-    (l.screen.layers - 1) l.screen.layers l.a l.b (rows_at (frame-of l.screen) (words l.initial.rows l.initial.render l.initial.fills)) l.r
-    (rows_at (frame-of l.screen) (words l.rows l.render l.fills))
-
-abbrev pub decreases-loop-r : goal.decreases-loop-r
-decreases-loop-r l = l.b - l.r
+    SameRows l.initial.rows l.rows
+    × Whole (frame-of l.screen) (all-held l.rows)
+    × Going (close (tiles l.span) None l.screen.layer_attrs) (Fillable (tiles l.span) None l.screen.layer_attrs) (bucket-tiles l.screen.width)
+    (l.screen.layers - 1) l.screen.layers l.fn.band.a l.fn.band.b (rows_at (frame-of l.screen) (all-held l.initial.rows)) l.r
+    (rows_at (frame-of l.screen) (all-held l.rows))

@@ -17,5 +17,5 @@ returns c =
     let shallow = rw (← own) at c.requires.4 in
     let screen = c.args.screen in
     rw (← own)
-    (count-here screen.c screen.d screen.layers c.part-state.result.now c.args.code _ c.args.more c.requires.3 levels (shallow levels)
-    c.limits_of-limits.ensures c.load.ensures.0 c.add-next.ensures)
+    (count-here screen.c screen.d screen.layers c.part-state.result.now _ _ c.args.more c.requires.3 levels (shallow levels)
+    c.limits_of-limits.ensures c.load.ensures.0 c.add.ensures)

@@ -1,4 +1,6 @@
+use mathlib.Core.Path.{sym, ◌∙◌}
 use native.Mathlib.Omega.{arith}
+use Rattle.step_pop_rows.proofs.Judging.{found_done, found_some}
 use Rattle.step_pop_rows.proofs.Clipping.{counting-done, counting-good, counting-full, counting-on}
 use Rattle.step_pop_rows.proofs.is_full_clip.Goals as goal
 
@@ -13,11 +15,11 @@ count_segment-hand-requires c = (
   c.loop-i.invariant.clean,
 )
 
-pub returns-then-hand-ne-DONE : goal.returns-then-hand-ne-DONE
-returns-then-hand-ne-DONE c = counting-full c.loop-i.invariant c.loop-i-test.true c.count_segment-hand.ensures c.if-hand-ne-DONE.true
+pub returns-then-is_err : goal.returns-then-is_err
+returns-then-is_err c = counting-full c.loop-i.invariant c.loop-i-test.true c.count_segment-hand.ensures (λ e. found_some _ (sym c.is_err.ensures.value ∙ c.if-is_err.true) (c.answer.ensures ∙ e))
 
 pub loop-i-preserved : goal.loop-i-preserved
-loop-i-preserved c = counting-on c.loop-i.invariant c.loop-i-test.true c.count_segment-hand.ensures c.if-hand-ne-DONE.false
+loop-i-preserved c = counting-on c.loop-i.invariant c.loop-i-test.true c.count_segment-hand.ensures (sym c.answer.ensures ∙ found_done _ (sym c.is_err.ensures.value ∙ c.if-is_err.false))
 
 pub returns : goal.returns
 returns c = counting-done c.loop-i.invariant c.loop-i-test.false

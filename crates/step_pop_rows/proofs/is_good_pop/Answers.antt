@@ -1,4 +1,4 @@
-use mathlib.Core.Path.{sym, ◌∙◌}
+use mathlib.Core.Path.{refl, sym, ◌∙◌}
 use Rattle.row.specs.Words.{words}
 use Rattle.step_pop_rows.proofs.Judging.{place-within, tag_at, pop-other, pop-bad}
 use Rattle.step_pop_rows.proofs.is_good_pop.Goals as goal
@@ -6,16 +6,14 @@ use Rattle.step_pop_rows.proofs.is_good_pop.Goals as goal
 pub returns-then-levels-open : goal.returns-then-levels-open
 returns-then-levels-open c = pop-other c.args.c c.args.d c.args.open _ c.if-levels-open.true
 
-pub returns-then-not-is_good_row : goal.returns-then-not-is_good_row
-returns-then-not-is_good_row c =
-    pop-bad c.args.c c.args.d c.args.open _ c.if-levels-open.false (sym c.is_good_row.ensures ∙ c.if-not-is_good_row.true)
+pub bounds-render-state : goal.bounds-render-state
+bounds-render-state c =
+    place-within _ c.args.d _ (words c.args.state.now c.args.render.now c.args.fills.now) (sym c.is_good_row.ensures ∙ c.if-is_good_row.true)
+    c.if-levels-open.false refl refl c.requires.2 c.requires.1
 
-pub bounds-render-place : goal.bounds-render-place
-bounds-render-place c =
-    place-within _ c.args.d _ (words c.args.state.now c.args.render.now c.args.fills.now) (sym c.is_good_row.ensures ∙ c.if-not-is_good_row.false)
-    c.if-levels-open.false c.wide.ensures c.wide-place.ensures c.requires.2 c.requires.1
+pub returns-then-is_good_row : goal.returns-then-is_good_row
+returns-then-is_good_row c = tag_at _ _ _ _ (sym c.is_good_row.ensures ∙ c.if-is_good_row.true) c.if-levels-open.false refl refl
 
-pub returns : goal.returns
-returns c =
-    tag_at _ _ _ _ (sym c.is_good_row.ensures ∙ c.if-not-is_good_row.false)
-    c.if-levels-open.false c.wide.ensures c.wide-place.ensures
+pub returns-else-is_good_row : goal.returns-else-is_good_row
+returns-else-is_good_row c =
+    c.if-is_good_row.false ∙ pop-bad c.args.c c.args.d c.args.open _ c.if-levels-open.false (sym c.is_good_row.ensures ∙ c.if-is_good_row.false)

@@ -1,6 +1,6 @@
 -- Row r stands where `place_of` says, so the three parts lie within the slices, are row r as they are lent, and come back as row r.
 use Rattle.row_screen.proofs.Laws.{lent, roomy, back}
-use Rattle.row.specs.Words.{end-buf}
+use Rattle.row.specs.Words.{end_buf}
 use Rattle.row.proofs.Laws.{end-grown}
 use Rattle.step_pop_rows.proofs.pop_at.Goals as goal
 
@@ -13,4 +13,4 @@ pub returns : goal.returns
 returns c =
     let o = c.requires in
     let s = c.place_of-p.ensures in
-    back o.0 o.1 s end-buf _ _ _ (end-grown _ (roomy o.0 o.1 s end-buf o.2.1).state) c.pop_buf.ensures
+    back o.0 o.1 s end_buf _ _ _ (end-grown _ (roomy o.0 o.1 s end_buf o.2.1).state) c.pop_buf.ensures

@@ -1,19 +1,22 @@
+use mathlib.Core.Path.{◌∙◌}
+use Rattle.std.proofs.lemmas.Result.{err_from_is_err_and}
 use Rattle.row_room.proofs.Rows.{going_end, going-bad, going_on}
-use Rattle.step_rows.specs.Band.{band-number}
-use Rattle.step_rows.proofs.Judging.{row-bad, row-good, row-counted}
+use Rattle.step_rows.specs.Band.{band_number}
+use Rattle.step_rows.proofs.Judging.{row_counted}
 use Rattle.step_rows.proofs.judge_rows.Goals as goal
 
-pub returns-then-turned-eq-BAD_RECORD : goal.returns-then-turned-eq-BAD_RECORD
-unfolding band-number
-returns-then-turned-eq-BAD_RECORD c = let v = c.loop-r.invariant in
-    going-bad v c.loop-r-test.true (row-bad _ _ _ _ _ _ v.found c.turn_to-turned.ensures.0 c.if-turned-eq-BAD_RECORD.true)
+pub returns-in_err-turned : goal.returns-in_err-turned
+unfolding band_number
+returns-in_err-turned c =
+    let p = err_from_is_err_and c.from_residual.result c.from_residual.ensures.1 in
+    rw (p.1, p.2, c.in_err-turned.ensures.1) (going-bad c.loop-r.invariant c.loop-r-test.true c.in_err-turned.ensures.0)
 
 pub loop-r-preserved : goal.loop-r-preserved
-loop-r-preserved c = let v = c.loop-r.invariant in
-    let turned = c.turn_to-turned.ensures.0 in
-    let fine = c.if-turned-eq-BAD_RECORD.false in
-    going_on v c.loop-r-test.true (row-good _ _ _ _ _ _ v.found turned fine) (row-counted _ _ _ _ _ _ v.found turned fine c.add-next.ensures)
+loop-r-preserved c =
+    let v = c.loop-r.invariant in
+    let t = c.in_ok-turned.ensures in
+    going_on v c.loop-r-test.true t.0 (row_counted _ _ _ _ _ _ v.found t.0 t.1 c.add-found.ensures)
 
 pub returns : goal.returns
-unfolding band-number
-returns c = going_end c.loop-r.invariant c.loop-r-test.false
+unfolding band_number
+returns c = c.answer.ensures ∙ going_end c.loop-r.invariant c.loop-r-test.false

@@ -7,12 +7,12 @@ use Rattle.text_details.specs.Bytes.{detail-room, detail-bytes}
 use Rattle.text_details.proofs.put_filter_paints.Goals as goal
 
 pub loop-i-init : goal.loop-i-init
-loop-i-init c = (omega arith, places-none _ _ _)
+loop-i-init c = places-none _ _ _
 
 pub loop-i-preserved : goal.loop-i-preserved
-loop-i-preserved c = (omega arith, places-more (detail-bytes false) _ _ (omega arith) c.loop-i.invariant.1 (one_of (detail-bytes false) _ c.put_filter-place.ensures))
+loop-i-preserved c = places-more (detail-bytes false) _ _ (omega arith) c.loop-i.invariant (one_of (detail-bytes false) _ c.put_filter-place.ensures)
 
 pub returns : goal.returns
 returns c =
     filter-lines-written _ _ c.args.table.now c.put_heading-place.ensures
-    (places-all (detail-bytes false) _ (λ (k : ℕ). detail-room * k) _ _ (omega arith) c.loop-i.invariant.0 c.loop-i.invariant.1)
+    (places-all (detail-bytes _) _ (λ (k : ℕ). detail-room * k) _ _ (omega arith) (omega arith) c.loop-i.invariant)

@@ -1,7 +1,7 @@
 -- So far the lines of the first i filter paints are written.
 use mathlib.Core.Bool.{false}
 use mathlib.Core.List.{[], ◌∷◌}
-use Prim.Native.Nat.{ℕ, ◌*◌, ◌-◌, ◌≤◌}
+use Prim.Native.Nat.{ℕ, ◌*◌}
 use Rattle.text.specs.Texts.{text, Wrote}
 use Rattle.text_screen.specs.Places.{joined}
 use Rattle.text_details.specs.Bytes.{detail-room, details-text}
@@ -10,9 +10,5 @@ use Rattle.text_details.proofs.put_filter_paints.Given as goal
 
 abbrev pub invariant-loop-i : goal.invariant-loop-i
 invariant-loop-i l =
-    (l.i ≤ l.n)
-    × Wrote (details-text false (joined (λ (k : ℕ). filter-at l.table k ∷ []) l.i))
+    Wrote (details-text false (joined (λ (k : ℕ). filter-at l.table k ∷ []) l.i))
     (detail-room * l.i) (text l.initial.out l.initial.place) (text l.out l.place)
-
-abbrev pub decreases-loop-i : goal.decreases-loop-i
-decreases-loop-i l = l.n - l.i

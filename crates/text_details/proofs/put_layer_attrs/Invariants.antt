@@ -1,6 +1,6 @@
 -- So far the lines of the first i layer attributes are written.
 use mathlib.Core.List.{[], ◌∷◌}
-use Prim.Native.Nat.{ℕ, ◌*◌, ◌-◌, ◌≤◌}
+use Prim.Native.Nat.{ℕ, ◌*◌}
 use Rattle.text.specs.Texts.{text, Wrote}
 use Rattle.text_screen.specs.Places.{joined}
 use Rattle.text_details.specs.Bytes.{detail-room, details-text}
@@ -10,9 +10,5 @@ use Rattle.text_details.proofs.put_layer_attrs.Given as goal
 
 abbrev pub invariant-loop-i : goal.invariant-loop-i
 invariant-loop-i l =
-    (l.i ≤ l.n)
-    × Wrote (details-text l.panels (joined (λ (k : ℕ). layer-attr-line (layer-attr-at l.table l.opacities k) ∷ []) l.i))
+    Wrote (details-text l.panels (joined (λ (k : ℕ). layer-attr-line (layer-attr-at l.table l.opacities k) ∷ []) l.i))
     (detail-room * l.i) (text l.initial.out l.initial.place) (text l.out l.place)
-
-abbrev pub decreases-loop-i : goal.decreases-loop-i
-decreases-loop-i l = l.n - l.i

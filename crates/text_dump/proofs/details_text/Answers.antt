@@ -11,8 +11,8 @@ slice_bounds-rows_text-start c = grind (arith, attrs-few)
 
 pub returns-clause-out_after : goal.returns-clause-out_after
 returns-clause-out_after c =
-    details-more _ _ _ _ _ _ c.attrs_text-text.ensures c.begin_painting-begun.ensures
-    c.rows_text-more.ensures.out_after (omega arith)
+    rw c.unwrap_or-k.ensures
+    (details-more _ _ _ _ _ _ c.attrs_text.ensures c.begin_painting.ensures (rw c.unwrap_or-k.ensures at c.rows_text-more.ensures.out_after) (omega arith))
 
 pub returns-clause-upper_bound : goal.returns-clause-upper_bound
 returns-clause-upper_bound c = grind (arith, attrs-few)

@@ -2,8 +2,8 @@
 use Rattle.text_file.proofs.Bytes.{formless, well-formed}
 use Rattle.text_file.proofs.no_width_of.Goals as goal
 
-pub returns-in_default : goal.returns-in_default
-returns-in_default c = formless _ c.in_default.ensures
+pub returns-in-Ok : goal.returns-in-Ok
+returns-in-Ok c = well-formed _ _ c.in-Ok.ensures
 
-pub returns : goal.returns
-returns c = well-formed _ _ c.in-Good.ensures
+pub returns-in-Err : goal.returns-in-Err
+returns-in-Err c = formless _ c.in-Err.ensures

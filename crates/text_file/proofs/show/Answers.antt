@@ -1,9 +1,11 @@
-use Rattle.row.specs.Words.{words}
+use mathlib.Core.Path.{refl}
+use Rattle.sizes.proofs.Refusals.{not_done}
+use Rattle.row_screen.specs.Rows.{all-held}
 use Rattle.text_file.proofs.Texts.{show-refused, show-done}
 use Rattle.text_file.proofs.show.Goals as goal
 
-pub returns-then-text-ne-DONE : goal.returns-then-text-ne-DONE
-returns-then-text-ne-DONE c = show-refused _ (words _ _ _) _ c.list_screen-text.ensures c.if-text-ne-DONE.true c.refuse.ensures
+pub returns-in-Ok : goal.returns-in-Ok
+returns-in-Ok c = show-done _ (all-held c.args.rows.now) _ c.in-Ok.ensures refl
 
-pub returns : goal.returns
-returns c = show-done _ (words _ _ _) _ c.list_screen-text.ensures c.if-text-ne-DONE.false
+pub returns-in-Err : goal.returns-in-Err
+returns-in-Err c = show-refused _ (all-held c.args.rows.now) _ c.in-Err.ensures (not_done _) c.refuse.ensures

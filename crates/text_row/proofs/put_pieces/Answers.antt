@@ -6,12 +6,12 @@ use Rattle.text_row.proofs.Pieces.{row_written}
 use Rattle.text_row.proofs.put_pieces.Goals as goal
 
 pub loop-k-init : goal.loop-k-init
-loop-k-init c = (omega arith, places-none _ _ _)
+loop-k-init c = places-none _ _ _
 
 pub loop-k-preserved : goal.loop-k-preserved
-loop-k-preserved c = (omega arith, places-more (detail-bytes _) _ _ (omega arith) c.loop-k.invariant.1 (one_of (detail-bytes _) _ c.put_piece-place.ensures))
+loop-k-preserved c = places-more (detail-bytes _) _ _ (omega arith) c.loop-k.invariant (one_of (detail-bytes _) _ c.put_piece-place.ensures)
 
 pub returns : goal.returns
 returns c =
     row_written _ c.args.list.now _ _ c.put_painted-place.ensures
-    (places-all (detail-bytes _) _ (λ (k : ℕ). piece-room * k) _ _ (omega arith) c.loop-k.invariant.0 c.loop-k.invariant.1)
+    (places-all (detail-bytes _) _ (λ (k : ℕ). piece-room * k) _ _ (omega arith) (omega arith) c.loop-k.invariant)

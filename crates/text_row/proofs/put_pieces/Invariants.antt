@@ -1,6 +1,6 @@
 -- So far the lines of the first k pieces are written.
 use mathlib.Core.List.{[], ◌∷◌}
-use Prim.Native.Nat.{ℕ, ◌*◌, ◌-◌, ◌≤◌}
+use Prim.Native.Nat.{ℕ, ◌*◌}
 use Rattle.text.specs.Texts.{text, Wrote}
 use Rattle.text_screen.specs.Places.{joined}
 use Rattle.text_details.specs.Bytes.{piece-room, details-text}
@@ -9,9 +9,5 @@ use Rattle.text_row.proofs.put_pieces.Given as goal
 
 abbrev pub invariant-loop-k : goal.invariant-loop-k
 invariant-loop-k l =
-    (l.k ≤ l.n)
-    × Wrote (details-text l.panels (joined (λ (i : ℕ). piece-at l.list i ∷ []) l.k))
+    Wrote (details-text l.panels (joined (λ (i : ℕ). piece-at l.list i ∷ []) l.k))
     (piece-room * l.k) (text l.initial.out l.initial.place) (text l.out l.place)
-
-abbrev pub decreases-loop-k : goal.decreases-loop-k
-decreases-loop-k l = l.n - l.k

@@ -13,6 +13,6 @@ returns-then-is_short_row c = lines-full _ _ _ _ _ c.if-n-gt65536.false (short-y
 
 pub returns : goal.returns
 returns c =
-    let x = c.put_pieces-bytes.ensures in
+    let x = c.put_pieces.ensures in
     let fits = short-no _ _ _ (sym c.is_short_row.ensures ∙ c.if-is_short_row.false) (omega (arith, x.near, measured x)) in
     lines-done _ _ _ _ _ c.if-n-gt65536.false fits x

@@ -1,14 +1,17 @@
-use mathlib.Core.Path.{ap}
-use mathlib.Core.Bool.{not}
+use Prim.Native.Nat.{ℕ}
 use native.Mathlib.Omega.{arith}
-use Rattle.text_screen.proofs.Runs.{rest-bad, rest-on, rest_end}
+use mathlib.Core.Path.{refl, ◌∙◌}
+use mathlib.Core.Bool.{Bool}
+use borrow.Author.Rules.{rules}
+use Rattle.std.proofs.lemmas.Iterator.{YieldsList-from_range}
+use Rattle.std.proofs.lemmas.Iterator.Search.{all_from_yields_List}
+use Rattle.text_screen.specs.Places.{is_some}
+use Rattle.text_screen.specs.Listed.{depth-fill-at}
+use Rattle.text_screen.proofs.Runs.{all_below}
 use Rattle.text_screen.proofs.are_depths.Goals as goal
 
-pub returns-then-not-is_depth : goal.returns-then-not-is_depth
-returns-then-not-is_depth c = rest-bad _ _ c.loop-left.invariant c.loop-left-test.true c.is_depth.ensures (ap not c.if-not-is_depth.true)
-
-pub loop-left-preserved : goal.loop-left-preserved
-loop-left-preserved c = rest-on _ _ c.loop-left.invariant c.loop-left-test.true c.is_depth.ensures (ap not c.if-not-is_depth.false)
-
 pub returns : goal.returns
-returns c = rest_end _ _ _ c.loop-left.invariant (omega arith)
+returns c =
+    let test : ℕ → Bool = λ i. is_some (depth-fill-at c.args.buckets c.args.fills.now i) in
+    all_from_yields_List test _ _ _ c.all.ensures.ran (YieldsList-from_range 0 c.args.n c.args.n refl (omega arith)) (λ x b q k. search rules)
+    ∙ all_below test c.args.n

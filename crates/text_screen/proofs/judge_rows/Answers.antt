@@ -1,14 +1,18 @@
-use mathlib.Core.Path.{ap}
-use mathlib.Core.Bool.{not}
+use Prim.Native.Nat.{ℕ}
 use native.Mathlib.Omega.{arith}
-use Rattle.text_screen.proofs.Runs.{rest-bad, rest-on, rest_end}
+use mathlib.Core.Path.{refl, ◌∙◌}
+use mathlib.Core.Bool.{Bool}
+use borrow.Author.Rules.{rules}
+use Rattle.std.proofs.lemmas.Iterator.{YieldsList-from_range}
+use Rattle.std.proofs.lemmas.Iterator.Search.{all_from_yields_List}
+use Rattle.row_screen.specs.Arena.{sizes, row_at}
+use Rattle.row_screen.specs.Rows.{all-held}
+use Rattle.text_screen.specs.Listed.{good_row}
+use Rattle.text_screen.proofs.Runs.{all_below}
 use Rattle.text_screen.proofs.judge_rows.Goals as goal
 
-pub returns-then-not-judge_row : goal.returns-then-not-judge_row
-returns-then-not-judge_row c = rest-bad _ _ c.loop-left.invariant c.loop-left-test.true c.judge_row.ensures (ap not c.if-not-judge_row.true)
-
-pub loop-left-preserved : goal.loop-left-preserved
-loop-left-preserved c = rest-on _ _ c.loop-left.invariant c.loop-left-test.true c.judge_row.ensures (ap not c.if-not-judge_row.false)
-
 pub returns : goal.returns
-returns c = rest_end _ _ _ c.loop-left.invariant (omega arith)
+returns c =
+    let test : ℕ → Bool = λ i. good_row c.args.screen.c c.args.screen.d c.args.buckets (row_at (sizes c.args.screen.c c.args.screen.d) i (all-held c.args.rows.now)) in
+    all_from_yields_List test _ _ _ c.all.ensures.ran (YieldsList-from_range 0 c.args.m c.args.m refl (omega arith)) (λ x b q k. search rules)
+    ∙ all_below test c.args.m

@@ -2,8 +2,8 @@
 use Rattle.text_screen.proofs.Runs.{no_lines, one_line}
 use Rattle.text_screen.proofs.put_command.Goals as goal
 
-pub returns-in-Bad : goal.returns-in-Bad
-returns-in-Bad c = rw (← c.in-Bad.ensures) (no_lines _)
+pub returns-in-None : goal.returns-in-None
+returns-in-None c = rw (← c.in-None.ensures) (no_lines _)
 
-pub returns-in-Cmd : goal.returns-in-Cmd
-returns-in-Cmd c = rw (← c.in-Cmd.ensures) (one_line _ c.put_command_line.ensures)
+pub returns-in-Some : goal.returns-in-Some
+returns-in-Some c = rw (← c.in-Some.ensures) (one_line _ c.put_command_line.ensures)

@@ -3,7 +3,7 @@ use Rattle.text_screen.proofs.Runs.{joined-none, joined-more}
 use Rattle.text_screen.proofs.put_depths.Goals as goal
 
 pub loop-k-init : goal.loop-k-init
-loop-k-init c = (omega arith, joined-none _ _)
+loop-k-init c = joined-none _ _
 
 pub loop-k-preserved : goal.loop-k-preserved
-loop-k-preserved c = (omega arith, joined-more _ _ (omega arith) c.loop-k.invariant.1 c.put_depth-place.ensures)
+loop-k-preserved c = joined-more _ _ (omega arith) c.loop-k.invariant c.put_depth-place.ensures

@@ -1,11 +1,8 @@
 -- So far the lines of the first k depth fills are written.
-use Prim.Native.Nat.{◌*◌, ◌-◌, ◌≤◌}
+use Prim.Native.Nat.{◌*◌}
 use Rattle.text.specs.Texts.{text, Wrote}
 use Rattle.text_screen.specs.Listed.{depth-lines, text_of}
 use Rattle.text_screen.proofs.put_depths.Given as goal
 
 abbrev pub invariant-loop-k : goal.invariant-loop-k
-invariant-loop-k l = (l.k ≤ l.n) × Wrote (text_of (depth-lines l.buckets l.fills l.k)) (64 * l.k) (text l.initial.out l.at) (text l.out l.place)
-
-abbrev pub decreases-loop-k : goal.decreases-loop-k
-decreases-loop-k l = l.n - l.k
+invariant-loop-k l = Wrote (text_of (depth-lines l.buckets l.fills l.k)) (64 * l.k) (text l.initial.out l.at) (text l.out l.place)

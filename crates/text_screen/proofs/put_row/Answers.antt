@@ -6,5 +6,5 @@ use Rattle.text_screen.proofs.put_row.Goals as goal
 pub returns : goal.returns
 unfolding row-lines
 returns c =
-    row_written _ _ (words c.args.state.now c.args.render.now c.args.fills.now) c.wide.ensures c.wide-2.ensures c.put_row_line-a.ensures
+    row_written _ _ (words c.args.state.now c.args.render.now c.args.fills.now) c.put_row_line-a.ensures
     c.put_depths-b.ensures c.put_commands.ensures

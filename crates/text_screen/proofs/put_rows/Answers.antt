@@ -3,7 +3,7 @@ use Rattle.text_screen.proofs.Runs.{joined-none, joined-more}
 use Rattle.text_screen.proofs.put_rows.Goals as goal
 
 pub loop-r-init : goal.loop-r-init
-loop-r-init c = (omega arith, joined-none _ _)
+loop-r-init c = joined-none _ _
 
 pub loop-r-preserved : goal.loop-r-preserved
-loop-r-preserved c = (omega arith, joined-more _ _ (omega arith) c.loop-r.invariant.1 c.put_row_at-place.ensures)
+loop-r-preserved c = joined-more _ _ (omega arith) c.loop-r.invariant c.put_row_at-place.ensures

@@ -8,4 +8,4 @@ returns-then-out-put_refused c = written-full (line-bytes (refused c.args.n)) _ 
 
 pub returns : goal.returns
 returns c =
-    written-done (line-bytes (refused c.args.n)) (rw (measured c.put_refused.ensures) at c.if-out-put_refused.false) c.put_refused-bytes.ensures
+    written-done (line-bytes (refused c.args.n)) (rw (measured c.put_refused.ensures) at c.if-out-put_refused.false) c.put_refused-2.ensures

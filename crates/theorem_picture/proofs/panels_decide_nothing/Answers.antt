@@ -1,4 +1,5 @@
 use Rattle.rules_picture.proofs.Panels.{answered-alike, built_alike, panel-blind, painted-alike, told-alike}
+use Rattle.theorem_picture.proofs.Cases.{two-panels}
 use Rattle.theorem_picture.proofs.panels_decide_nothing.Goals as goal
 
 pub returns-clause-answered : goal.returns-clause-answered
@@ -15,3 +16,6 @@ returns-clause-painted c = painted-alike
 
 pub returns-clause-told : goal.returns-clause-told
 returns-clause-told c = told-alike
+
+pub returns-clause-two : goal.returns-clause-two
+returns-clause-two c = two-panels

@@ -7,9 +7,5 @@ use Rattle.tile_reason.specs.Reasons.{asked_of, search-of}
 use Rattle.tile_reason.proofs.reason_of.Given as goal
 
 abbrev pub invariant-loop-i : goal.invariant-loop-i
-invariant-loop-i l = (l.i ≤ l.n)
-    × (l.search.count ≤ l.i)
+invariant-loop-i l = (l.search.count ≤ l.i)
     × (read_all (asked_of l.asked) (search-of l.search) (marks l.lines l.i (l.n - l.i)) ≡ read_all (asked_of l.asked) no-search (marks l.lines 0 l.n))
-
-abbrev pub decreases-loop-i : goal.decreases-loop-i
-decreases-loop-i l = l.n - l.i

@@ -1,4 +1,4 @@
--- Refused at 16 open layers; else the layer has its box, and a destructive blend touches the row if the box meets it.
+-- Refused with 16 layers open; else the layer's box holds, and a destructive blend may touch the row.
 use mathlib.Core.Path.{refl}
 use native.Mathlib.Omega.{arith}
 use Rattle.rect.specs.Rects.{box_of}
@@ -6,46 +6,40 @@ use Rattle.screen_layers.specs.Layers.{clip-of}
 use Rattle.tile_steps.proofs.Answered.{small_by, layer-small, push-deep, push-done}
 use Rattle.tile_steps.proofs.tell_push.Goals as goal
 
-pub returns-then-within-ge-MOST_LAYERS : goal.returns-then-within-ge-MOST_LAYERS
-returns-then-within-ge-MOST_LAYERS c = (
-  (λ p ls ws b q h. (push-deep _ _ _ _ _ _ h.count _ c.if-within-ge-MOST_LAYERS.true, λ z. absurd (omega arith))),
-  c.requires.2,
-  c.requires.1,
-  λ z. absurd (omega arith),
-)
+pub returns-then-within-ge-MOST_LAYERS-clause-told : goal.returns-then-within-ge-MOST_LAYERS-clause-told
+returns-then-within-ge-MOST_LAYERS-clause-told c = λ p ls ws b q h. push-deep _ _ _ _ _ _ h.count c.if-within-ge-MOST_LAYERS.true
 
 pub touches-requires : goal.touches-requires
 touches-requires c =
     let s = c.args in
-    small_by c.layer_box-bbox.ensures (layer-small (box_of s.spot.viewport) (box_of s.within.clip) (clip-of s.clip) c.requires.1.small c.requires.3)
+    small_by c.layer_box-bbox.ensures (layer-small (box_of s.spot.viewport) (box_of s.within.clip) (clip-of s.props.clip) c.requires.1.small c.requires.3)
 
-pub returns-then-touches : goal.returns-then-touches
-returns-then-touches c =
-    let s = c.args in
-    let low = c.requires.2 in (
-      (λ p ls ws b q h. (
-        push-done _ _ _ _ _ _ h.count c.if-within-ge-MOST_LAYERS.false h.clip b q c.layer_box-bbox.ensures c.touches.ensures (rw c.if-touches.true),
-        λ z. record { clip = refl; count = omega arith },
-      )),
-      record { next = low.next; paints = low.paints; layers = low.layers; filters = low.filters; levels = omega arith },
-      record {
-        small = small_by c.layer_box-bbox.ensures (layer-small (box_of s.spot.viewport) (box_of s.within.clip) (clip-of s.clip) c.requires.1.small c.requires.3);
-        few = omega arith;
-      },
-      λ z. refl,
-    )
-
-pub returns-else-touches : goal.returns-else-touches
-returns-else-touches c =
+pub returns-then-touches-clause-opens : goal.returns-then-touches-clause-opens
+returns-then-touches-clause-opens c =
     let s = c.args in (
-      (λ p ls ws b q h. (
-        push-done _ _ _ _ _ _ h.count c.if-within-ge-MOST_LAYERS.false h.clip b q c.layer_box-bbox.ensures c.touches.ensures (rw c.if-touches.false),
-        λ z. record { clip = refl; count = omega arith },
-      )),
-      c.requires.2,
       record {
-        small = small_by c.layer_box-bbox.ensures (layer-small (box_of s.spot.viewport) (box_of s.within.clip) (clip-of s.clip) c.requires.1.small c.requires.3);
+        small = small_by c.layer_box-bbox.ensures (layer-small (box_of s.spot.viewport) (box_of s.within.clip) (clip-of s.props.clip) c.requires.1.small c.requires.3);
         few = omega arith;
       },
-      λ z. refl,
+      refl,
     )
+
+pub returns-then-touches-clause-told : goal.returns-then-touches-clause-told
+returns-then-touches-clause-told c =
+    λ p ls ws b q h.
+    push-done _ _ _ _ _ _ h.count c.if-within-ge-MOST_LAYERS.false h.clip b q c.layer_box-bbox.ensures c.touches.ensures (rw c.if-touches.true)
+
+pub returns-else-touches-clause-opens : goal.returns-else-touches-clause-opens
+returns-else-touches-clause-opens c =
+    let s = c.args in (
+      record {
+        small = small_by c.layer_box-bbox.ensures (layer-small (box_of s.spot.viewport) (box_of s.within.clip) (clip-of s.props.clip) c.requires.1.small c.requires.3);
+        few = omega arith;
+      },
+      refl,
+    )
+
+pub returns-else-touches-clause-told : goal.returns-else-touches-clause-told
+returns-else-touches-clause-told c =
+    λ p ls ws b q h.
+    push-done _ _ _ _ _ _ h.count c.if-within-ge-MOST_LAYERS.false h.clip b q c.layer_box-bbox.ensures c.touches.ensures (rw c.if-touches.false)

@@ -1,6 +1,6 @@
 -- The two walks call each other, a layer's nodes one level deeper each time: the levels that are left fall with every layer. So far the nodes before
 -- this one are told as the rules walk them.
-use Prim.Native.Nat.{◌+◌, ◌-◌, ◌*◌, ◌≤◌}
+use Prim.Native.Nat.{◌+◌, ◌*◌}
 use mathlib.Core.List.{List}
 use Rattle.rules.specs.Plans.{Layer}
 use Rattle.rect.specs.Rects.{box_of}
@@ -17,10 +17,6 @@ decreases-tell_nodes l = 2 * l.depth + 1
 
 abbrev pub invariant-tell_nodes-loop-i : goal.invariant-tell_nodes-loop-i
 invariant-tell_nodes-loop-i l =
-    (l.i ≤ l.b)
-    × Low l.current
-    × Left (nodes l.spot l.l l.w l.depth l.b) (box_of l.spot.viewport) l.within
-    l.a (λ (ls : List Layer). telling l.fn.tale ls l.initial.lines) l.i (λ (ls : List Layer). telling l.current ls l.lines)
-
-abbrev pub decreases-tell_nodes-loop-i : goal.decreases-tell_nodes-loop-i
-decreases-tell_nodes-loop-i l = l.b - l.i
+    Low l.tale
+    × Left (nodes l.spot l.file.layout l.file.words.now l.depth l.b) (box_of l.spot.viewport) l.within
+    l.a (λ (ls : List Layer). telling l.initial.tale ls l.initial.lines) l.i (λ (ls : List Layer). telling l.tale ls l.lines)

@@ -1,5 +1,4 @@
 -- So far the draws before this one are told as the rules' steps, none of them refused.
-use Prim.Native.Nat.{◌-◌, ◌≤◌}
 use mathlib.Core.List.{List}
 use Rattle.rules.specs.Plans.{Layer}
 use Rattle.rect.specs.Rects.{box_of}
@@ -10,10 +9,6 @@ use Rattle.tile_walk.proofs.tell_draws.Given as goal
 
 abbrev pub invariant-loop-i : goal.invariant-loop-i
 invariant-loop-i l =
-    (l.i ≤ l.b)
-    × Low l.current
-    × Left (draws l.spot l.l l.w l.b) (box_of l.spot.viewport) l.within
-    l.a (λ (ls : List Layer). telling l.fn.tale ls l.initial.lines) l.i (λ (ls : List Layer). telling l.current ls l.lines)
-
-abbrev pub decreases-loop-i : goal.decreases-loop-i
-decreases-loop-i l = l.b - l.i
+    Low l.tale
+    × Left (draws l.spot l.file.layout l.file.words.now l.b) (box_of l.spot.viewport) l.within
+    l.a (λ (ls : List Layer). telling l.initial.tale ls l.initial.lines) l.i (λ (ls : List Layer). telling l.tale ls l.lines)

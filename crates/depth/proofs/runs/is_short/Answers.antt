@@ -1,9 +1,12 @@
+use mathlib.Core.Path.{sym, ◌∙◌}
+use borrow.Author.Tests.{ltb-false}
 use Rattle.rules.specs.Depth.{is-visible}
 use Rattle.depth.proofs.Answering.{roomy, empty}
 use Rattle.depth.proofs.runs.is_short.Goals as goal
+use Rattle.depth.proofs.runs.is_short.Goals.{then-lo-hi, else-lo-hi}
 
-pub returns-then-hi-lo : goal.returns-then-hi-lo
-returns-then-hi-lo c = empty (is-visible _) _ _ _ _ c.if-hi-lo.true
-
-pub returns-then-hi-lo-2 : goal.returns-then-hi-lo-2
-returns-then-hi-lo-2 c = roomy (is-visible _) _ _ _ _ c.if-hi-lo-2.true
+pub returns-else-room-hi : goal.returns-else-room-hi
+returns-else-room-hi c = rw c.if-room-hi.false (elim c.if-lo-hi.branch [
+  | then-lo-hi w ↦ roomy (is-visible c.args.ceiling) c.args.depth.now c.args.lo c.args.hi _ (ltb-false _ _ (sym w.value-is ∙ c.if-room-hi.false))
+  | else-lo-hi w ↦ empty (is-visible c.args.ceiling) c.args.depth.now c.args.lo c.args.hi _ w.if-lo-hi.false
+])

@@ -1,42 +1,24 @@
--- Each test of the code gives the definition's next number. A good viewport has at most 512 rows of 64 buckets.
-use Rattle.std.proofs.Common.{◌≡◌}
-use mathlib.Core.Path.{sym, ◌∙◌}
-use Rattle.rules.specs.Boxes.{rows_of}
-use Rattle.rules.specs.Plans.{buckets-across}
-use Rattle.rect.proofs.Snapping.{good-seen, bad-seen}
-use Rattle.screen.specs.Screens.{frame}
-use Rattle.screen.proofs.Laws.{few-rows}
-use Rattle.screen.proofs.Resets.{begun}
-use Rattle.host.proofs.Ways.{bad-view, bad-rooms, bad-depth, good-lent}
+-- The viewport first, then the arenas of the screen that a reset makes.
+use mathlib.Core.Path.{ap, ◌∙◌}
+use Rattle.std.proofs.Common.{rules}
+use Rattle.std.proofs.lemmas.Result.{err_from_is_err_and}
+use Rattle.rect.proofs.Snapping.{bad-seen}
+use Rattle.screen.specs.declared.Screen.{Screen}
+use Rattle.screen.specs.Screens.{frame, frame-of}
+use Rattle.screen.proofs.Resets.{begun, begun-good}
+use Rattle.host.specs.Border.{arenas-in, arenas_number}
+use Rattle.host.proofs.Ways.{bad-view}
 use Rattle.host.proofs.border.judge_arenas.Goals as goal
-use Rattle.host.proofs.border.judge_arenas.Goals.{After-rows-n, After-buckets}
 
--- the screen is the one that a reset makes
-rows_are : (c : After-rows-n) → c.rows-n.result ≡ rows_of (frame c.args.setup c.args.viewport).viewport
-rows_are c = rw (begun c.args.setup c.args.viewport _ c.in-Good.ensures _ c.fresh-screen.ensures) at c.rows-n.ensures
+pub returns-in_err-seen : goal.returns-in_err-seen
+returns-in_err-seen c =
+    let p = err_from_is_err_and c.from_residual.result c.from_residual.ensures.1 in
+    rw (p.1, p.2) (bad-view (frame c.args.setup c.args.viewport) _ _ (bad-seen _ _ c.in_err-seen.ensures))
 
-buckets-are : (c : After-buckets) → c.buckets.result ≡ buckets-across (frame c.args.setup c.args.viewport)
-buckets-are c = rw (begun c.args.setup c.args.viewport _ c.in-Good.ensures _ c.fresh-screen.ensures) at c.buckets.ensures
-
-pub returns-in_default : goal.returns-in_default
-returns-in_default c = bad-view (frame c.args.setup c.args.viewport) _ (bad-seen _ c.in_default.ensures)
-
-pub is_good_rooms-requires : goal.is_good_rooms-requires
-is_good_rooms-requires c = rw (rows_are (goal.at.is_good_rooms-requires c).After-rows-n) (few-rows _ (good-seen _ _ c.in-Good.ensures).0)
-
-pub returns-then-not-is_good_rooms : goal.returns-then-not-is_good_rooms
-returns-then-not-is_good_rooms c =
-    bad-rooms (frame c.args.setup c.args.viewport) _ (good-seen _ _ c.in-Good.ensures).0 _ (rows_are (goal.at.returns-then-not-is_good_rooms c).After-rows-n)
-    (sym c.is_good_rooms.ensures ∙ c.if-not-is_good_rooms.true)
-
-pub returns-then-depth-n : goal.returns-then-depth-n
-returns-then-depth-n c =
-    let at = goal.at.returns-then-depth-n c in
-    bad-depth (frame c.args.setup c.args.viewport) _ (good-seen _ _ c.in-Good.ensures).0 _ (rows_are at.After-rows-n)
-    (sym c.is_good_rooms.ensures ∙ c.if-not-is_good_rooms.false) _ (buckets-are at.After-buckets) c.if-depth-n.true
+pub judge_lent-requires : goal.judge_lent-requires
+judge_lent-requires c = search (rules, begun-good)
 
 pub returns : goal.returns
 returns c =
-    let at = goal.at.returns c in
-    good-lent (frame c.args.setup c.args.viewport) _ (good-seen _ _ c.in-Good.ensures).0 _ (rows_are at.After-rows-n)
-    (sym c.is_good_rooms.ensures ∙ c.if-not-is_good_rooms.false) _ (buckets-are at.After-buckets) c.if-depth-n.false
+    c.judge_lent.ensures
+    ∙ ap (λ (s : Screen). arenas_number (frame-of s) (arenas-in c.args.lent.now)) (begun c.args.setup c.args.viewport _ c.in_ok-seen.ensures _ c.fresh.ensures)

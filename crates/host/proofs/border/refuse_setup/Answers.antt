@@ -1,11 +1,11 @@
 -- The form, then the number.
-use Rattle.std.proofs.Common.{rules}
+use mathlib.Core.Path.{◌∙◌}
 use Rattle.file_form.proofs.Laid.{good-form, bad-form}
 use Rattle.host.proofs.Ways.{unasked-form, unasked-file}
 use Rattle.host.proofs.border.refuse_setup.Goals as goal
 
-pub returns-in_default : goal.returns-in_default
-returns-in_default c = search (rules, unasked-form, bad-form)
+pub returns-in-Ok : goal.returns-in-Ok
+returns-in-Ok c = c.number.ensures ∙ unasked-file _ _ _ (good-form _ _ c.in-Ok.ensures)
 
-pub returns : goal.returns
-returns c = unasked-file _ _ _ (good-form c.args.file.now c.in-Good.l c.in-Good.ensures)
+pub returns-in-Err : goal.returns-in-Err
+returns-in-Err c = let b = bad-form _ c.in-Err.ensures in c.number-in-Err.ensures ∙ rw b.0 (unasked-form _ _ b.1)

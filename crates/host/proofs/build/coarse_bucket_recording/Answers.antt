@@ -1,26 +1,22 @@
 -- Words that ask for no setup are refused. Where the state's words stand for no screen the border answers; else the call's own equation, carried over to
 -- the words.
 use Rattle.std.proofs.Common.{rules}
-use Rattle.screen.specs.Tables.{tables}
 use Rattle.screen.specs.Screens.{setup-of}
-use Rattle.host_screen.proofs.Words.{long}
-use Rattle.host.proofs.Asked.{recording-unasked, recording-asked}
-use Rattle.host.proofs.Built.{recording-built}
-use Rattle.host.proofs.Unheld.{recording-unheld}
+use Rattle.screen.specs.Tables.{Tables, tables}
+use Rattle.host.proofs.Asked.{recording_asked}
+use Rattle.host.proofs.Built.{recording_built}
+use Rattle.host.proofs.Unheld.{recording_unheld}
 use Rattle.host.proofs.build.coarse_bucket_recording.Goals as goal
 
 pub returns-in_default : goal.returns-in_default
-returns-in_default c = search (rules, recording-unasked)
-
-pub returns-in_default-screen_of : goal.returns-in_default-screen_of
-returns-in_default-screen_of c =
-    recording-asked _ (setup-of c.in-Good.asked) c.in-Good.ensures _ _ (tables _ _ _ _ _ _ _ _ _ _)
-    (recording-unheld _ _ _ _ (tables _ _ _ _ _ _ _ _ _ _) c.in_default-screen_of.ensures c.refuse_recording.ensures)
-
-pub leave-requires : goal.leave-requires
-leave-requires c = search (rules, long)
+returns-in_default c =
+    let t : Tables = tables c.args.render.now c.args.fills.now c.args.depth.now c.args.rows.now c.args.painting.now c.args.layers.now c.args.opacities.now c.args.paint_attrs.now c.args.layer_attrs.now c.args.filter_paints.now in
+    let e = recording_asked _ (setup-of c.in-Ok.asked) c.in-Ok.ensures _ _ t (recording_unheld _ _ _ _ t c.in_default.ensures c.refuse_recording.ensures) in
+    search (rules, e)
 
 pub returns : goal.returns
 returns c =
-    recording-asked _ (setup-of c.in-Good.asked) c.in-Good.ensures _ _ (tables _ _ _ _ _ _ _ _ _ _)
-    (recording-built _ _ _ _ _ _ c.in-Good-screen_of.ensures c.leave.ensures.0 c.leave.ensures.1 _ _ _ _ c.bucket_recording-built.ensures)
+    let t : Tables = tables c.args.render.now c.args.fills.now c.args.depth.now c.args.rows.now c.args.painting.now c.args.layers.now c.args.opacities.now c.args.paint_attrs.now c.args.layer_attrs.now c.args.filter_paints.now in
+    let e = recording_asked _ (setup-of c.in-Ok.asked) c.in-Ok.ensures _ _ t
+    (recording_built _ _ _ _ _ _ c.in-Some.ensures c.leave.ensures.0 c.leave.ensures.1 _ _ t _ c.bucket_recording-done.ensures.recorded) in
+    search (rules, e)

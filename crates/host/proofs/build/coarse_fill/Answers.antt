@@ -1,15 +1,9 @@
--- Where the words stand for no screen the border answers; else the call's own equation, carried over to the words.
+-- The call's own equation, carried over to the words.
 use Rattle.std.proofs.Common.{rules}
-use Rattle.host_screen.proofs.Words.{long}
-use Rattle.host.proofs.Built.{fill-built}
-use Rattle.host.proofs.Unheld.{fill-unheld}
+use Rattle.host.proofs.Built.{fill_built}
 use Rattle.host.proofs.build.coarse_fill.Goals as goal
 
-pub returns-in_default : goal.returns-in_default
-returns-in_default c = search (rules, fill-unheld)
-
-pub leave-requires : goal.leave-requires
-leave-requires c = search (rules, long)
-
 pub returns : goal.returns
-returns c = fill-built _ _ _ _ _ _ c.in-Good.ensures c.leave.ensures.0 c.leave.ensures.1 _ _ _ _ _ _ _ c.fill-built.ensures
+returns c =
+    let e = fill_built _ _ _ _ _ _ c.in-Some.ensures c.leave.ensures.0 c.leave.ensures.1 _ _ _ _ _ _ _ c.fill-done.ensures.filled in
+    search (rules, e)

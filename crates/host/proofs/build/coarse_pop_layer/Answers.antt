@@ -1,15 +1,9 @@
--- Where the words stand for no screen the border answers; else the call's own equation, carried over to the words.
+-- The call's own equation, carried over to the words.
 use Rattle.std.proofs.Common.{rules}
-use Rattle.host_screen.proofs.Words.{long}
-use Rattle.host.proofs.Built.{pop-built}
-use Rattle.host.proofs.Unheld.{pop-unheld}
+use Rattle.host.proofs.Built.{pop_built}
 use Rattle.host.proofs.build.coarse_pop_layer.Goals as goal
 
-pub returns-in_default : goal.returns-in_default
-returns-in_default c = search (rules, pop-unheld)
-
-pub leave-requires : goal.leave-requires
-leave-requires c = search (rules, long)
-
 pub returns : goal.returns
-returns c = pop-built _ _ _ _ _ _ c.in-Good.ensures c.leave.ensures.0 c.leave.ensures.1 _ _ _ c.pop_layer-built.ensures
+returns c =
+    let e = pop_built _ _ _ _ _ _ c.in-Some.ensures c.leave.ensures.0 c.leave.ensures.1 _ _ _ c.pop_layer-done.ensures.popped in
+    search (rules, e)

@@ -1,17 +1,10 @@
--- Where the words stand for no screen the border answers; else the call's own equation, carried over to the words.
+-- The call's own equation, carried over to the words.
 use Rattle.std.proofs.Common.{rules}
-use Rattle.host_screen.proofs.Words.{long}
-use Rattle.host.proofs.Built.{push-built}
-use Rattle.host.proofs.Unheld.{push-unheld}
+use Rattle.host.proofs.Built.{push_built}
 use Rattle.host.proofs.build.coarse_push_layer.Goals as goal
-
-pub returns-in_default : goal.returns-in_default
-returns-in_default c = search (rules, push-unheld)
-
-pub leave-requires : goal.leave-requires
-leave-requires c = search (rules, long)
 
 pub returns : goal.returns
 returns c =
-    rw (← c.props_of-props.ensures)
-    (push-built _ _ _ _ _ _ _ c.in-Good.ensures c.leave.ensures.0 c.leave.ensures.1 _ _ _ _ _ _ _ c.push_layer-built.ensures)
+    let e = push_built _ _ _ _ _ _ _ c.in-Some.ensures c.leave.ensures.0 c.leave.ensures.1 _ _ _ _ _ _ _ c.push_layer-done.ensures.pushed in
+    let p = c.props_of-props.ensures in
+    search (rules, e, p)

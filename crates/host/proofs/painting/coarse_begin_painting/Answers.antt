@@ -1,15 +1,6 @@
--- Where the words stand for no screen the border answers; else the call's own equation, carried over to the words.
-use Rattle.std.proofs.Common.{rules}
-use Rattle.host_screen.proofs.Words.{long}
-use Rattle.host.proofs.Built.{begin-built}
-use Rattle.host.proofs.Unheld.{begin-unheld}
+-- The call's own equation, carried over to the words.
+use Rattle.host.proofs.Built.{begin_built}
 use Rattle.host.proofs.painting.coarse_begin_painting.Goals as goal
 
-pub returns-in_default : goal.returns-in_default
-returns-in_default c = search (rules, begin-unheld)
-
-pub leave-requires : goal.leave-requires
-leave-requires c = search (rules, long)
-
 pub returns : goal.returns
-returns c = begin-built _ _ _ _ _ _ c.in-Good.ensures c.leave.ensures.0 c.leave.ensures.1 _ _ _ _ c.begin_painting-built.ensures
+returns c = begin_built _ _ _ _ _ _ c.in-Some.ensures c.leave.ensures.0 c.leave.ensures.1 _ _ _ _ c.begin_painting-done.ensures

@@ -4,12 +4,12 @@ use Rattle.std.proofs.Common.{arith}
 use Rattle.host.proofs.Listed.{found_none, found_some, one-result}
 use Rattle.host.proofs.spans.found_spans.Goals as goal
 
-pub returns-then-number-ne-DONE : goal.returns-then-number-ne-DONE
-returns-then-number-ne-DONE c = found_none _ _ _ _ _ _ _ _ _ _ _ c.words_for-n.ensures c.coarse_visible_runs-number.ensures c.if-number-ne-DONE.true
+pub returns-then-number-ne0 : goal.returns-then-number-ne0
+returns-then-number-ne0 c = found_none _ _ _ _ _ _ _ _ _ _ _ c.words_for-n.ensures c.coarse_visible_runs-number.ensures c.if-number-ne0.true
 
 pub bounds-count-0 : goal.bounds-count-0
 bounds-count-0 c =
-    omega (arith, one-result _ _ _ _ _ _ _ _ _ _ _ c.words_for-n.ensures c.coarse_visible_runs-number.ensures c.if-number-ne-DONE.false)
+    omega (arith, one-result _ _ _ _ _ _ _ _ _ _ _ c.words_for-n.ensures c.coarse_visible_runs-number.ensures c.if-number-ne0.false)
 
 pub returns : goal.returns
-returns c = found_some _ _ _ _ _ _ _ _ _ _ _ c.words_for-n.ensures c.coarse_visible_runs-number.ensures c.if-number-ne-DONE.false
+returns c = found_some _ _ _ _ _ _ _ _ _ _ _ c.words_for-n.ensures c.coarse_visible_runs-number.ensures c.if-number-ne0.false

@@ -1,17 +1,20 @@
 -- The unset runs go to the front of the list, are spread to pieces, and the place moves on.
-use Rattle.paint_command.proofs.Filling.{depth-refused, depth-ready, depth-done}
+use Rattle.std.proofs.lemmas.Result.{err_from_is_err_and}
+use Rattle.paint_command.proofs.Filling.{depth_refused, depth_ready, depth_done}
 use Rattle.paint_command.proofs.fills.paint_depth.Goals as goal
 
-pub returns-then-number-ne-DONE : goal.returns-then-number-ne-DONE
-returns-then-number-ne-DONE c = depth-refused c.args.width _ _ c.args.list.now _ _ _ _ c.args.panel c.args.fill.buckets c.requires.first_bound.0 c.requires.first_bound.1 c.requires.first_bound.3 _
-    c.unset_runs_and_write-found.ensures _ c.if-number-ne-DONE.true c.refused.ensures
+pub returns-in_err-n : goal.returns-in_err-n
+returns-in_err-n c =
+    let p = err_from_is_err_and c.from_residual.result c.from_residual.ensures.1 in
+    rw (p.1, p.2) (depth_refused c.args.width _ _ c.args.list.now _ _ _ _ c.args.mark.panel c.args.fill.buckets c.requires.first_bound.0 c.requires.first_bound.1
+    c.requires.first_bound.3 _ c.in_err-n.ensures)
 
 pub spread-requires : goal.spread-requires
-spread-requires c = rw c.tiles.ensures (depth-ready c.args.width _ c.args.painting.now c.args.list.now _ _ _
-    c.args.fill.attrs_idx c.args.panel c.args.fill.buckets c.requires.first_bound.0 c.requires.first_bound.1 c.requires.first_bound.3 _
-    c.unset_runs_and_write-found.ensures c.if-number-ne-DONE.false c.requires.first_bound.2)
+spread-requires c = rw c.tiles.ensures (depth_ready c.args.width c.args.depth.now c.args.painting.now c.args.list.now _ _ _
+    c.args.fill.attrs_idx c.args.mark.panel c.args.fill.buckets c.requires.first_bound.0 c.requires.first_bound.1 c.requires.first_bound.3 _
+    c.in_ok-n.ensures c.requires.first_bound.2)
 
 pub returns : goal.returns
-returns c = depth-done c.args.width _ c.args.painting.now c.args.list.now _ _ _ _ c.args.panel c.args.fill.buckets
-    c.requires.first_bound.0 c.requires.first_bound.1 c.requires.first_bound.3 _ c.unset_runs_and_write-found.ensures c.if-number-ne-DONE.false _ _ _
+returns c = depth_done c.args.width _ c.args.painting.now c.args.list.now _ _ _ _ c.args.mark.panel c.args.fill.buckets
+    c.requires.first_bound.0 c.requires.first_bound.1 c.requires.first_bound.3 _ c.in_ok-n.ensures _ _ _
     c.advance.ensures (rw c.tiles.ensures at c.spread.ensures)

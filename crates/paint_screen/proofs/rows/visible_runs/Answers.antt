@@ -1,29 +1,8 @@
-use mathlib.Core.Path.{sym, ◌∙◌}
-use native.Mathlib.Omega.{arith}
-use Rattle.paint_screen.specs.Stepping.{Within}
-use Rattle.paint_screen.proofs.Parts.{depth-within}
-use Rattle.paint_screen.proofs.Runs.{visible-refused, visible-done}
+use Rattle.std.proofs.lemmas.Result.{err_from_is_err_and}
+use Rattle.paint_screen.proofs.Runs.{visible_refused}
 use Rattle.paint_screen.proofs.rows.visible_runs.Goals as goal
-use Rattle.paint_screen.proofs.rows.visible_runs.Goals.{After-buckets-b}
 
--- the row's part lies within the depth words
-there : (c : After-buckets-b) → Within c.buckets-b.result c.args.row c.args.depth.now
-there c = rw c.buckets-b.ensures (depth-within _ _ _ (sym c.judge_runs-n.ensures ∙ c.if-n-ne-DONE.false))
-
-pub returns-then-n-ne-DONE : goal.returns-then-n-ne-DONE
-returns-then-n-ne-DONE c = visible-refused _ _ _ _ _ c.judge_runs-n.ensures c.if-n-ne-DONE.true _ _
-
-pub overflow_mul-at : goal.overflow_mul-at
-overflow_mul-at c = omega (arith, (there (goal.at.overflow_mul-at c).After-buckets-b).near)
-
-pub overflow_add-at : goal.overflow_add-at
-overflow_add-at c = let w = there (goal.at.overflow_add-at c).After-buckets-b in omega (arith, w.near, w.short)
-
-pub offset_bounds-depth-at : goal.offset_bounds-depth-at
-offset_bounds-depth-at c = omega (arith, (there (goal.at.offset_bounds-depth-at c).After-buckets-b).near)
-
-pub slice_bounds-visible_runs-end : goal.slice_bounds-visible_runs-end
-slice_bounds-visible_runs-end c = omega (arith, (there (goal.at.slice_bounds-visible_runs-end c).After-buckets-b).ends)
-
-pub returns : goal.returns
-returns c = visible-done _ _ _ _ _ c.judge_runs-n.ensures c.if-n-ne-DONE.false _ c.buckets-b.ensures _ _ _ c.visible_runs.ensures
+pub returns-in_err-judge_runs : goal.returns-in_err-judge_runs
+returns-in_err-judge_runs c =
+    let p = err_from_is_err_and c.from_residual.result c.from_residual.ensures.1 in
+    rw (p.1, p.2) (visible_refused _ _ _ _ _ c.in_err-judge_runs.ensures _ _)

@@ -1,13 +1,30 @@
--- What the look has seen of the fill is its first run or none, and the search gives those from where it stopped.
-use mathlib.Core.Path.{◌∙◌}
-use Rattle.paint_whole.proofs.Putting.{put_both}
+use mathlib.Core.Path.{refl, ◌∙◌}
+use Rattle.paint_whole.proofs.Putting.{put_first, put_room, put_more, room_left, all_put}
 use Rattle.paint_whole.proofs.pieces.put_fill.Goals as goal
 
-pub returns-then-seen-clause-list_after : goal.returns-then-seen-clause-list_after
-returns-then-seen-clause-list_after c =
-    let found = rw c.if-seen.true at c.requires.0.found in
-    let low = c.wide-a.ensures ∙ c.below.ensures in
-    let high = c.wide-e.ensures ∙ c.above.ensures in
-    let rest = rw high at c.put_runs.ensures.list_after in
-    let count = rw high at c.put_runs.ensures.value in
-    (put_both _ _ _ _ _ _ _ _ _ _ _ _ _ _ found c.requires.2 _ _ _ (rw low at c.put_run.ensures) count rest).1
+pub loop-run-init : goal.loop-run-init
+loop-run-init c = record { put = put_first _ _ _ _ _ _ _ _ _ _ _ _ _; same = refl }
+
+pub push-requires-in-Some : goal.push-requires-in-Some
+push-requires-in-Some c =
+    let room = room_left _ _ _ _ c.requires.2 _ c.first_run-first.ensures _ c.push.ensures.count _ (c.push.ensures.list ∙ rw c.piece.ensures) in
+    put_room _ _ _ _ _ _ _ _ _ _ _ _ _ _ _ _ c.loop-run.invariant.put room _ _ (rw c.end.ensures at c.in-Some.ensures.runs)
+
+pub loop-run-preserved : goal.loop-run-preserved
+loop-run-preserved c =
+    let room = room_left _ _ _ _ c.requires.2 _ c.first_run-first.ensures _ c.push.ensures.count _ (c.push.ensures.list ∙ rw c.piece.ensures) in
+    record {
+      put = rw c.push-in-Some.ensures.count (put_more _ _ _ _ _ _ _ _ _ _ _ _ _ _ _ _ c.loop-run.invariant.put room _ _ (rw c.end.ensures at c.in-Some.ensures.runs) _
+          (c.push-in-Some.ensures.list ∙ rw c.piece-in-Some.ensures));
+      same = c.push-in-Some.ensures.same ∙ c.loop-run.invariant.same;
+    }
+
+pub returns-clause-count : goal.returns-clause-count
+returns-clause-count c =
+    (all_put _ _ _ _ c.requires.2 _ c.first_run-first.ensures _ c.push.ensures.count _ (c.push.ensures.list ∙ rw c.piece.ensures) _ _ _ c.loop-run.invariant.put
+    (rw c.end.ensures at c.in_default.ensures.runs)).0
+
+pub returns-clause-list : goal.returns-clause-list
+returns-clause-list c =
+    (all_put _ _ _ _ c.requires.2 _ c.first_run-first.ensures _ c.push.ensures.count _ (c.push.ensures.list ∙ rw c.piece.ensures) _ _ _ c.loop-run.invariant.put
+    (rw c.end.ensures at c.in_default.ensures.runs)).1

@@ -1,17 +1,19 @@
 -- Invariant: so far the commands are painted as single steps would paint them. A run of commands that one look settles goes on from there, and then a fill
 -- that is shown in part, whose pieces are those of its step.
+use mathlib.Core.Path.{◌≡◌}
 use Prim.Native.Nat.{◌-◌, ◌≤◌}
-use Rattle.sizes.specs.Widths.{bucket-tiles}
-use Rattle.paint_command.specs.Painting.{word, attrs-at}
-use Rattle.paint_whole.specs.Running.{own-step}
+use Rattle.paint_command.specs.Painting.{word}
 use Rattle.paint_whole.specs.Kinds.{place, Reaches}
+use Rattle.paint_whole.specs.Rows.{steps_of}
 use Rattle.paint_whole.proofs.plain.run_commands.Given as goal
 
-abbrev pub invariant-loop-width : goal.invariant-loop-width
-invariant-loop-width l =
-    Reaches (own-step (bucket-tiles l.width) (attrs-at l.paint_attrs l.paints l.layer_attrs l.layers) l.state l.render l.fills) l.depth (word l.state 1)
-    (place l.start l.pieces l.nesting l.initial.list) (place l.at l.n l.level l.list)
-    × (l.at ≤ l.stop)
+abbrev pub invariant-loop-part : goal.invariant-loop-part
+invariant-loop-part l = record {
+  reaches : Reaches (steps_of l.row) l.depth (word l.row.state.now 1)
+      (place l.start l.initial.pieces.count l.nesting l.initial.pieces.list.now) (place l.at l.pieces.count l.level l.pieces.list.now);
+  at_le_stop : l.at ≤ l.stop;
+  same : l.pieces.list.ghost_name ≡ l.initial.pieces.list.ghost_name;
+}
 
-abbrev pub decreases-loop-width : goal.decreases-loop-width
-decreases-loop-width l = l.stop - l.at
+abbrev pub decreases-loop-part : goal.decreases-loop-part
+decreases-loop-part l = l.stop - l.at

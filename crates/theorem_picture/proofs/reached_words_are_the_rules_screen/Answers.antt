@@ -1,0 +1,26 @@
+use Rattle.file_read.proofs.Given.{good-props-said, props-good}
+use Rattle.theorem_picture.proofs.Props.{push-reached}
+use Rattle.theorem_picture.proofs.Reached.{reached, step-reached}
+use Rattle.theorem_picture.proofs.Answered.{stands-answered, calls-said, refused-kept}
+use Rattle.theorem_picture.proofs.reached_words_are_the_rules_screen.Goals as goal
+
+pub returns-clause-stands : goal.returns-clause-stands
+returns-clause-stands c = λ f xs l h. reached h
+
+pub returns-clause-answered : goal.returns-clause-answered
+returns-clause-answered c = stands-answered
+
+pub returns-clause-said : goal.returns-clause-said
+returns-clause-said c = calls-said
+
+pub returns-clause-refused : goal.returns-clause-refused
+returns-clause-refused c = refused-kept
+
+pub returns-clause-steps : goal.returns-clause-steps
+returns-clause-steps c = λ f xs l x h e. step-reached x h e
+
+pub returns-clause-pushes : goal.returns-clause-pushes
+returns-clause-pushes c = λ f xs l p z r e. push-reached p z r e
+
+pub returns-clause-properties : goal.returns-clause-properties
+returns-clause-properties c = record { said = good-props-said; given = props-good }

@@ -1,0 +1,57 @@
+-- The building calls and the steps of the rules are the same: a done call, whatever words it was lent, is the step that its words say, and each
+-- step is such a call.
+use Rattle.std.specs.Prelude.{ℕ, ◌%◌, ◌≡◌, true, T, List, [], ◌∷◌, ◌++◌, length}
+use lib.Ieee.{binary32, fits}
+use Rattle.rules.specs.Answers.{Done}
+use Rattle.rules.specs.Inputs.{Props, good-props}
+use Rattle.rules.specs.Plans.{Frame, Step, a-push}
+use Rattle.screen.specs.Tables.{ScreenLent}
+use Rattle.screen_layers.specs.declared.LayerProps.{LayerProps}
+use Rattle.screen_layers.specs.Layers.{good-given}
+use Rattle.step_fill.specs.declared.Draw.{Draw}
+use Rattle.step_filter.specs.Filter.{FilterGiven}
+use Rattle.file_read.specs.Reading.{props_in, props_said}
+use Rattle.file_steps.specs.Steps.{call_at}
+use Rattle.theorem_picture.specs.Calls.{fill-at, push_at, pop-at, filter-at, fill-said, pop-said, filter-said}
+use Rattle.theorem_picture.specs.Reached.{Reached}
+
+-- Done, or lent whole records, a building call is the step that its words say. The properties of a done push are a step's: its opacity is an f32.
+pub record Said (l : ScreenLent) : Type 0 where
+  pub fills : (ps ss : List ℕ) (d : Draw) → (fill-at ps ss d l).number ≡ Done → fill-at ps ss d l ≡ call_at (fill-said ps ss d) l
+  pub fills-whole : (ps ss : List ℕ) (d : Draw) → length ps % 4 ≡ 0 → length ss % 5 ≡ 0 → fill-at ps ss d l ≡ call_at (fill-said ps ss d) l
+  pub pushes : (p : LayerProps) (q : Props) → p ≡ props_in q → push_at p l ≡ call_at (a-push q) l
+  pub properties : (p : LayerProps) → T (fits binary32 p.opacity) → (push_at p l).number ≡ Done → p ≡ props_in (props_said p)
+  pub pops : (ss : List ℕ) → (pop-at ss l).number ≡ Done → pop-at ss l ≡ call_at (pop-said ss) l
+  pub pops-whole : (ss : List ℕ) → length ss % 5 ≡ 0 → pop-at ss l ≡ call_at (pop-said ss) l
+  pub filters : (g : FilterGiven) → filter-at g l ≡ call_at (filter-said g) l
+
+abbrev pub CallsSaid : Type 0
+CallsSaid = (l : ScreenLent) → Said l
+
+-- Given properties that a push accepts, their opacity an f32, are those of a layer of the rules; those of a layer of the rules are accepted exactly
+-- if the rules accept them.
+pub record PropertiesGood : Type 0 where
+  pub said : (p : LayerProps) → T (fits binary32 p.opacity) → good-given p ≡ true → (props_in (props_said p) ≡ p) × (good-props (props_said p) ≡ true)
+  pub given : (p : Props) → good-given (props_in p) ≡ good-props p
+
+-- A refused building call leaves every word as it was, whatever it was lent.
+pub record Kept (l : ScreenLent) : Type 0 where
+  pub fills : (ps ss : List ℕ) (d : Draw) → ((fill-at ps ss d l).number ≡ Done → ⊥) → (fill-at ps ss d l).value ≡ l
+  pub pushes : (p : LayerProps) → ((push_at p l).number ≡ Done → ⊥) → (push_at p l).value ≡ l
+  pub pops : (ss : List ℕ) → ((pop-at ss l).number ≡ Done → ⊥) → (pop-at ss l).value ≡ l
+  pub filters : (g : FilterGiven) → ((filter-at g l).number ≡ Done → ⊥) → (filter-at g l).value ≡ l
+
+abbrev pub RefusedKept : Type 0
+RefusedKept = (l : ScreenLent) → Kept l
+
+-- Every done step of the rules is a call: it leaves reached words reached, by the history and it.
+abbrev pub StepReached : Type 0
+StepReached =
+    (f : Frame) (xs : List Step) (l : ScreenLent) (x : Step) → Reached f xs l → (call_at x l).number ≡ Done
+    → Reached f (xs ++ (x ∷ [])) (call_at x l).value
+
+-- Any done push extends the history by the step that its properties say; its opacity is an f32.
+abbrev pub PushReached : Type 0
+PushReached =
+    (f : Frame) (xs : List Step) (l : ScreenLent) (p : LayerProps) → T (fits binary32 p.opacity) → Reached f xs l → (push_at p l).number ≡ Done
+    → Reached f (xs ++ (a-push (props_said p) ∷ [])) (push_at p l).value

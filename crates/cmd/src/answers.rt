@@ -1,9 +1,10 @@
-// The answers' numbers in code are the rules'.
+// The numbers of the answers, in code, are those of the rules.
 ghost use Rattle.std.specs.Prelude.{◌≡◌, [], ◌∷◌};
 ghost use Rattle.rules.specs.Answers.{Done, BadArena, BadViewport, BadForm, BadRecord, BadOrder, Deep, NoLayer, Ids, FullAttrs, FullRow, FullDepth, BadRun, Open, NoRoom};
 
 use sizes::answers::{Refusal, answer_number};
 
+// All fifteen, from 0, done, up.
 fn tied_answers() -> [u32; 15]
     ensures { result ≡ Done ∷ BadArena ∷ BadViewport ∷ BadForm ∷ BadRecord ∷ BadOrder ∷ Deep ∷ NoLayer ∷ Ids ∷ FullAttrs ∷ FullRow ∷ FullDepth ∷ BadRun ∷ Open ∷ NoRoom ∷ [] }
 {

@@ -1,4 +1,4 @@
-// Render commands, and the four words that stand for one.
+// Render commands (cmd.rs, RenderCmd), and the four words that stand for one.
 ghost use Rattle.std.specs.Prelude.{◌≡◌, ◌&&◌, ◌<◌, ◌≤◌, eqb, option_map};
 ghost use Rattle.sizes.specs.Sizes.{tile-end};
 ghost use Rattle.rules.specs.Spans.{span};
@@ -10,6 +10,7 @@ ghost use Rattle.cmd.specs.Commands.{command, words_of, read-words, fill-of, Nar
 use sizes::{TILE_ALPHAS, TILE_END};
 use span::TileSpan;
 
+// A span of a row's tiles, the alpha index of its first tile, if it has one, and the place of its attribute (cmd.rs, PaintFill and LayerFill).
 #[derive(Clone, Copy)]
 pub struct Fill {
     pub span: TileSpan,
@@ -17,16 +18,19 @@ pub struct Fill {
     pub attrs_idx: u32,
 }
 
+// A command of a row. `PaintFill` has a paint's attribute, `LayerFill` a layer's.
 #[derive(Clone, Copy)]
 pub enum RenderCmd {
     PaintFill(Fill),
     LayerFill(Fill),
-    // With the union of the fills at the buffer's own level, if there are any.
+    // A buffer begins: with the union of the fills at its own level, which it gets at its PopBuf, if there are any (rule 10).
     PushBuf(Option<TileSpan>),
+    // The innermost buffer ends.
     PopBuf,
 }
 
-// Tag, span, alpha index and attribute, as they stand in a row. Unused words are 0.
+// Tag (1 and 2 PaintFill solid and alpha, 3 and 4 LayerFill, 5 and 6 PushBuf without and with a span, 7 PopBuf), span word, alpha index and attribute, as they
+// stand in a row. Unused words are 0.
 #[derive(Clone, Copy)]
 pub struct CmdWords {
     pub tag: u32,
@@ -35,7 +39,7 @@ pub struct CmdWords {
     pub attrs_idx: u32,
 }
 
-// Two numbers in one word.
+// Two numbers below 65,536, of tiles or of buckets, in one word: first x 65,536 + end.
 pub fn span_word(first: u32, end: u32) -> u32
     requires { Narrow (span first «end») }
     ensures { result ≡ span-word (span first «end») }
@@ -43,7 +47,7 @@ pub fn span_word(first: u32, end: u32) -> u32
     first * 65536 + end
 }
 
-// A span's word whose numbers are in order, and end at the limit at the latest.
+// Whether the two numbers of a span word are in order and the end is at most the limit.
 pub fn good_span_word(limit: u32, word: u32) -> bool
     ensures { result ≡ good-span-word limit word }
 {
@@ -96,6 +100,7 @@ fn push_words(recorded: Option<TileSpan>) -> CmdWords
 }
 
 impl RenderCmd {
+    // The words of the command.
     #[tactic(auto, unfolding(rules::specs::Commands::command_words))]
     pub fn words(self) -> CmdWords
         requires { NarrowCmd self }
@@ -141,6 +146,7 @@ impl CmdWords {
         self.span == 0 && self.alpha == 0 && self.attrs_idx == 0
     }
 
+    // The fill of such words.
     fn fill(self, alpha: Option<u32>) -> Fill
         ensures { result ≡ fill-of self alpha }
     {
@@ -151,6 +157,7 @@ impl CmdWords {
         }
     }
 
+    // The span of the span word.
     fn tiles(self) -> TileSpan
         ensures { tiles result ≡ word-span self.span }
     {
@@ -160,7 +167,8 @@ impl CmdWords {
         }
     }
 
-    // The command that the words stand for.
+    // The command that the words stand for, or none: an unknown tag, a span past tile 8,192, an alpha index that cannot be moved over it, or an unused word
+    // that is not 0.
     #[tactic(auto, unfolding(crate::specs::Reading::command_of))]
     pub fn read(self) -> Option<RenderCmd>
         ensures { option_map command result ≡ read-words self }

@@ -1,4 +1,4 @@
-// Blends, and the words of commands and attributes (cmd.rs). Parts: where a function asks something, its callers have judged it.
+// Commands, depth fills, blends and attributes (cmd.rs), and the words that stand for them. Parts: where a function asks something, its callers have judged it.
 #![tactic(auto)]
 
 mod answers;

@@ -6,3 +6,5 @@ pub mod Searching
 pub mod Skipping
 pub mod Splitting
 pub mod Stepping
+pub mod Finding
+pub mod Laws

@@ -14,19 +14,19 @@ use Rattle.rect.specs.Rects.{box_of}
 use Rattle.row.specs.Words.{Words}
 use Rattle.screen.specs.declared.Screen.{Screen}
 use Rattle.screen.specs.Tables.{Tables, lent, reset_to}
-use Rattle.file_call.specs.Recorded.{recorded}
-use Rattle.step_fill.specs.declared.Draw.{Draw}
-use Rattle.step_fill.specs.Fills as fills
-use Rattle.step_fill.specs.Fills.{filled}
-use Rattle.screen_layers.specs.declared.LayerProps.{LayerProps}
-use Rattle.step_push.specs.Push as push
-use Rattle.step_push.specs.Push.{pushed}
-use Rattle.step_pop.specs.Pop as pop
-use Rattle.step_pop.specs.Pop.{popped}
-use Rattle.step_filter.specs.Filter as filter
-use Rattle.step_filter.specs.Filter.{FilterGiven, filtered}
-use Rattle.paint_screen.specs.Beginning.{canvas, beginning}
-use Rattle.host_screen.specs.State.{screen-words, screen_of, at_held}
+use Rattle.walk.specs.Recorded.{recorded}
+use Rattle.fill.specs.declared.Draw.{Draw}
+use Rattle.fill.specs.Fills as fills
+use Rattle.fill.specs.Fills.{filled}
+use Rattle.screen.specs.declared.layers.LayerProps.{LayerProps}
+use Rattle.layers.specs.Push as push
+use Rattle.layers.specs.Push.{pushed}
+use Rattle.pop.specs.Pop as pop
+use Rattle.pop.specs.Pop.{popped}
+use Rattle.layers.specs.Filter as filter
+use Rattle.layers.specs.Filter.{FilterGiven, filtered}
+use Rattle.paint.specs.Beginning.{canvas, beginning}
+use Rattle.host.specs.State.{screen-words, screen_of, at_held}
 use Rattle.host.specs.Building.{tables-left, reset_in, recording_in, fill-left, fill_call, push-left, push_call, pop-left, pop_call, filter-left, filter_call}
 use Rattle.host.specs.Painting.{begin-left, begin_call}
 

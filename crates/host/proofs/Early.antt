@@ -29,37 +29,37 @@ use Rattle.rules.specs.Walk.{good-arenas}
 use Rattle.rules.specs.Setups.{Setup, frame}
 use Rattle.rect.specs.Rects.{box_of}
 use Rattle.row.specs.Words.{Words, word-ops}
-use Rattle.row_judge.specs.Building.{step_number}
+use Rattle.row.specs.Building.{step_number}
 use Rattle.screen.specs.declared.Screen.{Screen}
 use Rattle.screen.specs.declared.Lengths.{Lengths}
 use Rattle.screen.specs.Judging as judging
 use Rattle.screen.specs.Judging.{judged, good-tables, judged_reset}
 use Rattle.screen.specs.Tables.{lengths, ScreenLent, reset_to}
-use Rattle.step_fill.specs.declared.Draw.{Draw}
-use Rattle.step_fill.specs.Fills as fills
-use Rattle.step_fill.specs.Fills.{filled}
-use Rattle.screen_layers.specs.declared.LayerProps.{LayerProps}
-use Rattle.screen_layers.specs.Layers.{good-pattern}
-use Rattle.step_push.specs.Push as push
-use Rattle.step_push.specs.Push.{pushed}
-use Rattle.step_pop.specs.Pop as pop
-use Rattle.step_pop.specs.Pop.{popped}
-use Rattle.step_filter.specs.Filter as filter
-use Rattle.step_filter.specs.Filter.{filtered}
-use Rattle.file_judge.specs.Judging as records
-use Rattle.file_steps.specs.Steps.{call_at}
-use Rattle.file_call.specs.Recorded.{or-fresh, played, recorded-in, of-sections, recorded}
+use Rattle.fill.specs.declared.Draw.{Draw}
+use Rattle.fill.specs.Fills as fills
+use Rattle.fill.specs.Fills.{filled}
+use Rattle.screen.specs.declared.layers.LayerProps.{LayerProps}
+use Rattle.screen.specs.Layers.{good-pattern}
+use Rattle.layers.specs.Push as push
+use Rattle.layers.specs.Push.{pushed}
+use Rattle.pop.specs.Pop as pop
+use Rattle.pop.specs.Pop.{popped}
+use Rattle.layers.specs.Filter as filter
+use Rattle.layers.specs.Filter.{filtered}
+use Rattle.file.specs.Judging as records
+use Rattle.walk.specs.Steps.{call_at}
+use Rattle.walk.specs.Recorded.{or-fresh, played, recorded-in, of-sections, recorded}
 use Rattle.refine_steps.proofs.Refined.{reset-refines}
 use Rattle.refine_steps.proofs.Walks.{walk-refines}
-use Rattle.paint_command.specs.Painting as paint
-use Rattle.paint_screen.specs.Judging.{wide, begin_number, runs_number, skip_number}
-use Rattle.paint_screen.specs.Beginning.{Canvas, beginning}
-use Rattle.paint_screen.specs.Stepping.{Attributes, part, own, number, row_step, stepped}
-use Rattle.paint_screen.specs.Rows.{Wrote, or-runs, write-in-place, record-skip, unset-of, visible-of, write-of, skip-of-row}
-use Rattle.paint_whole.specs.Running.{goes_on, one_more, run, standing, call_step, row-painted}
+use Rattle.paint.specs.Painting as paint
+use Rattle.paint.specs.Judging.{wide, begin_number, runs_number, skip_number}
+use Rattle.paint.specs.Beginning.{Canvas, beginning}
+use Rattle.paint.specs.Stepping.{Attributes, part, own, number, row_step, stepped}
+use Rattle.paint.specs.DirectRuns.{Wrote, or-runs, write-in-place, record-skip, unset-of, visible-of, write-of, skip-of-row}
+use Rattle.paint.specs.Running.{goes_on, one_more, run, standing, call_step, row-painted}
 use Rattle.depth.specs.Listing.{listing, writing}
-use Rattle.paint_runs.specs.Summaries.{good-summary}
-use Rattle.host_screen.specs.State.{before_4}
+use Rattle.paint.specs.Summaries.{good-summary}
+use Rattle.host.specs.State.{before_4}
 use Rattle.host.specs.Border.{arenas_number, in-sections, file_number}
 use Rattle.host.proofs.Kept.{on-done, gone-on}
 

@@ -21,14 +21,14 @@ use Rattle.rules.specs.Depth.{listed, unset-runs, visible-runs, write-runs, unse
 use Rattle.rules.proofs.All.{and_left}
 use Rattle.screen.specs.declared.Screen.{Screen}
 use Rattle.depth.specs.Listing.{numbers, listing}
-use Rattle.paint_command.specs.Painting as paint
-use Rattle.paint_screen.specs.Judging.{wide, runs_number}
-use Rattle.paint_screen.specs.Stepping.{Attributes, part, own, in_place, number, row_step, stepped}
-use Rattle.paint_whole.specs.Running.{goes_on, ended, one_more, run, most, standing, call_step, row-painted}
-use Rattle.paint_screen.specs.Rows.{Wrote, or-runs, unset-of, visible-of, write-of, write-in-place, skip-of-row}
-use Rattle.host_screen.specs.State.{screen_of, at_held, on}
-use Rattle.host_screen.proofs.Words.{written_back}
-use Rattle.host_results.specs.Results.{skip-left, split-left}
+use Rattle.paint.specs.Painting as paint
+use Rattle.paint.specs.Judging.{wide, runs_number}
+use Rattle.paint.specs.Stepping.{Attributes, part, own, in_place, number, row_step, stepped}
+use Rattle.paint.specs.Running.{goes_on, ended, one_more, run, most, standing, call_step, row-painted}
+use Rattle.paint.specs.DirectRuns.{Wrote, or-runs, unset-of, visible-of, write-of, write-in-place, skip-of-row}
+use Rattle.host.specs.State.{screen_of, at_held, on}
+use Rattle.host.proofs.Words.{written_back}
+use Rattle.host.specs.Results.{skip-left, split-left}
 use Rattle.host.specs.Painting.{with-room, step_left, step_call, row_call, runs-left, unset_call, visible_call, write-left, write_call, skip_call, split_at, split_call}
 use Rattle.host.proofs.Refused.{Refused, settled}
 

@@ -1,6 +1,6 @@
 pub mod Ways
 pub mod Built
-pub mod Results
+pub mod HostResults
 pub mod Refused
 pub mod Sized
 pub mod Kept
@@ -9,4 +9,7 @@ pub mod Early
 pub mod Unheld
 pub mod Stories
 pub mod Questions
-pub mod Asked
+pub mod HostAsked
+pub mod Lists
+pub mod Words
+pub mod ScreenAsked

@@ -21,18 +21,19 @@ use Rattle.span.specs.declared.TileSpan.{TileSpan}
 use Rattle.depth.specs.Listing as words
 use Rattle.depth.specs.Listing.{numbers, over}
 use Rattle.depth.proofs.Filling.{length-numbers}
-use Rattle.depth_forms.specs.Spans.{with-spans}
-use Rattle.depth_forms.specs.Listing as spans
-use Rattle.depth_forms.proofs.Laws.{as-listed}
-use Rattle.depth_forms.proofs.Finding.{in-room, roomy}
+use Rattle.depth.specs.Spans.{with-spans}
+use Rattle.depth.specs.SpanLists as spans
+use Rattle.depth.proofs.Laws.{as-listed}
+use Rattle.depth.proofs.Finding.{in-room, roomy}
 use Rattle.screen.specs.declared.Screen.{Screen}
-use Rattle.paint_screen.specs.Judging.{wide, runs_number}
-use Rattle.paint_screen.specs.Stepping.{part}
-use Rattle.paint_screen.specs.Rows.{or-runs, visible-of}
-use Rattle.host_screen.specs.State.{screen-at, screen_of, before_4, refused_at, at_held}
-use Rattle.host_screen.proofs.Words.{was_good}
+use Rattle.paint.specs.Judging.{wide, runs_number}
+use Rattle.paint.specs.Stepping.{part}
+use Rattle.paint.specs.DirectRuns.{or-runs, visible-of}
+use Rattle.host.specs.State.{screen-at, screen_of, before_4, refused_at, at_held}
+use Rattle.host.proofs.Words.{was_good}
 use Rattle.host.specs.Painting.{runs-left, visible_call}
-use Rattle.host.specs.Spans.{runs_of, spans-left, spans_call, own-words, found_left, found_call}
+use Rattle.depth.specs.SpanLists.{own_words}
+use Rattle.host.specs.Spans.{runs_of, spans-left, spans_call, found_left, found_call}
 
 -- a part of some words, with what is after it
 drop-part : (k m : ℕ) (z : List ℕ) → k ≤ m → drop k (take m z) ++ drop m z ≡ drop k z
@@ -100,20 +101,20 @@ module _ (s : Screen) (r : ℕ) (d : List ℕ) (t : Span) (id : ℕ) where
 
 -- what is found: the words' answer n, the m words that are lent and as they are left, and the results
 module _ (r : ℕ) (t : Span) (id : ℕ) (st d : List ℕ) (room : ℕ) (c : List ℕ) (n m : ℕ) (ws c' : List ℕ) (k : m ≡ 2 * min room (bucket-end / 2))
-    (e : answer n (ws, c') ≡ visible_call r t id st d (take m own-words) c) where
+    (e : answer n (ws, c') ≡ visible_call r t id st d (take m own_words) c) where
   abbrev lent : List ℕ
-  lent = take m own-words
+  lent = take m own_words
 
   same-lent : (s : Screen) → runs_of s r d t id (length lent / 2) ≡ runs_of s r d t id room
-  same-lent s = same_runs s r d t id room m lent k (length-take-le m own-words (omega (arith, k)))
+  same-lent s = same_runs s r d t id room m lent k (length-take-le m own_words (omega (arith, k)))
 
   abbrev Here : Option Screen → Type 0
   Here h = answer n (ws, c') ≡ at_held h st (lent, c) (λ (s : Screen). runs-left c (words.listing (runs_of s r d t id (length lent / 2)) lent))
 
   abbrev There : Option Screen → ℕ → Type 0
   There h count =
-      answer n (count, ws ++ drop m own-words, c')
-      ≡ at_held h st (0, own-words, c) (λ (s : Screen). found_left c (words.listing (runs_of s r d t id room) own-words))
+      answer n (count, ws ++ drop m own_words, c')
+      ≡ at_held h st (0, own_words, c) (λ (s : Screen). found_left c (words.listing (runs_of s r d t id room) own_words))
 
   from : Here (screen_of (eqb (length c) 1) st)
   unfolding visible_call visible-of
@@ -123,8 +124,8 @@ module _ (r : ℕ) (t : Span) (id : ℕ) (st d : List ℕ) (room : ℕ) (c : Lis
   none : Here None → There None 0
   unfolding words.listing refused_at
   none h =
-      let w : ws ++ drop m own-words ≡ own-words = ap (λ (a : Answer (List ℕ × List ℕ)). a.value.0 ++ drop m own-words) h ∙ take-append-drop m own-words in
-      rw w (ap (λ (a : Answer (List ℕ × List ℕ)). answer a.number (0, own-words, a.value.1)) (rw (same-lent (screen-at st)) at h))
+      let w : ws ++ drop m own_words ≡ own_words = ap (λ (a : Answer (List ℕ × List ℕ)). a.value.0 ++ drop m own_words) h ∙ take-append-drop m own_words in
+      rw w (ap (λ (a : Answer (List ℕ × List ℕ)). answer a.number (0, own_words, a.value.1)) (rw (same-lent (screen-at st)) at h))
 
   -- at a screen
   module _ (s : Screen) where
@@ -138,15 +139,15 @@ module _ (r : ℕ) (t : Span) (id : ℕ) (st d : List ℕ) (room : ℕ) (c : Lis
     short =
         let l : length (runs_of s r d t id (length lent / 2)).value ≤ length lent / 2 = no_more s r d t id (length lent / 2) in
         let l' : length x.value ≤ length lent / 2 = rw (same-lent s) at l in
-        omega (arith, length-numbers x.value, l', k, length-take-le m own-words (omega (arith, k)))
+        omega (arith, length-numbers x.value, l', k, length-take-le m own_words (omega (arith, k)))
 
-    all_words : Here (Some s) → ws ++ drop m own-words ≡ over (numbers x.value) own-words
+    all_words : Here (Some s) → ws ++ drop m own_words ≡ over (numbers x.value) own_words
     unfolding words.listing
-    all_words h = ap (λ (a : Answer (List ℕ × List ℕ)). a.value.0 ++ drop m own-words) (listed h) ∙ over-part (numbers x.value) m own-words short
+    all_words h = ap (λ (a : Answer (List ℕ × List ℕ)). a.value.0 ++ drop m own_words) (listed h) ∙ over-part (numbers x.value) m own_words short
 
     counted : Here (Some s) → There (Some s) (length x.value)
     unfolding words.listing
-    counted h = rw (all_words h) (ap (λ (a : Answer (List ℕ × List ℕ)). answer a.number (length x.value, over (numbers x.value) own-words, a.value.1)) (listed h))
+    counted h = rw (all_words h) (ap (λ (a : Answer (List ℕ × List ℕ)). answer a.number (length x.value, over (numbers x.value) own_words, a.value.1)) (listed h))
 
     its-number : Here (Some s) → n ≡ x.number
     unfolding words.listing
@@ -158,7 +159,7 @@ module _ (r : ℕ) (t : Span) (id : ℕ) (st d : List ℕ) (room : ℕ) (c : Lis
         ap (λ (a : Answer (List ℕ × List ℕ)). get_or a.value.1 0 0) (listed h)
         ∙ rw (eq-eqb x.number 0 (sym (its-number h) ∙ z))
 
-  pub found_none : (n ≡ 0 → ⊥) → answer n (0, ws ++ drop m own-words, c') ≡ found_call r t id st d room c
+  pub found_none : (n ≡ 0 → ⊥) → answer n (0, ws ++ drop m own_words, c') ≡ found_call r t id st d room c
   unfolding found_call
   found_none z = go (screen_of (eqb (length c) 1) st) from
     where
@@ -176,7 +177,7 @@ module _ (r : ℕ) (t : Span) (id : ℕ) (st d : List ℕ) (room : ℕ) (c : Lis
       go None q h = absurd (refuses st _ (sym (ap (λ (a : Answer (List ℕ × List ℕ)). a.number) h) ∙ z))
       go (Some s) q h = eqb-true (length c) 1 (was_good _ st s (sym q))
 
-  pub found_some : n ≡ 0 → answer n (get_or c' 0 0, ws ++ drop m own-words, c') ≡ found_call r t id st d room c
+  pub found_some : n ≡ 0 → answer n (get_or c' 0 0, ws ++ drop m own_words, c') ≡ found_call r t id st d room c
   unfolding found_call
   found_some z = go (screen_of (eqb (length c) 1) st) from
     where
@@ -187,7 +188,7 @@ module _ (r : ℕ) (t : Span) (id : ℕ) (st d : List ℕ) (room : ℕ) (c : Lis
 -- What is found is written to a list l: k runs, in the words ws.
 module _ (r : ℕ) (t : Span) (id : ℕ) (st d : List ℕ) (l : List TileSpan) (n k : ℕ) (ws c c' : List ℕ) (e : answer n (k, ws, c') ≡ found_call r t id st d (length l) c) where
   abbrev Found_at : Option Screen → Type 0
-  Found_at h = answer n (k, ws, c') ≡ at_held h st (0, own-words, c) (λ (s : Screen). found_left c (words.listing (runs_of s r d t id (length l)) own-words))
+  Found_at h = answer n (k, ws, c') ≡ at_held h st (0, own_words, c) (λ (s : Screen). found_left c (words.listing (runs_of s r d t id (length l)) own_words))
 
   found : Found_at (screen_of (eqb (length c) 1) st)
   unfolding found_call
@@ -201,7 +202,7 @@ module _ (r : ℕ) (t : Span) (id : ℕ) (st d : List ℕ) (l : List TileSpan) (
     unfolding words.listing
     as_many = ap (λ (a : Answer (ℕ × List ℕ × List ℕ)). a.value.0) h
 
-    as-words : ws ≡ over (numbers v) own-words
+    as-words : ws ≡ over (numbers v) own_words
     unfolding words.listing
     as-words = ap (λ (a : Answer (ℕ × List ℕ × List ℕ)). a.value.1) h
 
@@ -209,11 +210,11 @@ module _ (r : ℕ) (t : Span) (id : ℕ) (st d : List ℕ) (l : List TileSpan) (
     room = no_more s r d t id (length l)
 
     enough : k * 2 ≤ length ws
-    enough = omega (arith, as_many, ap length as-words, length-append (numbers v) (drop (length (numbers v)) own-words), length-numbers v)
+    enough = omega (arith, as_many, ap length as-words, length-append (numbers v) (drop (length (numbers v)) own_words), length-numbers v)
 
     written : with-spans ws k l ≡ (spans.listing (runs_of s r d t id (length l)) l).spans
     unfolding spans.listing
-    written = rw (as-words, as_many) (as-listed v own-words l room)
+    written = rw (as-words, as_many) (as-listed v own_words l room)
 
   pub found-fits : (k ≤ length l) × (k * 2 ≤ length ws)
   found-fits = go (screen_of (eqb (length c) 1) st) found

@@ -13,9 +13,9 @@ use Rattle.rules_reason.specs.Reasons.{Reason}
 use Rattle.screen.specs.declared.Screen.{Screen}
 use Rattle.screen.specs.Judging.{arenas}
 use Rattle.screen.specs.Tables.{Tables, lengths, lent}
-use Rattle.tile_call.specs.Explained.{explained-as, explained}
-use Rattle.host_screen.specs.State.{screen-words, screen_of, refused_at, before_4, at_held}
-use Rattle.host_screen.proofs.Words.{refused-on}
+use Rattle.tile.specs.Explained.{explained-as, explained}
+use Rattle.host.specs.State.{screen-words, screen_of, refused_at, before_4, at_held}
+use Rattle.host.proofs.Words.{refused-on}
 use Rattle.host.specs.Border.{file_number}
 use Rattle.host.specs.Reasons.{reason-words, reason-size, result-left, asked, why-left, why_in}
 use Rattle.host.proofs.Stories.{explained-is-early}

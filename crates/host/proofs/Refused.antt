@@ -20,24 +20,24 @@ use Rattle.screen.specs.declared.Screen.{Screen}
 use Rattle.screen.specs.Screens.{fresh-screen}
 use Rattle.screen.specs.Judging.{judged_reset}
 use Rattle.screen.specs.Tables.{Tables, ScreenLent, lent, lengths, zeros, zeroed, reset_to}
-use Rattle.step_fill.specs.declared.Draw.{Draw}
-use Rattle.step_fill.specs.Fills as fills
-use Rattle.step_fill.specs.Fills.{filled}
-use Rattle.screen_layers.specs.declared.LayerProps.{LayerProps}
-use Rattle.step_push.specs.Push as push
-use Rattle.step_push.specs.Push.{pushed}
-use Rattle.step_pop.specs.Pop as pop
-use Rattle.step_pop.specs.Pop.{popped}
-use Rattle.step_filter.specs.Filter as filter
-use Rattle.step_filter.specs.Filter.{FilterGiven, filtered}
-use Rattle.paint_screen.specs.Judging.{begin_number}
-use Rattle.paint_screen.specs.Beginning.{Canvas, canvas, begun, beginning}
-use Rattle.host_screen.specs.declared.SetupWords.{SetupWords}
-use Rattle.host_screen.specs.State.{screen-words, screen_of, at_held}
-use Rattle.host_screen.specs.Asked.{asked_setup, in-setup}
+use Rattle.fill.specs.declared.Draw.{Draw}
+use Rattle.fill.specs.Fills as fills
+use Rattle.fill.specs.Fills.{filled}
+use Rattle.screen.specs.declared.layers.LayerProps.{LayerProps}
+use Rattle.layers.specs.Push as push
+use Rattle.layers.specs.Push.{pushed}
+use Rattle.pop.specs.Pop as pop
+use Rattle.pop.specs.Pop.{popped}
+use Rattle.layers.specs.Filter as filter
+use Rattle.layers.specs.Filter.{FilterGiven, filtered}
+use Rattle.paint.specs.Judging.{begin_number}
+use Rattle.paint.specs.Beginning.{Canvas, canvas, begun, beginning}
+use Rattle.host.specs.declared.state.SetupWords.{SetupWords}
+use Rattle.host.specs.State.{screen-words, screen_of, at_held}
+use Rattle.host.specs.Asked.{asked_setup, in-setup}
 use Rattle.host.specs.Building.{reset_in, reset_call, fill_call, push_call, pop_call, filter_call}
 use Rattle.host.specs.Painting.{begin_call}
-use Rattle.host_screen.proofs.Words.{written_back}
+use Rattle.host.proofs.Words.{written_back}
 
 abbrev pub Refused : {A : Type 0} → Answer A → Type 0
 Refused a = a.number ≡ 0 → ⊥

@@ -19,8 +19,8 @@ use Rattle.rect.specs.declared.Rect.{Rect}
 use Rattle.rect.specs.Rects.{box_of}
 use Rattle.screen.specs.declared.Lengths.{Lengths}
 use Rattle.screen.specs.Judging.{judged_reset}
-use Rattle.host_screen.specs.declared.SetupWords.{SetupWords}
-use Rattle.host_screen.specs.Asked.{asked_setup}
+use Rattle.host.specs.declared.state.SetupWords.{SetupWords}
+use Rattle.host.specs.Asked.{asked_setup}
 use Rattle.host.specs.Sizes.{size-words, size_number, sizes-of, size_call}
 use Rattle.host.proofs.Refused.{Refused, settled, asked-kept}
 

@@ -24,11 +24,11 @@ use Rattle.rules_picture.proofs.Cases.{by}
 use Rattle.rules_picture.proofs.Walked.{Late, late-done, first-late}
 use Rattle.screen.specs.Judging as judging
 use Rattle.screen.specs.Tables.{ScreenLent, lengths}
-use Rattle.file_call.specs.Recorded.{recorded-in, of-sections, recorded}
-use Rattle.tile_steps.specs.Telling.{Telling, tell-fill, tell-push, tell-pop, tell-filter, tell-at}
+use Rattle.walk.specs.Recorded.{recorded-in, of-sections, recorded}
+use Rattle.tile.specs.Telling.{Telling, tell-fill, tell-push, tell-pop, tell-filter, tell-at}
 use Rattle.rules_reason.specs.Answers.{off-screen}
-use Rattle.tile_call.specs.Explained.{no-reason, told_of, explained-of, explained-in, explained}
-use Rattle.host_screen.specs.State.{before_4}
+use Rattle.tile.specs.Explained.{no-reason, told_of, explained-of, explained-in, explained}
+use Rattle.host.specs.State.{before_4}
 use Rattle.host.specs.Border.{file_number}
 use Rattle.host.proofs.Early.{after, recorded-is-early}
 

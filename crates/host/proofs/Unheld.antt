@@ -17,28 +17,28 @@ use Rattle.row.specs.Words.{Words}
 use Rattle.screen.specs.declared.Screen.{Screen}
 use Rattle.screen.specs.Judging.{judged, arenas}
 use Rattle.screen.specs.Tables.{Tables, lengths, lent, reset_to}
-use Rattle.file_call.specs.Recorded.{recorded}
-use Rattle.step_fill.specs.declared.Draw.{Draw}
-use Rattle.step_fill.specs.Fills as fills
-use Rattle.step_fill.specs.Fills.{filled}
-use Rattle.screen_layers.specs.declared.LayerProps.{LayerProps}
-use Rattle.step_push.specs.Push as push
-use Rattle.step_push.specs.Push.{pushed}
-use Rattle.step_pop.specs.Pop as pop
-use Rattle.step_pop.specs.Pop.{popped}
-use Rattle.step_filter.specs.Filter as filter
-use Rattle.step_filter.specs.Filter.{FilterGiven, filtered}
-use Rattle.paint_command.specs.Painting as paint
-use Rattle.paint_screen.specs.Judging.{begin_number, runs_number, skip_number}
-use Rattle.paint_screen.specs.Beginning.{canvas, beginning}
-use Rattle.paint_screen.specs.Stepping.{Attributes, number, stepped}
-use Rattle.paint_screen.specs.Rows.{unset-of, visible-of, write-of, skip-of-row}
-use Rattle.paint_whole.specs.Running.{row-painted}
-use Rattle.host_screen.specs.State.{screen_of, refused_at}
-use Rattle.host_screen.proofs.Words.{refused-on}
+use Rattle.walk.specs.Recorded.{recorded}
+use Rattle.fill.specs.declared.Draw.{Draw}
+use Rattle.fill.specs.Fills as fills
+use Rattle.fill.specs.Fills.{filled}
+use Rattle.screen.specs.declared.layers.LayerProps.{LayerProps}
+use Rattle.layers.specs.Push as push
+use Rattle.layers.specs.Push.{pushed}
+use Rattle.pop.specs.Pop as pop
+use Rattle.pop.specs.Pop.{popped}
+use Rattle.layers.specs.Filter as filter
+use Rattle.layers.specs.Filter.{FilterGiven, filtered}
+use Rattle.paint.specs.Painting as paint
+use Rattle.paint.specs.Judging.{begin_number, runs_number, skip_number}
+use Rattle.paint.specs.Beginning.{canvas, beginning}
+use Rattle.paint.specs.Stepping.{Attributes, number, stepped}
+use Rattle.paint.specs.DirectRuns.{unset-of, visible-of, write-of, skip-of-row}
+use Rattle.paint.specs.Running.{row-painted}
+use Rattle.host.specs.State.{screen_of, refused_at}
+use Rattle.host.proofs.Words.{refused-on}
 use Rattle.host.specs.Border.{arenas_number, file_number}
 use Rattle.host.specs.Building.{tables-left, reset_in, recording_in, fill-left, fill_call, push-left, push_call, pop-left, pop_call, filter-left, filter_call}
-use Rattle.host_results.specs.Results.{skip-left}
+use Rattle.host.specs.Results.{skip-left}
 use Rattle.host.specs.Painting.{begin-left, begin_call, step_left, step_call, row_call, runs-left, unset_call, visible_call, write-left, write_call, skip_call}
 use Rattle.host.proofs.Early.{fill-early, push-early, filter-early, pop-early, begin-early, step-is-early, row-is-early, unset-early, visible-early, write-early, skip-early, reset-early, recorded-is-early}
 

@@ -16,11 +16,11 @@ use Rattle.rules.specs.Recording.{shape, sections}
 use Rattle.rules.specs.Walk.{Arenas}
 use Rattle.rect.specs.declared.Rect.{Rect}
 use Rattle.rect.specs.Rects.{box_of}
-use Rattle.file_form.specs.declared.Layout.{Layout}
-use Rattle.file_form.specs.Places as file
-use Rattle.file_form.proofs.Laid.{GoodForm}
-use Rattle.file_form.proofs.Reading.{reads}
-use Rattle.file_judge.specs.Judging.{box_from}
+use Rattle.file.specs.declared.form.Layout.{Layout}
+use Rattle.file.specs.Places as file
+use Rattle.file.proofs.Laid.{GoodForm}
+use Rattle.file.proofs.Reading.{reads}
+use Rattle.file.specs.Judging.{box_from}
 use Rattle.host.specs.Border.{arenas_number, file_number, unasked_number}
 
 pub bad-view : (f : Frame) (a : Arenas) (r : Refusal) → (good_viewport f.viewport ≡ false) × (r ≡ BadViewport) → number_of r ≡ arenas_number f a

@@ -11,22 +11,22 @@ use Rattle.rect.specs.declared.Rect.{Rect}
 use Rattle.rect.specs.Rects.{box_of}
 use Rattle.row.specs.Words.{Words}
 use Rattle.screen.specs.Tables.{Tables, ScreenLent, lent, reset_to}
-use Rattle.file_call.specs.Recorded.{recorded}
-use Rattle.step_fill.specs.declared.Draw.{Draw}
-use Rattle.step_fill.specs.Fills as fills
-use Rattle.step_fill.specs.Fills.{filled}
-use Rattle.screen_layers.specs.declared.LayerProps.{LayerProps}
-use Rattle.step_push.specs.Push as push
-use Rattle.step_push.specs.Push.{pushed}
-use Rattle.step_pop.specs.Pop as pop
-use Rattle.step_pop.specs.Pop.{popped}
-use Rattle.step_filter.specs.declared.Placement.{Placement}
-use Rattle.step_filter.specs.Filter as filter
-use Rattle.step_filter.specs.Filter.{FilterGiven, filtered}
-use Rattle.file_read.specs.Reading.{props_in}
-use Rattle.host_screen.specs.declared.SetupWords.{SetupWords}
-use Rattle.host_screen.specs.State.{screen-words, on}
-use Rattle.host_screen.specs.Asked.{asked_setup, in-setup}
+use Rattle.walk.specs.Recorded.{recorded}
+use Rattle.fill.specs.declared.Draw.{Draw}
+use Rattle.fill.specs.Fills as fills
+use Rattle.fill.specs.Fills.{filled}
+use Rattle.screen.specs.declared.layers.LayerProps.{LayerProps}
+use Rattle.layers.specs.Push as push
+use Rattle.layers.specs.Push.{pushed}
+use Rattle.pop.specs.Pop as pop
+use Rattle.pop.specs.Pop.{popped}
+use Rattle.layers.specs.declared.filter.Placement.{Placement}
+use Rattle.layers.specs.Filter as filter
+use Rattle.layers.specs.Filter.{FilterGiven, filtered}
+use Rattle.walk.specs.Reading.{props_in}
+use Rattle.host.specs.declared.state.SetupWords.{SetupWords}
+use Rattle.host.specs.State.{screen-words, on}
+use Rattle.host.specs.Asked.{asked_setup, in-setup}
 use Rattle.host.specs.Border.{unasked_number}
 
 -- all tables

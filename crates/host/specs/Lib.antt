@@ -4,3 +4,6 @@ pub mod Painting
 pub mod Reasons
 pub mod Sizes
 pub mod Spans
+pub mod State
+pub mod Asked
+pub mod Results

@@ -10,13 +10,13 @@ use Rattle.rules.specs.Answers.{Answer, answer, BadRecord}
 use Rattle.rules.specs.Spans.{Span}
 use Rattle.rules.specs.Split.{split_answer}
 use Rattle.depth.specs.Listing.{RunsOut}
-use Rattle.paint_command.specs.Painting as paint
-use Rattle.paint_screen.specs.Beginning.{Canvas, canvas, beginning}
-use Rattle.paint_screen.specs.Stepping.{Attributes, stepped}
-use Rattle.paint_screen.specs.Rows.{Wrote, unset-of, visible-of, write-of, skip-of-row}
-use Rattle.paint_whole.specs.Running.{row-painted}
-use Rattle.host_screen.specs.State.{screen-words, on}
-use Rattle.host_results.specs.Results.{step-result, count_left, skip-left, split-left}
+use Rattle.paint.specs.Painting as paint
+use Rattle.paint.specs.Beginning.{Canvas, canvas, beginning}
+use Rattle.paint.specs.Stepping.{Attributes, stepped}
+use Rattle.paint.specs.DirectRuns.{Wrote, unset-of, visible-of, write-of, skip-of-row}
+use Rattle.paint.specs.Running.{row-painted}
+use Rattle.host.specs.State.{screen-words, on}
+use Rattle.host.specs.Results.{step-result, count_left, skip-left, split-left}
 
 -- the split has no screen: n result words ws, or 4 where another number of them is lent
 abbrev pub with-room : {T : Type 0} → ℕ → List ℕ → T → Answer T → Answer T

@@ -5,10 +5,10 @@ use Rattle.rules.specs.Setups.{Setup}
 use Rattle.rules_reason.specs.Reasons.{Reason, unknown-attribute, no-segment, cut-away, row-untouched, hidden-by, shown-at, Asked}
 use Rattle.screen.specs.declared.Screen.{Screen}
 use Rattle.screen.specs.Tables.{Tables, lent}
-use Rattle.tile_call.specs.Explained.{Explained, explained}
-use Rattle.host_screen.specs.declared.SetupWords.{SetupWords}
-use Rattle.host_screen.specs.State.{screen-words, on}
-use Rattle.host_screen.specs.Asked.{asked_setup, in-setup}
+use Rattle.tile.specs.Explained.{Explained, explained}
+use Rattle.host.specs.declared.state.SetupWords.{SetupWords}
+use Rattle.host.specs.State.{screen-words, on}
+use Rattle.host.specs.Asked.{asked_setup, in-setup}
 use Rattle.host.specs.Border.{unasked_number}
 
 -- the case, the attribute that hides or the place in the tile's list, the asked attribute's panel, the panel of the attribute that hides

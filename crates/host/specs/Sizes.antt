@@ -9,8 +9,8 @@ use Rattle.rules.specs.Setups.{frame}
 use Rattle.rules.specs.Walk.{good-room}
 use Rattle.rect.specs.declared.Rect.{Rect}
 use Rattle.rect.specs.Rects.{box_of}
-use Rattle.host_screen.specs.declared.SetupWords.{SetupWords}
-use Rattle.host_screen.specs.Asked.{asked_setup, in-setup}
+use Rattle.host.specs.declared.state.SetupWords.{SetupWords}
+use Rattle.host.specs.Asked.{asked_setup, in-setup}
 
 -- layers, opacities, paint attributes, layer attributes, filter paints
 abbrev pub fixed : List ℕ

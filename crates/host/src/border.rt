@@ -7,22 +7,22 @@ ghost use Rattle.rect.specs.Rects.{box_of};
 ghost use Rattle.screen.specs.declared.Screen.{Screen as Numbers};
 ghost use Rattle.screen.specs.Screens.{setup-of, frame, frame-of};
 ghost use Rattle.screen.specs.Judging.{judged};
-ghost use Rattle.paint_screen.specs.Judging.{arenas-long, tables-long, begin_number, step_number, runs_number, skip_number};
-ghost use Rattle.host_screen.specs.State.{refused_at};
+ghost use Rattle.paint.specs.Judging.{arenas-long, tables-long, begin_number, step_number, runs_number, skip_number};
+ghost use Rattle.host.specs.State.{refused_at};
 ghost use Rattle.host.specs.Border.{arenas-in, arenas_number, file_number, unasked_number};
 
-use file_form::read_form;
-use file_judge::box_at;
-use host_screen::{before_4, screen_at};
-use paint_screen::Stored;
-use paint_screen::judge::{judge_begin, judge_runs, judge_skip, judge_step};
+use crate::state::{before_4, screen_at};
+use file::form::read_form;
+use file::judge::box_at;
+use paint::Stored;
+use paint::canvas::judge::{judge_begin, judge_runs, judge_skip, judge_step};
 use rect::Rect;
-use row_screen::Rows;
+use row::Rows;
 use screen::{Lent, Screen, Setup, fresh, is_good_rooms, judge_screen};
 use sizes::STATE;
 use sizes::answers::Refusal;
 
-// 1: the arenas that are lent for a fresh screen.
+// The arenas that are lent for a fresh screen (answer 1).
 #[tactic(auto, unfolding(crate::specs::Border::arenas_number))]
 fn judge_lent(screen: Screen, lent: &Lent<'_>) -> Result<(), Refusal>
     requires { good_viewport (box_of screen.viewport) ≡ true }
@@ -45,7 +45,8 @@ fn judge_arenas(viewport: Rect, setup: Setup, lent: &Lent<'_>) -> Result<(), Ref
     judge_lent(fresh(seen, setup.c, setup.d, setup.width), lent)
 }
 
-#[tactic(auto, unfolding(host_screen::specs::State::refused_at))]
+// The number of a reset: 2 or 1 as it would answer, else 4.
+#[tactic(auto, unfolding(crate::specs::State::refused_at))]
 pub fn refuse_reset(state: &[u32], viewport: Rect, setup: Setup, lent: &Lent<'_>) -> u32
     ensures { result ≡ refused_at state.now (λ (s : Numbers). arenas_number (frame setup viewport) (arenas-in lent.now)) }
 {
@@ -63,7 +64,8 @@ fn judge_file(file: &[u32], setup: Setup, lent: &Lent<'_>) -> Result<(), Refusal
     judge_arenas(box_at(file, 1), setup, lent)
 }
 
-#[tactic(auto, unfolding(host_screen::specs::State::refused_at))]
+// The number of a recording, or of a question about one: 3, 2 or 1 as it would answer, else 4.
+#[tactic(auto, unfolding(crate::specs::State::refused_at))]
 pub fn refuse_recording(state: &[u32], file: &[u32], setup: Setup, lent: &Lent<'_>) -> u32
     ensures { result ≡ refused_at state.now (λ (s : Numbers). file_number file.now (setup-of setup) (arenas-in lent.now)) }
 {
@@ -73,7 +75,7 @@ pub fn refuse_recording(state: &[u32], file: &[u32], setup: Setup, lent: &Lent<'
     before_4(judge_file(file, setup, lent))
 }
 
-// A recording where the words' setup is refused: the file's form comes first, and there is no viewport to judge.
+// The number of a recording where the words' setup is refused: 3 for the file's form comes first, and there is no viewport to judge.
 pub fn refuse_setup(file: &[u32], refusal: Refusal) -> u32
     ensures { result ≡ unasked_number file.now refusal }
 {
@@ -83,8 +85,8 @@ pub fn refuse_setup(file: &[u32], refusal: Refusal) -> u32
     }
 }
 
-// A building step.
-#[tactic(auto, unfolding(host_screen::specs::State::refused_at))]
+// The number of a building step: 2 or 1 as it would answer, else 4.
+#[tactic(auto, unfolding(crate::specs::State::refused_at))]
 pub fn refuse_build(state: &[u32], rows: &Rows<'_>) -> u32
     ensures { result ≡ refused_at state.now (λ (s : Numbers). judged s (length rows.now.state.now) (length rows.now.render.now) (length rows.now.fills.now)) }
 {
@@ -99,7 +101,8 @@ pub fn refuse_build(state: &[u32], rows: &Rows<'_>) -> u32
     ))
 }
 
-#[tactic(auto, unfolding(host_screen::specs::State::refused_at))]
+// The number of a beginning of painting: 2 or 1 as it would answer, else 4.
+#[tactic(auto, unfolding(crate::specs::State::refused_at))]
 pub fn refuse_begin(state: &[u32], depth: usize, painting: usize) -> u32
     ensures { result ≡ refused_at state.now (λ (s : Numbers). begin_number s depth painting) }
 {
@@ -109,8 +112,8 @@ pub fn refuse_begin(state: &[u32], depth: usize, painting: usize) -> u32
     before_4(judge_begin(screen_at(state), depth, painting))
 }
 
-// A painting step, or a row's.
-#[tactic(auto, unfolding(host_screen::specs::State::refused_at))]
+// The number of a painting step, or of a whole row's steps: 2 or 1 as it would answer, else 4.
+#[tactic(auto, unfolding(crate::specs::State::refused_at))]
 pub fn refuse_step(
     state: &[u32],
     row: usize,
@@ -126,8 +129,8 @@ pub fn refuse_step(
     before_4(judge_step(screen_at(state), row, stored, depth, painting))
 }
 
-// The runs of a row.
-#[tactic(auto, unfolding(host_screen::specs::State::refused_at))]
+// The number of a call for the runs of a row: 2 or 1 as it would answer, else 4.
+#[tactic(auto, unfolding(crate::specs::State::refused_at))]
 pub fn refuse_runs(state: &[u32], row: usize, depth: usize) -> u32
     ensures { result ≡ refused_at state.now (λ (s : Numbers). runs_number s row depth) }
 {
@@ -137,7 +140,8 @@ pub fn refuse_runs(state: &[u32], row: usize, depth: usize) -> u32
     before_4(judge_runs(screen_at(state), row, depth))
 }
 
-#[tactic(auto, unfolding(host_screen::specs::State::refused_at))]
+// The number of `can_skip`: 2 as it would answer, or 1 for C or D, else 4.
+#[tactic(auto, unfolding(crate::specs::State::refused_at))]
 pub fn refuse_skip(state: &[u32], row: usize, rows: usize) -> u32
     ensures { result ≡ refused_at state.now (λ (s : Numbers). skip_number s row rows) }
 {

@@ -1,30 +1,29 @@
-// Reset, the building steps and the recording call.
+// The calls of reset, of the building steps and of a recording. `state` has the screen's 17 words; tables are lent as `Lent` names them.
 ghost use Rattle.std.specs.Prelude.{◌≡◌};
 ghost use Rattle.rules.specs.Answers.{answer};
 ghost use Rattle.row.specs.Words.{words};
 ghost use Rattle.screen.specs.Tables.{tables};
-ghost use Rattle.step_pop.specs.Pop.{lent};
-ghost use Rattle.step_filter.specs.Filter.{given};
-ghost use Rattle.host_screen.specs.State.{rect};
+ghost use Rattle.pop.specs.Pop.{lent};
+ghost use Rattle.layers.specs.Filter.{given};
+ghost use Rattle.host.specs.State.{rect};
 ghost use Rattle.host.specs.Building.{reset_call, recording_call, draw, fill_call, clip, props, push_call, pop_call, placement, picture, filter_call};
 
 use crate::border::{refuse_build, refuse_recording, refuse_reset, refuse_setup};
+use crate::state::{SetupWords, leave, put_screen, read_setup, screen_of};
 use cmd::blend::Blend;
-use file_call::bucket_recording;
-use file_read::props_at;
-use host_screen::{SetupWords, leave, put_screen, read_setup, screen_of};
+use fill::{Draw, fill};
+use layers::{FilterFill, Placement, filter_fill, push_layer};
+use pop::pop_layer;
 use rect::Rect;
-use row_screen::Rows;
+use row::Rows;
+use screen::layers::{LayerProps, Layers};
 use screen::{Lent, reset};
-use screen_layers::{LayerProps, Layers};
-use step_fill::{Draw, fill};
-use step_filter::{FilterFill, Placement, filter_fill};
-use step_pop::pop_layer;
-use step_push::push_layer;
+use walk::bucket_recording;
+use walk::read::props_at;
 
-// Rule 1: a fresh screen of a viewport in a setup. Words that ask for no setup are refused at once, by 2 or 4.
+// Rule 1: a fresh screen of a viewport, in pixels, in a setup. Words that ask for no setup are refused at once, by 2 or 4.
 #[unsafe(no_mangle)]
-#[tactic(auto, using(host_screen::proofs::Words::long, crate::proofs::Asked::reset_unasked))]
+#[tactic(auto, using(crate::proofs::Words::long, crate::proofs::HostAsked::reset_unasked))]
 pub extern "C" fn coarse_reset(
     state: &mut [u32],
     x0: u32,
@@ -77,7 +76,7 @@ pub extern "C" fn coarse_reset(
 
 // Rule 2: the words of a recording file, in a setup. Words that ask for no setup are refused by 2 or 4, after 3 for the file's form.
 #[unsafe(no_mangle)]
-#[tactic(auto, using(host_screen::proofs::Words::long, crate::proofs::Asked::recording_unasked))]
+#[tactic(auto, using(crate::proofs::Words::long, crate::proofs::HostAsked::recording_unasked))]
 pub extern "C" fn coarse_bucket_recording(
     state: &mut [u32],
     file: &[u32],
@@ -119,9 +118,9 @@ pub extern "C" fn coarse_bucket_recording(
     leave(state, screen, done)
 }
 
-// Rules 3 to 7: segments start to end of a list, painted with the paint at a place of a paint list.
+// Rules 3 to 7: segments start to end of a list, five words each, painted with the paint at a place of a paint list, four words each. Refused as `fill`.
 #[unsafe(no_mangle)]
-#[tactic(auto, using(host_screen::proofs::Words::long, crate::proofs::Unheld::fill_unheld))]
+#[tactic(auto, using(crate::proofs::Words::long, crate::proofs::Unheld::fill_unheld))]
 pub extern "C" fn coarse_fill(
     state: &mut [u32],
     rows: &mut [u32],
@@ -163,8 +162,8 @@ pub extern "C" fn coarse_fill(
     leave(state, screen, done)
 }
 
-// The properties whose clip is there if the flag is 1.
-#[tactic(auto, unfolding(file_form::specs::Places::layer_from, file_form::specs::Places::clip_from))]
+// What a push is given; its clip is there if the flag is 1.
+#[tactic(auto, unfolding(file::specs::Places::layer_from, file::specs::Places::clip_from))]
 fn props_of(
     mix: u32,
     compose: u32,
@@ -192,9 +191,10 @@ fn props_of(
     }
 }
 
-// Rule 8. The opacity is the bits of an f32; flag 1: the clip has a box, a range of segments and a thread, 0: there is none.
+// Rule 8. The opacity is the bits of an f32; flag 1: the clip has a box, a range of segments and a thread, 0: there is none, any other is 4. Refused as
+// `push_layer`.
 #[unsafe(no_mangle)]
-#[tactic(auto, using(host_screen::proofs::Words::long, crate::proofs::Unheld::push_unheld))]
+#[tactic(auto, using(crate::proofs::Words::long, crate::proofs::Unheld::push_unheld))]
 pub extern "C" fn coarse_push_layer(
     state: &mut [u32],
     rows: &mut [u32],
@@ -238,9 +238,9 @@ pub extern "C" fn coarse_push_layer(
     leave(state, screen, done)
 }
 
-// Rules 9 and 10. The segments are those of the layer's clip.
+// Rules 9 and 10. The segments are the list that the layer's clip names a range of, five words each. Refused as `pop_layer`.
 #[unsafe(no_mangle)]
-#[tactic(auto, using(host_screen::proofs::Words::long, crate::proofs::Unheld::pop_unheld))]
+#[tactic(auto, using(crate::proofs::Words::long, crate::proofs::Unheld::pop_unheld))]
 pub extern "C" fn coarse_pop_layer(
     state: &mut [u32],
     rows: &mut [u32],
@@ -277,10 +277,10 @@ fn pixmap_of(flag: u32, handle: u32) -> Option<u32>
     (flag == 1).then_some(handle)
 }
 
-// Rule 11: a picture drawn into a box, from a source origin; paint_count is the length of the paint list, panel the layer's. has_pixmap 1: the picture is the one
-// whose handle is pixmap, 0: there is none.
+// Rule 11: a picture drawn into a box, from a source origin, in pixels; paint_count is the length of the paint list, panel the layer's. has_pixmap 1: the
+// picture is the one whose handle is pixmap, 0: there is none, any other is 4. Refused as `filter_fill`.
 #[unsafe(no_mangle)]
-#[tactic(auto, using(host_screen::proofs::Words::long, crate::proofs::Unheld::filter_unheld))]
+#[tactic(auto, using(crate::proofs::Words::long, crate::proofs::Unheld::filter_unheld))]
 pub extern "C" fn coarse_filter_fill(
     state: &mut [u32],
     rows: &mut [u32],

@@ -5,16 +5,16 @@ ghost use Rattle.rules.specs.Answers.{answer};
 ghost use Rattle.rules.specs.Boxes.{good_viewport};
 ghost use Rattle.rect.specs.Rects.{box_of};
 ghost use Rattle.screen.specs.Screens.{frame, frame-of};
-ghost use Rattle.host_screen.specs.State.{rect};
+ghost use Rattle.host.specs.State.{rect};
 ghost use Rattle.host.specs.Sizes.{fixed, sizes-of, size_call};
 
-use host_screen::{SetupWords, read_setup};
+use crate::state::{SetupWords, read_setup};
 use rect::Rect;
 use screen::{Screen, Setup, fresh, is_good_room};
 use sizes::answers::{Refusal, answer_number};
 use sizes::{FILTER_TABLE, LAYER_TABLE, OPACITIES, OPEN_TABLE, PAINT_TABLE, ROW};
 
-// The words of ten tables: five that the screen decides, five that are always the same.
+// The lengths of ten tables: five that the screen decides, five that are always the same.
 fn put_sizes(
     sizes: &mut [usize],
     render: usize,
@@ -66,10 +66,10 @@ fn put_lengths(viewport: Rect, setup: Setup, sizes: &mut [usize]) -> Result<(), 
     put_lengths_of(fresh(seen, setup.c, setup.d, setup.width), sizes)
 }
 
-// The lengths for a viewport in a setup. sizes: render, fills, depth, rows, painting, layers, opacities, paint_attrs, layer_attrs, filter_paints.
-// Words that ask for no setup are refused at once, by 2 or 4.
+// How many words are lent for a viewport in a setup. sizes: render, fills, depth, rows, painting, layers, opacities, paint_attrs, layer_attrs, filter_paints.
+// Words that ask for no setup are refused at once, by 2 or 4; then 2 for the viewport, 1 for C or D, 4 where sizes has not ten places.
 #[unsafe(no_mangle)]
-#[tactic(auto, using(crate::proofs::Asked::sizes_unasked))]
+#[tactic(auto, using(crate::proofs::HostAsked::sizes_unasked))]
 pub extern "C" fn coarse_sizes(
     x0: u32,
     y0: u32,

@@ -1,26 +1,27 @@
-// Painting, the runs, `can_skip` and the split.
+// The calls of painting, of the runs of a row, of `can_skip` and of the split. Each refuses as the call of its name in `paint` or `depth`, and by 4 where a
+// result has a wrong length.
 ghost use Rattle.std.specs.Prelude.{◌≡◌};
 ghost use Rattle.rules.specs.Answers.{answer};
 ghost use Rattle.rules.specs.Spans.{span};
-ghost use Rattle.paint_command.specs.Painting.{lent};
-ghost use Rattle.paint_screen.specs.Stepping.{attributes};
+ghost use Rattle.paint.specs.Painting.{lent};
+ghost use Rattle.paint.specs.Stepping.{attributes};
 ghost use Rattle.host.specs.Painting.{begin_call, step_call, row_call, unset_call, visible_call, write_call, skip_call, split_call};
 
 use crate::border::{refuse_begin, refuse_runs, refuse_skip, refuse_step};
+use crate::results::{put_runs, put_skip, put_split, put_step};
+use crate::state::{leave, put_screen, screen_of};
 use depth::split_opaque_span;
-use host_results::{put_runs, put_skip, put_split, put_step};
-use host_screen::{leave, put_screen, screen_of};
-use paint_screen::{
-    Stored, begin_painting, can_skip, unset_runs, unset_runs_and_write, visible_runs,
+use paint::{
+    Stored, begin_painting, can_skip, paint_row, paint_step, unset_runs, unset_runs_and_write,
+    visible_runs,
 };
-use paint_whole::{paint_row, paint_step};
 use sizes::answers::Refusal;
 use sizes::width::Width;
 use span::{BucketRange, TileSpan};
 
-// Clears the depth words and sets every row to its first step.
+// Clears the depth words and sets every row to its first step, at nesting 0.
 #[unsafe(no_mangle)]
-#[tactic(auto, using(host_screen::proofs::Words::long, crate::proofs::Unheld::begin_unheld))]
+#[tactic(auto, using(crate::proofs::Words::long, crate::proofs::Unheld::begin_unheld))]
 pub extern "C" fn coarse_begin_painting(
     state: &mut [u32],
     depth: &mut [u32],
@@ -36,9 +37,9 @@ pub extern "C" fn coarse_begin_painting(
     leave(state, screen, done)
 }
 
-// The next stored command of a row. result: 1 if none was left, else 0; how many pieces are listed.
+// The next step of a row; its pieces in list. res: 1 if none was left, else 0; how many pieces are listed.
 #[unsafe(no_mangle)]
-#[tactic(auto, using(host_screen::proofs::Words::was_good, crate::proofs::Unheld::step_unheld))]
+#[tactic(auto, using(crate::proofs::Words::was_good, crate::proofs::Unheld::step_unheld))]
 pub extern "C" fn coarse_paint_step(
     state: &[u32],
     row: usize,
@@ -69,10 +70,9 @@ pub extern "C" fn coarse_paint_step(
     put_step(done, res)
 }
 
-// A row's steps from where it stands to its end, or up to the first whose pieces have no room left. result: 1 if the row has come to its end,
-// else 0; how many pieces are listed.
+// A row's steps from where it stands to its end, or up to the first that is refused. res: 1 if the row has come to its end, else 0; how many pieces are listed.
 #[unsafe(no_mangle)]
-#[tactic(auto, using(host_screen::proofs::Words::was_good, crate::proofs::Unheld::row_unheld))]
+#[tactic(auto, using(crate::proofs::Words::was_good, crate::proofs::Unheld::row_unheld))]
 pub extern "C" fn coarse_paint_row(
     state: &[u32],
     row: usize,
@@ -103,9 +103,9 @@ pub extern "C" fn coarse_paint_row(
     put_step(done, res)
 }
 
-// The runs of the tiles first to end whose buckets hold 0; count: how many.
+// The runs of the tiles first to end whose buckets hold 0, two words each in list; count: how many.
 #[unsafe(no_mangle)]
-#[tactic(auto, using(host_screen::proofs::Words::was_good, crate::proofs::Unheld::unset_unheld))]
+#[tactic(auto, using(crate::proofs::Words::was_good, crate::proofs::Unheld::unset_unheld))]
 pub extern "C" fn coarse_unset_runs(
     state: &[u32],
     row: usize,
@@ -126,9 +126,9 @@ pub extern "C" fn coarse_unset_runs(
     put_runs(runs, count)
 }
 
-// The runs of the tiles first to end whose buckets hold at most the id; count: how many.
+// The runs of the tiles first to end whose buckets hold at most the id, two words each in list; count: how many.
 #[unsafe(no_mangle)]
-#[tactic(auto, using(host_screen::proofs::Words::was_good, crate::proofs::Unheld::visible_unheld))]
+#[tactic(auto, using(crate::proofs::Words::was_good, crate::proofs::Unheld::visible_unheld))]
 pub extern "C" fn coarse_visible_runs(
     state: &[u32],
     row: usize,
@@ -150,9 +150,9 @@ pub extern "C" fn coarse_visible_runs(
     put_runs(runs, count)
 }
 
-// Lists the unset runs of the buckets first to end and stores the id there; count: how many. Done, it ends painting.
+// Lists the unset runs of the buckets first to end, as buckets, and stores the id there; count: how many. Done, it ends painting.
 #[unsafe(no_mangle)]
-#[tactic(auto, using(host_screen::proofs::Words::long, host_screen::proofs::Words::was_good, crate::proofs::Unheld::write_unheld))]
+#[tactic(auto, using(crate::proofs::Words::long, crate::proofs::Words::was_good, crate::proofs::Unheld::write_unheld))]
 pub extern "C" fn coarse_unset_runs_and_write(
     state: &mut [u32],
     row: usize,
@@ -177,7 +177,7 @@ pub extern "C" fn coarse_unset_runs_and_write(
 
 // Whether a draw over the tiles first to end need not look at the row's depth words; yes: 1 or 0.
 #[unsafe(no_mangle)]
-#[tactic(auto, using(host_screen::proofs::Words::was_good, crate::proofs::Unheld::skip_unheld))]
+#[tactic(auto, using(crate::proofs::Words::was_good, crate::proofs::Unheld::skip_unheld))]
 pub extern "C" fn coarse_can_skip(
     state: &[u32],
     row: usize,
@@ -198,7 +198,8 @@ pub extern "C" fn coarse_can_skip(
     put_skip(skip, yes)
 }
 
-// Rule 7: the parts of an opaque span, at so many pixels a bucket. parts: three words a part, left to right, then zeros.
+// Rule 7: the parts of an opaque span, at so many pixels a bucket. parts: nine words, three a part, left to right (1 for tiles or 2 for buckets, first, end),
+// then zeros. 2 for no width of a bucket, 4 for another length of parts, 12 for no range.
 #[unsafe(no_mangle)]
 #[tactic(auto, unfolding(crate::specs::Painting::split_call))]
 pub extern "C" fn coarse_split_opaque_span(

@@ -1,18 +1,17 @@
-// Why a tile of a recording shows what it shows.
+// The call that says why a tile of a recording shows what it shows.
 ghost use Rattle.std.specs.Prelude.{◌≡◌, ◌&&◌, [], ◌∷◌, length, leb, eqb};
 ghost use Rattle.sizes.specs.Refusals.{answer_number};
 ghost use Rattle.rules.specs.Answers.{answer};
 ghost use Rattle.screen.specs.Tables.{tables};
-ghost use Rattle.tile_reason.specs.Reasons.{reason-of};
-ghost use Rattle.tile_call.specs.Explained.{reason_said};
+ghost use Rattle.tile.specs.Reasons.{reason-of};
+ghost use Rattle.tile.specs.Explained.{reason_said};
 ghost use Rattle.host.specs.Reasons.{reason-words, reason-size, result-left, why_call};
 
 use crate::border::{refuse_recording, refuse_setup};
-use host_screen::{SetupWords, put_screen, read_setup, screen_of};
+use crate::state::{SetupWords, put_screen, read_setup, screen_of};
 use screen::Lent;
 use sizes::answers::Refusal;
-use tile_call::why;
-use tile_reason::{Asked, Reason};
+use tile::{Asked, Reason, why};
 
 // The words of a reason.
 const REASON: usize = 4;
@@ -52,11 +51,11 @@ fn is_good_question(layer: u32, n: usize) -> bool
     layer <= 1 && n == REASON
 }
 
-// A recording is bucketed, and answers for a draw's attribute (layer 0) or a layer's (1) at one tile. result: the reason's case (0 unknown attribute,
-// 1 no segment, 2 cut away, 3 row untouched, 4 hidden, 5 shown), the attribute that hides or the place in the tile's list, the asked attribute's
-// panel, and that of the attribute that hides. The setup is refused as by the recording call.
+// A recording is bucketed, and answers for a paint's attribute (layer 0) or a layer's (1) at one tile. res: the reason's case (0 unknown attribute, 1 no
+// segment, 2 cut away, 3 row untouched, 4 hidden, 5 shown), the attribute that hides or the place in the tile's list, the asked attribute's panel, and that of
+// the attribute that hides. Refused as the recording call, by 4 also where layer is above 1 or res has not four words; then by 12 off the screen.
 #[unsafe(no_mangle)]
-#[tactic(auto, using(host_screen::proofs::Words::long, crate::proofs::Asked::why_unasked))]
+#[tactic(auto, using(crate::proofs::Words::long, crate::proofs::HostAsked::why_unasked))]
 pub extern "C" fn coarse_why(
     state: &mut [u32],
     file: &[u32],

@@ -7,7 +7,7 @@ ghost use Rattle.rules.specs.Spans.{span};
 ghost use Rattle.host.specs.Spans.{found_call, spans_call};
 
 use crate::painting::coarse_visible_runs;
-use depth_forms::write_runs;
+use depth::forms::write_runs;
 use sizes::BUCKET_END;
 use span::TileSpan;
 
@@ -61,8 +61,8 @@ fn found_spans(
     }
 }
 
-// The runs of the tiles first to end whose buckets hold at most the id, as spans at the list's start; count: how many. 14 where the list is
-// shorter; the spans after the runs stay. At id 0 they are the unset runs.
+// The runs of the tiles first to end whose buckets hold at most the id, as spans at the list's start; count: how many. Refused as `coarse_visible_runs`, by 14
+// where the list is shorter; the spans after the runs stay. At id 0 they are the unset runs.
 #[unsafe(no_mangle)]
 pub extern "C" fn coarse_visible_spans(
     state: &[u32],

@@ -1,4 +1,5 @@
-// Boxes in pixels (vello_common's RectU16). Parts: `is_..` judge any numbers, the others are exact on any.
+// Boxes in pixels (vello_common's RectU16), and how a viewport is read. Parts: `is_..` judge any numbers; the others take any too, but for the private
+// snapping.
 #![tactic(auto)]
 
 ghost use Rattle.std.specs.Prelude.{◌≡◌, ◌≤◌};
@@ -11,7 +12,7 @@ use sizes::answers::Refusal;
 use sizes::{MOST_HEIGHT, MOST_WIDTH};
 use span::TileSpan;
 
-// From a left and a top edge to a right and a bottom edge, in pixels.
+// From a left and a top edge to a right and a bottom edge, in pixels; the ends are not in it.
 #[derive(Clone, Copy, PartialEq, Eq)]
 pub struct Rect {
     pub x0: u32,
@@ -20,14 +21,14 @@ pub struct Rect {
     pub y1: u32,
 }
 
-// How a viewport is read: as it is, or carried outward to tile edges.
+// How a viewport is read: `Exact`, as it is given, or `Snapping`, carried outward to the edges of tiles (rule 1).
 #[derive(Clone, Copy)]
 pub enum Mode {
     Exact,
     Snapping,
 }
 
-// No box: all zeros.
+// All zeros: what stands for a box where there is none.
 pub const NOWHERE: Rect = Rect {
     x0: 0,
     y0: 0,
@@ -36,14 +37,14 @@ pub const NOWHERE: Rect = Rect {
 };
 
 impl Rect {
-    // From left to right, 0 where the end is not after the start.
+    // Pixels from left to right, 0 where the end is not after the start.
     pub fn width(self) -> u32
         ensures { result ≡ width (box_of self) }
     {
         self.x1.saturating_sub(self.x0)
     }
 
-    // From top to bottom, likewise.
+    // Pixels from top to bottom, likewise.
     pub fn height(self) -> u32
         ensures { result ≡ height (box_of self) }
     {
@@ -57,7 +58,7 @@ impl Rect {
         self.x1 <= self.x0 || self.y1 <= self.y0
     }
 
-    // The pixels of both.
+    // The pixels of both. Where there are none its ends may lie before its starts.
     pub fn intersect(self, other: Rect) -> Rect
         ensures { box_of result ≡ meet (box_of self) (box_of other) }
     {
@@ -69,7 +70,7 @@ impl Rect {
         }
     }
 
-    // Seen from the pixel x, y; a side left of it or above it comes to 0.
+    // Seen from the pixel x, y; an edge left of it or above it comes to 0.
     pub fn relative_to_origin(self, x: u32, y: u32) -> Rect
         ensures { box_of result ≡ to-local (box x y 0 0) (box_of self) }
     {
@@ -81,14 +82,14 @@ impl Rect {
         }
     }
 
-    // Ends not before starts, all at most 32,768.
+    // Ends not before starts, all at most 32,768 pixels.
     pub fn is_bounded(self) -> bool
         ensures { result ≡ bounded (box_of self) }
     {
         self.x0 <= self.x1 && self.y0 <= self.y1 && self.x1 <= 32768 && self.y1 <= 32768
     }
 
-    // A filter's dest box: bounded, x in whole tiles.
+    // A filter's dest box: bounded, x in whole tiles; y is free.
     pub fn is_good_dest(self) -> bool
         ensures { result ≡ good-dest (box_of self) }
     {
@@ -102,7 +103,7 @@ impl Rect {
         self.y0 % 4 == 0 && self.y1 % 4 == 0 && self.is_good_dest()
     }
 
-    // The viewport rules: a good box of at most 4,096 x 2,048 pixels.
+    // The bounds of a viewport (docs/RULES.md, Measures): a good box of at most 4,096 x 2,048 pixels.
     #[tactic(auto, unfolding(rules::specs::Boxes::good_viewport))]
     pub fn is_good_viewport(self) -> bool
         ensures { result ≡ good_viewport (box_of self) }
@@ -123,7 +124,7 @@ impl Rect {
         }
     }
 
-    // The viewport that a screen has of this box in a mode, or answer 2: the limits are judged on the snapped box alone.
+    // The viewport that a screen has of this box in a mode, or BadViewport, 2: the bounds are judged on the snapped box alone.
     pub fn viewport_in(self, mode: Mode) -> Result<Rect, Refusal>
         ensures { result ≡ seen (viewport-in (mode_of mode) (box_of self)) }
     {
@@ -136,6 +137,7 @@ impl Rect {
         }
     }
 
+    // The box itself, if it is a good viewport, else 2.
     #[tactic(auto, unfolding(crate::specs::Rects::seen))]
     fn viewport(self) -> Result<Rect, Refusal>
         ensures { result ≡ seen (box_of self) }
@@ -157,7 +159,7 @@ impl Rect {
         }
     }
 
-    // The tiles from left to right; an empty box has none.
+    // The tiles from left to right (bucketer.rs, bbox_span); an empty box has a span of width 0 at its x0.
     #[tactic(auto, unfolding(rules::specs::Boxes::span_of))]
     pub fn bbox_span(self) -> TileSpan
         ensures { tiles result ≡ span_of (box_of self) }

@@ -18,10 +18,10 @@ use Rattle.rules.specs.Walk.{◌then◌, good-arenas, frame-of, judge-records, w
 use Rattle.rules.proofs.All.{never}
 use Rattle.screen.specs.Judging.{good-tables, arenas, judged_reset}
 use Rattle.screen.specs.Tables.{lengths, ScreenLent, reset_to}
-use Rattle.screen.proofs.Laws.{few_rows}
-use Rattle.file_steps.specs.Steps.{call_at}
-use Rattle.file_judge.specs.Judging.{judged}
-use Rattle.file_call.specs.Recorded.{or-fresh, played, recorded-in, of-sections, recorded}
+use Rattle.screen.proofs.ScreenLaws.{few_rows}
+use Rattle.walk.specs.Steps.{call_at}
+use Rattle.file.specs.Judging.{judged}
+use Rattle.walk.specs.Recorded.{or-fresh, played, recorded-in, of-sections, recorded}
 use Rattle.rules.proofs.laws.Answers.{settle-number}
 use Rattle.refine_steps.proofs.Refined.{Refines, reset-refines, step-refines}
 use Rattle.refine_steps.proofs.Walks.{Both, Follow, walk-follows}

@@ -13,8 +13,8 @@ use Rattle.rules.specs.Rows.{Row}
 use Rattle.rules.specs.Plans.{Layer}
 use Rattle.rules.specs.Steps.{Screen, touched}
 use Rattle.row.specs.Words.{Words, word, word-ops}
-use Rattle.row_screen.specs.Arena.{nowhere}
-use Rattle.step_pop_rows.specs.Closing.{row_of, touched-in}
+use Rattle.row.specs.Arena.{nowhere}
+use Rattle.pop.specs.Closing.{row_of, touched-in}
 use Rattle.refine_row.specs.Encode.{encode}
 use Rattle.refine_layers.specs.Touched.{levels-at, Reached, Reaching}
 use Rattle.refine_layers.proofs.Levels.{past-levels}

@@ -26,8 +26,8 @@ use Rattle.rules.proofs.laws.Maps.{PutOk, follows-act}
 use Rattle.rules.proofs.laws.Bounds.{BoundedSpan}
 use Rattle.rules.proofs.laws.Widths.{each, raised-least, lowered-most}
 use Rattle.cmd.specs.Good.{GoodSpan, GoodPush}
-use Rattle.paint_runs.proofs.Skips.{includes-new, includes-still}
-use Rattle.paint_command.specs.Painting.{good-paint}
+use Rattle.paint.proofs.Skips.{includes-new, includes-still}
+use Rattle.paint.specs.Painting.{good-paint}
 use Rattle.refine_row.specs.Encode.{placed, Fine}
 use Rattle.refine_row.proofs.Refines.{refines}
 use Rattle.refine_paint.specs.Fair.{FairCommand, Nested, nesting-after, Fair}

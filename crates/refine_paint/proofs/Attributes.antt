@@ -15,7 +15,7 @@ use Rattle.rules.specs.Attributes.{PaintAttr, LayerAttr, FilterPaint, Attrs, no-
 use Rattle.rules.specs.Rows.{Row}
 use Rattle.rules.specs.Painting.{paint-id, paint-panel, layer-id, layer-panel}
 use Rattle.rules.proofs.All.{and_left, all_map}
-use Rattle.paint_command.specs.Painting.{good-id, good-paint, good-layer}
+use Rattle.paint.specs.Painting.{good-id, good-paint, good-layer}
 use Rattle.refine_paint.specs.Fair.{FairCommand, Fair}
 
 -- an attribute at place i of n that is good where it stands

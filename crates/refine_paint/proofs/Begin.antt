@@ -17,15 +17,15 @@ use Rattle.rules.specs.Painting.{Painter, begin}
 use Rattle.rules.specs.Calls as calls
 use Rattle.rules.specs.Calls.{begin-call, blank}
 use Rattle.rules.proofs.All.{All, nil, cons}
-use Rattle.row_screen.proofs.Laws.{one_more}
+use Rattle.row.proofs.RowsLaws.{one_more}
 use Rattle.screen.specs.Screens.{good_screen}
 use Rattle.screen.specs.Judging as screens
 use Rattle.refine_steps.specs.Sound.{Sound}
 use Rattle.refine_steps.specs.Lent.{screen-of, rows_of}
 use Rattle.refine_steps.proofs.Judged.{judged-done}
 use Rattle.refine_steps.proofs.Tables.{replicate-add}
-use Rattle.paint_screen.specs.Judging.{judged, begin_number}
-use Rattle.paint_screen.specs.Beginning.{canvas, beginning}
+use Rattle.paint.specs.Judging.{judged, begin_number}
+use Rattle.paint.specs.Beginning.{canvas, beginning}
 use Rattle.refine_paint.specs.Canvases.{buckets-in, standing-in, depth-of, painting-of, canvas-of, WholeCanvas}
 
 good-by : (a b c g : Bool) → first_of ((not a, BadViewport) ∷ (not b, BadArena) ∷ (not (c && g), BadRecord) ∷ []) ≡ 0 → g ≡ true

@@ -16,19 +16,19 @@ use Rattle.rules.proofs.All.{All, nil, cons, all_map}
 use Rattle.rules.proofs.laws.Bounds.{plan-ok}
 use Rattle.rules.proofs.laws.Maps.{planned}
 use Rattle.row.specs.Words.{Words}
-use Rattle.row_screen.specs.Arena.{sizes, row_at}
-use Rattle.row_screen.proofs.Laws.{cut_at}
+use Rattle.row.specs.Arena.{sizes, row_at}
+use Rattle.row.proofs.RowsLaws.{cut_at}
 use Rattle.refine_row.specs.Encode.{Fine, encode}
 use Rattle.refine_row.proofs.Refines.{fresh-fine}
 use Rattle.refine_row.proofs.Screens.{cut-screen}
 use Rattle.screen.specs.Tables.{ScreenLent}
-use Rattle.screen.proofs.Laws.{few-buckets}
+use Rattle.screen.proofs.ScreenLaws.{few-buckets}
 use Rattle.refine_steps.specs.Sound.{Sound}
 use Rattle.refine_steps.specs.Lent.{rows_of}
 use Rattle.refine_steps.proofs.Kept.{Passing, passing}
 use Rattle.refine_steps.proofs.Refined.{BuiltBy, by-reset, by-step, built-refines}
-use Rattle.paint_command.specs.Standing.{Stands}
-use Rattle.paint_screen.specs.Stepping.{part}
+use Rattle.paint.specs.Standing.{Stands}
+use Rattle.paint.specs.Stepping.{part}
 use Rattle.refine_paint.specs.Fair.{FairRows}
 use Rattle.refine_paint.proofs.Acts.{puts-fair}
 use Rattle.refine_paint.proofs.Attributes.{fair-more}

@@ -20,9 +20,9 @@ use Rattle.rules.proofs.All.{never, all_replicate}
 use Rattle.screen.specs.Tables.{ScreenLent}
 use Rattle.refine_steps.specs.Lent.{lent_of}
 use Rattle.refine_steps.proofs.Kept.{call-sound, reset-sound}
-use Rattle.paint_command.specs.Painting.{lent}
-use Rattle.paint_screen.specs.Beginning.{canvas, beginning}
-use Rattle.paint_screen.specs.Stepping.{attributes, stepped}
+use Rattle.paint.specs.Painting.{lent}
+use Rattle.paint.specs.Beginning.{canvas, beginning}
+use Rattle.paint.specs.Stepping.{attributes, stepped}
 use Rattle.rules_picture.proofs.Stepped.{call-frame}
 use Rattle.refine_paint.specs.Canvases.{depth-of, painting-of, canvas-of, given_out, WholeCanvas}
 use Rattle.refine_paint.proofs.Kept.{call-fair, reset-fair}

@@ -18,11 +18,11 @@ use Rattle.rules.specs.Rows.{Row}
 use Rattle.rules.specs.Painting.{Painter, begin, paint-id, paint-panel, no-fill, paint-depth, paint-fill-runs, paint-command, paint-when, paint-step}
 use Rattle.rules.proofs.All.{All, cons, both, never, all-at, all_map}
 use Rattle.refine_row.specs.Encode.{first_of, end_of, state-of, Fine}
-use Rattle.paint_runs.specs.Summaries.{summary-at, Sound}
-use Rattle.paint_runs.proofs.Skips.{sound-blank}
-use Rattle.paint_command.specs.Painting.{good-id, good-paint, good-command}
-use Rattle.paint_command.specs.Standing.{PainterReady}
-use Rattle.paint_command.proofs.ByRules.{AllIncluded, sound-step}
+use Rattle.paint.specs.Summaries.{summary-at, Sound}
+use Rattle.paint.proofs.Skips.{sound-blank}
+use Rattle.paint.specs.Painting.{good-id, good-paint, good-command}
+use Rattle.paint.specs.Standing.{PainterReady}
+use Rattle.paint.proofs.ByRules.{AllIncluded, sound-step}
 use Rattle.rules_picture.proofs.Newest.{written-length}
 use Rattle.refine_paint.specs.Fair.{FairCommand, Nested, nesting-after, Fair}
 use Rattle.refine_paint.specs.Painters.{Going}

@@ -25,7 +25,7 @@ use Rattle.rules.proofs.All.{All, nil, cons, head, both, and_left, and_right, ne
 use Rattle.rules.proofs.laws.Bounds.{Framed, Inside, judged-facts, good-facts, dest-facts, box-inside}
 use Rattle.rules.proofs.laws.Widths.{each}
 use Rattle.cmd.specs.Good.{GoodSpan, GoodAlpha}
-use Rattle.paint_command.specs.Painting.{good-paint, good-layer}
+use Rattle.paint.specs.Painting.{good-paint, good-layer}
 use Rattle.refine_paint.proofs.Acts.{FairPut}
 use Rattle.refine_paint.proofs.Attributes.{Extends, same-attrs, paint-extends, paint-new, paint-good, layer-extends, layer-good}
 

@@ -29,13 +29,13 @@ use Rattle.refine_row.specs.Encode.{encode, state-of, Fine}
 use Rattle.refine_steps.specs.Lent.{screen-of, rows_of}
 use Rattle.refine_steps.proofs.Judged.{rows_long}
 use Rattle.screen.specs.declared.Screen.{Screen}
-use Rattle.paint_runs.specs.Summaries.{good-summary, summary-at}
-use Rattle.paint_runs.proofs.Skips.{passes}
-use Rattle.paint_screen.specs.Judging as judging
-use Rattle.paint_screen.specs.Judging.{runs_number, skip_number}
-use Rattle.paint_screen.specs.Beginning.{begun}
-use Rattle.paint_screen.specs.Stepping.{part, with_part}
-use Rattle.paint_screen.specs.Rows.{Wrote, or-runs, unset-of, visible-of, write-in-place, write-of, record-skip, skip-of-row}
+use Rattle.paint.specs.Summaries.{good-summary, summary-at}
+use Rattle.paint.proofs.Skips.{passes}
+use Rattle.paint.specs.Judging as judging
+use Rattle.paint.specs.Judging.{runs_number, skip_number}
+use Rattle.paint.specs.Beginning.{begun}
+use Rattle.paint.specs.Stepping.{part, with_part}
+use Rattle.paint.specs.DirectRuns.{Wrote, or-runs, unset-of, visible-of, write-in-place, write-of, record-skip, skip-of-row}
 use Rattle.rules_picture.proofs.Newest.{written-length}
 use Rattle.refine_paint.specs.Fair.{Fair}
 use Rattle.refine_paint.specs.Canvases.{buckets-in, standing-in, depth-of, painting-of, WholeCanvas, wrote_of}

@@ -22,8 +22,8 @@ use Rattle.refine_row.specs.Encode.{padded, first_of, end_of, encode}
 use Rattle.refine_row.proofs.Pads.{padded-fits, padded-length}
 use Rattle.refine_steps.specs.Sound.{OrderedUnion, Fitting}
 use Rattle.refine_steps.proofs.Tables.{join-length}
-use Rattle.paint_command.specs.Painting.{command-at, depth-fill-at}
-use Rattle.paint_command.specs.Standing.{Stands}
+use Rattle.paint.specs.Painting.{command-at, depth-fill-at}
+use Rattle.paint.specs.Standing.{Stands}
 use Rattle.refine_paint.specs.Fair.{Fair}
 
 -- the words of the k-th of things that have w words each

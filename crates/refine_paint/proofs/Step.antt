@@ -22,18 +22,18 @@ use Rattle.rules.specs.Calls as calls
 use Rattle.rules.specs.Calls.{paint-call, given, with-painter}
 use Rattle.rules.proofs.All.{All, nil, cons, neither, all-at, and_right}
 use Rattle.row.specs.Words.{Words}
-use Rattle.row_screen.specs.Arena.{sizes, Long}
-use Rattle.row_screen.proofs.Laws.{part-0, part-suc, put-0, put-suc}
+use Rattle.row.specs.Arena.{sizes, Long}
+use Rattle.row.proofs.RowsLaws.{part-0, part-suc, put-0, put-suc}
 use Rattle.refine_row.specs.Encode.{encode, state-of}
 use Rattle.refine_row.proofs.Screens.{screen-long}
 use Rattle.refine_steps.specs.Lent.{table, attr-words, screen-of, rows_of}
 use Rattle.refine_steps.proofs.Tables.{table-length, join-length}
-use Rattle.paint_runs.specs.Summaries.{summary-at, Sound}
-use Rattle.paint_command.specs.Painting.{out, refused, left, painter-at, settled}
-use Rattle.paint_command.specs.Standing.{Stands, PainterReady, Holds}
-use Rattle.paint_screen.specs.Judging.{arenas-long, tables-long, step_number}
-use Rattle.paint_screen.specs.Stepping.{part, with_part, in_place, number, stepped}
-use Rattle.paint_screen.proofs.Laws.{step-by-rules}
+use Rattle.paint.specs.Summaries.{summary-at, Sound}
+use Rattle.paint.specs.Painting.{out, refused, left, painter-at, settled}
+use Rattle.paint.specs.Standing.{Stands, PainterReady, Holds}
+use Rattle.paint.specs.Judging.{arenas-long, tables-long, step_number}
+use Rattle.paint.specs.Stepping.{part, with_part, in_place, number, stepped}
+use Rattle.paint.proofs.ScreenLaws.{step-by-rules}
 use Rattle.refine_paint.specs.Canvases.{buckets-in, standing-in, depth-of, painting-of, WholeCanvas, given_out, attributes-of, words_of}
 use Rattle.refine_paint.proofs.Standing.{join-at}
 use Rattle.refine_paint.proofs.Kept.{fine-at, own-words, row-stands}

@@ -14,11 +14,11 @@ use Rattle.rules.proofs.All.{All}
 use Rattle.refine_steps.specs.Sound.{Sound}
 use Rattle.refine_steps.specs.Lent.{screen-of, table, attr-words, rows_of}
 use Rattle.depth.specs.Listing.{listing}
-use Rattle.paint_pieces.specs.Pieces.{laid}
-use Rattle.paint_command.specs.Painting.{RowLent, lent, StepOut, out}
-use Rattle.paint_screen.specs.Stepping.{Attributes, attributes}
-use Rattle.paint_screen.specs.Beginning.{Canvas, canvas}
-use Rattle.paint_screen.specs.Rows.{Wrote}
+use Rattle.paint.specs.Pieces.{laid}
+use Rattle.paint.specs.Painting.{RowLent, lent, StepOut, out}
+use Rattle.paint.specs.Stepping.{Attributes, attributes}
+use Rattle.paint.specs.Beginning.{Canvas, canvas}
+use Rattle.paint.specs.DirectRuns.{Wrote}
 use Rattle.refine_paint.specs.Fair.{FairRows}
 use Rattle.refine_paint.specs.Painters.{Going}
 

@@ -11,8 +11,8 @@ use Rattle.rules.specs.Steps.{Screen}
 use Rattle.rules.specs.Painting.{paint-id}
 use Rattle.rules.proofs.All.{All}
 use Rattle.cmd.specs.Good.{GoodCommand, GoodDepthFill, GoodPush}
-use Rattle.paint_runs.specs.Summaries.{Included}
-use Rattle.paint_command.specs.Painting.{good-paint, good-layer}
+use Rattle.paint.specs.Summaries.{Included}
+use Rattle.paint.specs.Painting.{good-paint, good-layer}
 
 -- a command's attribute, if it has one, is there, with a panel and an id from 1 to 1,048,576
 abbrev pub Attributed : Attrs → Command → Type 0

@@ -3,7 +3,7 @@ use Rattle.std.specs.Prelude.{ℕ, ◌+◌, ◌-◌, ◌≤◌, ◌≡◌, lengt
 use Rattle.rules.specs.Rows.{Row}
 use Rattle.rules.specs.Painting.{Painter}
 use Rattle.refine_row.specs.Encode.{state-of}
-use Rattle.paint_runs.specs.Summaries.{summary-at, Sound}
+use Rattle.paint.specs.Summaries.{summary-at, Sound}
 use Rattle.refine_paint.specs.Fair.{nesting-after}
 
 -- n buckets, v tiles each, no more steps than the row has, the nesting of the commands that are painted, and depth words for which the summary is sound

@@ -13,8 +13,8 @@ use Rattle.rules.specs.Lists.{join}
 use Rattle.rules.proofs.All.{All, all-mapped}
 use Rattle.rules.proofs.laws.Maps.{screen-by}
 use Rattle.row.specs.Words.{Words, words, Ends}
-use Rattle.row_screen.specs.Arena.{sizes, Sized, Long, cut, lay}
-use Rattle.row_screen.proofs.Laws.{cut-lay, lay-long}
+use Rattle.row.specs.Arena.{sizes, Sized, Long, cut, lay}
+use Rattle.row.proofs.RowsLaws.{cut-lay, lay-long}
 use Rattle.refine_row.specs.Encode.{stack, placed, encode, Fine}
 use Rattle.refine_row.proofs.Pads.{padded-length}
 use Rattle.refine_row.proofs.Laws.{place-word}

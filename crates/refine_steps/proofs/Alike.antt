@@ -17,8 +17,8 @@ use Rattle.rules.proofs.laws.Answers.{settle-number, settle-done}
 use Rattle.rules.proofs.laws.Bounds.{BoundedSpan}
 use Rattle.rules.proofs.laws.Maps.{PutOk, screen-by, answer-by, follows-perform}
 use Rattle.row.specs.Words.{Words, word-ops}
-use Rattle.row_screen.specs.Arena.{lay}
-use Rattle.row_judge.specs.Building.{rows_at, screen-at, good_rows, step_number}
+use Rattle.row.specs.Arena.{lay}
+use Rattle.row.specs.Building.{rows_at, screen-at, good_rows, step_number}
 use Rattle.refine_row.specs.Encode.{encode}
 use Rattle.refine_row.proofs.Refines.{refines}
 use Rattle.rules.specs.Attributes.{no-paint}

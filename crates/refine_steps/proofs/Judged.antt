@@ -11,14 +11,14 @@ use Rattle.rules.specs.Rows.{Row}
 use Rattle.rules.specs.Plans.{Layer, clip-box}
 use Rattle.rules.specs.Steps as rule
 use Rattle.rules.proofs.All.{All, neither}
-use Rattle.row_screen.specs.Arena.{sizes, Long}
-use Rattle.row_judge.specs.Building.{rows_at}
+use Rattle.row.specs.Arena.{sizes, Long}
+use Rattle.row.specs.Building.{rows_at}
 use Rattle.refine_row.specs.Encode.{encode}
 use Rattle.refine_row.proofs.Screens.{cut-screen, screen-long}
 use Rattle.rect.specs.Rects.{same-box}
 use Rattle.screen.specs.Screens.{good_clip, good_screen}
 use Rattle.screen.specs.Judging.{judged}
-use Rattle.screen.proofs.Laws as screens
+use Rattle.screen.proofs.ScreenLaws as screens
 use Rattle.refine_steps.specs.Sound.{Good, Sound}
 use Rattle.refine_steps.specs.Lent.{screen-of, rows_of}
 use Rattle.refine_steps.proofs.Kept.{clip-good}

@@ -24,7 +24,7 @@ use Rattle.rules.proofs.All.{All, nil, cons, head, tail, both, and_left, and_rig
 use Rattle.rules.proofs.laws.Changes.{puts-on, puts-length, untouched}
 use Rattle.rules.proofs.laws.Maps.{paints, splits, touches, closes, pops, planned}
 use Rattle.rules.proofs.laws.Bounds.{Framed, Inside, judged-facts, good-facts, bounded-facts, clip-facts, dest-facts, box-inside}
-use Rattle.screen.proofs.Laws as screens
+use Rattle.screen.proofs.ScreenLaws as screens
 use Rattle.refine_row.proofs.Refines.{Built, called, reset-built}
 use Rattle.refine_layers.specs.Touched.{Reaching}
 use Rattle.refine_layers.proofs.Laws.{call-reaching, reset-reaching}

@@ -14,12 +14,12 @@ use Rattle.rules.specs.Blends.{good-blend}
 use Rattle.rules.specs.Inputs.{Clip, good-handle, good-thread, good-panel, all-good, good-props}
 use Rattle.rules.specs.Plans.{Layer, clip-box}
 use Rattle.rules.proofs.All.{All, cons, both}
-use Rattle.screen.proofs.Laws as screens
-use Rattle.screen_layers.specs.declared.OpenLayer.{OpenLayer}
-use Rattle.screen_layers.specs.Layers.{layer-words, layer-at, open_at, good_layer, good_own_box}
-use Rattle.screen_layers.proofs.Laws.{kept}
-use Rattle.step_pop.specs.Pop.{layers-in, good-open}
-use Rattle.file_read.specs.Reading.{pattern_of}
+use Rattle.screen.proofs.ScreenLaws as screens
+use Rattle.screen.specs.declared.layers.OpenLayer.{OpenLayer}
+use Rattle.screen.specs.Layers.{layer-words, layer-at, open_at, good_layer, good_own_box}
+use Rattle.screen.proofs.LayersLaws.{kept}
+use Rattle.pop.specs.Pop.{layers-in, good-open}
+use Rattle.walk.specs.Reading.{pattern_of}
 use Rattle.refine_steps.specs.Sound.{Good}
 use Rattle.refine_steps.specs.Lent.{open-words, layers-words}
 use Rattle.refine_steps.proofs.Kept.{clip-good}

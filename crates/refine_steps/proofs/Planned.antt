@@ -12,7 +12,7 @@ use Rattle.rules.specs.Inputs.{Paint, Draw, draw-segments, Props, good-props, Fi
 use Rattle.rules.specs.Plans.{State, still, box_of, with-paint, plan-fill, plan-push, filter-box, draws-nothing, filter-paint, plan-filter-in, plan-filter}
 use Rattle.rules.specs.Attributes.{Attrs, no-paint, no-layer}
 use Rattle.screen.specs.Screens.{some-filter, state-of}
-use Rattle.screen.proofs.Laws.{paint-count, filter-count, layer-count}
+use Rattle.screen.proofs.ScreenLaws.{paint-count, filter-count, layer-count}
 use Rattle.refine_steps.specs.Lent.{screen-of}
 use Rattle.refine_steps.proofs.Alike.{Grown, grown-length, Alike, box-same, empty-same}
 

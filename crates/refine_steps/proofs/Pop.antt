@@ -26,19 +26,19 @@ use Rattle.rules.proofs.All.{All, neither}
 use Rattle.rules.proofs.laws.Bounds.{BoundedSpan, plan-ok}
 use Rattle.rules.proofs.laws.Maps.{PutOk, follows-touched}
 use Rattle.cmd.specs.Attrs.{words-at}
-use Rattle.row_judge.specs.Building.{rows_at}
-use Rattle.step_pop_rows.specs.Closing.{touched-in, good-pops}
+use Rattle.row.specs.Building.{rows_at}
+use Rattle.pop.specs.Closing.{touched-in, good-pops}
 use Rattle.refine_row.proofs.Refines.{refines}
 use Rattle.screen.specs.declared.Screen.{Screen}
 use Rattle.screen.specs.Screens.{some-filter, state-of, screen-after}
 use Rattle.screen.specs.Tables.{Tables, ScreenLent, float-0}
-use Rattle.screen_layers.specs.Layers.{no_words, open_at}
-use Rattle.screen_layers.proofs.Laws.{words-length}
-use Rattle.step_pop.specs.Pop as pop
-use Rattle.step_pop.specs.Pop.{layers-in, own-rows, good-open, good_lengths, popped}
-use Rattle.file_read.specs.Reading.{pattern_of}
-use Rattle.file_steps.specs.Steps.{pop-part, pop-into, call_at}
-use Rattle.file_steps.proofs.Lists.{segments-words-length, segments-said}
+use Rattle.screen.specs.Layers.{no_words, open_at}
+use Rattle.screen.proofs.LayersLaws.{words-length}
+use Rattle.pop.specs.Pop as pop
+use Rattle.pop.specs.Pop.{layers-in, own-rows, good-open, good_lengths, popped}
+use Rattle.walk.specs.Reading.{pattern_of}
+use Rattle.walk.specs.Steps.{pop-part, pop-into, call_at}
+use Rattle.walk.proofs.Lists.{segments-words-length, segments-said}
 use Rattle.refine_layers.proofs.Rows.{touched-own}
 use Rattle.refine_steps.specs.Sound.{Sound}
 use Rattle.refine_steps.specs.Lent.{table, open-words, layers-words, layers-opacities, attr-words, attr-opacity, screen-of, rows_of, lent_of, answer-of}

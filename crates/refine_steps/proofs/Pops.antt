@@ -14,9 +14,9 @@ use Rattle.rules.specs.Commands.{Command, paint-fill, layer-fill, push-buf, pop-
 use Rattle.rules.specs.Rows.{Row, Level, fresh-row}
 use Rattle.rules.proofs.All.{All, head, tail}
 use Rattle.row.specs.Words.{word}
-use Rattle.row_screen.specs.Arena.{nowhere}
-use Rattle.row_judge.specs.Building.{good_row}
-use Rattle.step_pop_rows.specs.Closing.{row_of, good-pop, good-pops}
+use Rattle.row.specs.Arena.{nowhere}
+use Rattle.row.specs.Building.{good_row}
+use Rattle.pop.specs.Closing.{row_of, good-pop, good-pops}
 use Rattle.refine_row.specs.Encode.{padded, placed, encode, Fine}
 use Rattle.refine_row.proofs.Laws.{place-word}
 use Rattle.refine_steps.specs.Sound.{Fitting}

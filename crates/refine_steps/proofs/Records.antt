@@ -14,7 +14,7 @@ use Rattle.rules.specs.Commands.{span-word}
 use Rattle.rules.specs.Rows.{Row, Level, fresh-row}
 use Rattle.rules.specs.Plans.{Frame, Put}
 use Rattle.rules.proofs.All.{All, cons, head}
-use Rattle.row_judge.specs.Building.{good-union, good-level, good-top, good_row, good-at, good_rows}
+use Rattle.row.specs.Building.{good-union, good-level, good-top, good_row, good-at, good_rows}
 use Rattle.refine_row.specs.Encode.{padded, union-words, stack, first_of, end_of, placed, encode, Fine}
 use Rattle.refine_row.proofs.Pads.{zeros, padded-fits}
 use Rattle.refine_steps.specs.Sound.{OrderedUnion, Fitting}

@@ -12,7 +12,7 @@ use Rattle.rules.specs.Steps as rule
 use Rattle.rules.specs.Steps.{reset, call}
 use Rattle.screen.specs.Judging.{judged_reset}
 use Rattle.screen.specs.Tables.{zeros, lengths, ScreenLent, reset_to}
-use Rattle.file_steps.specs.Steps.{call_at}
+use Rattle.walk.specs.Steps.{call_at}
 use Rattle.refine_steps.specs.Sound.{Sound}
 use Rattle.refine_steps.specs.Lent.{lent_of, answer-of, Holds}
 use Rattle.refine_steps.proofs.Kept.{call-sound}

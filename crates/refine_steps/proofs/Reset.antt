@@ -19,7 +19,7 @@ use Rattle.rules.specs.Steps.{Screen, reset}
 use Rattle.rules.specs.Walk.{good-room, good-arenas}
 use Rattle.rules.proofs.All.{both}
 use Rattle.row.specs.Words.{Words, words}
-use Rattle.row_screen.specs.Arena.{lay}
+use Rattle.row.specs.Arena.{lay}
 use Rattle.refine_row.proofs.Screens.{blank-row, reset-words}
 use Rattle.rules.specs.Plans.{Frame}
 use Rattle.screen.specs.Screens.{fresh-screen}
@@ -27,7 +27,7 @@ use Rattle.screen.specs.declared.Lengths.{Lengths}
 use Rattle.screen.specs.Judging.{good-fixed, good-tables, arenas, judged_reset}
 use Rattle.screen.specs.Tables.{zeros, lengths, ScreenLent, float-0, reset_to}
 use Rattle.screen.proofs.Passed.{reset-says}
-use Rattle.step_filter.specs.Filter.{filter-paint-words}
+use Rattle.layers.specs.Filter.{filter-paint-words}
 use Rattle.refine_steps.specs.Sound.{Sound}
 use Rattle.refine_steps.specs.Lent.{table, layers-words, layers-opacities, attr-words, attr-opacity, screen-of, lent_of}
 use Rattle.refine_steps.specs.Lent as words

@@ -28,16 +28,16 @@ use Rattle.rules.proofs.laws.Maps.{PutOk}
 use Rattle.cmd.specs.Attrs.{words-at}
 use Rattle.screen.specs.Screens.{state-of}
 use Rattle.screen.specs.Tables.{ScreenLent, float-0}
-use Rattle.step_filter.specs.Filter as filter
-use Rattle.step_filter.specs.Filter.{given, filter-number, filter-paint-words, filtered}
-use Rattle.step_fill.specs.Fills as fills
-use Rattle.step_push.specs.Push as push
-use Rattle.screen_layers.specs.Layers.{props-of, clip-of, layer-words}
-use Rattle.screen_layers.proofs.Laws.{words-length}
-use Rattle.file_read.specs.Reading.{pattern_of, draw_in, clip_in, props_in}
-use Rattle.file_read.proofs.Given.{pattern-good}
-use Rattle.file_steps.specs.Steps.{placement_in, fill-part, fill-into, push-part, push-into, filter-part, filter-into, with_value, call_at}
-use Rattle.file_steps.proofs.Lists.{paints-words-length, segments-words-length, paints-said, segments-said}
+use Rattle.layers.specs.Filter as filter
+use Rattle.layers.specs.Filter.{given, filter-number, filter-paint-words, filtered}
+use Rattle.fill.specs.Fills as fills
+use Rattle.layers.specs.Push as push
+use Rattle.screen.specs.Layers.{props-of, clip-of, layer-words}
+use Rattle.screen.proofs.LayersLaws.{words-length}
+use Rattle.walk.specs.Reading.{pattern_of, draw_in, clip_in, props_in}
+use Rattle.walk.proofs.Given.{pattern-good}
+use Rattle.walk.specs.Steps.{placement_in, fill-part, fill-into, push-part, push-into, filter-part, filter-into, with_value, call_at}
+use Rattle.walk.proofs.Lists.{paints-words-length, segments-words-length, paints-said, segments-said}
 use Rattle.refine_steps.specs.Sound.{Sound}
 use Rattle.refine_steps.specs.Lent.{table, open-words, layers-words, layers-opacities, attr-opacity, screen-of, lent_of, answer-of}
 use Rattle.refine_steps.proofs.Tables.{table-length, table_more, table-set, join-append, join-length}

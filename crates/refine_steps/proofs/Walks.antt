@@ -18,7 +18,7 @@ use Rattle.rules.specs.Recording.{Recording, LayerRec, Node, layer-rec}
 use Rattle.rules.specs.Walk.{go_on, ◌then◌, when, each, props-of, walk-filter, walk-node, walk-nodes, walk-layer, walk-all}
 use Rattle.rules.proofs.All.{never}
 use Rattle.screen.specs.Tables.{ScreenLent}
-use Rattle.file_steps.specs.Steps.{call_at}
+use Rattle.walk.specs.Steps.{call_at}
 use Rattle.refine_steps.proofs.Refined.{Refines, step-refines}
 
 -- Q: the numbers that the other walk is known to give too

@@ -12,15 +12,15 @@ use Rattle.rules.specs.Rows.{Row}
 use Rattle.rules.specs.Plans.{Layer, State, box_of}
 use Rattle.rules.specs.Steps as rule
 use Rattle.row.specs.Words.{Words}
-use Rattle.row_screen.specs.Arena.{lay}
+use Rattle.row.specs.Arena.{lay}
 use Rattle.refine_row.specs.Encode.{encode}
 use Rattle.screen.specs.declared.Screen.{Screen}
 use Rattle.rect.specs.Rects.{rect-of}
 use Rattle.screen.specs.Screens.{screen-in}
 use Rattle.screen.specs.Tables.{tables, ScreenLent, lent, float-0}
-use Rattle.screen_layers.specs.Layers.{layer-words}
-use Rattle.step_filter.specs.Filter.{filter-paint-words}
-use Rattle.file_read.specs.Reading.{pattern_of}
+use Rattle.screen.specs.Layers.{layer-words}
+use Rattle.layers.specs.Filter.{filter-paint-words}
+use Rattle.walk.specs.Reading.{pattern_of}
 
 -- n places: what is there, then z
 unfoldable pub table : {A : Type 0} → A → ℕ → List A → List A

@@ -11,7 +11,7 @@ use Rattle.rules.specs.Plans.{Layer}
 use Rattle.rules.specs.Steps.{Screen}
 use Rattle.rules.specs.Walk.{good-room}
 use Rattle.rules.proofs.All.{All}
-use Rattle.screen.proofs.Laws.{Clip}
+use Rattle.screen.proofs.ScreenLaws.{Clip}
 use Rattle.refine_row.proofs.Refines.{Built}
 use Rattle.refine_layers.specs.Touched.{Reaching}
 

@@ -25,25 +25,25 @@ use Rattle.rules.proofs.All.{never, and_left, and_right}
 use Rattle.screen.specs.declared.Screen as declared
 use Rattle.screen.specs.Judging.{good-tables, good-fixed, arenas, judged_reset}
 use Rattle.screen.specs.Tables.{Tables, lengths, ScreenLent, lent}
-use Rattle.screen.proofs.Laws.{few-buckets}
+use Rattle.screen.proofs.ScreenLaws.{few-buckets}
 use Rattle.refine_steps.specs.Sound.{Fitting}
 use Rattle.refine_steps.proofs.Refined.{Refines}
 use Rattle.refine_steps.proofs.Reset.{fresh-sound}
 use Rattle.refine_paint.proofs.Kept.{reset-fair}
 use Rattle.refine_file.specs.Played.{place, Plays, Outcome, unaltered, made}
 use Rattle.refine_file.proofs.Laws.{file-plays}
-use Rattle.file_call.specs.Recorded.{recorded}
-use Rattle.file_form.specs.Layouts.{layout, formed, form_of, sections_at}
-use Rattle.file_form.specs.Words.{words-in}
-use Rattle.file_form.proofs.Bytes.{rules-words}
-use Rattle.file_form.proofs.Laid.{good-form}
-use Rattle.file_form.proofs.Reading.{viewport-is}
-use Rattle.file_judge.specs.Judging.{box_from}
-use Rattle.text_screen.specs.Listed.{written, text_of}
-use Rattle.text_file.specs.declared.Size.{Size}
-use Rattle.text_file.specs.Files.{Showed, nothing, refusing, shown-as, showing, FileOut, file-out, answered, recording-text, frame_at, size, sized-if, sized, size_of, cut-to, over, in-front, front-text, text_in, words-text, Usual, Roomy, is-roomy, refused-as-is, bytes-text}
-use Rattle.text_file.proofs.Texts.{small}
-use Rattle.text_file.proofs.Bytes.{enough}
+use Rattle.walk.specs.Recorded.{recorded}
+use Rattle.file.specs.Layouts.{layout, formed, form_of, sections_at}
+use Rattle.file.specs.Words.{words-in}
+use Rattle.file.proofs.Bytes.{rules-words}
+use Rattle.file.proofs.Laid.{good-form}
+use Rattle.file.proofs.Reading.{viewport-is}
+use Rattle.file.specs.Judging.{box_from}
+use Rattle.text.specs.Listed.{written, text_of}
+use Rattle.text.specs.declared.recording.Size.{Size}
+use Rattle.text.specs.Files.{Showed, nothing, refusing, shown-as, showing, FileOut, file-out, answered, recording-text, frame_at, size, sized-if, sized, size_of, cut-to, over, in-front, front-text, text_in, words-text, Usual, Roomy, is-roomy, refused-as-is, bytes-text}
+use Rattle.text.proofs.FileTexts.{small}
+use Rattle.text.proofs.Bytes.{enough}
 use Rattle.refine_text.proofs.Lengths.{line-few, lines-few, rows_few}
 use Rattle.refine_text.proofs.Printed.{row_words, listed-held}
 use Rattle.refine_text.proofs.Walked.{Kept, walk-keeps}

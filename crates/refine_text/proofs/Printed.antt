@@ -14,9 +14,9 @@ use Rattle.rules.specs.Plans.{buckets-across}
 use Rattle.rules.specs.Steps.{Screen}
 use Rattle.rules.specs.Lines as rules
 use Rattle.row.specs.Words.{Words, words}
-use Rattle.row_screen.specs.Arena.{sizes, row_at}
+use Rattle.row.specs.Arena.{sizes, row_at}
 use Rattle.screen.specs.Tables.{ScreenLent}
-use Rattle.screen.proofs.Laws.{few-buckets}
+use Rattle.screen.proofs.ScreenLaws.{few-buckets}
 use Rattle.refine_steps.specs.Sound.{Sound}
 use Rattle.refine_steps.specs.Lent.{screen-of, rows_of, lent_of}
 use Rattle.refine_steps.proofs.Judged.{judged-done}
@@ -24,9 +24,9 @@ use Rattle.refine_steps.proofs.Refined.{Refines, BuiltBy, built-refines}
 use Rattle.refine_paint.specs.Fair.{FairRows}
 use Rattle.refine_paint.proofs.Standing.{stands}
 use Rattle.refine_paint.proofs.Kept.{built-fair, own-words}
-use Rattle.text_screen.specs.Places.{all-below, is_some}
-use Rattle.text_screen.specs.Listed.{depth-fill-at, command-at, screen-lines, good_row, good-rows, list-number, written, text_of, listed}
-use Rattle.text_screen.proofs.ByRules.{Stands, no-fill, screen-by-rules}
+use Rattle.text.specs.Places.{all-below, is_some}
+use Rattle.text.specs.Listed.{depth-fill-at, command-at, screen-lines, good_row, good-rows, list-number, written, text_of, listed}
+use Rattle.text.proofs.ByRules.{Stands, no-fill, screen-by-rules}
 
 -- what is there at each place is some
 module _ {A : Type 0} (g : ℕ → Option A) (xs : List A) (d : A) (h : (k : ℕ) → k < length xs → g k ≡ Some (get_or xs k d)) where

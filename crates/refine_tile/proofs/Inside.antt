@@ -13,7 +13,7 @@ use Rattle.rules.specs.Plans.{Step, a-fill, a-push, a-pop, a-filter, layer-box, 
 use Rattle.rules.specs.Plain.{OpenLayer, Story, touch-all, box-now, in_rows, tell-push, tell-pop, tell-filter, tell-step, tell-steps}
 use Rattle.rules.proofs.All.{All, nil, cons, tail, all-over, never, and_right}
 use Rattle.rules_picture.proofs.Cases.{by}
-use Rattle.tile_steps.specs.Telling.{in_row}
+use Rattle.tile.specs.Telling.{in_row}
 use Rattle.refine_tile.proofs.Rows.{rows-met, Within, within-row, meet_within, Even}
 use Rattle.refine_tile.proofs.Looks.{reached-inside}
 

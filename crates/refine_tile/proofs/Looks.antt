@@ -18,7 +18,7 @@ use Rattle.rules_picture.proofs.Cases.{by, covers-yes, covers_low, covers_high}
 use Rattle.rules_picture.proofs.Listed.{such-append}
 use Rattle.rules_picture.proofs.Single.{Single, nothing, one, single}
 use Rattle.rules_reason.specs.Reasons.{covering, keeping}
-use Rattle.tile_steps.specs.Telling.{Look, no-look, is_whole, noticed, notice, cover, see, look, in_row}
+use Rattle.tile.specs.Telling.{Look, no-look, is_whole, noticed, notice, cover, see, look, in_row}
 use Rattle.refine_tile.proofs.Rows.{Even, row-yes}
 
 or-false : (b : Bool) → (b || false) ≡ b

@@ -13,8 +13,8 @@ use Rattle.rules.specs.Walk.{walk-all}
 use Rattle.rules.proofs.Logged.{walk-logged}
 use Rattle.rules_reason.specs.Reasons.{Asked, reason}
 use Rattle.sizes.specs.Sizes.{line-size}
-use Rattle.tile_steps.specs.Telling.{Telling, tell-at, nothing-told}
-use Rattle.tile_reason.specs.Reading.{reason-read}
+use Rattle.tile.specs.Telling.{Telling, tell-at, nothing-told}
+use Rattle.tile.specs.Reading.{reason-read}
 use Rattle.refine_tile.specs.Retold.{Retold}
 use Rattle.refine_tile.proofs.Lines.{say-length}
 use Rattle.refine_tile.proofs.Walked.{tile-told}

@@ -11,7 +11,7 @@ use Rattle.rules.specs.Spans.{span, covers}
 use Rattle.rules.proofs.All.{or_left, or_right, and_left, and_right, and_both}
 use Rattle.rules_picture.proofs.Cases.{by, same_test, covers-yes, covers_low, covers_high, covers-no}
 use Rattle.rules_reason.specs.Reasons.{meets}
-use Rattle.tile_steps.specs.Telling.{in_row, met}
+use Rattle.tile.specs.Telling.{in_row, met}
 
 -- a number is among n numbers from a on exactly if it lies between their ends
 counted : (r a n : ℕ) → some_of (eqb r) (count-from a n) ≡ covers (span a (a + n)) r

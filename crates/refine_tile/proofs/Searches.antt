@@ -15,8 +15,8 @@ use Rattle.rules.specs.Plain.{Told, shown}
 use Rattle.rules.proofs.All.{All, nil, cons, head, tail, all_append, never}
 use Rattle.rules_picture.proofs.Cases.{by}
 use Rattle.rules_reason.specs.Reasons.{Reason, no-segment, cut-away, row-untouched, shown-at, Asked, Account, account-of, place_of, hider-of, newest-hider, hidden, placed, because}
-use Rattle.tile_steps.specs.Telling.{Line, standing-of, alpha-words, after-alpha, line-words, line-panel-at}
-use Rattle.tile_reason.specs.Reading.{Mark, mark_at, marks, Search, no-search, is-asked, is-told, hider-in, anew, met, one_more, read, read_all, reason-by, reason-read}
+use Rattle.tile.specs.Telling.{Line, standing-of, alpha-words, after-alpha, line-words, line-panel-at}
+use Rattle.tile.specs.Reading.{Mark, mark_at, marks, Search, no-search, is-asked, is-told, hider-in, anew, met, one_more, read, read_all, reason-by, reason-read}
 use Rattle.refine_tile.specs.Retold.{entry_of, tells, Says, Say, said, says, flat}
 use Rattle.refine_tile.proofs.Tells.{line-length}
 use Rattle.refine_tile.proofs.Numbers.{told-all, asks, Once, once}

@@ -26,7 +26,7 @@ use Rattle.rules_picture.proofs.Cases.{by, same_test}
 use Rattle.rules_picture.proofs.Shape.{Shape, not_yet, shape-most, shape-touch, shape-inner, shape-closed, shape-kept, touched-layers}
 use Rattle.rules_picture.proofs.Follows.{layer-in}
 use Rattle.cmd.specs.Attrs.{words-at}
-use Rattle.tile_steps.specs.Telling.{Telling, Line, line-words, alpha-words, after-alpha, no-look, look, with-line, tell-fill, tell-push, tell-pop, filtered, tell-filter, tell-at, in_row}
+use Rattle.tile.specs.Telling.{Telling, Line, line-words, alpha-words, after-alpha, no-look, look, with-line, tell-fill, tell-push, tell-pop, filtered, tell-filter, tell-at, in_row}
 use Rattle.refine_tile.specs.Retold.{flat}
 use Rattle.refine_tile.proofs.Rows.{rows-met}
 use Rattle.refine_tile.proofs.Looks.{looked}

@@ -22,7 +22,7 @@ use Rattle.rules.proofs.All.{and_left, and_right, or_left, or_right}
 use Rattle.rules_picture.proofs.Shape.{Shape, none_open}
 use Rattle.rules_picture.proofs.Stepped.{call-done}
 use Rattle.refine_steps.proofs.Walks.{Agrees, walk-agrees}
-use Rattle.tile_steps.specs.Telling.{Telling, tell-at, nothing-told}
+use Rattle.tile.specs.Telling.{Telling, tell-at, nothing-told}
 use Rattle.refine_tile.specs.Retold.{Retold}
 use Rattle.refine_tile.proofs.Rows.{Even}
 use Rattle.refine_tile.proofs.Inside.{inside-none, Fitting, no_step, one_more, steps-more}

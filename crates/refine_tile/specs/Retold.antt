@@ -8,7 +8,7 @@ use Rattle.rules.specs.Painting.{Entry}
 use Rattle.rules.specs.Plain.{untold, tell-steps}
 use Rattle.rules_reason.specs.Reasons.{Account, accounts}
 use Rattle.sizes.specs.Sizes.{line-size}
-use Rattle.tile_steps.specs.Telling.{Telling, Line, standing-of, line-words}
+use Rattle.tile.specs.Telling.{Telling, Line, standing-of, line-words}
 
 -- the entry that a line tells
 abbrev pub entry_of : Line → Entry

@@ -1,14 +1,17 @@
--- A row that is lent as three slices, as its words.
-use Rattle.std.specs.Prelude.{◌≡◌}
+-- The rows of a screen, lent as three slices, as their words.
+use Rattle.std.specs.Prelude.{◌≡◌, length}
 use Rattle.row.specs.Words.{Words, words}
-use Rattle.row.specs.declared.Row.{Row}
+use Rattle.row.specs.declared.rows.Rows.{Rows}
 
 -- what the three slices hold
-abbrev pub held : Row → Words
-held r = words r.state.now r.render.now r.fills.now
+abbrev pub all-held : Rows → Words
+all-held r = words r.state.now r.render.now r.fills.now
 
--- the same three slices, whatever they hold
-pub record Same (a b : Row) : Type 0 where
+-- the same three slices, whatever they hold; their lengths are said too, since no name tells them
+pub record SameRows (a b : Rows) : Type 0 where
   pub state : b.state.ghost_name ≡ a.state.ghost_name
   pub render : b.render.ghost_name ≡ a.render.ghost_name
   pub fills : b.fills.ghost_name ≡ a.fills.ghost_name
+  pub states-long : length b.state.now ≡ length a.state.now
+  pub renders-long : length b.render.now ≡ length a.render.now
+  pub fills-long : length b.fills.now ≡ length a.fills.now

@@ -8,7 +8,7 @@ use Rattle.rules.specs.Lines.{words_of}
 use Rattle.text_programs.specs.Programs.{Wanted}
 use Rattle.text_programs.specs.Streams.{Takes, Skips}
 use Rattle.text_programs.proofs.Cut.{cut, read_over, rowlist-cut, no-width-cut}
-use Rattle.text_details.specs.Details.{rowdump-words}
+use Rattle.text.specs.Details.{rowdump-words}
 use Rattle.text_dump.specs.Rowdump.{recording-line, rowdump-lines, rowdump-text, dump-by-width}
 use Rattle.rowdump.specs.Printed.{recording_printed}
 

@@ -3,56 +3,40 @@
 // stream's end takes what is left. What fails is told on standard error, and so is the usage; nothing else goes there.
 #![tactic(auto)]
 
-ghost use Rattle.std.specs.Prelude.{◌≡◌, ◌≢◌, ◌≤◌, ◌<◌, ◌↔◌, true, [], length, map, take, drop, string_bytes, Some, IfSome, IfOk, IfErr, OnOk, IsOkUnless, IsErrOf, MatchBool};
+ghost use Rattle.std.specs.Prelude.{◌≡◌, ◌≢◌, ◌≤◌, ◌<◌, ◌↔◌, true, [], length, map, take, drop, string_bytes, Some, IfSome, IfOk, IfErr, OnOk, IsErrOf, MatchBool};
 ghost use Rattle.std.specs.Io.KnownBytes.{Appends};
 ghost use Rattle.screen.specs.Screens.{setup-of};
-ghost use Rattle.text_file.specs.Files.{Usual};
+ghost use Rattle.text.specs.Files.{Usual};
 ghost use Rattle.text_programs.specs.Programs.{first};
 ghost use Rattle.text_programs.specs.Arguments.{read_arguments, wanted_of};
 ghost use Rattle.text_programs.specs.Streams.{first_item, after_item, stream_printed};
-ghost use Rattle.text_dump.specs.Dumped.{dump-room};
-ghost use Rattle.text_dump.specs.Rowdump.{rowdump-text, dump-by-width};
+ghost use Rattle.text_programs.specs.Failures.{IsOfWriting, Begins};
+ghost use Rattle.text_dump.specs.Dumped.{Ready};
 ghost use Rattle.rowdump.specs.Printed.{recording_printed, item_printed, printed};
 
-use sizes::wide;
 use std::alloc::Global;
 use std::io;
 use std::io::{Input, Print, Read, Write};
 use std::process::ExitCode;
 use std::rt::Env;
-use text_dump::{DUMP_ROOM, no_width_dump, rowdump_text};
+use text_dump::{Desk, dump_buffer, no_width_dump, piece_buffer, rowdump_text};
 use text_programs::failure::Failure;
 use text_programs::options::{Want, arguments, read_options};
 use text_programs::stream::{read, skip_rest, word};
-use text_programs::tables::file_buffer;
+use text_programs::tables::{Tables, file_buffer};
 use text_programs::{read_all, write_text};
 
-// Writes what is wanted of recording i, a file's bytes: no other bytes can be handed to it.
-fn print<W: Write>(
-    output: &mut W,
-    i: u64,
-    file: &[u8],
-    want: Want,
-    text: &[u8],
-) -> Result<(), Failure>
-    requires { text.now ≡ dump-by-width want.no_width i file.now (rowdump-text want.panels (setup-of want.setup) i file.now) }
-    ensures ok { OnOk result (Appends (W.contents output.old) (W.contents output.new) (recording_printed (wanted_of want) i file.now)) }
-    ensures err { IsOkUnless result Failure.CannotWrite }
-{
-    write_text(output, text)
-}
-
 // What is wanted, put first; how long it is.
-fn wanted_text(i: u64, file: &[u8], want: Want, out: &mut [u8]) -> usize
-    requires { Usual (setup-of want.setup) × (dump-room ≤ length out.old) }
-    ensures value { result ≡ length (dump-by-width want.no_width i file.now (rowdump-text want.panels (setup-of want.setup) i file.now)) }
-    ensures out_after { out.new ≡ first (dump-by-width want.no_width i file.now (rowdump-text want.panels (setup-of want.setup) i file.now)) out.old }
+fn wanted_text(i: u64, file: &[u8], want: Want, desk: &mut Desk<'_>) -> usize
+    requires { Usual (setup-of want.setup) × Ready desk.old }
+    ensures ready { Ready desk.new }
+    ensures value { result ≡ length (recording_printed (wanted_of want) i file.now) }
+    ensures text { desk.new.text.now ≡ first (recording_printed (wanted_of want) i file.now) desk.old.text.now }
 {
     if want.no_width {
-        return no_width_dump(i, file, out);
+        return no_width_dump(i, file, desk.text);
     }
-    let setup = want.setup;
-    rowdump_text(i, file, setup, want.panels, out)
+    rowdump_text(i, file, want.setup, want.panels, desk)
 }
 
 fn print_recording<W: Write>(
@@ -60,33 +44,36 @@ fn print_recording<W: Write>(
     i: u64,
     file: &[u8],
     want: Want,
-    out: &mut [u8],
+    desk: &mut Desk<'_>,
 ) -> Result<(), Failure>
-    requires { Usual (setup-of want.setup) × (dump-room ≤ length out.old) }
+    requires { Usual (setup-of want.setup) × Ready desk.old }
+    ensures ready { Ready desk.new }
     ensures ok { OnOk result (Appends (W.contents output.old) (W.contents output.new) (recording_printed (wanted_of want) i file.now)) }
-    ensures err { IsOkUnless result Failure.CannotWrite }
+    ensures begun { Begins (W.contents output.old) (W.contents output.new) (recording_printed (wanted_of want) i file.now) }
+    ensures err { IfErr result IsOfWriting }
 {
-    let n = wanted_text(i, file, want, out);
-    print(output, i, file, want, &out[..n])
+    let n = wanted_text(i, file, want, desk);
+    write_text(output, &desk.text[..n])
 }
 
-// Recording i, of so many bytes.
+// Recording i, of so many bytes. Nothing is written of it before it is read, as far as its text needs it.
 fn print_next<R: Read, W: Write>(
     input: &mut R,
     output: &mut W,
     i: u64,
     size: usize,
     want: Want,
-    out: &mut [u8],
+    buffer: &mut [u8],
+    desk: &mut Desk<'_>,
 ) -> Result<(), Failure>
-    requires { Usual (setup-of want.setup) × (dump-room ≤ length out.old) }
+    requires { Usual (setup-of want.setup) × Ready desk.old × (65537 ≡ length buffer.old) }
+    ensures ready { Ready desk.new }
     ensures ok { OnOk result (IfSome (R.remaining input.old) (λ bs. (R.remaining input.new ≡ Some (drop size bs))
         × Appends (W.contents output.old) (W.contents output.new) (recording_printed (wanted_of want) i (take size bs)))) }
     ensures err { IfErr result (λ e. e ≢ Failure.Usage) }
 {
-    let mut bytes = file_buffer();
-    let n = read(input, &mut bytes, size)?;
-    print_recording(output, i, &bytes[..n], want, out)?;
+    let n = read(input, buffer, size)?;
+    print_recording(output, i, &buffer[..n], want, desk)?;
     skip_rest(input, size)
 }
 
@@ -96,9 +83,11 @@ fn next<R: Read, W: Write>(
     output: &mut W,
     i: u64,
     want: Want,
-    out: &mut [u8],
+    buffer: &mut [u8],
+    desk: &mut Desk<'_>,
 ) -> Result<bool, Failure>
-    requires { Usual (setup-of want.setup) × (dump-room ≤ length out.old) }
+    requires { Usual (setup-of want.setup) × Ready desk.old × (65537 ≡ length buffer.old) }
+    ensures ready { Ready desk.new }
     ensures ok { IfOk result (λ more. IfSome (R.remaining input.old) (λ bs. MatchBool more
         ((4 ≤ length bs) × (R.remaining input.new ≡ Some (after_item 4 bs))
         × Appends (W.contents output.old) (W.contents output.new) (item_printed (wanted_of want) i (first_item 4 bs)))
@@ -109,7 +98,8 @@ fn next<R: Read, W: Write>(
     if read_all(input, &mut head)? < head.len() {
         return Ok(false);
     }
-    print_next(input, output, i, wide(word(&head, 0)), want, out)?;
+    let size = word(&head, 0) as usize;
+    print_next(input, output, i, size, want, buffer, desk)?;
     Ok(true)
 }
 
@@ -118,22 +108,23 @@ fn print_all<R: Read, W: Write>(
     input: &mut R,
     output: &mut W,
     want: Want,
-    out: &mut [u8],
+    buffer: &mut [u8],
+    desk: &mut Desk<'_>,
 ) -> Result<(), Failure>
-    requires { Usual (setup-of want.setup) × (dump-room ≤ length out.old) }
+    requires { Usual (setup-of want.setup) × Ready desk.old × (65537 ≡ length buffer.old) }
     ensures ok { OnOk result (IfSome (R.remaining input.old) (λ stream.
         Appends (W.contents output.old) (W.contents output.new) (stream_printed (item_printed (wanted_of want)) 4 stream))) }
     ensures err { IfErr result (λ e. e ≢ Failure.Usage) }
 {
     for i in 0..u64::MAX {
-        if !next(input, output, i, want, out)? {
+        if !next(input, output, i, want, buffer, desk)? {
             return Ok(());
         }
     }
     Ok(())
 }
 
-// Room for the longest text, made once.
+// Tables, and room for the longest file, row and text, made once.
 fn print_stream<R: Read, W: Write>(
     alloc: Global,
     input: &mut R,
@@ -145,8 +136,16 @@ fn print_stream<R: Read, W: Write>(
         Appends (W.contents output.old) (W.contents output.new) (stream_printed (item_printed (wanted_of want)) 4 stream))) }
     ensures err { IfErr result (λ e. e ≢ Failure.Usage) }
 {
-    let mut out = vec![in alloc; 0; DUMP_ROOM]?;
-    print_all(input, output, want, out.as_mut_slice())
+    let mut tables = Tables::new(alloc)?;
+    let mut pieces = piece_buffer(alloc)?;
+    let mut text = dump_buffer(alloc)?;
+    let mut buffer = file_buffer(alloc)?;
+    let mut desk = Desk {
+        lent: tables.lend(),
+        list: pieces.as_mut_slice(),
+        text: text.as_mut_slice(),
+    };
+    print_all(input, output, want, buffer.as_mut_slice(), &mut desk)
 }
 
 // What the program does with its arguments, from its input to its output.

@@ -1,4 +1,5 @@
-pub mod Laws
+pub mod ScreenLaws
 pub mod Judged
 pub mod Resets
 pub mod Passed
+pub mod LayersLaws

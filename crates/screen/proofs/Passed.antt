@@ -16,7 +16,7 @@ use Rattle.screen.specs.declared.Lengths.{Lengths}
 use Rattle.screen.specs.Screens.{good_screen, fresh-screen}
 use Rattle.screen.specs.Judging.{good-rooms, judged, good-fixed, good-tables, arenas, judged_reset}
 use Rattle.rules.proofs.All.{and_left, and_right}
-use Rattle.screen.proofs.Laws.{Room, room, fresh-good}
+use Rattle.screen.proofs.ScreenLaws.{Room, room, fresh-good}
 use Rattle.screen.proofs.Judged.{good}
 
 -- no test of a judge said yes

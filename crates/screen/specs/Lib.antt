@@ -3,3 +3,5 @@ pub mod Judging
 pub mod Tables
 pub mod Attributes
 pub mod Lent
+pub mod Layers
+pub mod LentLayers

@@ -14,6 +14,10 @@ use Rattle.segments.proofs.Laws.{segs-first, segs-end}
 unfoldable pub judging : Segment → Bool → List Segment → ℕ
 judging s ok ss = cond (not (every good-segment ss)) BadRecord (cond (not (ok && ordered-after s ss)) BadOrder Done)
 
+and-false : (x : Bool) → false ≡ (x && false)
+and-false true = refl
+and-false false = refl
+
 pub judge-none : 0 ≡ judge-segments false []
 unfolding judge-segments ordered
 judge-none = refl
@@ -47,6 +51,11 @@ judging-done s = refl
 pub judging-broken : (s : Segment) → 5 ≡ judging s false []
 unfolding judging
 judging-broken s = refl
+
+-- after a broken order only bad segments are looked for
+pub judging-rest : (s : Segment) (ss : List Segment) → cond (not (every good-segment ss)) BadRecord BadOrder ≡ judging s false ss
+unfolding judging
+judging-rest s ss = refl
 
 -- the loop at place i of n, on its way from the start, after the segment s
 pub record AtPlace (ws : List ℕ) (a n : ℕ) (s : Segment) (ok : Bool) (i : ℕ) : Type 0 where
@@ -83,9 +92,39 @@ module _ {ws : List ℕ} {a n i : ℕ} {s : Segment} {ok : Bool} (v : AtPlace ws
     pub again : {ok' : Bool} → good-segment t ≡ true → ok' ≡ (ok && follows s t) → AtPlace ws a n t ok' (i + 1)
     again g q = record { before = omega arith; rest = rw q (judging-more t _ s ok g ∙ here) }
 
--- the order so far, where it was kept and where it was broken
-pub kept : {ok ok' f : Bool} → ok ≡ true → ok' ≡ f → ok' ≡ (ok && f)
-kept p q = rw p q
+    pub broken-here : good-segment t ≡ true → follows s t ≡ false → cond (not (every good-segment (segs ws (i + 1) (n - (i + 1))))) BadRecord BadOrder ≡ judge-segments false (segs ws a (n - a))
+    broken-here g q = judging-rest t _ ∙ (again {ok' = false} g (rw q (and-false ok))).rest
 
-pub broken : {ok ok' : Bool} (f : Bool) → ok ≡ false → ok' ≡ false → ok' ≡ (ok && f)
-broken f p q = rw p q
+-- the look for bad segments at place i of n, on its way from the start
+pub record RestAt (ws : List ℕ) (a n i : ℕ) : Type 0 where
+  pub before : i ≤ n
+  pub left : every good-segment (segs ws i (n - i)) ≡ every good-segment (segs ws a (n - a))
+
+abbrev rest_number : Bool → ℕ
+rest_number b = cond (not b) BadRecord BadOrder
+
+pub rest-begun : (ws : List ℕ) (a n : ℕ) → a ≤ n → RestAt ws a n a
+rest-begun ws a n h = record { before = h; left = refl }
+
+module _ {ws : List ℕ} {a n i : ℕ} (v : RestAt ws a n i) where
+  pub rest-done : n ≤ i → 5 ≡ cond (not (every good-segment (segs ws a (n - a)))) BadRecord BadOrder
+  rest-done h = ap rest_number (none-bad ∙ v.left)
+    where
+      none-bad : true ≡ every good-segment (segs ws i (n - i))
+      none-bad = rw (segs-end ws i n h)
+
+  module _ {t : Segment} (h : i < n) (e : t ≡ seg-at ws i) where
+    rest-here : every good-segment (t ∷ segs ws (i + 1) (n - (i + 1))) ≡ every good-segment (segs ws a (n - a))
+    rest-here = rw (segs-first ws i n h, ← e) at v.left
+
+    pub rest-bad : good-segment t ≡ false → 4 ≡ cond (not (every good-segment (segs ws a (n - a)))) BadRecord BadOrder
+    rest-bad g = ap rest_number (bad-first g ∙ rest-here)
+      where
+        bad-first : good-segment t ≡ false → false ≡ every good-segment (t ∷ segs ws (i + 1) (n - (i + 1)))
+        bad-first g = rw g
+
+    pub rest-on : good-segment t ≡ true → RestAt ws a n (i + 1)
+    rest-on g = record { before = omega arith; left = good-first g ∙ rest-here }
+      where
+        good-first : good-segment t ≡ true → every good-segment (segs ws (i + 1) (n - (i + 1))) ≡ every good-segment (t ∷ segs ws (i + 1) (n - (i + 1)))
+        good-first g = rw g

@@ -1,10 +1,12 @@
-// Segment lists: judging them (answers 4 and 5), and cutting their segments to the clip box (rule 4). Parts: a list is lent as words, five
-// a segment.
+// Segment lists: judging them (answers 4 and 5), and cutting their segments to the clip box (rule 4; visit_strip_fill_segments of vello_common). Parts: a list
+// is lent as words, five a segment.
 #![tactic(auto)]
 
-ghost use Rattle.std.specs.Prelude.{◌≡◌, true, false, ◌+◌, ◌-◌, ◌*◌, ◌≤◌, length};
+ghost use Rattle.std.specs.Prelude.{◌≡◌, true, false, cond, not, ◌+◌, ◌-◌, ◌*◌, ◌≤◌, length};
 ghost use Rattle.rules.specs.Segments.{good-segment, follows, judge-segments, alpha-of, cut_in};
-ghost use Rattle.sizes.specs.Refusals.{answer_number};
+ghost use Rattle.rules.specs.Answers.{BadRecord, BadOrder};
+ghost use Rattle.rules.specs.Lists.{every};
+ghost use Rattle.sizes.specs.Refusals.{answer_number, number_of};
 ghost use Rattle.rect.specs.Rects.{box_of, Small};
 ghost use Rattle.segments.specs.Segs.{segment-of, seg-at, segs, placed_of, origin, bounds, Starts, SceneOf};
 
@@ -13,7 +15,7 @@ use sizes::answers::Refusal;
 use sizes::{TILE_ALPHAS, TILE_END};
 use span::{Stretch, TileSpan};
 
-// Kind 0 is solid, 1 has an alpha index, that of its first tile.
+// Tiles of one row, in scene tiles. Kind 0 is solid and has alpha 0; kind 1 has an alpha index, that of its first tile.
 #[derive(Clone, Copy)]
 pub struct Segment {
     pub kind: u32,
@@ -23,7 +25,7 @@ pub struct Segment {
     pub alpha: u32,
 }
 
-// Before the first of a list.
+// It stands before the first segment of a list: any good one may follow it.
 pub const NO_SEGMENT: Segment = Segment {
     kind: 0,
     row: 0,
@@ -32,7 +34,7 @@ pub const NO_SEGMENT: Segment = Segment {
     alpha: 0,
 };
 
-// Segment i of a list.
+// Segment i of a list, counted from 0.
 pub fn segment_at(list: &[u32], i: usize) -> Segment
     requires { 5 * i + 5 ≤ length list.now }
     ensures { segment-of result ≡ seg-at list.now i }
@@ -48,7 +50,7 @@ pub fn segment_at(list: &[u32], i: usize) -> Segment
 }
 
 impl Segment {
-    // Answer 4: every field is in its bounds.
+    // Whether every field is in its bounds (answer 4): row below 8,192, at least one tile, up to tile 8,192, an alpha index that can be moved over all of them.
     pub fn is_good(self) -> bool
         ensures { result ≡ good-segment (segment-of self) }
     {
@@ -65,7 +67,7 @@ impl Segment {
             }
     }
 
-    // Answer 5: this one may stand right before `next` in a list.
+    // Whether this one may stand right before `next` in a list (answer 5): on an earlier row, or on the same one, at most touching it.
     pub fn precedes(self, next: Segment) -> bool
         ensures { result ≡ follows (segment-of self) (segment-of next) }
     {
@@ -80,7 +82,21 @@ impl Segment {
     }
 }
 
-// Of the segments from start to end: 4 if one of them is bad, then 5 if their order is broken.
+// Of the segments from start to end, which stand after a broken order: BadRecord, 4, if one of them is bad, else BadOrder, 5.
+#[inline(never)]
+fn judge_rest(list: &[u32], start: usize, end: usize) -> Refusal
+    requires { (start ≤ «end») × (5 * «end» ≤ length list.now) }
+    ensures { number_of result ≡ cond (not (every good-segment (segs list.now start («end» - start)))) BadRecord BadOrder }
+{
+    for i in start..end {
+        if !segment_at(list, i).is_good() {
+            return Refusal::BadRecord;
+        }
+    }
+    Refusal::BadOrder
+}
+
+// Of the segments from start to end of a list: BadRecord, 4, if one of them is bad, then BadOrder, 5, if their order is broken.
 pub fn judge_segments(list: &[u32], start: usize, end: usize) -> Result<(), Refusal>
     requires { (start ≤ «end») × (5 * «end» ≤ length list.now) }
     ensures { answer_number result ≡ judge-segments false (segs list.now start («end» - start)) }
@@ -92,23 +108,20 @@ pub fn judge_segments(list: &[u32], start: usize, end: usize) -> Result<(), Refu
     if !last.is_good() {
         return Err(Refusal::BadRecord);
     }
-    let mut ordered = true;
     for i in start + 1..end {
         let next = segment_at(list, i);
         if !next.is_good() {
             return Err(Refusal::BadRecord);
         }
-        ordered = ordered && last.precedes(next);
+        if !last.precedes(next) {
+            return Err(judge_rest(list, i + 1, end));
+        }
         last = next;
     }
-    if ordered {
-        Ok(())
-    } else {
-        Err(Refusal::BadOrder)
-    }
+    Ok(())
 }
 
-// The viewport's origin in pixels, and the clip box in scene tiles.
+// x, y: the viewport's origin in pixels. columns, rows: the clip box in tiles of the scene, from left to right and from top to bottom.
 #[derive(Clone, Copy)]
 pub struct Scene {
     pub x: u32,
@@ -117,7 +130,7 @@ pub struct Scene {
     pub rows: TileSpan,
 }
 
-// The clip box of a viewport, moved to scene tiles.
+// The clip box, which is local to the viewport, moved to tiles of the scene.
 pub fn scene_of(viewport: Rect, clip: Rect) -> Scene
     requires { Small (box_of viewport) × Small (box_of clip) }
     ensures { SceneOf (box_of viewport) (box_of clip) result }
@@ -136,14 +149,14 @@ pub fn scene_of(viewport: Rect, clip: Rect) -> Scene
     }
 }
 
-// What is left of a segment, on a row of the screen.
+// What is left of a segment, local to the viewport: the row of the screen, and its tiles there.
 #[derive(Clone, Copy)]
 pub struct Placed {
     pub row: u32,
     pub stretch: Stretch,
 }
 
-// A segment cut to the scene's tiles and made local; a cut at the left moves its alpha index.
+// Rule 4: a segment cut to the clip box and made local, or nothing; each tile cut off at the left moves its alpha index by 16.
 pub fn place(segment: Segment, scene: Scene) -> Option<Placed>
     requires { (good-segment (segment-of segment) ≡ true) × Starts (origin scene) (bounds scene) }
     ensures { placed_of result ≡ cut_in (origin scene) (bounds scene) (segment-of segment) }

@@ -1,19 +1,19 @@
-// The rules' answers that refuse. Answer 0, done, is `Ok`.
+// The rules' answers: the refusals with their numbers (docs/RULES.md, Answers). Answer 0, done, is `Ok`.
 ghost use Rattle.std.specs.Prelude.{◌≡◌};
 ghost use Rattle.sizes.specs.Refusals.{number_of, answer_number};
 
 use std::fmt;
 
-// Why a call refuses, with the rules' number of it.
+// Why a call refuses; the discriminant is the rules' number.
 #[derive(Clone, Copy, Debug, PartialEq, Eq)]
 pub enum Refusal {
-    // An arena's length, or C or D out of range.
+    // The length of a lent arena (render commands, depth fills, depth words) is not the screen's, or C or D is not from 1 to 1,024.
     BadArena = 1,
-    // A viewport rule fails.
+    // The viewport breaks a bound, or a number of pixels is no width of a bucket.
     BadViewport = 2,
     // The file is not exactly its counted sections.
     BadForm = 3,
-    // A field or range out of bounds, in what is given or in what is lent.
+    // Any other field or range out of bounds, or a lent table of a wrong length, in what is given or in what is lent.
     BadRecord = 4,
     // A segment list breaks its order.
     BadOrder = 5,
@@ -21,24 +21,24 @@ pub enum Refusal {
     Deep = 6,
     // A pop with none open.
     NoLayer = 7,
-    // An id is taken and none remains.
+    // The step takes an id, and none is left.
     Ids = 8,
     // Attributes or filter paints pass their limit.
     FullAttrs = 9,
-    // A row's commands pass C.
+    // A row would get more than C commands.
     FullRow = 10,
-    // A row's depth fills pass D.
+    // A row would get more than D depth fills.
     FullDepth = 11,
-    // No such row, a range out of place, or id 0 where it is written.
+    // No such row or tile; a range that starts after its end or passes its limit; id 0 where it is written.
     BadRun = 12,
-    // Painting with a layer open, or where it has not begun.
+    // Painting is begun with a layer open; or a painting step with a layer open, or where painting has not begun.
     Open = 13,
     // The list lent for a result is shorter than the result.
     NoRoom = 14,
 }
 
 impl Refusal {
-    // Its number at the border.
+    // The rules' number, 1 to 14, as calls answer it.
     pub fn number(self) -> u32
         ensures { result ≡ number_of self }
     {
@@ -46,6 +46,7 @@ impl Refusal {
     }
 }
 
+// A refusal is its number.
 impl From<Refusal> for u32 {
     ghost from_gives = { λ refusal number. number ≡ number_of refusal };
 
@@ -54,6 +55,7 @@ impl From<Refusal> for u32 {
     }
 }
 
+// A refusal in plain words, for programs.
 impl fmt::Display for Refusal {
     fn fmt<W: fmt::Write>(&self, f: &mut fmt::Formatter<W>) -> fmt::Result {
         f.write_str(match self {
@@ -75,7 +77,7 @@ impl fmt::Display for Refusal {
     }
 }
 
-// A judge's number at the border: 0 where it refuses nothing.
+// The number of a result: 0 where nothing is refused.
 pub fn answer_number(judged: Result<(), Refusal>) -> u32
     ensures { result ≡ answer_number judged }
 {

@@ -5,7 +5,7 @@ ghost use Rattle.sizes.specs.Widths.{bucket-tiles, width_of};
 
 use crate::answers::Refusal;
 
-// 64, 128 or 256 pixels, which are 16, 32 or 64 tiles.
+// A bucket is 64, 128 or 256 pixels wide, which are 16, 32 or 64 tiles. The Rust has the constant DEPTH_BUCKET_WIDTH of depth.rs, 128 pixels, in its place.
 #[derive(Clone, Copy)]
 pub enum Width {
     W64,
@@ -42,7 +42,7 @@ impl Width {
         }
     }
 
-    // The bucket of a tile.
+    // The number of the bucket that a tile lies in.
     pub fn below(self, tile: u32) -> u32
         ensures { result ≡ tile / bucket-tiles self }
     {
@@ -53,7 +53,8 @@ impl Width {
         }
     }
 
-    // The first bucket that starts no earlier than a tile. No width in pixels has more tiles than it asks.
+    // The number of the first bucket that starts no earlier than a tile: as an end, the buckets up to a tile. The tiles of any word of pixels keep its
+    // `requires`.
     pub fn above(self, tile: u32) -> u32
         requires { tile ≤ 1073741823 }
         ensures { result ≡ (tile + (bucket-tiles self - 1)) / bucket-tiles self }
@@ -65,7 +66,7 @@ impl Width {
         }
     }
 
-    // Where a tile stands in its bucket.
+    // Where a tile stands in its bucket, counted from 0.
     pub fn within(self, tile: u32) -> u32
         ensures { result ≡ tile % bucket-tiles self }
     {

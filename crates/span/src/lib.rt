@@ -1,4 +1,5 @@
-// Spans of tiles (span.rs). Parts: where a function asks for tile numbers, its callers have judged them.
+// Spans of tiles, ranges of depth buckets, and the alpha indices of stretches (span.rs; `BucketRange` of depth.rs). The Rust has pixels; here are tile numbers.
+// Parts: where a function asks for tile numbers, its callers have judged them.
 #![tactic(auto)]
 
 ghost use Rattle.std.specs.Prelude.{◌≡◌, ◌+◌, ◌-◌, ◌*◌, ◌≤◌, option_map};
@@ -11,7 +12,7 @@ ghost use Rattle.span.specs.Spans.{tiles, buckets, Moves, stretch};
 use sizes::TILE_ALPHAS;
 use sizes::width::Width;
 
-// From a first tile to an end tile, which is not among them. Laid out as in C: a host lends slices of it.
+// From a first tile to an end tile, which is not among them (span.rs, TileAlignedSpan). Laid out as in C: a host lends slices of it.
 #[repr(C)]
 #[derive(Clone, Copy)]
 pub struct TileSpan {
@@ -19,7 +20,7 @@ pub struct TileSpan {
     pub end: u32,
 }
 
-// The same of depth buckets.
+// From a first depth bucket to an end bucket, which is not among them.
 #[derive(Clone, Copy)]
 pub struct BucketRange {
     pub first: u32,
@@ -34,6 +35,7 @@ pub struct Stretch {
 }
 
 impl TileSpan {
+    // The span of `count` tiles from `start` on.
     pub fn from_tiles(start: u32, count: u32) -> TileSpan
         requires { start + count ≤ tile-end }
         ensures { tiles result ≡ span start (start + count) }
@@ -44,12 +46,14 @@ impl TileSpan {
         }
     }
 
+    // Its first tile.
     pub fn tile_x(self) -> u32
         ensures { result ≡ self.first }
     {
         self.first
     }
 
+    // The tile after its last.
     pub fn tile_end(self) -> u32
         ensures { result ≡ self.end }
     {
@@ -71,6 +75,7 @@ impl TileSpan {
         4 * self.first
     }
 
+    // The pixel after the last tile's last.
     pub fn pixel_end(self) -> u32
         requires { self.end ≤ tile-end }
         ensures { result ≡ 4 * self.end }
@@ -78,7 +83,7 @@ impl TileSpan {
         4 * self.end
     }
 
-    // The smallest span that holds both.
+    // The smallest span that holds both, by value; the Rust changes the one that is given.
     pub fn extend(self, other: TileSpan) -> TileSpan
         ensures { tiles result ≡ hull (Some (tiles self)) (tiles other) }
     {
@@ -100,7 +105,7 @@ impl TileSpan {
 }
 
 impl BucketRange {
-    // The tiles of the buckets.
+    // The tiles of the buckets, at so many tiles a bucket.
     pub fn span(self, width: Width) -> TileSpan
         requires { (self.first ≤ tile-end) × (self.end ≤ tile-end) }
         ensures { tiles result ≡ tiles-of (bucket-tiles width) (buckets self) }
@@ -112,7 +117,7 @@ impl BucketRange {
     }
 }
 
-// The alpha index that stands some tiles further right, 16 a tile.
+// The alpha index that stands some tiles further right, 16 a tile; none stays none.
 pub fn moved(alpha: Option<u32>, tiles: u32) -> Option<u32>
     requires { Moves alpha tiles }
     ensures { result ≡ moved alpha tiles }
@@ -121,7 +126,7 @@ pub fn moved(alpha: Option<u32>, tiles: u32) -> Option<u32>
 }
 
 impl Stretch {
-    // The part inside the bounds; a cut at the left moves the alpha index.
+    // Rule 4: the part inside the bounds, in tiles, or nothing; a cut at the left moves the alpha index.
     #[tactic(auto, using(crate::proofs::Laws::within, crate::proofs::Laws::moves_within), unfolding(rules::specs::Spans::cut_to))]
     pub fn cut_to(self, bounds: TileSpan) -> Option<Stretch>
         requires { Moves self.alpha (self.tiles.end - self.tiles.first) }

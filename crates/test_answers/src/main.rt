@@ -4,13 +4,11 @@
 
 ghost use Rattle.std.specs.Prelude.{◌≤◌, IfOk, IfSome};
 
-use file_form::words_of_bytes;
-use screen::Lent;
-use sizes::{FILTER_TABLE, LAYER_TABLE, OPACITIES, OPEN_TABLE, PAINT_TABLE, PROGRAM_DEPTH};
+use file::form::words_of_bytes;
 use std::alloc::Global;
 use std::io;
 use std::io::{BufReader, BufWriter, ErrorKind, Read, Write};
-use test_run::run;
+use test_calls::{Tables, run};
 
 // Most words of a sequence, or of its answers.
 const MOST: usize = 32768;
@@ -54,37 +52,15 @@ fn main(rt: HostRuntime) -> io::Result<()> {
     let alloc = rt.alloc();
     let mut input = BufReader::new(alloc, rt.reader())?;
     let mut output = BufWriter::new(alloc, io::writer(&rt))?;
-    let mut out = vec![in alloc; 0; MOST]?;
-    let mut render = vec![in alloc; 0; 16384]?;
-    let mut fills = vec![in alloc; 0; 8192]?;
-    let mut depth: [u32; PROGRAM_DEPTH] = [0; PROGRAM_DEPTH];
-    let mut rows: [u32; 1728] = [0; 1728];
-    let mut painting: [u32; 64] = [0; 64];
-    let mut layers: [u32; OPEN_TABLE] = [0; OPEN_TABLE];
-    let mut opacities: [f32; OPACITIES] = [0.0; OPACITIES];
-    let mut paint_attrs: [u32; PAINT_TABLE] = [0; PAINT_TABLE];
-    let mut layer_attrs: [u32; LAYER_TABLE] = [0; LAYER_TABLE];
-    let mut filter_paints: [i32; FILTER_TABLE] = [0; FILTER_TABLE];
-    let mut list: [u32; 64] = [0; 64];
-    let mut lent = Lent {
-        render: &mut render,
-        fills: &mut fills,
-        depth: &mut depth,
-        rows: &mut rows,
-        painting: &mut painting,
-        layers: &mut layers,
-        opacities: &mut opacities,
-        paint_attrs: &mut paint_attrs,
-        layer_attrs: &mut layer_attrs,
-        filter_paints: &mut filter_paints,
-    };
+    let mut answers = vec![in alloc; 0; MOST]?;
+    let mut tables = Tables::new(alloc)?;
     for _ in 0..u64::MAX {
         let Some(length) = next_length(&mut input)? else {
             break;
         };
-        let words = read_list(alloc, &mut input, length)?;
-        let m = run(&words, &mut lent, &mut list, &mut out);
-        write_list(&mut output, &out, m)?;
+        let sequence = read_list(alloc, &mut input, length)?;
+        let n = run(&sequence, &mut tables, &mut answers);
+        write_list(&mut output, &answers, n)?;
     }
     Ok(())
 }

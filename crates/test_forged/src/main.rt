@@ -3,76 +3,73 @@
 // that takes a command, the three runs, `can_skip`, a step that takes a layer's closing fill. `!` marks a refused call that changed a word.
 #![tactic(auto)]
 
-ghost use Rattle.std.specs.Prelude.{◌≡◌, ◌≤◌, ◌<◌, length};
+ghost use Rattle.std.specs.Prelude.{length};
+ghost use Rattle.std.specs.Iterator.{at_most};
 
-use file_form::words_of_bytes;
-use screen::Lent;
-use sizes::{FILTER_TABLE, LAYER_TABLE, OPACITIES, OPEN_TABLE, PAINT_TABLE};
+use file::form::words_of_bytes;
 use std::process::ExitCode;
 use std::{fs, io};
-use test_run::run;
-use test_words::{after, word};
+use test_calls::{Tables, Words, run, word_at};
 
 const PATH: &str = "forged.words";
 
-// The last call of a line, counted from 0.
-const LAST: u32 = 11;
+// The calls of a line.
+const CALLS: usize = 12;
 
-// The number of the forged call at place p of the answers; the sums before it and at the end say whether a word changed.
-fn report(rt: &impl Print, out: &[u32], p: usize, m: usize) -> io::Result<()> {
-    let number = word(out, p);
+// Most words of a sequence's answers.
+const MOST: usize = 256;
+
+// A sequence, and the place of its forged call's answer.
+#[derive(Clone, Copy)]
+struct Case<'a> {
+    place: usize,
+    sequence: &'a [u32],
+}
+
+#[derive(Drop)]
+struct Cases<'a> {
+    words: Words<'a>,
+}
+
+impl<'a> Iterator for Cases<'a> {
+    type Item = Case<'a>;
+
+    ghost remaining = { λ cases. at_most (length cases.words.left.now) };
+
+    // Each sequence stands after the place and its length.
+    fn next(&mut self) -> Option<Case<'a>> {
+        let place = self.words.try_word()? as usize;
+        let sequence = self.words.records(1);
+        Some(Case { place, sequence })
+    }
+}
+
+// The number that stands at a place of n words of answers; the sums before it and at the end say whether a word changed.
+fn report(rt: &impl Print, answers: &[u32], place: usize, n: usize) -> io::Result<()> {
+    let number = word_at(answers, place);
     print!(rt; " {number}")?;
-    if number != 0 && 1 <= p && 1 <= m && word(out, p - 1) != word(out, m - 1) {
+    if number != 0
+        && 1 <= place
+        && 1 <= n
+        && word_at(answers, place - 1) != word_at(answers, n - 1)
+    {
         print!(rt; "!")?;
     }
     Ok(())
 }
 
-// A line ends after its last call.
-fn next_column(rt: &impl Print, column: u32) -> io::Result<u32> {
-    if column < LAST {
-        return Ok(column + 1);
-    }
-    println!(rt)?;
-    Ok(0)
-}
-
-// Each sequence stands after the place of its forged answer and its length.
-fn answer_all(rt: &impl Print, words: &[u32]) -> io::Result<()> {
-    let mut out: [u32; 256] = [0; 256];
-    let mut render: [u32; 1024] = [0; 1024];
-    let mut fills: [u32; 512] = [0; 512];
-    let mut depth: [u32; 64] = [0; 64];
-    let mut rows: [u32; 1728] = [0; 1728];
-    let mut painting: [u32; 64] = [0; 64];
-    let mut layers: [u32; OPEN_TABLE] = [0; OPEN_TABLE];
-    let mut opacities: [f32; OPACITIES] = [0.0; OPACITIES];
-    let mut paint_attrs: [u32; PAINT_TABLE] = [0; PAINT_TABLE];
-    let mut layer_attrs: [u32; LAYER_TABLE] = [0; LAYER_TABLE];
-    let mut filter_paints: [i32; FILTER_TABLE] = [0; FILTER_TABLE];
-    let mut list: [u32; 64] = [0; 64];
-    let mut lent = Lent {
-        render: &mut render,
-        fills: &mut fills,
-        depth: &mut depth,
-        rows: &mut rows,
-        painting: &mut painting,
-        layers: &mut layers,
-        opacities: &mut opacities,
-        paint_attrs: &mut paint_attrs,
-        layer_attrs: &mut layer_attrs,
-        filter_paints: &mut filter_paints,
+fn answer_all(rt: &(impl AllocGlobal + Print), words: &[u32]) -> io::Result<()> {
+    let mut tables = Tables::new(rt.alloc())?;
+    let mut answers = [0; MOST];
+    let cases = Cases {
+        words: Words { left: words },
     };
-    let mut column: u32 = 0;
-    let mut at: usize = 0;
-    while at < words.len() {
-        let one = after(at, 1, words.len());
-        let two = after(one, 1, words.len());
-        let end = after(two, word(words, one) as usize, words.len());
-        let m = run(&words[two..end], &mut lent, &mut list, &mut out);
-        report(rt, &out, word(words, at) as usize, m)?;
-        column = next_column(rt, column)?;
-        at = end;
+    for (i, case) in cases.enumerate() {
+        let n = run(case.sequence, &mut tables, &mut answers);
+        report(rt, &answers, case.place, n)?;
+        if i % CALLS == CALLS - 1 {
+            println!(rt)?;
+        }
     }
     Ok(())
 }

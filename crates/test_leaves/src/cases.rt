@@ -1,279 +1,186 @@
-// One stored case after another: what was asked, what the original answered, and whether the leaf answers the same.
-// data/README.md has the words of each kind. A list of runs is lent full of marks, and compared to its end.
-ghost use Rattle.std.specs.Prelude.{◌≡◌, ◌+◌, ◌^◌, ◌≤◌, ◌<◌, length};
+// The stored cases: what was asked, and what the original answered.
+ghost use Rattle.std.specs.Prelude.{length};
+ghost use Rattle.std.specs.Iterator.{at_most};
+ghost use Rattle.test_leaves.specs.Words.{Passes};
 
-use crate::words::{MARK, holds, load, marks, word};
-use depth::runs::{unset_runs, unset_runs_and_write, visible_runs};
-use depth::split::{Split, split_opaque_span};
-use depth::state::DepthState;
-use sizes::answers::Refusal;
+use crate::words::Words;
 use sizes::width::Width;
 use span::{BucketRange, TileSpan};
 
-// How many cases agree, of how many.
+// What a lent list is filled with before a call, and what stands for the number of parts where a split is refused.
+pub const MARK: u32 = 4294967295;
+
+#[derive(Clone, Copy, PartialEq, Eq)]
+pub enum Kind {
+    Split,
+    Unset,
+    Visible,
+    Writing,
+    CanSkip,
+}
+
+// Depth words, and runs as words, two a run.
 #[derive(Clone, Copy)]
-pub struct Tally {
-    pub agree: usize,
-    pub of: usize,
+pub enum Case<'a> {
+    // Parts of three words; none where it is refused, since the number of pixels is no width.
+    Split {
+        width: Option<Width>,
+        tiles: TileSpan,
+        parts: Option<&'a [u32]>,
+    },
+    Unset {
+        width: Width,
+        depth: &'a [u32],
+        tiles: TileSpan,
+        runs: &'a [u32],
+    },
+    Visible {
+        width: Width,
+        depth: &'a [u32],
+        id: u32,
+        tiles: TileSpan,
+        runs: &'a [u32],
+    },
+    // `after`: the depth words afterwards.
+    Writing {
+        depth: &'a [u32],
+        id: u32,
+        buckets: BucketRange,
+        runs: &'a [u32],
+        after: &'a [u32],
+    },
+    // Depth fills of three words. 1 is due for yes, 0 for no.
+    CanSkip {
+        fills: &'a [u32],
+        tiles: TileSpan,
+        id: u32,
+        due: u32,
+    },
+    // No case. Nothing is read after it, and it counts as one of every kind.
+    Broken,
 }
 
-// Where the next case stands, and whether this one agrees. What is no case has 0 as its next.
-#[derive(Clone, Copy)]
-pub struct Seen {
-    pub next: usize,
-    pub agrees: bool,
-}
-
-fn tiles_at(s: &[u8], at: usize) -> TileSpan
-    requires { at ≤ 2 ^ 63 }
+fn read_split<'a>(words: &mut Words<'a>) -> Option<Case<'a>>
+    ensures { Passes words.old words.new }
 {
-    TileSpan {
-        first: word(s, at),
-        end: word(s, at + 1),
-    }
-}
-
-// A split as it is stored: the number of parts, three words a part, and marks. A refusal is marks alone.
-fn split_words(split: Result<Split, Refusal>) -> [u32; 11]
-    ensures { 11 ≡ length result }
-{
-    let m = MARK;
-    match split {
-        Err(_) => [MARK; 11],
-        Ok(Split::Whole(t)) => [1, 0, t.first, t.end, m, m, m, m, m, m, m],
-        Ok(
-            Split::Opaque {
-                before,
-                buckets,
-                after,
-            },
-        ) => {
-            let BucketRange { first, end } = buckets;
-            match (before, after) {
-                (None, None) => [1, 1, first, end, m, m, m, m, m, m, m],
-                (None, Some(a)) => [2, 1, first, end, 0, a.first, a.end, m, m, m, m],
-                (Some(b), None) => [2, 0, b.first, b.end, 1, first, end, m, m, m, m],
-                (Some(b), Some(a)) => [3, 0, b.first, b.end, 1, first, end, 0, a.first, a.end, m],
-            }
-        }
-    }
-}
-
-// A width that is none is refused, which is stored as a mark in place of the number of parts.
-fn replay_split(s: &[u8], at: usize) -> Seen
-    requires { at ≤ 2 ^ 61 }
-{
-    let n = word(s, at + 3);
-    let Ok(width) = Width::try_from(word(s, at)) else {
-        return Seen {
-            next: at + 4,
-            agrees: n == MARK,
-        };
-    };
-    let words = 1 + 3 * (n as usize);
-    let list = split_words(split_opaque_span(tiles_at(s, at + 1), width));
-    Seen {
-        next: at + 3 + words,
-        agrees: holds(s, at + 3, words, &list),
-    }
-}
-
-// A question about runs, to the leaf of its kind: a span, with an id before it unless the kind is the unset one.
-fn ask(
-    s: &[u8],
-    kind: u32,
-    width: Width,
-    at: usize,
-    row: &mut [u32],
-    list: &mut [u32],
-) -> Result<usize, Refusal>
-    requires { (1 ≤ at) × (at ≤ 2 ^ 63) }
-{
-    let id = word(s, at - 1);
-    let tiles = tiles_at(s, at);
-    match kind {
-        2 => unset_runs(row, tiles, list, width),
-        3 => visible_runs(row, tiles, id, list, width),
-        _ => unset_runs_and_write(
-            row,
-            BucketRange {
-                first: tiles.first,
-                end: tiles.end,
-            },
-            id,
-            list,
-        ),
-    }
-}
-
-// Whether as many runs were listed as are stored, and the list holds them and nothing else.
-fn listed(s: &[u8], at: usize, runs: Result<usize, Refusal>, list: &[u32]) -> bool
-    requires { at < 2 ^ 63 }
-{
-    let n = word(s, at) as usize;
-    match runs {
-        Ok(count) => count == n && holds(s, at + 1, 2 * n, list),
-        Err(_) => false,
-    }
-}
-
-// Where a span stands: after b depth words and an id, which only an unset case has not.
-fn span_place(kind: u32, at: usize, b: usize) -> usize
-    requires { (at ≤ 2 ^ 62) × (b ≤ 2 ^ 61) }
-    ensures { (at ≤ result) × (result ≤ at + b + 1) }
-{
-    if kind == 2 { at + b } else { at + b + 1 }
-}
-
-// Loads the row, and tells whether the leaf lists the runs that are stored.
-fn asked(s: &[u8], kind: u32, width: Width, at: usize, row: &mut [u32], list: &mut [u32]) -> bool
-    requires { (1 ≤ at) × (at ≤ 2 ^ 62) }
-{
-    let place = span_place(kind, at, row.len());
-    load(s, at, row);
-    let runs = ask(s, kind, width, place, row, list);
-    listed(s, place + 2, runs, list)
-}
-
-// What is seen of a case of runs, with the row as the leaf left it: as at first, or in the writing kind as stored after the runs.
-fn seen_runs(
-    s: &[u8],
-    kind: u32,
-    at: usize,
-    after: usize,
-    b: usize,
-    same: bool,
-    row: &[u32],
-) -> Seen
-    requires { (at ≤ 2 ^ 62) × (after ≤ 2 ^ 62) × (b < 2 ^ 32) }
-{
-    if kind == 4 {
-        let kept = holds(s, after, b, row);
-        Seen {
-            next: after + b,
-            agrees: same && kept,
-        }
+    let pixels = words.word()?;
+    let tiles = words.tiles()?;
+    let n = words.word()?;
+    let parts = if n == MARK {
+        None
     } else {
-        let kept = holds(s, at, b, row);
-        Seen {
-            next: after,
-            agrees: same && kept,
-        }
-    }
-}
-
-fn replay_runs(s: &[u8], kind: u32, width: Width, at: usize) -> Seen
-    requires { at ≤ 2 ^ 61 + 1 }
-{
-    let b = word(s, at) as usize;
-    let from = at + 1;
-    if 40 < b {
-        return Seen {
-            next: 0,
-            agrees: false,
-        };
-    }
-    let place = span_place(kind, from, b);
-    let n = word(s, place + 2) as usize;
-    let mut row = marks();
-    let mut list = marks();
-    let same = asked(s, kind, width, from, &mut row[..b], &mut list);
-    seen_runs(s, kind, from, place + 3 + 2 * n, b, same, &row)
-}
-
-// The same after a width. What has none is no case.
-fn replay_wide(s: &[u8], kind: u32, at: usize) -> Seen
-    requires { at ≤ 2 ^ 61 }
-{
-    let Ok(width) = Width::try_from(word(s, at)) else {
-        return Seen {
-            next: 0,
-            agrees: false,
-        };
+        Some(words.records(n, 3)?)
     };
-    replay_runs(s, kind, width, at + 1)
+    Some(Case::Split {
+        width: Width::try_from(pixels).ok(),
+        tiles,
+        parts,
+    })
 }
 
-// The summary of k stored depth fills.
-fn summed(s: &[u8], at: usize, k: usize) -> DepthState
-    requires at_bound { at ≤ 2 ^ 62 }
-    requires k_bound { k < 2 ^ 32 }
+fn read_unset<'a>(words: &mut Words<'a>) -> Option<Case<'a>>
+    ensures { Passes words.old words.new }
 {
-    let mut state = DepthState::new();
-    for i in 0..k {
-        let place = at + 3 * i;
-        state = state.include_span(tiles_at(s, place), word(s, place + 2));
-    }
-    state
+    let pixels = words.word()?;
+    Some(Case::Unset {
+        width: Width::try_from(pixels).ok()?,
+        depth: words.counted(1)?,
+        tiles: words.tiles()?,
+        runs: words.counted(2)?,
+    })
 }
 
-// 1 is due for yes, 0 for no.
-fn is_due(skip: Result<bool, Refusal>, due: u32) -> bool {
-    match skip {
-        Ok(yes) => due == u32::from(yes),
-        Err(_) => false,
-    }
-}
-
-// More fills than the file has bytes are no case.
-fn replay_skip(s: &[u8], at: usize) -> Seen
-    requires { at ≤ 2 ^ 61 }
+fn read_visible<'a>(words: &mut Words<'a>) -> Option<Case<'a>>
+    ensures { Passes words.old words.new }
 {
-    let k = word(s, at) as usize;
-    if s.len() < k {
-        return Seen {
-            next: 0,
-            agrees: false,
-        };
-    }
-    let place = at + 1 + 3 * k;
-    let due = word(s, place + 3);
-    let state = summed(s, at + 1, k);
-    let skip = state.can_skip(tiles_at(s, place), word(s, place + 2));
-    Seen {
-        next: place + 4,
-        agrees: is_due(skip, due),
-    }
+    let pixels = words.word()?;
+    Some(Case::Visible {
+        width: Width::try_from(pixels).ok()?,
+        depth: words.counted(1)?,
+        id: words.word()?,
+        tiles: words.tiles()?,
+        runs: words.counted(2)?,
+    })
 }
 
-// The case that stands after its kind.
-fn replay_one(s: &[u8], kind: u32, at: usize) -> Seen
-    requires { at ≤ 2 ^ 61 }
+fn read_writing<'a>(words: &mut Words<'a>) -> Option<Case<'a>>
+    ensures { Passes words.old words.new }
 {
-    match kind {
-        1 => replay_split(s, at),
-        2 | 3 => replay_wide(s, kind, at),
-        4 => replay_runs(s, kind, Width::W128, at),
-        5 => replay_skip(s, at),
-        _ => Seen {
-            next: 0,
-            agrees: false,
-        },
-    }
+    let buckets_there = words.word()?;
+    Some(Case::Writing {
+        depth: words.records(buckets_there, 1)?,
+        id: words.word()?,
+        buckets: words.buckets()?,
+        runs: words.counted(2)?,
+        after: words.records(buckets_there, 1)?,
+    })
 }
 
-// All cases of one kind. What is no case, or runs past the end, stops the replay, and counts as a case of every kind that does not agree.
-pub fn replay(s: &[u8], kind: u32) -> Tally {
-    let n = s.len() / 4;
-    let mut agree: usize = 0;
-    let mut of: usize = 0;
-    let mut at: usize = 0;
-    while at < n {
-        let this = word(s, at);
-        let seen = replay_one(s, this, at + 1);
-        if seen.next <= at || n < seen.next {
-            return Tally { agree, of: of + 1 };
+fn read_can_skip<'a>(words: &mut Words<'a>) -> Option<Case<'a>>
+    ensures { Passes words.old words.new }
+{
+    Some(Case::CanSkip {
+        fills: words.counted(3)?,
+        tiles: words.tiles()?,
+        id: words.word()?,
+        due: words.word()?,
+    })
+}
+
+impl<'a> Case<'a> {
+    // What stands after a kind, none if it is no case.
+    fn read(kind: u32, words: &mut Words<'a>) -> Option<Case<'a>>
+        ensures { Passes words.old words.new }
+    {
+        match kind {
+            1 => read_split(words),
+            2 => read_unset(words),
+            3 => read_visible(words),
+            4 => read_writing(words),
+            5 => read_can_skip(words),
+            _ => None,
         }
-        if this == kind {
-            of += 1;
-            if seen.agrees {
-                agree += 1;
+    }
+
+    pub fn is_of(self, kind: Kind) -> bool {
+        match self {
+            Case::Split { .. } => kind == Kind::Split,
+            Case::Unset { .. } => kind == Kind::Unset,
+            Case::Visible { .. } => kind == Kind::Visible,
+            Case::Writing { .. } => kind == Kind::Writing,
+            Case::CanSkip { .. } => kind == Kind::CanSkip,
+            Case::Broken => true,
+        }
+    }
+}
+
+// All cases of a stored file.
+#[derive(Drop)]
+pub struct Cases<'a> {
+    words: Words<'a>,
+}
+
+impl<'a> Cases<'a> {
+    pub fn new(words: &'a [u32]) -> Cases<'a> {
+        Cases {
+            words: Words { left: words },
+        }
+    }
+}
+
+impl<'a> Iterator for Cases<'a> {
+    type Item = Case<'a>;
+
+    ghost remaining = { λ cases. at_most (length cases.words.left.now) };
+
+    fn next(&mut self) -> Option<Case<'a>> {
+        let kind = self.words.word()?;
+        match Case::read(kind, &mut self.words) {
+            Some(case) => Some(case),
+            None => {
+                self.words.left = &[];
+                Some(Case::Broken)
             }
         }
-        at = seen.next;
     }
-    if 4 * n < s.len() {
-        of += 1;
-    }
-    Tally { agree, of }
 }

@@ -1,50 +1,45 @@
-// Replays the original's stored answers through the leaves, and prints how many cases of each kind agree.
+// Replays the original's stored answers through the leaves, and prints how many cases of each kind agree. data/README.md has the words of a case.
 #![tactic(auto)]
 
 mod cases;
+#[cfg(test)]
+mod points;
+mod replay;
 mod words;
 
-ghost use Rattle.std.specs.Prelude.{◌<◌, vec_len, IfOk, IfSome};
-
-use cases::replay;
-use std::fs::File;
-use std::io;
-use std::io::Read;
+use cases::{Case, Cases, Kind};
+use file::form::words_of_bytes;
 use std::process::ExitCode;
-use std::rt::Files;
+use std::{fs, io};
 
 const PATH: &str = "leaves.words";
 
-// Room for the stored file. A file that fills it may be longer, and is not replayed.
-const ROOM: usize = 524288;
-
-// Replays the cases of one kind, and writes a line `NAME agree N of M`.
-fn run(rt: &impl Print, s: &[u8], name: &str, kind: u32) -> io::Result<()> {
-    let tally = replay(s, kind);
-    println!(rt; "{name} agree {} of {}", tally.agree, tally.of)
-}
-
-fn run_all(rt: &impl Print, s: &[u8]) -> io::Result<()> {
-    run(rt, s, "split", 1)?;
-    run(rt, s, "unset runs", 2)?;
-    run(rt, s, "visible runs", 3)?;
-    run(rt, s, "writing runs", 4)?;
-    run(rt, s, "can_skip", 5)
-}
-
-// The stored file's bytes, unless they fill the room.
-fn stored_bytes(rt: &(impl AllocGlobal + Files)) -> io::Result<Option<Vec<u8>>>
-    ensures { IfOk result (λ read. IfSome read (λ bytes. vec_len bytes < ROOM)) }
-{
-    let mut bytes = Vec::with_capacity(rt.alloc(), ROOM)?;
-    File::open(rt, PATH)?
-        .take(ROOM as u64)
-        .read_to_end(&mut bytes)?;
-    if bytes.len() < ROOM {
-        Ok(Some(bytes))
-    } else {
-        Ok(None)
+// Writes a line `NAME agree N of M` of the cases of one kind. What is no case is one of every kind that does not agree.
+fn report(rt: &impl Print, words: &[u32], name: &str, kind: Kind) -> io::Result<()> {
+    let mut agree: usize = 0;
+    let mut of: usize = 0;
+    for case in Cases::new(words) {
+        if case.is_of(kind) {
+            of = of.saturating_add(1);
+            agree = agree.saturating_add(usize::from(case.agrees()));
+        }
     }
+    println!(rt; "{name} agree {agree} of {of}")
+}
+
+fn report_all(rt: &impl Print, words: &[u32]) -> io::Result<()> {
+    report(rt, words, "split", Kind::Split)?;
+    report(rt, words, "unset runs", Kind::Unset)?;
+    report(rt, words, "visible runs", Kind::Visible)?;
+    report(rt, words, "writing runs", Kind::Writing)?;
+    report(rt, words, "can_skip", Kind::CanSkip)
+}
+
+// Bytes that are no whole number of words leave a 0 at the end, which is no case.
+fn report_bytes(rt: &(impl AllocGlobal + Print), bytes: &[u8]) -> io::Result<()> {
+    let mut words = vec![in rt.alloc(); 0; bytes.len().div_ceil(4)]?;
+    words_of_bytes(bytes, &mut words);
+    report_all(rt, &words)
 }
 
 // Says on standard error what could not be read, and why in the system's words, without the number that std adds to them.
@@ -57,9 +52,8 @@ fn complain(rt: &(impl AllocGlobal + Eprint), error: &io::Error) -> io::Result<(
 }
 
 fn main(rt: HostRuntime) -> io::Result<ExitCode> {
-    match stored_bytes(&rt) {
-        Ok(Some(bytes)) => run_all(&rt, &bytes)?,
-        Ok(None) => println!(rt; "longer than the buffer")?,
+    match fs::read(&rt, PATH) {
+        Ok(bytes) => report_bytes(&rt, &bytes)?,
         Err(error) => {
             complain(&rt, &error)?;
             return Ok(ExitCode::FAILURE);

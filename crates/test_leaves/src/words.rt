@@ -1,53 +1,57 @@
-// Words of a stored file, and of a lent list.
-ghost use Rattle.std.specs.Prelude.{◌≡◌, ◌^◌, ◌≤◌, length};
+// Words that are read one after another, none past the end.
+ghost use Rattle.std.specs.Prelude.{◌<◌, ◌≤◌, length, IfSome};
+ghost use Rattle.test_leaves.specs.Words.{Passes};
 
-// What a lent list is filled with before a call.
-pub const MARK: u32 = 4294967295;
+use span::{BucketRange, TileSpan};
 
-fn wide(x: u8) -> u32
-    ensures { result ≤ 255 }
-{
-    x as u32
+// Those that are left.
+#[derive(Clone, Copy)]
+pub struct Words<'a> {
+    pub left: &'a [u32],
 }
 
-// Little-endian word i, 0 past the end.
-pub fn word(s: &[u8], i: usize) -> u32 {
-    let n = s.len() / 4;
-    if n <= i {
-        return 0;
+impl<'a> Words<'a> {
+    pub fn word(&mut self) -> Option<u32>
+        ensures passes { Passes self.old self.new }
+        ensures one_less { IfSome result (λ _. length self.new.left.now < length self.old.left.now) }
+    {
+        let (first, left) = self.left.split_first()?;
+        self.left = left;
+        Some(*first)
     }
-    let at = 4 * i;
-    wide(s[at]) + 256 * (wide(s[at + 1]) + 256 * (wide(s[at + 2]) + 256 * wide(s[at + 3])))
-}
 
-// A list of marks, to be lent.
-pub fn marks() -> [u32; 40]
-    ensures { 40 ≡ length result }
-{
-    [MARK; 40]
-}
+    pub fn tiles(&mut self) -> Option<TileSpan>
+        ensures { Passes self.old self.new }
+    {
+        let first = self.word()?;
+        let end = self.word()?;
+        Some(TileSpan { first, end })
+    }
 
-// The words from `at` on, as many as the list has.
-pub fn load(s: &[u8], at: usize, list: &mut [u32])
-    requires { at ≤ 2 ^ 63 }
-{
-    for (i, x) in list.iter_mut().enumerate() {
-        *x = word(s, at + i);
+    pub fn buckets(&mut self) -> Option<BucketRange>
+        ensures { Passes self.old self.new }
+    {
+        let first = self.word()?;
+        let end = self.word()?;
+        Some(BucketRange { first, end })
     }
-}
 
-// Whether the first k words of the list are those from `at` on, and all others are the mark.
-pub fn holds(s: &[u8], at: usize, k: usize, list: &[u32]) -> bool
-    requires { at ≤ 2 ^ 63 }
-{
-    if list.len() < k {
-        return false;
+    // n records of so many words each.
+    pub fn records(&mut self, n: u32, size: usize) -> Option<&'a [u32]>
+        requires { size ≤ 3 }
+        ensures { Passes self.old self.new }
+    {
+        let (records, left) = self.left.split_at_checked(n as usize * size)?;
+        self.left = left;
+        Some(records)
     }
-    for (i, x) in list.iter().enumerate() {
-        let due = if i < k { word(s, at + i) } else { MARK };
-        if *x != due {
-            return false;
-        }
+
+    // The same, after their number.
+    pub fn counted(&mut self, size: usize) -> Option<&'a [u32]>
+        requires { size ≤ 3 }
+        ensures { Passes self.old self.new }
+    {
+        let n = self.word()?;
+        self.records(n, size)
     }
-    true
 }

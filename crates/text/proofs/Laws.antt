@@ -1,95 +1,115 @@
 -- Text written piece by piece. Assumes nothing.
 use mathlib.Core.Path.{◌≡◌, refl, sym, ap, ◌∙◌}
 use mathlib.Core.List.{List, [], ◌∷◌, ◌++◌, append_assoc}
-use Prim.Native.Nat.{ℕ, ◌+◌, ◌≤◌, ◌<◌}
-use native.Mathlib.Nat.{add_assoc, add-zero}
-use native.Mathlib.Numerals.{add-one}
+use Prim.Native.Nat.{ℕ, zero, suc, ◌+◌, ◌-◌, ◌^◌, min, ◌<◌, ◌≤◌, ◌/◌, ◌%◌}
 use native.Mathlib.Omega.{arith}
-use lib.ListN.{length, take, drop, set, get_or, length-drop, length-append, length-set, take-append-drop}
-use lib.Seq.{length-take-le, drop-drop, take_at, drop_at, take_all, take-suc, set_split}
-use Rattle.text.specs.Texts.{Text, text, put, Wrote}
+use native.Mathlib.Numerals.{add-one}
+use Rattle.std.proofs.Math.Nat.{min-eq_left}
+use Rattle.std.proofs.Math.Seq.{set-append_seam}
+use lib.Dec.{ltb}
+use lib.IntN.{ℤ, pos, negsuc}
+use lib.ListN.{length, take, drop, set, get_or, length-append}
+use lib.Seq.{take_all, take-suc}
+use lib.Signed.{lt_z}
+use mathlib.Core.Bool.{true, false}
+use mir.Syntax.{w32}
+use mir.Val.{SFits, to_z, of_z}
+use mir.Facts.{to_z-of_z}
+use borrow.Author.Tests.{lt-ltb, le-ltb}
+use Rattle.rules.proofs.All.{never}
+use Rattle.rules.specs.Lines.{digits, dash}
+use Rattle.text.specs.declared.Out.{Out}
+use Rattle.text.specs.Texts.{Text, text, with_byte, put, shown, Writes, sign}
 
--- nothing
-pub put-none : (t : Text) → put [] t ≡ t
+put_append : (a b : List ℕ) (t : Text) → put (a ++ b) t ≡ put b (put a t)
 unfolding put
-put-none t = rw (add-zero t.at, take-append-drop)
+put_append [] b t = refl
+put_append (x ∷ a) b t = put_append a b (with_byte x t)
 
-module _ (p : ℕ) (xs a : List ℕ) (h : p ≤ length xs) where
-  front_length : length (take p xs ++ a) ≡ p + length a
-  front_length = rw (length-append, length-take-le p xs h)
-
-  module _ (ys : List ℕ) where
-    front : take (p + length a) (take p xs ++ (a ++ ys)) ≡ take p xs ++ a
-    front = rw (← append_assoc (take p xs) a ys) (take_at (take p xs ++ a) ys (p + length a) front_length)
-
-    back : (m : ℕ) → drop (p + length a + m) (take p xs ++ (a ++ ys)) ≡ drop m ys
-    back m =
-        sym (drop-drop m (p + length a) (take p xs ++ (a ++ ys)))
-        ∙ ap (drop m) (rw (← append_assoc (take p xs) a ys) (drop_at (take p xs ++ a) ys (p + length a) front_length))
-
--- one text after the other
-pub put_two : (a b : List ℕ) (t : Text) → t.at ≤ length t.bytes → put b (put a t) ≡ put (a ++ b) t
+-- nothing, and one text after the other
+pub nothing : (o : Out) → Writes [] o o
 unfolding put
-put_two a b t h =
-    let p = t.at in
-    let xs = t.bytes in
-    rw (
-      front p xs a h (drop (p + length a) xs),
-      back p xs a h (drop (p + length a) xs) (length b),
-      drop-drop (length b) (p + length a) xs,
-      length-append a b,
-      ← add_assoc p (length a) (length b),
-      append_assoc (take p xs) a,
-      append_assoc a b,
-    )
+nothing o = record { same = refl; text = refl }
 
-pub put-length : (a : List ℕ) (t : Text) → t.at + length a ≤ length t.bytes → length (put a t).bytes ≡ length t.bytes
-unfolding put
-put-length a t h =
-    rw (
-      length-append (take t.at t.bytes),
-      length-append a,
-      length-take-le t.at t.bytes (omega arith),
-      length-drop,
-    )
-    (omega arith)
-
--- one byte
-pub put_one : (bs : List ℕ) (p b : ℕ) → p < length bs → text (set bs p b) (p + 1) ≡ put (b ∷ []) (text bs p)
-unfolding put
-put_one bs p b h = rw (set_split bs p b h, add-one)
-
-module _ {m n : ℕ} where
-  -- two pieces are one
-  pub then : {a b : List ℕ} {t u v : Text} → Wrote a m t u → Wrote b n u v → Wrote (a ++ b) (m + n) t v
-  then {a} {b} {t} {u} {v} x y =
-      record {
-        moved = rw (length-append a b) (omega (arith, x.moved, y.moved));
-        near = omega (arith, x.near, y.near);
-        same = y.same ∙ x.same;
-        is = λ h. let k : t.at + (length a + length b) ≤ length t.bytes = rw (length-append a b) at h in whole x y k;
-      }
-    where
-      whole : Wrote a m t u → Wrote b n u v → t.at + (length a + length b) ≤ length t.bytes → v ≡ put (a ++ b) t
-      whole x y k = y.is (omega (arith, k, x.moved, x.same)) ∙ ap (put b) (x.is (omega (arith, k))) ∙ put_two a b t (omega (arith, k))
-
-  pub within : {a : List ℕ} {t u : Text} → m ≤ n → Wrote a m t u → Wrote a n t u
-  within h x = record { moved = x.moved; near = omega (arith, h, x.near); same = x.same; is = x.is }
-
-pub wrote_none : {n : ℕ} (t : Text) → Wrote [] n t t
-wrote_none t = record { moved = omega arith; near = omega arith; same = refl; is = λ h. sym (put-none t) }
-
-pub wrote_one : (bs : List ℕ) (p b : ℕ) → p < length bs → Wrote (b ∷ []) 1 (text bs p) (text (set bs p b) (p + 1))
-wrote_one bs p b h = record { moved = refl; near = omega arith; same = length-set bs p b; is = λ k. put_one bs p b h }
-
--- past the end
-pub wrote-past : (bs : List ℕ) (p b : ℕ) → length bs ≤ p → Wrote (b ∷ []) 1 (text bs p) (text bs (p + 1))
-wrote-past bs p b h = record { moved = refl; near = omega arith; same = refl; is = λ k. let j : p + 1 ≤ length bs = k in absurd (omega (arith, h, j)) }
+pub then : {a b : List ℕ} {t u v : Out} → Writes a t u → Writes b u v → Writes (a ++ b) t v
+then {a} {b} {t} w x = record { same = x.same ∙ w.same; text = x.text ∙ ap (put b) w.text ∙ sym (put_append a b (shown t)) }
 
 -- a text byte by byte
-module _ (s : List ℕ) (i : ℕ) {t u : Text} (w : Wrote (take i s) i t u) where
-  pub one_more : {v : Text} → i < length s → Wrote (get_or s i 0 ∷ []) 1 u v → Wrote (take (i + 1) s) (i + 1) t v
-  one_more h x = rw (add-one, take-suc s i 0 h) (within (omega arith) (then w x))
+module _ (s : List ℕ) (i : ℕ) {t u : Out} (w : Writes (take i s) t u) where
+  pub one_more : {v : Out} → i < length s → Writes (get_or s i 0 ∷ []) u v → Writes (take (i + 1) s) t v
+  one_more h x = rw (add-one, take-suc s i 0 h) (then w x)
 
-  pub all-taken : length s ≤ i → i ≤ length s → Wrote s (length s) t u
-  all-taken g h = within h (rw (take_all i s g) at w)
+  pub all-taken : length s ≤ i → Writes s t u
+  all-taken h = rw (take_all i s h) at w
+
+-- a number digit by digit
+pub no-digits : (k n : ℕ) (t : Out) → k ≡ 0 → Writes (digits k n) t t
+no-digits k n t e = rw e (nothing t)
+
+module _ (k n : ℕ) {t u : Out} (d : k ≡ 0 → ⊥) where
+  pub one-digit : n < 10 → Writes ((48 + n % 10) ∷ []) t u → Writes (digits k n) t u
+  one-digit h w = go k d
+    where
+      go : (k : ℕ) → (k ≡ 0 → ⊥) → Writes (digits k n) t u
+      go zero d = absurd (d refl)
+      go (suc k) d = rw (lt-ltb n 10 h) w
+
+  pub more-digits : {v : Out} → 10 ≤ n → Writes (digits (k - 1) (n / 10)) t v → Writes ((48 + n % 10) ∷ []) v u → Writes (digits k n) t u
+  more-digits {v} h x w = go k d x
+    where
+      go : (k : ℕ) → (k ≡ 0 → ⊥) → Writes (digits (k - 1) (n / 10)) t v → Writes (digits k n) t u
+      go zero d x = absurd (d refl)
+      go (suc k) d x = let e : suc k - 1 ≡ k = omega arith in rw (le-ltb n 10 h) (then (rw e at x) w)
+
+-- a small number
+module _ (n : ℕ) {t u : Out} where
+  pub one_figure : n < 10 → Writes ((48 + n) ∷ []) t u → Writes (digits 10 n) t u
+  one_figure h w = let e : n % 10 ≡ n = omega arith in one-digit 10 n (λ d. omega arith) h (rw e w)
+
+  pub two_figures : {v : Out} → 10 ≤ n → n < 100 → Writes ((48 + n / 10) ∷ []) t v → Writes ((48 + n % 10) ∷ []) v u → Writes (digits 10 n) t u
+  two_figures g h w x =
+      let e : n / 10 % 10 ≡ n / 10 = omega arith in
+      more-digits 10 n (λ d. omega arith) g (one-digit 9 (n / 10) (λ d. omega arith) (omega arith) (rw e w)) x
+
+-- a number's sign
+module _ {t u : Out} where
+  pub minus : (z : ℤ) → lt_z z (pos 0) ≡ true → Writes dash t u → Writes (sign z) t u
+  minus (pos n) h w = let e : ltb n 0 ≡ true = h in never (sym e ∙ le-ltb n 0 (omega arith))
+  minus (negsuc n) h w = w
+
+  pub blank : (z : ℤ) → lt_z z (pos 0) ≡ false → Writes (32 ∷ []) t u → Writes (sign z) t u
+  blank (pos n) h w = w
+  blank (negsuc n) h w = never h
+
+-- a number of 32 bits as code reads it
+pub read_back : {z : ℤ} → SFits w32 z → to_z w32 (of_z w32 z) ≡ z
+read_back f = to_z-of_z f
+
+-- a text after xs, where ys have room for it
+filled : (ws xs ys : List ℕ) (p : ℕ) → length xs ≡ p → length ws ≤ length ys → p + length ws < 2 ^ 64
+    → put ws (text (xs ++ ys) p) ≡ text (xs ++ (ws ++ drop (length ws) ys)) (p + length ws)
+unfolding put
+filled [] xs ys p e h g = let z : p + 0 ≡ p = omega arith in rw z
+filled (w ∷ ws) xs [] p e h g = absurd (omega arith)
+filled (w ∷ ws) xs (y ∷ ys) p e h g =
+    let s : set (xs ++ (y ∷ ys)) p w ≡ (xs ++ (w ∷ [])) ++ ys = rw (← e, set-append_seam xs y ys w) (sym (append_assoc xs (w ∷ []) ys)) in
+    let n : min (p + 1) 18446744073709551615 ≡ p + 1 = min-eq_left (omega arith) in
+    let k : length (xs ++ (w ∷ [])) ≡ p + 1 = omega (arith, length-append xs (w ∷ []), e) in
+    let m : p + 1 + length ws ≡ p + suc (length ws) = omega arith in
+    rw (s, n) (filled ws (xs ++ (w ∷ [])) ys (p + 1) k (omega arith) (omega arith) ∙ rw (append_assoc xs (w ∷ []), m))
+
+-- a text at the start of bytes with room for it
+pub first_filled : (ws ys : List ℕ) → length ws ≤ length ys → length ws < 2 ^ 64 → put ws (text ys 0) ≡ text (ws ++ drop (length ws) ys) (length ws)
+first_filled ws ys h g = let z : 0 + length ws ≡ length ws = omega arith in rw z at (filled ws [] ys 0 refl h (omega arith))
+
+-- and how long one is that is put on no bytes
+measured : (ws : List ℕ) (p : ℕ) → p + length ws < 2 ^ 64 → put ws (text [] p) ≡ text [] (p + length ws)
+unfolding put
+measured [] p g = let z : p + 0 ≡ p = omega arith in rw z
+measured (w ∷ ws) p g =
+    let n : min (p + 1) 18446744073709551615 ≡ p + 1 = min-eq_left (omega arith) in
+    let m : p + 1 + length ws ≡ p + suc (length ws) = omega arith in
+    rw n (measured ws (p + 1) (omega arith) ∙ rw m)
+
+pub first_measured : (ws : List ℕ) → length ws < 2 ^ 64 → put ws (text [] 0) ≡ text [] (length ws)
+first_measured ws g = let z : 0 + length ws ≡ length ws = omega arith in rw z at (measured ws 0 (omega arith))

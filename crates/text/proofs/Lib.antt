@@ -1,3 +1,15 @@
 pub mod Laws
-pub mod Digits
-pub mod Signed
+pub mod Lengths
+pub mod Joins
+pub mod Runs
+pub mod Judging
+pub mod ByRules
+pub mod ScreenLengths
+pub mod Leaving
+pub mod DetailsLines
+pub mod DetailsLengths
+pub mod Holds
+pub mod Pieces
+pub mod RowTexts
+pub mod FileTexts
+pub mod Bytes

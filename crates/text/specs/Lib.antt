@@ -1,1 +1,11 @@
 pub mod Texts
+pub mod Places
+pub mod Listed
+pub mod Printed
+pub mod Details
+pub mod Bytes
+pub mod Tables
+pub mod Pieces
+pub mod Dumped
+pub mod Rest
+pub mod Files

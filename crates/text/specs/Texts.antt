@@ -1,6 +1,7 @@
 -- Text in a lent list of bytes, and the place where it goes on.
-use Rattle.std.specs.Prelude.{ℕ, ◌+◌, ◌≤◌, ◌≡◌, List, [], ◌∷◌, ◌++◌, length, take, drop, ℤ, pos, negsuc, nat_abs}
+use Rattle.std.specs.Prelude.{ℕ, ◌+◌, ◌-◌, ◌^◌, ◌≡◌, List, [], ◌∷◌, ◌++◌, min, slice_set, ℤ, pos, negsuc, nat_abs}
 use Rattle.rules.specs.Lines.{digits, dash}
+use Rattle.text.specs.declared.Out.{Out}
 
 pub record Text : Type 0 where
   pub bytes : List ℕ
@@ -9,20 +10,23 @@ pub record Text : Type 0 where
 abbrev pub text : List ℕ → ℕ → Text
 text bs p = record { bytes = bs; at = p }
 
--- the bytes ws stand at the place, all others stay, and the place is after them
+-- one byte: it stands at the place, if there is one; the place goes on, within 64 bits
+abbrev pub with_byte : ℕ → Text → Text
+with_byte b t = text (slice_set t.bytes t.at b) (min (t.at + 1) (2 ^ 64 - 1))
+
+-- byte by byte
 unfoldable pub put : List ℕ → Text → Text
-put ws t = text (take t.at t.bytes ++ (ws ++ drop (t.at + length ws) t.bytes)) (t.at + length ws)
+put [] t = t
+put (b ∷ bs) t = put bs (with_byte b t)
 
--- places stay below this
-abbrev pub far : ℕ
-far = 4294967295
+-- what has gone into the bytes, and the place
+abbrev pub shown : Out → Text
+shown o = text o.bytes.now o.at
 
--- ws is written, at most `most` bytes: the place is after it, and where the bytes have room for all of it, it stands there
-pub record Wrote (ws : List ℕ) (most : ℕ) (before after : Text) : Type 0 where
-  pub moved : after.at ≡ before.at + length ws
-  pub near : after.at ≤ before.at + most
-  pub same : length after.bytes ≡ length before.bytes
-  pub is : before.at + length ws ≤ length before.bytes → after ≡ put ws before
+-- ws is written into the same bytes
+pub record Writes (ws : List ℕ) (a b : Out) : Type 0 where
+  pub same : b.bytes.ghost_name ≡ a.bytes.ghost_name
+  pub text : shown b ≡ put ws (shown a)
 
 -- a space, and a minus sign below 0
 abbrev pub sign : ℤ → List ℕ

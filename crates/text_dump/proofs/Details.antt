@@ -16,15 +16,15 @@ use Rattle.rules.specs.Plans.{Frame, bucket, buckets-across}
 use Rattle.rules.specs.Steps.{Screen}
 use Rattle.rules.proofs.All.{neither, all-at}
 use Rattle.screen.specs.Tables.{ScreenLent}
-use Rattle.screen.proofs.Laws.{few-buckets}
-use Rattle.paint_command.specs.Painting as paint
-use Rattle.paint_screen.specs.Stepping.{attributes}
-use Rattle.text_screen.specs.Listed.{written, begun-with}
-use Rattle.text_details.specs.Details.{painted-lines, attr-lines, detail-lines}
-use Rattle.text_details.specs.Bytes.{details-text}
-use Rattle.text_row.specs.Pieces.{piece-list}
-use Rattle.text_row.specs.Dumped.{tables, good-tables, attrs-dumped}
-use Rattle.text_row.specs.Dumped as dumped
+use Rattle.screen.proofs.ScreenLaws.{few-buckets}
+use Rattle.paint.specs.Painting as paint
+use Rattle.paint.specs.Stepping.{attributes}
+use Rattle.text.specs.Listed.{written, begun-with}
+use Rattle.text.specs.Details.{painted-lines, attr-lines, detail-lines}
+use Rattle.text.specs.Bytes.{details-text}
+use Rattle.text.specs.Pieces.{piece-list}
+use Rattle.text.specs.Dumped.{tables, good-tables, attrs-dumped}
+use Rattle.text.specs.Dumped as dumped
 use Rattle.refine_steps.specs.Sound.{Fitting}
 use Rattle.refine_steps.specs.Lent.{lent_of}
 use Rattle.refine_text.proofs.Walked.{Kept}

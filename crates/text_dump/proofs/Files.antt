@@ -1,7 +1,7 @@
 -- A file's bytes: where its call refuses them there are no details, and where it does not the tables hold the rules' screen, so that the details are the rules'. Assumes nothing.
 use mathlib.Core.Path.{◌≡◌, refl, sym, ap, ◌∙◌}
 use mathlib.Core.Bool.{Bool, true, false, ◌&&◌, cond}
-use mathlib.Core.List.{List, [], ◌++◌, append-nil}
+use mathlib.Core.List.{List, [], ◌∷◌, ◌++◌, append-nil}
 use Rattle.std.specs.Prelude.{Option, None, Some}
 use Prim.Native.Nat.{ℕ, ◌+◌, ◌-◌, ◌*◌, ◌%◌, ◌≤◌, ◌<◌}
 use native.Mathlib.Omega.{arith}
@@ -17,37 +17,38 @@ use Rattle.rules.specs.Rows.{Row, fresh-row}
 use Rattle.rules.specs.Plans.{Frame, buckets-across}
 use Rattle.rules.specs.Setups.{Setup}
 use Rattle.rules.specs.Steps.{Screen, reset}
-use Rattle.rules.specs.Lines.{rowlist-screen, rowlist-place, words_of}
+use Rattle.rules.specs.Lines.{rowlist-screen, rowlist-place, words_of, digits}
 use Rattle.rules.specs.Lines as rules
 use Rattle.rect.specs.Rects.{box_of}
 use Rattle.screen.specs.declared.Screen as declared
 use Rattle.screen.specs.Screens.{frame-of}
 use Rattle.screen.specs.Tables.{Tables, ScreenLent}
-use Rattle.screen.proofs.Laws.{few-buckets}
-use Rattle.file_form.specs.Words.{words-in}
-use Rattle.file_form.proofs.Bytes.{rules-words}
-use Rattle.paint_command.specs.Painting as paint
-use Rattle.text.specs.Texts.{Text, text, put, Wrote}
-use Rattle.text_details.specs.Details.{detail-lines, rowdump-words}
-use Rattle.text_details.specs.Bytes.{details-text}
-use Rattle.text_row.specs.Pieces.{piece-list}
-use Rattle.text_row.specs.Dumped as dumped
+use Rattle.screen.proofs.ScreenLaws.{few-buckets}
+use Rattle.file.specs.Words.{words-in}
+use Rattle.file.proofs.Bytes.{rules-words}
+use Rattle.paint.specs.Painting as paint
+use Rattle.text.proofs.Lengths.{plus, digits-few}
+use Rattle.text.specs.Details.{detail-lines, rowdump-words}
+use Rattle.text.specs.Bytes.{details-text}
+use Rattle.text.specs.Pieces.{piece-list}
+use Rattle.text.specs.Dumped as dumped
 use Rattle.std.specs.Prelude.{Result, Ok, Err}
 use Rattle.std.specs.Result.{is_err}
 use Rattle.rules.proofs.All.{never}
 use Rattle.sizes.specs.declared.answers.Refusal.{Refusal}
 use Rattle.sizes.specs.Refusals.{answer_number}
 use Rattle.sizes.proofs.Refusals.{not_done}
-use Rattle.text_file.specs.Files.{Text as FileText, FileOut, file-out, shows-as, refusing, size, over, Usual, words-text, refused-as-is, bytes-text}
-use Rattle.text_file.proofs.Texts.{small}
+use Rattle.text.specs.Files.{Text as FileText, FileOut, file-out, shows-as, refusing, size, over, Usual, words-text, refused-as-is, bytes-text}
+use Rattle.text.proofs.FileTexts.{small}
 use Rattle.refine_steps.specs.Lent.{lent_of, Holds}
 use Rattle.refine_text.proofs.Files.{usual-frame, Left, Leaves, words-leave, file-few}
 use Rattle.theorem_text.proofs.Small.{words_small}
 use Rattle.theorem_text.proofs.Played.{Ended, play-ended}
-use Rattle.text_programs.proofs.Laws.{Long, roomy, fixed, rowlist-shown}
+use Rattle.text_programs.specs.Tables.{Long}
+use Rattle.text_programs.proofs.Laws.{roomy, fixed, rowlist-shown}
 use Rattle.text_programs.specs.Programs.{rowlist-text, first}
 use Rattle.text_dump.specs.Rowdump.{recording-line, rowdump-lines, file-lines-text, Printed}
-use Rattle.text_dump.specs.Dumped.{list-room, details-room, lines-room, Part, part, details-dumped, words-before, screen-dumped, Wide, Sized}
+use Rattle.text_dump.specs.Dumped.{list-room, details-room, lines-room, Part, part, details-dumped, words-before, screen-dumped, Wide}
 use Rattle.text_dump.proofs.Parts.{mid-all, put_all}
 use Rattle.text_dump.proofs.First.{Says, first-dropped, first-long, first_two}
 use Rattle.text_dump.proofs.Details.{at_words, attrs-of, details-are}
@@ -278,22 +279,6 @@ module _ (q : Setup) (usual : Usual q) (fs : List ℕ) (byte : (i : ℕ) → get
             ended = play-ended (rowlist-place q (words-in fs)) (reset fresh-row rules.nothing) (words-in fs) (words_small fs byte) done;
           }
 
--- the lengths that are asked of the tables
-pub long_of : (t : Tables) (list out : List ℕ) → Sized t list out → Long t
-long_of t list out p =
-    record {
-      render = p.render;
-      fills = p.fills;
-      depth = p.depth;
-      rows = p.rows;
-      painting = p.painting;
-      layers = p.layers;
-      opacities = p.opacities;
-      paint-attrs = p.paint-attrs;
-      layer-attrs = p.layer-attrs;
-      filter-paints = p.filter-paints;
-    }
-
 -- whether a file's call is refused, by its answer's number
 pub was_refused : {T : Type 0} (r : Result T Refusal) → is_err r ≡ true → answer_number r ≡ 0 → ⊥
 was_refused (Ok x) e z = never (sym e)
@@ -357,13 +342,9 @@ module _ (v : Bool) (q : Setup) (usual : Usual q) (fs : List ℕ) (byte : (i : �
         }
 
 -- the first line, then the file's
-pub line_first : (i : ℕ) (bs : List ℕ) → 31 ≤ length bs → {k : ℕ} {cs : List ℕ} → Wrote (recording-line i) 31 (text bs 0) (text cs k) → (k ≡ length (recording-line i)) × (cs ≡ first (recording-line i) bs) × (k ≤ 31)
-unfolding put
-line_first i bs room {k} {cs} w =
-    let moved = w.moved in
-    let near = w.near in
-    let z : 0 + length (recording-line i) ≡ length (recording-line i) = omega arith in
-    (moved ∙ z, ap (λ (t : Text). t.bytes) (w.is (omega (arith, moved, near))) ∙ rw z, omega arith)
+pub line-few : (i : ℕ) → length (recording-line i) ≤ 31
+unfolding recording-line
+line-few i = let e = plus {a = 20} {b = 1} (digits 20 i) (10 ∷ []) (digits-few 20 i) (omega arith) in omega (arith, e)
 
 pub whole-text : (i : ℕ) (ts bs : List ℕ) {k : ℕ} {cs : List ℕ} → k ≡ length (recording-line i) → cs ≡ first (recording-line i) bs → {j m : ℕ} {ds : List ℕ}
     → j ≡ length ts → ds ≡ first ts (take (m - k) (drop k cs)) → m ≡ length cs

@@ -17,16 +17,16 @@ use Rattle.rules.specs.Plans.{buckets-across}
 use Rattle.rect.specs.Rects.{box_of}
 use Rattle.screen.specs.Screens.{frame-of}
 use Rattle.screen.specs.declared.Screen.{Screen}
-use Rattle.paint_command.specs.Painting.{RowLent, lent, StepOut}
-use Rattle.paint_screen.specs.Beginning.{canvas, beginning}
-use Rattle.paint_screen.specs.Stepping.{Attributes, attributes}
-use Rattle.paint_whole.specs.Running.{row-painted}
-use Rattle.text_screen.specs.Listed as list
-use Rattle.text_screen.specs.Listed.{Listing, listing, written, begun-with}
-use Rattle.text_details.specs.Bytes.{details-text}
-use Rattle.text_row.specs.Pieces.{row-lines}
-use Rattle.text_row.specs.Dumped.{AttrTables, row_out, pieces-written, stopped, row-stopped, with-text, row-dumped, good-tables, attrs-text, attrs-dumped}
-use Rattle.text_dump.specs.Dumped.{part, after, rows-dumped, details-dumped, in-front, screen-dumped}
+use Rattle.paint.specs.Painting.{RowLent, lent, StepOut}
+use Rattle.paint.specs.Beginning.{canvas, beginning}
+use Rattle.paint.specs.Stepping.{Attributes, attributes}
+use Rattle.paint.specs.Running.{row-painted}
+use Rattle.text.specs.Listed as list
+use Rattle.text.specs.Listed.{Listing, listing, written, begun-with}
+use Rattle.text.specs.Bytes.{details-text}
+use Rattle.text.specs.Pieces.{row-lines}
+use Rattle.text.specs.Dumped.{AttrTables, row_out, pieces-written, stopped, row-stopped, with-text, row-dumped, good-tables, attrs-text, attrs-dumped}
+use Rattle.text_dump.specs.Dumped.{part, after, rows-dumped, begun-dumped, painted-dumped, details-dumped, in-front, screen-dumped}
 
 -- a text is no longer than the bytes that it was put into
 written-few : (ts bs : List ℕ) → (written ts bs).answer.bytes ≤ length bs
@@ -89,26 +89,25 @@ module _ (v : Bool) (s : Screen) (n r : ℕ) (a : Attributes) (l : RowLent) (bs 
         let i : part k d' p' ls' ds ≡ rows-dumped v (n - suc r) (suc r) s a (lent l.state l.render l.fills d p ls) (drop q.bytes cs) = rw (add-one r, z, mid-all q.bytes cs) at g in
         rw (z, put_all q.bytes cs ds) (ap (after q.bytes cs) i ∙ rw (j, ← e))
 
--- the attributes, then the rows
-module _ (v : Bool) (s : Screen) (n : ℕ) (t : AttrTables) (l : RowLent) (bs : List ℕ) {q : Listing} {cs : List ℕ} (e : list.text-out q cs ≡ attrs-dumped v s t bs) where
-  pub heads-few : q.bytes ≤ length bs
-  heads-few = rw (← e) at (attrs-few v s t bs)
-
-  pub details-more : {k : ℕ} {x : Screen} {d p : List ℕ} → answer k (canvas x d p) ≡ beginning (canvas s l.depth l.painting) → {j m : ℕ} {d' p' ls' ds : List ℕ}
-      → part j d' p' ls' ds ≡ rows-dumped v (n - 0) 0 x (attributes t.paints t.layers) (lent l.state l.render l.fills d p l.list) (take (m - q.bytes) (drop q.bytes cs))
-      → m ≡ length cs → part (q.bytes + j) d' p' ls' (put_mid q.bytes (m - q.bytes) cs ds) ≡ details-dumped v s n t l bs
-  unfolding details-dumped
-  details-more {k} {x} {d} {p} b {j} {m} {d'} {p'} {ls'} {ds} g z =
-      let n0 : n - 0 ≡ n = omega arith in
-      let i : part j d' p' ls' ds ≡ rows-dumped v n 0 x (attributes t.paints t.layers) (lent l.state l.render l.fills d p l.list) (drop q.bytes cs) = rw (n0, z, mid-all q.bytes cs) at g in
-      rw (z, put_all q.bytes cs ds) (ap (after q.bytes cs) i ∙ rw (← e, ← b))
+-- the rows once painting has begun
+pub begun-more : (v : Bool) (s : Screen) (n : ℕ) (a : Attributes) (l : RowLent) (bs : List ℕ) {k : ℕ} {x : Screen} {d p : List ℕ} → answer k (canvas x d p) ≡ beginning (canvas s l.depth l.painting)
+    → {j : ℕ} {d' p' ls' ds : List ℕ} → part j d' p' ls' ds ≡ rows-dumped v (n - 0) 0 x a (lent l.state l.render l.fills d p l.list) bs → part j d' p' ls' ds ≡ begun-dumped v s n a l bs
+begun-more v s n a l bs b g = let n0 : n - 0 ≡ n = omega arith in rw (← b) (rw n0 at g)
 
 -- the first words of larger tables
 pub small : (n b : ℕ) → n ≤ 32 → b ≤ 64 → n * b ≤ 2048
 small n b h g = mul-le-mul {n₂ = 32} {m₂ = 64} h g
 
-pub screen-more : (v : Bool) (s : Screen) (t : AttrTables) (l : RowLent) (bs : List ℕ) {n b : ℕ} → n ≡ rows_of (box_of s.viewport) → b ≡ buckets-across (frame-of s) → {k : ℕ} {d p ls cs : List ℕ}
-    → part k d p ls cs ≡ details-dumped v s n t (lent (take (n * 54) l.state) (take (n * 256) l.render) (take (n * 128) l.fills) (take (n * b) l.depth) (take (n * 2) l.painting) l.list) bs
-    → part k (d ++ drop (n * b) l.depth) (p ++ drop (n * 2) l.painting) ls cs ≡ screen-dumped v s t l bs
-unfolding screen-dumped
-screen-more v s t l bs i j g = rw (i, j) (ap (in-front s l) (rw (i, j) at g))
+pub painted-more : (v : Bool) (s : Screen) (a : Attributes) (l : RowLent) (bs : List ℕ) {n b : ℕ} → n ≡ rows_of (box_of s.viewport) → b ≡ buckets-across (frame-of s) → {k : ℕ} {d p ls cs : List ℕ}
+    → part k d p ls cs ≡ begun-dumped v s n a (lent (take (n * 54) l.state) (take (n * 256) l.render) (take (n * 128) l.fills) (take (n * b) l.depth) (take (n * 2) l.painting) l.list) bs
+    → part k (d ++ drop (n * b) l.depth) (p ++ drop (n * 2) l.painting) ls cs ≡ painted-dumped v s a l bs
+painted-more v s a l bs i j g = rw (i, j) (ap (in-front s l) (rw (i, j) at g))
+
+-- the attributes, then the rows
+module _ (v : Bool) (s : Screen) (t : AttrTables) (l : RowLent) (bs : List ℕ) {q : Listing} {cs : List ℕ} (e : list.text-out q cs ≡ attrs-dumped v s t bs) where
+  pub screen-more : {j m : ℕ} {d p ls ds : List ℕ} → part j d p ls ds ≡ painted-dumped v s (attributes t.paints t.layers) l (take (m - q.bytes) (drop q.bytes cs)) → m ≡ length cs
+      → part (q.bytes + j) d p ls (put_mid q.bytes (m - q.bytes) cs ds) ≡ screen-dumped v s t l bs
+  unfolding screen-dumped details-dumped
+  screen-more {j} {m} {d} {p} {ls} {ds} g z =
+      let i : part j d p ls ds ≡ painted-dumped v s (attributes t.paints t.layers) l (drop q.bytes cs) = rw (z, mid-all q.bytes cs) at g in
+      rw (z, put_all q.bytes cs ds) (ap (after q.bytes cs) i ∙ rw (← e))

@@ -1,18 +1,21 @@
 -- What the parts of a recording's text leave: one text after the other, each at the start of the bytes that are left.
 use Rattle.std.specs.Prelude.{ℕ, zero, suc, ◌+◌, ◌*◌, ◌≤◌, ◌≡◌, Bool, List, ◌++◌, length, take, drop}
-use Rattle.sizes.specs.Sizes.{row-size, program-rows, program-buckets, program-room, program-records, program-render, program-fills, program-depth, program-painting, open-layer-table, opacity-count, paint-attr-table, layer-attr-table, filter-paint-table}
+use Rattle.sizes.specs.Sizes.{row-size, program-rows, program-buckets, program-room, program-records, program-render, program-fills, program-depth, program-painting}
 use Rattle.rules.specs.Boxes.{rows_of}
 use Rattle.rules.specs.Plans.{buckets-across}
 use Rattle.rect.specs.Rects.{box_of}
 use Rattle.screen.specs.declared.Screen.{Screen}
 use Rattle.screen.specs.Screens.{frame-of}
 use Rattle.screen.specs.Tables as screen
-use Rattle.paint_command.specs.Painting.{RowLent, lent}
-use Rattle.paint_screen.specs.Beginning.{canvas, beginning}
-use Rattle.paint_screen.specs.Stepping.{Attributes, attributes}
-use Rattle.text_screen.specs.Listed.{row_room}
-use Rattle.text_row.specs.Pieces.{piece-list}
-use Rattle.text_row.specs.Dumped.{attrs-most, row-most, AttrTables, row-dumped, attrs-dumped}
+use Rattle.screen.specs.Lent.{tables_in}
+use Rattle.paint.specs.Painting.{RowLent, lent}
+use Rattle.paint.specs.Beginning.{canvas, beginning}
+use Rattle.paint.specs.Stepping.{Attributes, attributes}
+use Rattle.text.specs.Listed.{row_room}
+use Rattle.text.specs.Pieces.{piece-list}
+use Rattle.text.specs.Dumped.{attrs-most, row-most, AttrTables, tables, row-dumped, attrs-dumped}
+use Rattle.text_programs.specs.Tables.{Long}
+use Rattle.text_dump.specs.declared.Desk.{Desk}
 
 -- What the lines of `rowlist` have at most; what the details have; what all that stands after the first line has; and the whole text.
 abbrev pub list-room : ℕ
@@ -72,6 +75,16 @@ in-front s l q =
     let n = rows_of (box_of s.viewport) in
     part q.count (q.depth ++ drop (n * buckets-across (frame-of s)) l.depth) (q.painting ++ drop (n * 2) l.painting) q.list q.bytes
 
+-- the rows once painting has begun
+abbrev pub begun-dumped : Bool → Screen → ℕ → Attributes → RowLent → List ℕ → Part
+begun-dumped v s n a l bs =
+    let k = (beginning (canvas s l.depth l.painting)).value in
+    rows-dumped v n 0 k.screen a (lent l.state l.render l.fills k.depth k.painting l.list) bs
+
+-- .. of a screen whose own words stand first
+abbrev pub painted-dumped : Bool → Screen → Attributes → RowLent → List ℕ → Part
+painted-dumped v s a l bs = in-front s l (begun-dumped v s (rows_of (box_of s.viewport)) a (words-before s l) bs)
+
 unfoldable pub screen-dumped : Bool → Screen → AttrTables → RowLent → List ℕ → Part
 screen-dumped v s t l bs = in-front s l (details-dumped v s (rows_of (box_of s.viewport)) t (words-before s l) bs)
 
@@ -85,17 +98,18 @@ pub record Wide (s : Screen) (rows render fills depth painting : List ℕ) : Typ
   pub depth-long : program-depth ≤ length depth
   pub painting-long : program-painting ≤ length painting
 
--- the lengths of the programs' tables and list, and room for the longest text after the first line
-pub record Sized (t : screen.Tables) (list out : List ℕ) : Type 0 where
-  pub render : program-render ≡ length t.render
-  pub fills : program-fills ≡ length t.fills
-  pub depth : program-depth ≡ length t.depth
-  pub rows : program-records ≡ length t.rows
-  pub painting : program-painting ≡ length t.painting
-  pub layers : open-layer-table ≡ length t.layers
-  pub opacities : opacity-count ≡ length t.opacities
-  pub paint-attrs : paint-attr-table ≡ length t.paint-attrs
-  pub layer-attrs : layer-attr-table ≡ length t.layer-attrs
-  pub filter-paints : filter-paint-table ≡ length t.filter-paints
-  pub pieces : piece-list ≡ length list
-  pub room : lines-room ≤ length out
+abbrev pub WideIn : Screen → screen.Tables → Type 0
+WideIn s t = Wide s t.rows t.render t.fills t.depth t.painting
+
+-- the tables' attributes, and what painting is given of them
+abbrev pub heads : screen.Tables → AttrTables
+heads t = tables t.paint-attrs t.layer-attrs t.opacities t.filter-paints
+
+abbrev pub given : screen.Tables → List ℕ → RowLent
+given t list = lent t.rows t.render t.fills t.depth t.painting list
+
+-- a desk has the programs' tables, a list for the pieces of any row, and room for the longest text
+pub record Ready (d : Desk) : Type 0 where
+  pub long : Long (tables_in d.lent)
+  pub pieces : piece-list ≡ length d.list.now
+  pub room : dump-room ≤ length d.text.now

@@ -3,8 +3,8 @@ use Rattle.std.specs.Prelude.{ℕ, ◌≤◌, ◌≡◌, Bool, true, false, cond
 use Rattle.std.specs.Prelude.{None, Some}
 use Rattle.rules.specs.Setups.{Setup}
 use Rattle.rules.specs.Lines.{words_of, too_long, digits}
-use Rattle.text_details.specs.Details.{Detail, rowdump-words}
-use Rattle.text_details.specs.Bytes.{details-text}
+use Rattle.text.specs.Details.{Detail, rowdump-words}
+use Rattle.text.specs.Bytes.{details-text}
 use Rattle.text_programs.specs.Programs.{rowlist-text, no-width-text, first}
 
 -- the words "recording "

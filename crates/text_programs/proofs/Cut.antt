@@ -5,7 +5,7 @@ use Rattle.std.specs.Prelude.{None, Some}
 use Rattle.rules.specs.Answers.{BadForm}
 use Rattle.rules.specs.Setups.{Setup}
 use Rattle.rules.specs.Lines.{refused, words_of, rowlist-words, rowlist, no-width}
-use Rattle.text_screen.specs.Listed.{text_of}
+use Rattle.text.specs.Listed.{text_of}
 use Rattle.text_programs.specs.Programs.{rowlist-text, no-width-text, by_width}
 use Rattle.text_programs.specs.Streams.{Takes, Skips}
 

@@ -1,12 +1,13 @@
 -- What reads take of an input whose bytes are known.
-use Rattle.std.proofs.Common.{◌≡◌, ℕ, ◌+◌, ◌<◌, ◌≤◌, List, [], ◌++◌, length, take, drop, zero, suc, ◌∷◌, Option, Some, None, IfSome, refl, sym, ap, ◌∙◌, subst, arith, length-take-le, length-take, length-drop, drop-drop, drop_of_length-le}
+use Rattle.std.proofs.Common.{◌≡◌, ℕ, ◌+◌, ◌<◌, ◌≤◌, List, [], ◌++◌, length, take, drop, zero, suc, ◌∷◌, Option, Some, None, IfSome, drop_at, refl, sym, ap, ◌∙◌, subst, arith, length-take-le, length-take, length-drop, drop-drop, drop_of_length-le}
 use Rattle.std.proofs.Math.Seq.{take-append-add}
 use Rattle.std.proofs.lemmas.List.{take-append-le}
 use Rattle.std.proofs.KnownBytes.{Consumes-trans}
-use Rattle.std.specs.Io.KnownBytes.{Consumes}
+use Rattle.std.specs.Io.KnownBytes.{Consumes, Keeps}
 use borrow.Author.Tests.{le-ltb, lt-ltb}
 use borrow.Rule.Slice.PartMut.{put_mid}
 use Rattle.text_programs.specs.Streams.{Takes, Skips, first_item, after_item, items}
+use Rattle.text_programs.specs.Failures.{Loses}
 
 -- n bytes were read into the end of a buffer whose first k had been read before
 pub read_more : (a b c : Option (List ℕ)) (k m n : ℕ) (xs ys : List ℕ) → k ≤ length xs → n ≤ length ys → Consumes a b (take k xs) → Consumes b c (take n ys)
@@ -40,6 +41,27 @@ skip_end m n j k (Some zs) (Some bs) b ts g e t i p =
     let none : length bs ≡ 0 = omega (arith, length-take m bs, length-take n ts, ap length t.0) in
     let past : length zs ≤ k = omega (arith, length-drop j zs, ap length left) in
     t.1 ∙ ap Some (drop_of_length-le bs (omega arith) ∙ sym (drop_of_length-le zs past))
+
+-- an input that a failed read left as it was, and that bytes were then read of
+pub kept_consumes : (a b c : Option (List ℕ)) (bs : List ℕ) → Keeps a b → Consumes b c bs → Consumes a c bs
+kept_consumes None b c bs k t = tt
+kept_consumes (Some xs) None c bs k t = absurd k
+kept_consumes (Some xs) (Some ys) None bs k t = absurd t
+kept_consumes (Some xs) (Some ys) (Some zs) bs k t = sym k ∙ t
+
+-- what was read, or passed over, is a beginning
+pub consumed_gone : (n k : ℕ) (a b : Option (List ℕ)) (ts : List ℕ) → k ≤ n → k ≤ length ts → Consumes a b (take k ts) → Loses n a b
+consumed_gone n k None b ts h i t = (0, omega arith, tt)
+consumed_gone n k (Some xs) None ts h i t = absurd t
+consumed_gone n k (Some xs) (Some ys) ts h i t = (k, h, ap Some (sym (rw t (drop_at (take k ts) ys k (length-take-le k ts i)))))
+
+pub taken_gone : (n m : ℕ) (a b : Option (List ℕ)) (ts : List ℕ) → m ≤ n → Takes m a b ts → Loses n a b
+taken_gone n m None b ts h t = (0, omega arith, tt)
+taken_gone n m (Some bs) b ts h t = (m, h, t.1)
+
+-- .. and more of it after that
+pub gone_more : (n j m : ℕ) (a b c : Option (List ℕ)) → j + m ≤ n → Skips j a b → Loses m b c → Loses n a c
+gone_more n j m a b c h p q = let few = q.1 in (j + q.0, omega arith, skip_more (j + q.0) j q.0 a b c refl p q.2)
 
 -- too few bytes were left for k
 pub short : (k n : ℕ) (a b : Option (List ℕ)) (ts : List ℕ) → n ≤ length ts → n < k → Takes k a b (take n ts) → IfSome a (λ bs. length bs < k)

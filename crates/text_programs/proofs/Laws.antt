@@ -16,13 +16,16 @@ use Rattle.rules.specs.Answers.{BadForm}
 use Rattle.rules.specs.Setups.{Mode, Setup}
 use Rattle.rules.specs.Lines.{words_of, rowlist-screen, refused, no-width, line-bytes}
 use Rattle.screen.specs.Judging.{good-fixed}
+use Rattle.screen.specs.declared.Lent.{Lent}
+use Rattle.screen.specs.Lent.{tables_in, SameLent}
 use Rattle.screen.specs.Tables.{Tables, lengths}
-use Rattle.file_form.specs.Words.{words-in}
-use Rattle.file_form.proofs.Bytes.{rules-words}
-use Rattle.text_screen.specs.Listed.{Listing, TextOut, text-out, begun-with, written, refused-listed, text_of}
-use Rattle.text_file.specs.Files.{Text, FileOut, file-out, shows-as, Usual, is-roomy, refusing, refused-as-is, words-text, bytes-text, no-width-number}
+use Rattle.file.specs.Words.{words-in}
+use Rattle.file.proofs.Bytes.{rules-words}
+use Rattle.text.specs.Listed.{Listing, TextOut, text-out, begun-with, written, refused-listed, text_of}
+use Rattle.text.specs.Files.{Text, FileOut, file-out, shows-as, Usual, is-roomy, refusing, refused-as-is, words-text, bytes-text, no-width-number}
 use Rattle.refine_text.proofs.Lengths.{line-few}
 use Rattle.refine_text.proofs.Files.{shows, file-printed, words-leave}
+use Rattle.text_programs.specs.Tables.{Long}
 use Rattle.text_programs.specs.Programs.{rowlist-number, rowlist-text, no-width-text, Wanted, wanted, want-of, first}
 
 -- what is wanted has C = D = 64
@@ -30,18 +33,21 @@ pub as-usual : (m : Mode) (o : Result Width Refusal) (v : Bool) {q : Setup} {b c
 as-usual m (Err _) v e = record { c = ap (λ (x : Wanted). x.setup.c) e; d = ap (λ (x : Wanted). x.setup.d) e }
 as-usual m (Ok w) v e = record { c = ap (λ (x : Wanted). x.setup.c) e; d = ap (λ (x : Wanted). x.setup.d) e }
 
--- the lengths of the programs' tables
-pub record Long (t : Tables) : Type 0 where
-  pub render : program-render ≡ length t.render
-  pub fills : program-fills ≡ length t.fills
-  pub depth : program-depth ≡ length t.depth
-  pub rows : program-records ≡ length t.rows
-  pub painting : program-painting ≡ length t.painting
-  pub layers : open-layer-table ≡ length t.layers
-  pub opacities : opacity-count ≡ length t.opacities
-  pub paint-attrs : paint-attr-table ≡ length t.paint-attrs
-  pub layer-attrs : layer-attr-table ≡ length t.layer-attrs
-  pub filter-paints : filter-paint-table ≡ length t.filter-paints
+-- the same slices are as long as they were
+pub long_kept : (a b : Lent) → SameLent a b → Long (tables_in a) → Long (tables_in b)
+long_kept a b s h =
+    record {
+      render = h.render ∙ sym s.render-long;
+      fills = h.fills ∙ sym s.fills-long;
+      depth = h.depth ∙ sym s.depth-long;
+      rows = h.rows ∙ sym s.rows-long;
+      painting = h.painting ∙ sym s.painting-long;
+      layers = h.layers ∙ sym s.layers-long;
+      opacities = h.opacities ∙ sym s.opacities-long;
+      paint-attrs = h.paint-attrs ∙ sym s.paint_attrs-long;
+      layer-attrs = h.layer-attrs ∙ sym s.layer_attrs-long;
+      filter-paints = h.filter-paints ∙ sym s.filter_paints-long;
+    }
 
 module _ (t : Tables) (h : Long t) where
   pub roomy : is-roomy t ≡ true

@@ -1,3 +1,5 @@
 pub mod Programs
 pub mod Arguments
 pub mod Streams
+pub mod Failures
+pub mod Tables

@@ -7,7 +7,7 @@ use Rattle.sizes.specs.declared.width.Width.TheVariants.{W128}
 use Rattle.rules.specs.Answers.{BadForm}
 use Rattle.rules.specs.Setups.{Mode, Setup}
 use Rattle.rules.specs.Lines.{too_long, words_of, rowlist-screen, rowlist, no-width, usual}
-use Rattle.text_screen.specs.Listed.{text_of}
+use Rattle.text.specs.Listed.{text_of}
 
 -- the number that `rowlist` has of the bytes: 0, or that of its refusal
 unfoldable pub rowlist-number : Setup → List ℕ → ℕ

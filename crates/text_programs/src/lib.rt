@@ -2,30 +2,29 @@
 // a function asks something, the programs have seen to it.
 #![tactic(auto)]
 
-ghost use Rattle.std.specs.Prelude.{◌≡◌, ◌≤◌, length, take, IfOk, OnOk, IsOkUnless};
-ghost use Rattle.std.specs.Io.KnownBytes.{Appends};
+ghost use Rattle.std.specs.Prelude.{◌≡◌, ◌≢◌, ◌≤◌, true, false, length, take, Ok, IfOk, IfErr, IsOk, OnOk};
+ghost use Rattle.std.specs.IoError.{error_kind};
+ghost use Rattle.std.specs.Io.KnownBytes.{Appends, ReadConsumes, WriteAppends};
 ghost use Rattle.sizes.specs.Refusals.{answer_number};
 ghost use Rattle.screen.specs.Screens.{setup-of};
-ghost use Rattle.text_file.specs.Files.{Usual};
+ghost use Rattle.screen.specs.Lent.{tables_in, SameLent};
+ghost use Rattle.text.specs.Files.{Usual};
 ghost use Rattle.text_programs.specs.Programs.{rowlist-number, rowlist-text, no-width-text, first};
+ghost use Rattle.text_programs.specs.Tables.{Long};
 ghost use Rattle.text_programs.specs.Streams.{Takes};
+ghost use Rattle.text_programs.specs.Failures.{IsOfReading, IsOfWriting, Begins, Loses};
 
 use crate::failure::Failure;
 use screen::{Lent, Setup};
 use sizes::answers::Refusal;
-use std::io::{Read, Write};
-use text_file::{file_text, no_width_refusal};
-use text_screen::refusal_line;
+use std::io;
+use std::io::{ErrorKind, Read, Write};
+use text::{file_text, no_width_refusal, refusal_line};
 
 pub mod failure;
 pub mod options;
 pub mod stream;
 pub mod tables;
-
-use crate::tables::{
-    depth_words, fill_words, filter_words, layer_attr_words, layer_words, opacity_words,
-    paint_attr_words, painting_words, render_words, row_words,
-};
 
 // answer: whether the recording is refused. bytes: how many are written, at the start of the lent ones.
 #[derive(Clone, Copy)]
@@ -34,35 +33,16 @@ pub struct Listed {
     pub bytes: usize,
 }
 
-// The text that `rowlist` prints of a file's bytes, put first; how long it is, and the recording's answer. The room is that of the longest text.
-pub fn list_file(file: &[u8], setup: Setup, out: &mut [u8]) -> Listed
-    requires { Usual (setup-of setup) × (264256 ≤ length out.old) }
+// The text that `rowlist` prints of a file's bytes, put first; how long it is, and the recording's answer. The room is that of the longest text; the
+// tables take the file's screen.
+pub fn list_file(file: &[u8], setup: Setup, lent: &mut Lent<'_>, out: &mut [u8]) -> Listed
+    requires { Usual (setup-of setup) × Long (tables_in lent.old) × (264256 ≤ length out.old) }
+    ensures same { SameLent lent.old lent.new }
+    ensures long { Long (tables_in lent.new) }
     ensures number_value { (answer_number result.answer ≡ rowlist-number (setup-of setup) file.now) × (result.bytes ≡ length (rowlist-text (setup-of setup) file.now)) }
     ensures out_after { out.new ≡ first (rowlist-text (setup-of setup) file.now) out.old }
 {
-    let mut render = render_words();
-    let mut fills = fill_words();
-    let mut depth = depth_words();
-    let mut rows = row_words();
-    let mut painting = painting_words();
-    let mut layers = layer_words();
-    let mut opacities = opacity_words();
-    let mut paint_attrs = paint_attr_words();
-    let mut layer_attrs = layer_attr_words();
-    let mut filter_paints = filter_words();
-    let mut lent = Lent {
-        render: &mut render,
-        fills: &mut fills,
-        depth: &mut depth,
-        rows: &mut rows,
-        painting: &mut painting,
-        layers: &mut layers,
-        opacities: &mut opacities,
-        paint_attrs: &mut paint_attrs,
-        layer_attrs: &mut layer_attrs,
-        filter_paints: &mut filter_paints,
-    };
-    let text = file_text(file, setup, &mut lent, out);
+    let text = file_text(file, setup, lent, out);
     Listed {
         answer: text.answer,
         bytes: text.bytes,
@@ -70,12 +50,14 @@ pub fn list_file(file: &[u8], setup: Setup, out: &mut [u8]) -> Listed
 }
 
 // The same; how long it is.
-pub fn rowlist_text(file: &[u8], setup: Setup, out: &mut [u8]) -> usize
-    requires { Usual (setup-of setup) × (264256 ≤ length out.old) }
+pub fn rowlist_text(file: &[u8], setup: Setup, lent: &mut Lent<'_>, out: &mut [u8]) -> usize
+    requires { Usual (setup-of setup) × Long (tables_in lent.old) × (264256 ≤ length out.old) }
+    ensures same { SameLent lent.old lent.new }
+    ensures long { Long (tables_in lent.new) }
     ensures value { result ≡ length (rowlist-text (setup-of setup) file.now) }
     ensures out_after { out.new ≡ first (rowlist-text (setup-of setup) file.now) out.old }
 {
-    list_file(file, setup, out).bytes
+    list_file(file, setup, lent, out).bytes
 }
 
 // What the programs print of a file's bytes where the width asked for is none, put first; how long it is.
@@ -87,17 +69,45 @@ pub fn no_width_text(file: &[u8], out: &mut [u8]) -> usize
     refusal_line(no_width_refusal(file).number(), out).unwrap_or(0)
 }
 
-// Reads until the bytes are full or the input ends; how many were read.
+// Whether a signal came between: the call is made again.
+fn is_interrupted(error: &io::Error) -> bool
+    ensures is { result ≡ true → error_kind error.now ≡ ErrorKind.Interrupted }
+    ensures is_not { result ≡ false → error_kind error.now ≢ ErrorKind.Interrupted }
+{
+    error.kind() == ErrorKind::Interrupted
+}
+
+// Reads once, tried again where a signal came between. Nothing says that signals end: tries are counted up to a number that no run reaches.
+fn read_some<R: Read>(input: &mut R, buf: &mut [u8]) -> Result<usize, Failure>
+    ensures count { IfOk result (λ n. n ≤ length buf.new) }
+    ensures bytes { ReadConsumes (R.remaining input.old) (R.remaining input.new) result buf.new }
+    ensures err { IfErr result IsOfReading }
+{
+    for _ in 0..u64::MAX {
+        match input.read(buf) {
+            Ok(n) => return Ok(n),
+            Err(error) => {
+                if !is_interrupted(&error) {
+                    return Err(Failure::CannotRead(error));
+                }
+            }
+        }
+    }
+    Err(Failure::CannotRead(io::Error::from(ErrorKind::TimedOut)))
+}
+
+// Reads until the bytes are full or the input ends; how many were read. Where it fails, what is gone of the input is a beginning of it, no more than
+// there was room for.
 pub fn read_all<R: Read>(input: &mut R, buf: &mut [u8]) -> Result<usize, Failure>
     ensures count { IfOk result (λ n. n ≤ length buf.new) }
     ensures bytes { IfOk result (λ n. Takes (length buf.old) (R.remaining input.old) (R.remaining input.new) (take n buf.new)) }
-    ensures err { IsOkUnless result Failure.CannotRead }
+    ensures gone { Loses (length buf.old) (R.remaining input.old) (R.remaining input.new) }
+    ensures none_asked { length buf.old ≡ 0 → result ≡ Ok 0 }
+    ensures err { IfErr result IsOfReading }
 {
     let mut done = 0;
     while done < buf.len() {
-        let Ok(n) = input.read(&mut buf[done..]) else {
-            return Err(Failure::CannotRead);
-        };
+        let n = read_some(input, &mut buf[done..])?;
         if n == 0 {
             return Ok(done);
         }
@@ -106,10 +116,39 @@ pub fn read_all<R: Read>(input: &mut R, buf: &mut [u8]) -> Result<usize, Failure
     Ok(done)
 }
 
-// Writes all of a text.
+// Writes once, likewise.
+fn write_some<W: Write>(output: &mut W, text: &[u8]) -> Result<usize, Failure>
+    ensures count { IfOk result (λ n. n ≤ length text.now) }
+    ensures bytes { WriteAppends (W.contents output.old) (W.contents output.new) result text.now }
+    ensures err { IfErr result IsOfWriting }
+{
+    for _ in 0..u64::MAX {
+        match output.write(text) {
+            Ok(n) => return Ok(n),
+            Err(error) => {
+                if !is_interrupted(&error) {
+                    return Err(Failure::CannotWrite(error));
+                }
+            }
+        }
+    }
+    Err(Failure::CannotWrite(io::Error::from(ErrorKind::TimedOut)))
+}
+
+// Writes all of a text. Where it fails, a beginning of it is written.
 pub fn write_text<W: Write>(output: &mut W, text: &[u8]) -> Result<(), Failure>
     ensures ok { OnOk result (Appends (W.contents output.old) (W.contents output.new) text.now) }
-    ensures err { IsOkUnless result Failure.CannotWrite }
+    ensures begun { Begins (W.contents output.old) (W.contents output.new) text.now }
+    ensures none_asked { length text.now ≡ 0 → IsOk result }
+    ensures err { IfErr result IsOfWriting }
 {
-    output.write_all(text).map_err(|_| Failure::CannotWrite)
+    let mut done = 0;
+    while done < text.len() {
+        let n = write_some(output, &text[done..])?;
+        if n == 0 {
+            return Err(Failure::CannotWrite(io::Error::from(ErrorKind::WriteZero)));
+        }
+        done += n;
+    }
+    Ok(())
 }

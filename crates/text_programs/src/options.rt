@@ -5,7 +5,7 @@ ghost use Rattle.sizes.specs.Widths.{width_of};
 ghost use Rattle.rules.specs.Lines as rule;
 ghost use Rattle.rect.specs.Rects.{mode_of};
 ghost use Rattle.screen.specs.Screens.{setup-of};
-ghost use Rattle.text_file.specs.Files.{Usual};
+ghost use Rattle.text.specs.Files.{Usual};
 ghost use Rattle.text_programs.specs.Programs.{want-of};
 ghost use Rattle.text_programs.specs.Arguments.{number_of, arguments, arguments_after, choice, wanted_by, wanted_of, read_arguments};
 

@@ -25,16 +25,16 @@ use Rattle.rules.proofs.Logged.{walk-logged}
 use Rattle.rules_picture.proofs.Walked.{all-walks}
 use Rattle.rules_reason.specs.Reasons.{Asked, reason}
 use Rattle.rules_reason.specs.Answers.{Question, answer-lines, history, off-screen, tile-answer, refused-bytes, recording-answer, answer-in, why-words}
-use Rattle.file_form.specs.declared.Layout.{Layout}
-use Rattle.file_form.specs.Layouts.{form_of, sections_at}
-use Rattle.file_form.specs.Places.{recorded}
-use Rattle.file_form.proofs.Laid.{GoodForm, good-form, bad-form}
-use Rattle.file_form.proofs.Reading.{reads}
-use Rattle.file_nodes.specs.Ready.{WalkReady}
-use Rattle.tile_steps.specs.declared.Tale.{Tale}
-use Rattle.tile_steps.specs.Telling.{Telling, tell-at, nothing-told}
-use Rattle.tile_steps.specs.Places.{Says, ToldTo}
-use Rattle.tile_reason.specs.Reading.{reason-read}
+use Rattle.file.specs.declared.form.Layout.{Layout}
+use Rattle.file.specs.Layouts.{form_of, sections_at}
+use Rattle.file.specs.Places.{recorded}
+use Rattle.file.proofs.Laid.{GoodForm, good-form, bad-form}
+use Rattle.file.proofs.Reading.{reads}
+use Rattle.walk.specs.Ready.{WalkReady}
+use Rattle.tile.specs.declared.steps.Tale.{Tale}
+use Rattle.tile.specs.Telling.{Telling, tell-at, nothing-told}
+use Rattle.tile.specs.Places.{Says, ToldTo}
+use Rattle.tile.specs.Reading.{reason-read}
 use Rattle.refine_tile.proofs.Walked.{tile-told}
 use Rattle.refine_tile.proofs.Reasons.{reason-told}
 use Rattle.text_why.specs.Questions.{read_by, ToldOf}

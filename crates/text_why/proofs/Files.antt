@@ -21,10 +21,9 @@ use Rattle.rules.specs.Steps.{Screen}
 use Rattle.rules.specs.Lines.{refused, screen-lines, rowlist-screen, rowlist-words, words_of, rowlist, line-bytes}
 use Rattle.rules_reason.specs.Answers.{Question, refused-bytes, answer-in, why-words, why-text}
 use Rattle.rules.specs.Recording.{shape, sections}
-use Rattle.file_form.specs.Words.{words-in, Filled, filled, filled-with}
-use Rattle.file_form.proofs.Bytes.{rules-words, first-words, put-length}
-use Rattle.text.specs.Texts.{Text, text, put, Wrote}
-use Rattle.text_screen.specs.Listed.{text_of}
+use Rattle.file.specs.Words.{words-in, Filled, filled, filled-with}
+use Rattle.file.proofs.Bytes.{rules-words, first-words, put-length}
+use Rattle.text.specs.Listed.{text_of}
 use Rattle.text_programs.specs.Programs.{rowlist-number, rowlist-text, first}
 use Rattle.text_programs.proofs.Laws.{first_taken}
 
@@ -145,17 +144,6 @@ is-refused (Err r) e z = not_done r z
 pub is-done : {T : Type 0} (x : Result T Refusal) → is_err x ≡ false → answer_number x ≡ 0
 is-done (Ok y) e = refl
 is-done (Err r) e = never e
-
--- a text that was written at the start of bytes with room for it
-pub written-first : (ws : List ℕ) (most : ℕ) (cs : List ℕ) {r : ℕ} {ds : List ℕ} → most ≤ length cs → Wrote ws most (text cs 0) (text ds r) → (r ≡ length ws) × (ds ≡ first ws cs)
-unfolding put
-written-first ws most cs {r} {ds} room w =
-    let z : 0 + length ws ≡ length ws = omega arith in
-    let moved = w.moved in
-    let near = w.near in
-    let n : r ≡ length ws = moved ∙ z in
-    let is : ds ≡ ws ++ drop (length ws) cs = ap (λ (t : Text). t.bytes) (w.is (omega (arith, moved, near))) ∙ rw z in
-    (n, is)
 
 -- the words of the bytes
 module _ (fs ws : List ℕ) (few : length fs ≤ 65536) (long : 16384 ≡ length ws) {n : ℕ} {vs : List ℕ} (f : filled n vs ≡ filled-with fs ws) where

@@ -6,10 +6,10 @@ use Rattle.sizes.specs.Refusals.{number_of}
 use Rattle.rules.specs.Setups.{Setup}
 use Rattle.rules_reason.specs.Reasons.{Reason, Asked}
 use Rattle.rules_reason.specs.Answers as rule
-use Rattle.tile_steps.specs.declared.Tale.{Tale}
-use Rattle.tile_steps.specs.Places.{Low}
-use Rattle.tile_reason.specs.Reading.{reason-read}
-use Rattle.tile_reason.specs.Reasons.{asked_of}
+use Rattle.tile.specs.declared.steps.Tale.{Tale}
+use Rattle.tile.specs.Places.{Low}
+use Rattle.tile.specs.Reading.{reason-read}
+use Rattle.tile.specs.Reasons.{asked_of}
 use Rattle.text_why.specs.declared.Question.{Question}
 use Rattle.text_why.specs.declared.Question.TheVariants as asks
 
@@ -27,22 +27,12 @@ ToldOf u ws row tile (Ok t) lines =
     Low t × ((q : rule.Question) → rule.why-words u ws row tile q ≡ rule.answer-lines (read_by lines (t.paints + t.layers)) t.paints t.layers q)
 ToldOf u ws row tile (Err r) lines = (q : rule.Question) → rule.why-words u ws row tile q ≡ rule.refused-bytes (number_of r)
 
--- The bytes at most: of a panel at the end of a reason, of a reason's words, and with the line feed; of the attribute that it is about, of the two in a
--- line, and of an answer's lines
-abbrev pub panel-most : ℕ
-panel-most = 18
-
-abbrev pub words-most : ℕ
-words-most = 88
-
+-- The bytes at most: of a reason, of an attribute's line, and of an answer's lines
 abbrev pub reason-most : ℕ
-reason-most = words-most + 1
-
-abbrev pub asked-most : ℕ
-asked-most = 18
+reason-most = 89
 
 abbrev pub line-most : ℕ
-line-most = asked-most + reason-most
+line-most = 107
 
 abbrev pub answer-most : ℕ
 answer-most = line-most * (most-attrs + most-attrs)

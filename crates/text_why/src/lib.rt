@@ -4,28 +4,28 @@
 ghost use Rattle.std.specs.Prelude.{◌≡◌, ◌+◌, ◌*◌, ◌≤◌, length, take};
 ghost use Rattle.sizes.specs.Sizes.{most-attrs, file-bytes, line-size, line-table};
 ghost use Rattle.rules.specs.Lines.{rowlist-screen};
-ghost use Rattle.rules_reason.specs.Answers.{panel-bytes, reason-text, reason-bytes, kind-text, asked-bytes, attribute-line, kind-lines, answer-lines, why-words, why-text, question-line};
+ghost use Rattle.rules_reason.specs.Answers.{panel-bytes, reason-text, reason-bytes, kind-text, attribute-line, kind-lines, why-words, why-text, question-line};
 ghost use Rattle.screen.specs.Screens.{setup-of};
-ghost use Rattle.file_form.specs.Words.{words-in};
-ghost use Rattle.text.specs.Texts.{text, far, Wrote};
-ghost use Rattle.tile_steps.specs.Places.{Low};
-ghost use Rattle.tile_reason.specs.Reasons.{reason-of as said_of, asked_of};
-ghost use Rattle.text_file.specs.Files.{Usual};
+ghost use Rattle.screen.specs.Lent.{tables_in, SameLent};
+ghost use Rattle.file.specs.Words.{words-in};
+ghost use Rattle.text.specs.Texts.{Writes};
+ghost use Rattle.tile.specs.Places.{Low};
+ghost use Rattle.tile.specs.Reasons.{reason-of as said_of, asked_of};
+ghost use Rattle.text.specs.Files.{Usual};
 ghost use Rattle.text_programs.specs.Programs.{first};
-ghost use Rattle.text_why.specs.Questions.{question-of, read_by, ToldOf, panel-most, words-most, reason-most, asked-most, line-most, answer-most};
+ghost use Rattle.text_programs.specs.Tables.{Long};
+ghost use Rattle.text_why.specs.Questions.{question-of, read_by, ToldOf, answer-most};
 
-use file_form::{read_form, words_of_bytes};
-use file_judge::box_at;
-use file_steps::Recording;
-use screen::Setup;
+use file::form::{read_form, words_of_bytes};
+use file::judge::box_at;
+use screen::{Lent, Setup};
 use sizes::LINE_TABLE;
 use sizes::answers::Refusal;
-use text::{put_byte, put_digits, put_number, put_text};
-use text_lines::put_refused;
+use text::lines::Refused;
+use text::{Out, Print, print_first};
 use text_programs::list_file;
-use tile_call::{is_off_screen, tell_tile};
-use tile_reason::{Asked, Reason, reason_of};
-use tile_steps::Tale;
+use tile::{Asked, Reason, Tale, is_off_screen, reason_of, tell_tile};
+use walk::Recording;
 
 // One attribute, or every attribute.
 #[derive(Clone, Copy)]
@@ -35,117 +35,110 @@ pub enum Question {
 }
 
 // How a reason ends.
-fn put_panel(out: &mut [u8], at: usize, panel: u32) -> usize
-    requires { at + panel-most ≤ far }
-    ensures { Wrote (panel-bytes panel) panel-most (text out.old at) (text out.new result) }
+fn print_panel(out: &mut Out<'_>, panel: u32)
+    ensures { Writes (panel-bytes panel) out.old out.new }
 {
-    let p = put_text(out, at, b", panel");
-    put_number(out, p, panel)
+    out.text(b", panel");
+    out.number(panel);
 }
 
 // A reason in words.
-fn put_words(out: &mut [u8], at: usize, reason: Reason) -> usize
-    requires { at + words-most ≤ far }
-    ensures { Wrote (reason-text (said_of reason)) words-most (text out.old at) (text out.new result) }
+fn print_words(out: &mut Out<'_>, reason: Reason)
+    ensures { Writes (reason-text (said_of reason)) out.old out.new }
 {
     match reason {
-        Reason::UnknownAttribute => put_text(out, at, b"unknown attribute"),
+        Reason::UnknownAttribute => out.text(b"unknown attribute"),
         Reason::NoSegment(panel) => {
-            let p = put_text(out, at, b"no segment covers the tile");
-            put_panel(out, p, panel)
+            out.text(b"no segment covers the tile");
+            print_panel(out, panel);
         }
         Reason::CutAway(panel) => {
-            let p = put_text(out, at, b"cut away by a clip box");
-            put_panel(out, p, panel)
+            out.text(b"cut away by a clip box");
+            print_panel(out, panel);
         }
         Reason::RowUntouched(panel) => {
-            let p = put_text(out, at, b"row never touched by the closing layer");
-            put_panel(out, p, panel)
+            out.text(b"row never touched by the closing layer");
+            print_panel(out, panel);
         }
         Reason::HiddenBy(hidden) => {
-            let p = put_text(out, at, b"hidden by a newer depth fill, attribute");
-            let q = put_number(out, p, hidden.attribute);
-            let r = put_text(out, q, b" of panel");
-            let s = put_number(out, r, hidden.hider_panel);
-            put_panel(out, s, hidden.panel)
+            out.text(b"hidden by a newer depth fill, attribute");
+            out.number(hidden.attribute);
+            out.text(b" of panel");
+            out.number(hidden.hider_panel);
+            print_panel(out, hidden.panel);
         }
         Reason::ShownAt(shown) => {
-            let p = put_text(out, at, b"shown, place");
-            let q = put_number(out, p, shown.place);
-            put_panel(out, q, shown.panel)
+            out.text(b"shown, place");
+            out.number(shown.place);
+            print_panel(out, shown.panel);
         }
     }
 }
 
 // .. and a line feed.
-fn put_reason(out: &mut [u8], at: usize, reason: Reason) -> usize
-    requires { at + reason-most ≤ far }
-    ensures { Wrote (reason-bytes (said_of reason)) reason-most (text out.old at) (text out.new result) }
+fn print_reason(out: &mut Out<'_>, reason: Reason)
+    ensures { Writes (reason-bytes (said_of reason)) out.old out.new }
 {
-    let p = put_words(out, at, reason);
-    put_byte(out, p, b'\n')
+    print_words(out, reason);
+    out.byte(b'\n');
 }
 
-fn put_kind(out: &mut [u8], at: usize, layer: bool) -> usize
-    requires { at + 5 ≤ far }
-    ensures { Wrote (kind-text layer) 5 (text out.old at) (text out.new result) }
+fn print_kind(out: &mut Out<'_>, layer: bool)
+    ensures { Writes (kind-text layer) out.old out.new }
 {
     if layer {
-        return put_text(out, at, b"layer");
+        out.text(b"layer");
+    } else {
+        out.text(b"draw");
     }
-    put_text(out, at, b"draw")
 }
 
-// Which attribute a reason is about.
-fn put_asked(out: &mut [u8], at: usize, asked: Asked) -> usize
-    requires { at + asked-most ≤ far }
-    ensures { Wrote (asked-bytes (asked_of asked)) asked-most (text out.old at) (text out.new result) }
+// An attribute's line, by the n lines told of the tile: which it is, and its reason.
+fn print_line(out: &mut Out<'_>, lines: &[u32], n: usize, asked: Asked)
+    requires { (n ≤ most-attrs + most-attrs) × (line-size * n ≤ length lines.now) }
+    ensures { Writes (attribute-line (read_by lines.now n) (asked_of asked)) out.old out.new }
 {
-    let p = put_kind(out, at, asked.layer);
-    let q = put_number(out, p, asked.attribute);
-    put_text(out, q, b": ")
-}
-
-// An attribute's line, by the n lines told of the tile.
-fn put_line(out: &mut [u8], at: usize, lines: &[u32], n: usize, asked: Asked) -> usize
-    requires { (at + line-most ≤ far) × (n ≤ most-attrs + most-attrs) × (line-size * n ≤ length lines.now) }
-    ensures { Wrote (attribute-line (read_by lines.now n) (asked_of asked)) line-most (text out.old at) (text out.new result) }
-{
-    let p = put_asked(out, at, asked);
-    put_reason(out, p, reason_of(lines, n, asked))
+    print_kind(out, asked.layer);
+    out.number(asked.attribute);
+    out.text(b": ");
+    print_reason(out, reason_of(lines, n, asked));
 }
 
 // A line for each attribute of a kind.
-fn put_kind_lines(
-    out: &mut [u8],
-    at: usize,
-    lines: &[u32],
-    n: usize,
-    layer: bool,
-    count: u32,
-) -> usize
-    requires { (at + line-most * count ≤ far) × (n ≤ most-attrs + most-attrs) × (line-size * n ≤ length lines.now) }
-    ensures { Wrote (kind-lines (read_by lines.now n) layer count) (line-most * count) (text out.old at) (text out.new result) }
+fn print_kind_lines(out: &mut Out<'_>, lines: &[u32], n: usize, layer: bool, count: u32)
+    requires { (n ≤ most-attrs + most-attrs) × (line-size * n ≤ length lines.now) }
+    ensures { Writes (kind-lines (read_by lines.now n) layer count) out.old out.new }
 {
-    let mut place = at;
     for attribute in 0..count {
-        place = put_line(out, place, lines, n, Asked { layer, attribute });
+        print_line(out, lines, n, Asked { layer, attribute });
     }
-    place
 }
 
 // The answer to a question, from the lines told of the tile.
-fn put_answer(out: &mut [u8], lines: &[u32], tale: Tale, question: Question) -> usize
-    requires { Low tale × (length lines.now ≡ line-table) }
-    ensures { Wrote (answer-lines (read_by lines.now (tale.paints + tale.layers)) tale.paints tale.layers (question-of question)) answer-most (text out.old 0) (text out.new result) }
-{
-    let n = (tale.paints + tale.layers) as usize;
-    match question {
-        Question::Every => {
-            let p = put_kind_lines(out, 0, lines, n, false, tale.paints);
-            put_kind_lines(out, p, lines, n, true, tale.layers)
+#[derive(Clone, Copy)]
+struct Answer<'a> {
+    lines: &'a [u32],
+    tale: Tale,
+    question: Question,
+}
+
+impl Print for Answer<'_> {
+    ghost use Rattle.text_why.specs.Told.{answer-text};
+
+    ghost printed = { λ a. answer-text a };
+
+    ghost ready = { λ a. Low a.tale × (length a.lines.now ≡ line-table) };
+
+    fn print(&self, out: &mut Out<'_>) {
+        let tale = self.tale;
+        let n = (tale.paints + tale.layers) as usize;
+        match self.question {
+            Question::Every => {
+                print_kind_lines(out, self.lines, n, false, tale.paints);
+                print_kind_lines(out, self.lines, n, true, tale.layers);
+            }
+            Question::One(asked) => print_reason(out, reason_of(self.lines, n, asked)),
         }
-        Question::One(asked) => put_reason(out, 0, reason_of(lines, n, asked)),
     }
 }
 
@@ -169,7 +162,7 @@ fn tell_words(
     tell_tile(&file, viewport, setup.width, row, tile, lines)
 }
 
-// The text of a question about a recording that is accepted, from its words.
+// The text of a question about a recording that is accepted, from its words, put first; how long it is.
 fn words_text(
     words: &[u32],
     setup: Setup,
@@ -178,13 +171,27 @@ fn words_text(
     question: Question,
     out: &mut [u8],
 ) -> usize
-    requires { (rowlist-screen (setup-of setup) words.now).number ≡ 0 }
-    ensures { Wrote (why-words (setup-of setup) words.now row tile (question-of question)) answer-most (text out.old 0) (text out.new result) }
+    requires accepted { (rowlist-screen (setup-of setup) words.now).number ≡ 0 }
+    requires room { answer-most ≤ length out.old }
+    ensures value { result ≡ length (why-words (setup-of setup) words.now row tile (question-of question)) }
+    ensures out_after { out.new ≡ first (why-words (setup-of setup) words.now row tile (question-of question)) out.old }
 {
     let mut lines = [0u32; LINE_TABLE];
     match tell_words(words, setup, row, tile, &mut lines) {
-        Ok(tale) => put_answer(out, &lines, tale, question),
-        Err(refusal) => put_refused(out, 0, refusal.number()),
+        Ok(tale) => {
+            let answer = Answer {
+                lines: &lines,
+                tale,
+                question,
+            };
+            print_first(&answer, out)
+        }
+        Err(refusal) => {
+            let line = Refused {
+                number: refusal.number(),
+            };
+            print_first(&line, out)
+        }
     }
 }
 
@@ -197,8 +204,11 @@ fn accepted_text(
     question: Question,
     out: &mut [u8],
 ) -> usize
-    requires { (length file.now ≤ file-bytes) × ((rowlist-screen (setup-of setup) (words-in file.now)).number ≡ 0) }
-    ensures { Wrote (why-words (setup-of setup) (words-in file.now) row tile (question-of question)) answer-most (text out.old 0) (text out.new result) }
+    requires short { length file.now ≤ file-bytes }
+    requires accepted { (rowlist-screen (setup-of setup) (words-in file.now)).number ≡ 0 }
+    requires room { answer-most ≤ length out.old }
+    ensures value { result ≡ length (why-words (setup-of setup) (words-in file.now) row tile (question-of question)) }
+    ensures out_after { out.new ≡ first (why-words (setup-of setup) (words-in file.now) row tile (question-of question)) out.old }
 {
     let mut words = [0u32; 16384];
     let n = words_of_bytes(file, &mut words);
@@ -206,33 +216,50 @@ fn accepted_text(
 }
 
 // The text that `why` prints of a question about a file's bytes, put first; how long it is. The room is that of the longest text of `rowlist`,
-// which is written there before; what stands after the text is free.
+// which is written there before; what stands after the text is free. The tables take the file's screen.
 pub fn why_text(
     file: &[u8],
     setup: Setup,
     row: u32,
     tile: u32,
     question: Question,
+    lent: &mut Lent<'_>,
     out: &mut [u8],
 ) -> usize
-    requires { Usual (setup-of setup) × (264256 ≤ length out.old) }
+    requires { Usual (setup-of setup) × Long (tables_in lent.old) × (264256 ≤ length out.old) }
+    ensures same { SameLent lent.old lent.new }
+    ensures long { Long (tables_in lent.new) }
     ensures value { result ≡ length (why-text (setup-of setup) file.now row tile (question-of question)) }
     ensures out_after { take result out.new ≡ why-text (setup-of setup) file.now row tile (question-of question) }
 {
-    let text = list_file(file, setup, out);
+    let text = list_file(file, setup, lent, out);
     if text.answer.is_err() {
         return text.bytes;
     }
     accepted_text(file, setup, row, tile, question, out)
 }
 
-// The line before a question's answer in a stream, put first.
+// The line before a question's answer in a stream.
+#[derive(Clone, Copy)]
+struct QuestionLine {
+    number: u64,
+}
+
+impl Print for QuestionLine {
+    ghost printed = { λ line. question-line line.number };
+
+    fn print(&self, out: &mut Out<'_>) {
+        out.text(b"question ");
+        out.digits(self.number, 20);
+        out.byte(b'\n');
+    }
+}
+
+// That line, put first; how long it is.
 pub fn question_text(i: u64, out: &mut [u8]) -> usize
     requires { 30 ≤ length out.old }
     ensures value { result ≡ length (question-line i) }
     ensures out_after { out.new ≡ first (question-line i) out.old }
 {
-    let a = put_text(out, 0, b"question ");
-    let b = put_digits(out, a, i, 20);
-    put_byte(out, b, b'\n')
+    print_first(&QuestionLine { number: i }, out)
 }

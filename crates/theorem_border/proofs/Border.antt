@@ -15,12 +15,12 @@ use Rattle.rules.specs.Plans.{Frame, Step}
 use Rattle.rules.specs.Painting.{received}
 use Rattle.rules.proofs.All.{both}
 use Rattle.screen.specs.Tables.{ScreenLent}
-use Rattle.paint_command.specs.Painting as paint
+use Rattle.paint.specs.Painting as paint
 use Rattle.rules_picture.specs.Turns.{Gave, from, said-finished}
 use Rattle.rules_picture.proofs.Cases.{by}
-use Rattle.paint_screen.specs.Rows.{skip-of-row}
-use Rattle.host_screen.specs.State.{bit, width_word, width-at}
-use Rattle.host_results.specs.Results.{skip-left}
+use Rattle.paint.specs.DirectRuns.{skip-of-row}
+use Rattle.host.specs.State.{bit, width_word, width-at}
+use Rattle.host.specs.Results.{skip-left}
 use Rattle.host.specs.Painting.{step_left}
 use Rattle.theorem_picture.specs.Turns as turns
 use Rattle.theorem_picture.specs.Reached as reached

@@ -14,10 +14,10 @@ use Rattle.rules.specs.Painting as rules
 use Rattle.rules.proofs.All.{never}
 use Rattle.screen.specs.declared.Screen.{Screen}
 use Rattle.screen.specs.Tables.{ScreenLent}
-use Rattle.paint_command.specs.Painting as paint
-use Rattle.paint_screen.specs.Stepping.{Attributes, own, number, row_step, stepped}
+use Rattle.paint.specs.Painting as paint
+use Rattle.paint.specs.Stepping.{Attributes, own, number, row_step, stepped}
 use Rattle.rules_picture.specs.Turns.{Gave, said-finished}
-use Rattle.host_screen.specs.State.{screen-words}
+use Rattle.host.specs.State.{screen-words}
 use Rattle.theorem_picture.specs.Turns as turns
 use Rattle.theorem_picture.specs.Reached as reached
 use Rattle.theorem_picture.proofs.Finishes.{finishes}

@@ -14,12 +14,12 @@ use Rattle.rules.specs.Walk.{frame-of}
 use Rattle.rect.specs.declared.Rect.{Rect}
 use Rattle.rect.specs.Rects.{box_of}
 use Rattle.screen.specs.Tables.{ScreenLent, reset_to}
-use Rattle.file_call.specs.Recorded.{recorded}
-use Rattle.host_screen.specs.declared.SetupWords.{SetupWords}
+use Rattle.walk.specs.Recorded.{recorded}
+use Rattle.host.specs.declared.state.SetupWords.{SetupWords}
 use Rattle.host.specs.Building.{props, picture}
 use Rattle.rules_picture.specs.Recorded.{history, Readable, said}
 use Rattle.rules_picture.proofs.Cases.{by}
-use Rattle.host_screen.specs.State.{screen-words}
+use Rattle.host.specs.State.{screen-words}
 use Rattle.host.specs.Painting.{write_call}
 use Rattle.theorem_picture.specs.Calls as calls
 use Rattle.theorem_picture.specs.Rows as rows
@@ -27,7 +27,7 @@ use Rattle.theorem_picture.specs.Reached as reached
 use Rattle.theorem_picture.specs.Reached.{Reached}
 use Rattle.theorem_picture.proofs.Rows.{row-reached}
 use Rattle.theorem_picture.proofs.Recorded.{recorded-reached}
-use Rattle.step_filter.specs.Filter.{given}
+use Rattle.layers.specs.Filter.{given}
 use Rattle.theorem_border.specs.Hosted.{Host, Asks, Hosted, by-reset, by-recording, by-fill, by-push, by-pop, by-filter, by-begin, by-paint, by-write}
 use Rattle.theorem_border.specs.Hosted.{Call, one-step, whole_row, place, reset-at, recording-at, fill-at, push_at, pop-at, filter-at, begin-at, paint-out, paint-at, write-at}
 use Rattle.theorem_border.proofs.Words.{host-of, hosted, reset-on, recording_on, Known, nothing, these, known, reset-never, recording-never, fill_on, push-on, pop-on, filter-on, begin-on, call-of, paint-done, paint-kept, write_done, write_kept}

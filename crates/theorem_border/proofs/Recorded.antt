@@ -7,8 +7,8 @@ use Rattle.rules.specs.Answers.{Answer, Done}
 use Rattle.rules.specs.Setups.{Setup}
 use Rattle.rect.specs.declared.Rect.{Rect}
 use Rattle.screen.specs.Tables.{ScreenLent}
-use Rattle.file_call.specs.Recorded.{recorded}
-use Rattle.host_screen.specs.declared.SetupWords.{SetupWords}
+use Rattle.walk.specs.Recorded.{recorded}
+use Rattle.host.specs.declared.state.SetupWords.{SetupWords}
 use Rattle.theorem_picture.specs.Recorded as lent
 use Rattle.theorem_picture.proofs.Recorded.{recorded-reached, recorded-refused}
 use Rattle.sizes.proofs.Refusals.{not_done}

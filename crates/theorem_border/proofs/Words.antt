@@ -26,29 +26,29 @@ use Rattle.rect.specs.Rects.{box_of}
 use Rattle.row.specs.Words.{Words}
 use Rattle.screen.specs.declared.Screen.{Screen}
 use Rattle.screen.specs.Tables.{Tables, ScreenLent, lent, reset_to}
-use Rattle.step_fill.specs.declared.Draw.{Draw}
-use Rattle.step_fill.specs.Fills as fills
-use Rattle.step_fill.specs.Fills.{filled}
-use Rattle.step_push.specs.Push as push
-use Rattle.step_push.specs.Push.{pushed}
-use Rattle.step_pop.specs.Pop as pop
-use Rattle.step_pop.specs.Pop.{popped}
-use Rattle.step_filter.specs.declared.Placement.{Placement}
-use Rattle.step_filter.specs.Filter as filter
-use Rattle.step_filter.specs.Filter.{given, filtered}
-use Rattle.paint_screen.specs.Beginning.{canvas, beginning}
-use Rattle.paint_screen.specs.Rows.{skip-of-row}
-use Rattle.file_call.specs.Recorded.{recorded}
-use Rattle.file_steps.specs.Steps.{rows_words, pop-part}
-use Rattle.host_screen.specs.State.{screen-words, screen-at, screen_of, before_4, refused_at, at_held, on}
-use Rattle.host_screen.specs.declared.SetupWords.{SetupWords}
-use Rattle.host_screen.specs.Asked.{asked_setup}
-use Rattle.host_screen.proofs.Words.{read_back, written_back}
+use Rattle.fill.specs.declared.Draw.{Draw}
+use Rattle.fill.specs.Fills as fills
+use Rattle.fill.specs.Fills.{filled}
+use Rattle.layers.specs.Push as push
+use Rattle.layers.specs.Push.{pushed}
+use Rattle.pop.specs.Pop as pop
+use Rattle.pop.specs.Pop.{popped}
+use Rattle.layers.specs.declared.filter.Placement.{Placement}
+use Rattle.layers.specs.Filter as filter
+use Rattle.layers.specs.Filter.{given, filtered}
+use Rattle.paint.specs.Beginning.{canvas, beginning}
+use Rattle.paint.specs.DirectRuns.{skip-of-row}
+use Rattle.walk.specs.Recorded.{recorded}
+use Rattle.walk.specs.Steps.{rows_words, pop-part}
+use Rattle.host.specs.State.{screen-words, screen-at, screen_of, before_4, refused_at, at_held, on}
+use Rattle.host.specs.declared.state.SetupWords.{SetupWords}
+use Rattle.host.specs.Asked.{asked_setup}
+use Rattle.host.proofs.Words.{read_back, written_back}
 use Rattle.host.specs.Border.{unasked, unasked_number}
 use Rattle.host.specs.Building.{tables-left, reset_in, recording_in, fill-left, fill_call, props, push-left, push_call, pop-left, pop_call, picture, filter-left, filter_call}
-use Rattle.host_results.specs.Results.{skip-left}
+use Rattle.host.specs.Results.{skip-left}
 use Rattle.host.specs.Painting.{begin-left, begin_call, step_left, step_call, row_call, write_call, skip_call}
-use Rattle.host.proofs.Asked.{reset_unasked, recording_unasked, reset_asked, recording_asked}
+use Rattle.host.proofs.HostAsked.{reset_unasked, recording_unasked, reset_asked, recording_asked}
 use Rattle.host.proofs.Kept.{step-refused, row-refused, write-refused}
 use Rattle.theorem_picture.specs.Calls as calls
 use Rattle.theorem_picture.specs.Reached as reached

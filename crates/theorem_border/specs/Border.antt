@@ -11,13 +11,13 @@ use Rattle.rules.specs.Plain.{plain}
 use Rattle.rules.specs.Walk.{frame-of}
 use Rattle.rect.specs.declared.Rect.{Rect}
 use Rattle.rect.specs.Rects.{rect-of}
-use Rattle.paint_screen.specs.Judging.{wide}
-use Rattle.paint_screen.specs.Stepping.{part}
+use Rattle.paint.specs.Judging.{wide}
+use Rattle.paint.specs.Stepping.{part}
 use Rattle.rules_picture.specs.Turns.{Gave, from, said-finished}
 use Rattle.rules_picture.specs.Recorded.{history, Readable, said}
 use Rattle.theorem_picture.specs.Turns.{pieces-in}
-use Rattle.host_screen.specs.declared.SetupWords.{SetupWords}
-use Rattle.host_screen.specs.State.{screen-at}
+use Rattle.host.specs.declared.state.SetupWords.{SetupWords}
+use Rattle.host.specs.State.{screen-at}
 use Rattle.host.specs.Painting.{skip_call}
 use Rattle.theorem_border.specs.Hosted.{Host, Hosted, Asks, Call, one-step, turn_in, paint-out, paint-at, place, reset-at, recording-at, begin-at}
 

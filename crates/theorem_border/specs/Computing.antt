@@ -5,21 +5,21 @@ use Rattle.screen.specs.Judging as screens
 use Rattle.screen.specs.Judging.{judged_reset}
 use Rattle.screen.specs.Screens.{good_clip, good_screen, state-of, screen-after}
 use Rattle.screen.specs.Tables.{reset_to}
-use Rattle.row_screen.specs.Arena.{cut, lay}
+use Rattle.row.specs.Arena.{cut, lay}
 use Rattle.row.specs.Words.{hull_word, include_span, put_command, put_depth}
-use Rattle.row_judge.specs.Building as building
-use Rattle.row_judge.specs.Building.{good_row, good_rows}
-use Rattle.step_fill.specs.Fills.{paints, first_number, fill_number, fill_done}
-use Rattle.paint_runs.specs.Summaries.{shown_runs}
-use Rattle.paint_command.specs.Painting.{attrs-at, fill-shown, command-shown, depth-step, command-step, next-step, settled, painted-row}
-use Rattle.paint_pieces.specs.Pieces.{runs-at}
-use Rattle.paint_screen.specs.Judging as painter
-use Rattle.paint_screen.specs.Judging.{begin_number}
-use Rattle.paint_screen.specs.Beginning.{beginning}
-use Rattle.paint_screen.specs.Stepping.{row_step, stepped}
-use Rattle.paint_whole.specs.Running.{one_more, run, row-painted}
-use Rattle.host_screen.specs.State.{screen_of}
-use Rattle.host_screen.specs.Asked.{asked_setup}
+use Rattle.row.specs.Building as building
+use Rattle.row.specs.Building.{good_row, good_rows}
+use Rattle.fill.specs.Fills.{paints, first_number, fill_number, fill_done}
+use Rattle.paint.specs.Summaries.{shown_runs}
+use Rattle.paint.specs.Painting.{attrs-at, fill-shown, command-shown, depth-step, command-step, next-step, settled, painted-row}
+use Rattle.paint.specs.Pieces.{runs-at}
+use Rattle.paint.specs.Judging as painter
+use Rattle.paint.specs.Judging.{begin_number}
+use Rattle.paint.specs.Beginning.{beginning}
+use Rattle.paint.specs.Stepping.{row_step, stepped}
+use Rattle.paint.specs.Running.{one_more, run, row-painted}
+use Rattle.host.specs.State.{screen_of}
+use Rattle.host.specs.Asked.{asked_setup}
 use Rattle.host.specs.Building.{reset_in, reset_call, fill_call}
 use Rattle.host.specs.Painting.{begin_call, step_call, row_call}
 use Rattle.rules_picture.specs.Turns.{from, said-finished}

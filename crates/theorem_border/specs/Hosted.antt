@@ -13,17 +13,17 @@ use Rattle.rect.specs.Rects.{box_of}
 use Rattle.row.specs.Words.{Words}
 use Rattle.screen.specs.Judging.{arenas}
 use Rattle.screen.specs.Tables.{Tables, tables, lengths}
-use Rattle.step_fill.specs.declared.Draw.{Draw}
-use Rattle.step_pop.specs.Pop as pop
-use Rattle.step_filter.specs.declared.Placement.{Placement}
-use Rattle.step_filter.specs.Filter.{given}
-use Rattle.paint_command.specs.Painting as paint
-use Rattle.paint_screen.specs.Stepping.{Attributes, attributes}
-use Rattle.file_steps.specs.Steps.{rows_words}
+use Rattle.fill.specs.declared.Draw.{Draw}
+use Rattle.pop.specs.Pop as pop
+use Rattle.layers.specs.declared.filter.Placement.{Placement}
+use Rattle.layers.specs.Filter.{given}
+use Rattle.paint.specs.Painting as paint
+use Rattle.paint.specs.Stepping.{Attributes, attributes}
+use Rattle.walk.specs.Steps.{rows_words}
 use Rattle.rules_picture.specs.Recorded.{history, Readable, said}
 use Rattle.theorem_picture.specs.Calls.{fill-said, pop-said, filter-said}
-use Rattle.host_screen.specs.declared.SetupWords.{SetupWords}
-use Rattle.host_screen.specs.Asked.{asked_setup}
+use Rattle.host.specs.declared.state.SetupWords.{SetupWords}
+use Rattle.host.specs.Asked.{asked_setup}
 use Rattle.host.specs.Building.{reset_call, recording_call, fill_call, said-props, props, push_call, pop_call, picture, filter_call}
 use Rattle.host.specs.Painting.{begin_call, step_call, row_call, write_call}
 

@@ -8,10 +8,10 @@ use Rattle.rules.specs.Setups.{exact, Setup, frame}
 use Rattle.rect.specs.declared.Rect.{Rect}
 use Rattle.rect.specs.Rects.{box_of}
 use Rattle.screen.specs.Tables.{tables, float-0}
-use Rattle.step_fill.specs.declared.Draw.{Draw}
+use Rattle.fill.specs.declared.Draw.{Draw}
 use Rattle.theorem_picture.specs.Calls.{fill-said}
-use Rattle.host_screen.specs.declared.SetupWords.{SetupWords}
-use Rattle.host_screen.specs.State.{rect}
+use Rattle.host.specs.declared.state.SetupWords.{SetupWords}
+use Rattle.host.specs.State.{rect}
 use Rattle.host.specs.Building.{draw}
 use Rattle.theorem_border.specs.Hosted.{Host, host, reset-at, fill-at, begin-at, Call, one-step, whole_row}
 

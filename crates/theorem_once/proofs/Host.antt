@@ -1,10 +1,7 @@
 -- The calls that a host links, each with its promise as its source has it: two results that the promise allows for the same input are the same, the number and every lent word with it.
 -- `..-source` says that the call asks nothing of its caller, and that the promise is the clause of the source itself. Assumes nothing.
 use mathlib.Core.Path.{◌≡◌, refl, sym, ap, ◌∙◌}
-use mathlib.Core.List.{List}
 use Prim.Native.Nat.{ℕ}
-use lib.Ieee.{Float}
-use lib.IntN.{ℤ}
 use seplogic.Ra.Ura.{Ura}
 use base.Logic.{SProp, emp}
 use prog.Memory.{Memory}
@@ -15,19 +12,14 @@ use contract.Lifetimes.{Lfts}
 use denote.Triple.Entry.{Args}
 use denote.Triple.Clauses.{AtExit}
 use Rattle.rules.specs.Answers.{Answer, answer}
-use Rattle.rules.specs.Spans.{Span, span}
-use Rattle.span.specs.declared.TileSpan.{TileSpan}
-use Rattle.rect.specs.declared.Rect.{Rect}
-use Rattle.row.specs.Words.{Words, words}
-use Rattle.screen.specs.Tables.{Tables, tables}
-use Rattle.step_fill.specs.declared.Draw.{Draw}
-use Rattle.screen_layers.specs.declared.LayerProps.{LayerProps}
-use Rattle.step_pop.specs.Pop as pops
-use Rattle.step_filter.specs.Filter.{FilterGiven, given}
-use Rattle.paint_command.specs.Painting as paint
-use Rattle.paint_screen.specs.Stepping.{Attributes, attributes}
-use Rattle.host_screen.specs.declared.SetupWords.{SetupWords}
-use Rattle.host_screen.specs.State.{rect}
+use Rattle.rules.specs.Spans.{span}
+use Rattle.row.specs.Words.{words}
+use Rattle.screen.specs.Tables.{tables}
+use Rattle.pop.specs.Pop as pops
+use Rattle.layers.specs.Filter.{given}
+use Rattle.paint.specs.Painting as paint
+use Rattle.paint.specs.Stepping.{attributes}
+use Rattle.host.specs.State.{rect}
 use Rattle.host.specs.Building.{reset_call, recording_call, draw, fill_call, clip, props, push_call, pop_call, placement, picture, filter_call}
 use Rattle.host.specs.Painting.{begin_call, step_call, row_call, unset_call, visible_call, write_call, skip_call, split_call}
 use Rattle.host.specs.Reasons.{why_call}
@@ -50,146 +42,62 @@ use Rattle.host.specs.contracts.painting.coarse_unset_runs_and_write as coarse-w
 use Rattle.host.specs.contracts.painting.coarse_can_skip as coarse-skip
 use Rattle.host.specs.contracts.painting.coarse_split_opaque_span as coarse-split
 use Rattle.host.specs.contracts.lengths.coarse_sizes as coarse-sizes
+use Rattle.theorem_once.specs.Host.{Resets, Records, Explains, Fills, Pushes, Pops, Filters, Begins, Steps, PaintsRow, ListsUnset, ListsVisible, ListsSpans, Writes, Skips, Splits, Sizes, ResetOnce, RecordingOnce, CoarseWhyOnce, FillOnce, PushOnce, PopOnce, FilterOnce, BeginOnce, StepOnce, RowOnce, UnsetOnce, VisibleOnce, SpansOnce, WrittenOnce, SkipOnce, SplitOnce, SizesOnce}
 
 -- a number and what else is left are an answer
 once : {T : Type 0} (a : Answer T) (r q : ℕ) (x y : T) → answer r x ≡ a → answer q y ≡ a → (r ≡ q) × (x ≡ y)
 once {T} a r q x y e f = let h = e ∙ sym f in (ap (λ (z : Answer T). z.number) h, ap (λ (z : Answer T). z.value) h)
 
--- `coarse_reset`: all ten tables
-module _ (viewport : Rect) (setup : SetupWords) (state : List ℕ) (lent : Tables) where
-  abbrev pub Resets : ℕ → List ℕ × Tables → Type 0
-  Resets r x = answer r x ≡ reset_call viewport setup state lent
+pub one-reset : ResetOnce
+one-reset viewport setup state lent = once (reset_call viewport setup state lent)
 
-  pub one-reset : (r q : ℕ) (x y : List ℕ × Tables) → Resets r x → Resets q y → (r ≡ q) × (x ≡ y)
-  one-reset = once (reset_call viewport setup state lent)
+pub one-recording : RecordingOnce
+one-recording file setup state lent = once (recording_call file setup state lent)
 
--- `coarse_bucket_recording`: all ten tables
-module _ (file : List ℕ) (setup : SetupWords) (state : List ℕ) (lent : Tables) where
-  abbrev pub Records : ℕ → List ℕ × Tables → Type 0
-  Records r x = answer r x ≡ recording_call file setup state lent
+pub one-coarse-why : CoarseWhyOnce
+one-coarse-why file setup row tile layer attribute state lent result = once (why_call file setup row tile layer attribute state lent result)
 
-  pub one-recording : (r q : ℕ) (x y : List ℕ × Tables) → Records r x → Records q y → (r ≡ q) × (x ≡ y)
-  one-recording = once (recording_call file setup state lent)
+pub one-fill : FillOnce
+one-fill paints segments g state rows attrs = once (fill_call paints segments g state rows attrs)
 
--- `coarse_why`: all ten tables and the result
-module _ (file : List ℕ) (setup : SetupWords) (row tile layer attribute : ℕ) (state : List ℕ) (lent : Tables) (result : List ℕ) where
-  abbrev pub Explains : ℕ → List ℕ × Tables × List ℕ → Type 0
-  Explains r x = answer r x ≡ why_call file setup row tile layer attribute state lent result
+pub one-push : PushOnce
+one-push flag g state rows layers opacities = once (push_call flag g state rows layers opacities)
 
-  pub one-coarse-why : (r q : ℕ) (x y : List ℕ × Tables × List ℕ) → Explains r x → Explains q y → (r ≡ q) × (x ≡ y)
-  one-coarse-why = once (why_call file setup row tile layer attribute state lent result)
+pub one-pop : PopOnce
+one-pop segments state lent = once (pop_call segments state lent)
 
--- `coarse_fill`: the rows' words and the paint attributes
-module _ (paints segments : List ℕ) (given : Draw) (state : List ℕ) (rows : Words) (attrs : List ℕ) where
-  abbrev pub Fills : ℕ → List ℕ × Words × List ℕ → Type 0
-  Fills r x = answer r x ≡ fill_call paints segments given state rows attrs
+pub one-filter : FilterOnce
+one-filter flag told state rows attrs paints = once (filter_call flag told state rows attrs paints)
 
-  pub one-fill : (r q : ℕ) (x y : List ℕ × Words × List ℕ) → Fills r x → Fills q y → (r ≡ q) × (x ≡ y)
-  one-fill = once (fill_call paints segments given state rows attrs)
+pub one-begin : BeginOnce
+one-begin state depth painting = once (begin_call state depth painting)
 
--- `coarse_push_layer`: the rows' words, the open layers and their opacities
-module _ (flag : ℕ) (given : LayerProps) (state : List ℕ) (rows : Words) (layers : List ℕ) (opacities : List Float) where
-  abbrev pub Pushes : ℕ → List ℕ × Words × List ℕ × List Float → Type 0
-  Pushes r x = answer r x ≡ push_call flag given state rows layers opacities
+pub one-step : StepOnce
+one-step row attrs state g result = once (step_call row attrs state g result)
 
-  pub one-push : (r q : ℕ) (x y : List ℕ × Words × List ℕ × List Float) → Pushes r x → Pushes q y → (r ≡ q) × (x ≡ y)
-  one-push = once (push_call flag given state rows layers opacities)
+pub one-row : RowOnce
+one-row row attrs state g result = once (row_call row attrs state g result)
 
--- `coarse_pop_layer`: the rows' words, the open layers, the opacities and the layer attributes
-module _ (segments state : List ℕ) (lent : pops.PopLent) where
-  abbrev pub Pops : ℕ → List ℕ × pops.PopLent → Type 0
-  Pops r x = answer r x ≡ pop_call segments state lent
+pub one-unset : UnsetOnce
+one-unset row g state depth list count = once (unset_call row g state depth list count)
 
-  pub one-pop : (r q : ℕ) (x y : List ℕ × pops.PopLent) → Pops r x → Pops q y → (r ≡ q) × (x ≡ y)
-  one-pop = once (pop_call segments state lent)
+pub one-visible : VisibleOnce
+one-visible row g id state depth list count = once (visible_call row g id state depth list count)
 
--- `coarse_filter_fill`: the rows' words, the paint attributes and the filter paints
-module _ (flag : ℕ) (told : FilterGiven) (state : List ℕ) (rows : Words) (attrs : List ℕ) (paints : List ℤ) where
-  abbrev pub Filters : ℕ → List ℕ × Words × List ℕ × List ℤ → Type 0
-  Filters r x = answer r x ≡ filter_call flag told state rows attrs paints
+pub one-spans : SpansOnce
+one-spans row g id state depth list count = once (spans_call row g id state depth list count)
 
-  pub one-filter : (r q : ℕ) (x y : List ℕ × Words × List ℕ × List ℤ) → Filters r x → Filters q y → (r ≡ q) × (x ≡ y)
-  one-filter = once (filter_call flag told state rows attrs paints)
+pub one_written : WrittenOnce
+one_written row g id state depth list count = once (write_call row g id state depth list count)
 
--- `coarse_begin_painting`: the depth words and the painting table
-module _ (state depth painting : List ℕ) where
-  abbrev pub Begins : ℕ → List ℕ × List ℕ × List ℕ → Type 0
-  Begins r x = answer r x ≡ begin_call state depth painting
+pub one-skip : SkipOnce
+one-skip row g id state rows word = once (skip_call row g id state rows word)
 
-  pub one-begin : (r q : ℕ) (x y : List ℕ × List ℕ × List ℕ) → Begins r x → Begins q y → (r ≡ q) × (x ≡ y)
-  one-begin = once (begin_call state depth painting)
+pub one_split : SplitOnce
+one_split pixels g parts = once (split_call pixels g parts)
 
--- `coarse_paint_step`: the depth words, the painting table, the list of pieces and the result
-module _ (row : ℕ) (attrs : Attributes) (state : List ℕ) (given : paint.RowLent) (result : List ℕ) where
-  abbrev pub Steps : ℕ → List ℕ × List ℕ × List ℕ × List ℕ → Type 0
-  Steps r x = answer r x ≡ step_call row attrs state given result
-
-  pub one-step : (r q : ℕ) (x y : List ℕ × List ℕ × List ℕ × List ℕ) → Steps r x → Steps q y → (r ≡ q) × (x ≡ y)
-  one-step = once (step_call row attrs state given result)
-
--- `coarse_paint_row`: the same
-module _ (row : ℕ) (attrs : Attributes) (state : List ℕ) (given : paint.RowLent) (result : List ℕ) where
-  abbrev pub PaintsRow : ℕ → List ℕ × List ℕ × List ℕ × List ℕ → Type 0
-  PaintsRow r x = answer r x ≡ row_call row attrs state given result
-
-  pub one-row : (r q : ℕ) (x y : List ℕ × List ℕ × List ℕ × List ℕ) → PaintsRow r x → PaintsRow q y → (r ≡ q) × (x ≡ y)
-  one-row = once (row_call row attrs state given result)
-
--- `coarse_unset_runs`: the list and the count
-module _ (row : ℕ) (given : Span) (state depth list count : List ℕ) where
-  abbrev pub ListsUnset : ℕ → List ℕ × List ℕ → Type 0
-  ListsUnset r x = answer r x ≡ unset_call row given state depth list count
-
-  pub one-unset : (r q : ℕ) (x y : List ℕ × List ℕ) → ListsUnset r x → ListsUnset q y → (r ≡ q) × (x ≡ y)
-  one-unset = once (unset_call row given state depth list count)
-
--- `coarse_visible_runs`: the list and the count
-module _ (row : ℕ) (given : Span) (id : ℕ) (state depth list count : List ℕ) where
-  abbrev pub ListsVisible : ℕ → List ℕ × List ℕ → Type 0
-  ListsVisible r x = answer r x ≡ visible_call row given id state depth list count
-
-  pub one-visible : (r q : ℕ) (x y : List ℕ × List ℕ) → ListsVisible r x → ListsVisible q y → (r ≡ q) × (x ≡ y)
-  one-visible = once (visible_call row given id state depth list count)
-
--- `coarse_visible_spans`: the list of spans and the count
-module _ (row : ℕ) (given : Span) (id : ℕ) (state depth : List ℕ) (list : List TileSpan) (count : List ℕ) where
-  abbrev pub ListsSpans : ℕ → List TileSpan × List ℕ → Type 0
-  ListsSpans r x = answer r x ≡ spans_call row given id state depth list count
-
-  pub one-spans : (r q : ℕ) (x y : List TileSpan × List ℕ) → ListsSpans r x → ListsSpans q y → (r ≡ q) × (x ≡ y)
-  one-spans = once (spans_call row given id state depth list count)
-
--- `coarse_unset_runs_and_write`: the depth words, the list and the count
-module _ (row : ℕ) (given : Span) (id : ℕ) (state depth list count : List ℕ) where
-  abbrev pub Writes : ℕ → List ℕ × List ℕ × List ℕ × List ℕ → Type 0
-  Writes r x = answer r x ≡ write_call row given id state depth list count
-
-  pub one_written : (r q : ℕ) (x y : List ℕ × List ℕ × List ℕ × List ℕ) → Writes r x → Writes q y → (r ≡ q) × (x ≡ y)
-  one_written = once (write_call row given id state depth list count)
-
--- `coarse_can_skip`: the word for yes or no
-module _ (row : ℕ) (given : Span) (id : ℕ) (state rows yes : List ℕ) where
-  abbrev pub Skips : ℕ → List ℕ → Type 0
-  Skips r x = answer r x ≡ skip_call row given id state rows yes
-
-  pub one-skip : (r q : ℕ) (x y : List ℕ) → Skips r x → Skips q y → (r ≡ q) × (x ≡ y)
-  one-skip = once (skip_call row given id state rows yes)
-
--- `coarse_split_opaque_span`: the parts
-module _ (pixels : ℕ) (given : Span) (parts : List ℕ) where
-  abbrev pub Splits : ℕ → List ℕ → Type 0
-  Splits r x = answer r x ≡ split_call pixels given parts
-
-  pub one_split : (r q : ℕ) (x y : List ℕ) → Splits r x → Splits q y → (r ≡ q) × (x ≡ y)
-  one_split = once (split_call pixels given parts)
-
--- `coarse_sizes`: the sizes
-module _ (viewport : Rect) (setup : SetupWords) (sizes : List ℕ) where
-  abbrev pub Sizes : ℕ → List ℕ → Type 0
-  Sizes r x = answer r x ≡ size_call viewport setup sizes
-
-  pub one-sizes : (r q : ℕ) (x y : List ℕ) → Sizes r x → Sizes q y → (r ≡ q) × (x ≡ y)
-  one-sizes = once (size_call viewport setup sizes)
+pub one-sizes : SizesOnce
+one-sizes viewport setup sizes = once (size_call viewport setup sizes)
 
 -- No call asks anything, and the promises are the sources' clauses: at the arguments a, the result r and the arguments at exit e.
 module _ {M : Type 1} {𝓤 : Ura M} (𝓛 : Logic 𝓤) (mem : Memory → SProp 𝓤) (run : Routine → Fun 𝓤) where

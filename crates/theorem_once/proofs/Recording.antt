@@ -1,8 +1,6 @@
 -- The recording call, and `why` after it, each with its promise as its source has it: two results that the promise allows for the same file, screen and lent words are the same, the screen and every lent word with them.
 -- `..-source` says that the call asks nothing of its caller, and that the promise is the clause of the source itself. Assumes nothing.
 use mathlib.Core.Path.{◌≡◌, refl, sym, ap, ◌∙◌}
-use mathlib.Core.List.{List}
-use Prim.Native.Nat.{ℕ}
 use seplogic.Ra.Ura.{Ura}
 use base.Logic.{SProp, emp, sep}
 use prog.Memory.{Memory}
@@ -16,32 +14,20 @@ use Rattle.std.specs.Prelude.{Result, Ok, Err}
 use Rattle.sizes.specs.declared.answers.Refusal.{Refusal}
 use Rattle.sizes.specs.Refusals.{answer_number}
 use Rattle.sizes.proofs.Refusals.{result_of, refusal_there}
-use Rattle.rules.specs.Answers.{answer}
-use Rattle.screen.specs.declared.Screen.{Screen}
-use Rattle.screen.specs.declared.Setup.{Setup}
-use Rattle.screen.specs.Screens.{setup-of}
-use Rattle.screen.specs.Tables as all
-use Rattle.screen.specs.Tables.{Tables}
 use Rattle.screen.specs.Lent.{SameLent, tables_in}
-use Rattle.file_call.specs.Recorded.{recorded}
 use Rattle.theorem_once.proofs.Building.{all_once}
-use Rattle.file_call.specs.contracts.bucket_recording as recording_call
+use Rattle.walk.specs.contracts.call.bucket_recording as recording_call
 use Rattle.rules_reason.specs.Reasons as rule
-use Rattle.tile_reason.specs.declared.Reason.{Reason}
-use Rattle.tile_reason.specs.declared.Reason.TheVariants as said
-use Rattle.tile_reason.specs.declared.Asked.{Asked}
-use Rattle.tile_reason.specs.Reasons.{reason-of, asked_of}
-use Rattle.tile_call.specs.Explained as told
-use Rattle.tile_call.specs.Explained.{explained-as, reason_said, explained}
-use Rattle.tile_call.specs.contracts.why as why_call
+use Rattle.tile.specs.declared.reason.Reason.{Reason}
+use Rattle.tile.specs.declared.reason.Reason.TheVariants as said
+use Rattle.tile.specs.Reasons.{reason-of}
+use Rattle.tile.specs.Explained as told
+use Rattle.tile.specs.Explained.{reason_said}
+use Rattle.tile.specs.contracts.call.why as why_call
+use Rattle.theorem_once.specs.Recording.{Records, Explains, RecordingOnce, WhyOnce}
 
--- `bucket_recording`: the screen and the ten tables before and after
-module _ (screen : Screen) (file : List ℕ) (setup : Setup) (lent : Tables) where
-  abbrev pub Records : Result Unit Refusal → Screen → Tables → Type 0
-  Records r s t = answer (answer_number r) (all.lent s t) ≡ recorded file (setup-of setup) (all.lent screen lent)
-
-  pub one-recording : (r q : Result Unit Refusal) (s z : Screen) (t u : Tables) → Records r s t → Records q z u → (r ≡ q) × (s ≡ z) × (t ≡ u)
-  one-recording r q s z t u e f = all_once r q s z t u (e ∙ sym f)
+pub one-recording : RecordingOnce
+one-recording screen file setup lent r q s z t u e f = all_once r q s z t u (e ∙ sym f)
 
 -- a reason of the rules is that of one value of the code
 coded : rule.Reason → Reason
@@ -65,18 +51,13 @@ told-there : (r : Result Reason Refusal) → result_of (answer_number r) (coded 
 told-there (Ok x) = ap Ok (same_coded x)
 told-there (Err k) = refusal_there _ k
 
--- `why`: the screen and the ten tables before and after
-module _ (screen : Screen) (file : List ℕ) (setup : Setup) (row tile : ℕ) (asked : Asked) (lent : Tables) where
-  abbrev pub Explains : Result Reason Refusal → Screen → Tables → Type 0
-  Explains r s t = explained-as (answer_number r) (all.lent s t) (reason_said r) ≡ explained file (setup-of setup) row tile (asked_of asked) (all.lent screen lent)
-
-  pub one-why : (r q : Result Reason Refusal) (s z : Screen) (t u : Tables) → Explains r s t → Explains q z u → (r ≡ q) × (s ≡ z) × (t ≡ u)
-  one-why r q s z t u e f =
-      let h = e ∙ sym f in (
-        sym (told-there r) ∙ ap (λ (x : told.Explained). result_of x.number (coded x.reason)) h ∙ told-there q,
-        ap (λ (x : told.Explained). x.lent.screen) h,
-        ap (λ (x : told.Explained). x.lent.tables) h,
-      )
+pub one-why : WhyOnce
+one-why screen file setup row tile asked lent r q s z t u e f =
+    let h = e ∙ sym f in (
+      sym (told-there r) ∙ ap (λ (x : told.Explained). result_of x.number (coded x.reason)) h ∙ told-there q,
+      ap (λ (x : told.Explained). x.lent.screen) h,
+      ap (λ (x : told.Explained). x.lent.tables) h,
+    )
 
 -- Neither call asks anything, and the promises are the sources' clauses: at the arguments a, the result r and the arguments at exit e.
 module _ {M : Type 1} {𝓤 : Ura M} (𝓛 : Logic 𝓤) (mem : Memory → SProp 𝓤) (run : Routine → Fun 𝓤) where

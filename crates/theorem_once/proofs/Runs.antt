@@ -1,9 +1,8 @@
--- The calls of `depth`, and those of `depth_forms` beside them, each with its promise as its source has it: two results that the promise allows for the same input are the same, every lent word with them.
+-- The calls of `depth`, and those of its `forms` beside them, each with its promise as its source has it: two results that the promise allows for the same input are the same, every lent word with them.
 -- `..-source` says that the call asks nothing of its caller, and that the promise is the clause of the source itself. Assumes nothing.
 use mathlib.Core.Path.{◌≡◌, refl, sym, ap, ◌∙◌}
 use mathlib.Core.List.{List}
-use Prim.Native.Nat.{ℕ, ◌/◌}
-use lib.ListN.{length}
+use Prim.Native.Nat.{ℕ}
 use seplogic.Ra.Ura.{Ura}
 use base.Logic.{SProp, emp}
 use prog.Memory.{Memory}
@@ -13,24 +12,15 @@ use contract.Monad.{Fun, fact}
 use contract.Lifetimes.{Lfts}
 use denote.Triple.Entry.{Args}
 use denote.Triple.Clauses.{AtExit}
-use Rattle.rules.specs.Split.{split_answer}
-use Rattle.rules.specs.Depth.{no-depth, included, can_skip_answer, visible_answer, unset_answer}
-use Rattle.span.specs.Spans.{tiles, buckets}
-use Rattle.sizes.specs.Sizes.{most-runs}
 use Rattle.std.specs.Prelude.{Bool, Result, Ok, Err}
 use Rattle.sizes.specs.declared.answers.Refusal.{Refusal}
 use Rattle.sizes.proofs.Refusals.{result_of, refusal_there}
-use Rattle.sizes.specs.Widths.{bucket-tiles}
 use Rattle.span.specs.declared.TileSpan.{TileSpan}
-use Rattle.span.specs.declared.BucketRange.{BucketRange}
-use Rattle.sizes.specs.declared.width.Width.{Width}
 use Rattle.depth.specs.declared.split.Split.{Split}
 use Rattle.depth.specs.declared.state.DepthState.{DepthState}
-use Rattle.depth.specs.Answers.{split_of, summary, skip_of}
-use Rattle.depth.specs.Listing.{out, out-write, listing, writing}
 use Rattle.depth.proofs.Once.{split-once, summary-once, skip-once, out_once, write-once}
-use Rattle.depth_forms.specs.declared.spans.Visible.{Visible}
-use Rattle.depth_forms.specs.Listing as spans
+use Rattle.depth.specs.declared.forms.spans.Visible.{Visible}
+use Rattle.depth.specs.SpanLists as spans
 use Rattle.depth.specs.contracts.split.split_opaque_span as split_call
 use Rattle.depth.specs.contracts.state.DepthState.new as fresh-call
 use Rattle.depth.specs.contracts.state.DepthState.include_span as include-call
@@ -38,73 +28,35 @@ use Rattle.depth.specs.contracts.state.DepthState.can_skip as skip_call
 use Rattle.depth.specs.contracts.runs.visible_runs as visible_call
 use Rattle.depth.specs.contracts.runs.unset_runs as unset_call
 use Rattle.depth.specs.contracts.runs.unset_runs_and_write as write_call
-use Rattle.depth_forms.specs.contracts.summary.included_span as included-call
-use Rattle.depth_forms.specs.contracts.summary.include_span as there-call
-use Rattle.depth_forms.specs.contracts.spans.visible_spans as spans_call
-use Rattle.depth_forms.specs.contracts.listed.list_visible_spans as list-call
+use Rattle.depth.specs.contracts.forms.summary.included_span as included-call
+use Rattle.depth.specs.contracts.forms.summary.include_span as there-call
+use Rattle.depth.specs.contracts.forms.spans.visible_spans as spans_call
+use Rattle.depth.specs.contracts.forms.listed.list_visible_spans as list-call
+use Rattle.theorem_once.specs.Runs.{Splits, Fresh, Includes, Skips, ListsVisible, ListsUnset, Writes, IncludesThere, ListsSpans, ListsThere, SplitOnce, FreshOnce, IncludedOnce, SkipOnce, VisibleOnce, UnsetOnce, WrittenOnce, ThereOnce, SpansOnce, ListedOnce}
 
--- `split_opaque_span`
-module _ (span : TileSpan) (width : Width) where
-  abbrev pub Splits : Result Split Refusal → Type 0
-  Splits r = split_of r ≡ split_answer (bucket-tiles width) (tiles span)
+pub one_split : SplitOnce
+one_split span width r q e f = split-once r q (e ∙ sym f)
 
-  pub one_split : (r q : Result Split Refusal) → Splits r → Splits q → r ≡ q
-  one_split r q e f = split-once r q (e ∙ sym f)
-
--- `DepthState::new`
-abbrev pub Fresh : DepthState → Type 0
-Fresh r = summary r ≡ no-depth
-
-pub one-fresh : (r q : DepthState) → Fresh r → Fresh q → r ≡ q
+pub one-fresh : FreshOnce
 one-fresh r q e f = summary-once r q (e ∙ sym f)
 
--- `DepthState::include_span`, and `forms::included_span`, which promises the same
-module _ (state : DepthState) (span : TileSpan) (id : ℕ) where
-  abbrev pub Includes : DepthState → Type 0
-  Includes r = summary r ≡ included (summary state) (tiles span) id
+pub one-included : IncludedOnce
+one-included state span id r q e f = summary-once r q (e ∙ sym f)
 
-  pub one-included : (r q : DepthState) → Includes r → Includes q → r ≡ q
-  one-included r q e f = summary-once r q (e ∙ sym f)
+pub one-skip : SkipOnce
+one-skip state span id r q e f = skip-once r q (e ∙ sym f)
 
--- `DepthState::can_skip`
-module _ (state : DepthState) (span : TileSpan) (id : ℕ) where
-  abbrev pub Skips : Result Bool Refusal → Type 0
-  Skips r = skip_of r ≡ can_skip_answer (summary state) (tiles span) id
+pub one-visible : VisibleOnce
+one-visible depth span id list width r q l m e f = out_once r q l m (e ∙ sym f)
 
-  pub one-skip : (r q : Result Bool Refusal) → Skips r → Skips q → r ≡ q
-  one-skip r q e f = skip-once r q (e ∙ sym f)
+pub one-unset : UnsetOnce
+one-unset depth span list width r q l m e f = out_once r q l m (e ∙ sym f)
 
--- `visible_runs`
-module _ (depth : List ℕ) (span : TileSpan) (id : ℕ) (list : List ℕ) (width : Width) where
-  abbrev pub ListsVisible : Result ℕ Refusal → List ℕ → Type 0
-  ListsVisible r l = out r l ≡ listing (visible_answer (bucket-tiles width) depth id (tiles span) (length list / 2)) list
+pub one_written : WrittenOnce
+one_written depth range id list r q l m d e h k = write-once r q l m d e (h ∙ sym k)
 
-  pub one-visible : (r q : Result ℕ Refusal) (l m : List ℕ) → ListsVisible r l → ListsVisible q m → (r ≡ q) × (l ≡ m)
-  one-visible r q l m e f = out_once r q l m (e ∙ sym f)
-
--- `unset_runs`
-module _ (depth : List ℕ) (span : TileSpan) (list : List ℕ) (width : Width) where
-  abbrev pub ListsUnset : Result ℕ Refusal → List ℕ → Type 0
-  ListsUnset r l = out r l ≡ listing (unset_answer (bucket-tiles width) depth (tiles span) (length list / 2)) list
-
-  pub one-unset : (r q : Result ℕ Refusal) (l m : List ℕ) → ListsUnset r l → ListsUnset q m → (r ≡ q) × (l ≡ m)
-  one-unset r q l m e f = out_once r q l m (e ∙ sym f)
-
--- `unset_runs_and_write`
-module _ (depth : List ℕ) (range : BucketRange) (id : ℕ) (list : List ℕ) where
-  abbrev pub Writes : Result ℕ Refusal → List ℕ → List ℕ → Type 0
-  Writes r l d = out-write r l d ≡ writing depth id (buckets range) list
-
-  pub one_written : (r q : Result ℕ Refusal) (l m d e : List ℕ) → Writes r l d → Writes q m e → (r ≡ q) × (l ≡ m) × (d ≡ e)
-  one_written r q l m d e h k = write-once r q l m d e (h ∙ sym k)
-
--- `forms::include_span`, the summary where it stands: before and after
-module _ (state : DepthState) (span : TileSpan) (id : ℕ) where
-  abbrev pub IncludesThere : DepthState → Type 0
-  IncludesThere d = summary d ≡ included (summary state) (tiles span) id
-
-  pub one-there : (d e : DepthState) → IncludesThere d → IncludesThere e → d ≡ e
-  one-there d e h k = summary-once d e (h ∙ sym k)
+pub one-there : ThereOnce
+one-there state span id d e h k = summary-once d e (h ∙ sym k)
 
 -- what a result and its spans say together gives both
 its-result : (r : Result ℕ Refusal) (l : List TileSpan) → result_of (spans.out r l).number (spans.out r l).count ≡ r
@@ -129,21 +81,11 @@ visible-there : (r : Result Visible Refusal) → result_of (spans.visible_out r)
 visible-there (Ok v) = refl
 visible-there (Err k) = refusal_there _ k
 
--- `forms::visible_spans`
-module _ (depth : List ℕ) (span : TileSpan) (id : ℕ) (width : Width) where
-  abbrev pub ListsSpans : Result Visible Refusal → Type 0
-  ListsSpans r = spans.visible_out r ≡ spans.listing (visible_answer (bucket-tiles width) depth id (tiles span) most-runs) spans.no_spans
+pub one-spans : SpansOnce
+one-spans depth span id width r q e f = sym (visible-there r) ∙ ap (λ (x : spans.SpansOut). result_of x.number (visible-in x)) (e ∙ sym f) ∙ visible-there q
 
-  pub one-spans : (r q : Result Visible Refusal) → ListsSpans r → ListsSpans q → r ≡ q
-  one-spans r q e f = sym (visible-there r) ∙ ap (λ (x : spans.SpansOut). result_of x.number (visible-in x)) (e ∙ sym f) ∙ visible-there q
-
--- `forms::list_visible_spans`: the result, and every entry of the lent list
-module _ (depth : List ℕ) (span : TileSpan) (id : ℕ) (list : List TileSpan) (width : Width) where
-  abbrev pub ListsThere : Result ℕ Refusal → List TileSpan → Type 0
-  ListsThere r l = spans.out r l ≡ spans.listing (visible_answer (bucket-tiles width) depth id (tiles span) (length list)) list
-
-  pub one-listed : (r q : Result ℕ Refusal) (l m : List TileSpan) → ListsThere r l → ListsThere q m → (r ≡ q) × (l ≡ m)
-  one-listed r q l m e f = spans-once r q l m (e ∙ sym f)
+pub one-listed : ListedOnce
+one-listed depth span id list width r q l m e f = spans-once r q l m (e ∙ sym f)
 
 -- No call asks anything, and the promises are the sources' clauses: at the arguments a, the result r and the arguments at exit e.
 module _ {M : Type 1} {𝓤 : Ura M} (𝓛 : Logic 𝓤) (mem : Memory → SProp 𝓤) (run : Routine → Fun 𝓤) where

@@ -1,7 +1,6 @@
 -- The calls that write text, each with its promise as its source has it: two results that the promise allows for the same input are the same, the screen and every lent word with them.
 -- `..-source` says that the call asks nothing of its caller, and that the promise is the clause of the source itself. Assumes nothing.
 use mathlib.Core.Path.{◌≡◌, refl, sym, ap, ◌∙◌}
-use mathlib.Core.Bool.{Bool}
 use mathlib.Core.List.{List}
 use Prim.Native.Nat.{ℕ, ◌≤◌}
 use seplogic.Ra.Ura.{Ura}
@@ -18,28 +17,24 @@ use Rattle.sizes.specs.declared.answers.Refusal.{Refusal}
 use Rattle.sizes.specs.Refusals.{answer_number}
 use Rattle.sizes.proofs.Refusals.{result_of, refusal_there}
 use Rattle.sizes.specs.Sizes.{program-rows, program-buckets}
-use Rattle.row.specs.Words.{Words}
-use Rattle.row_screen.specs.Rows.{all-held}
-use Rattle.screen.specs.declared.Screen.{Screen}
-use Rattle.screen.specs.declared.Setup.{Setup}
-use Rattle.screen.specs.Screens.{setup-of}
-use Rattle.screen.specs.Tables.{Tables}
+use Rattle.row.specs.Rows.{all-held}
 use Rattle.screen.specs.Lent.{SameLent, tables_in}
-use Rattle.paint_screen.specs.Stepping.{Attributes, attributes}
-use Rattle.text_screen.specs.Listed.{Listing, listing_of, TextOut, left, listed, refused-listed}
-use Rattle.paint_command.specs.Painting as paint
-use Rattle.text_row.specs.Dumped as dumped
-use Rattle.text_row.specs.Dumped.{RowOut, row_out, row-dumped, attrs-dumped}
-use Rattle.text_file.specs.declared.FileText.{FileText}
-use Rattle.text_file.specs.declared.Size.{Size}
-use Rattle.text_file.specs.Files.{Text, text_of, showed, FileOut, file-out, recording-text, size_of, bytes-text}
-use Rattle.text_screen.specs.contracts.list_screen as list-call
-use Rattle.text_screen.specs.contracts.refusal_line as refusal-call
-use Rattle.text_row.specs.contracts.attrs_text as attrs-call
-use Rattle.text_row.specs.contracts.row_text as row_call
-use Rattle.text_file.specs.contracts.size_of as size_call
-use Rattle.text_file.specs.contracts.recording_text as recording_call
-use Rattle.text_file.specs.contracts.file_text as file-call
+use Rattle.paint.specs.Stepping.{attributes}
+use Rattle.text.specs.Listed.{Listing, listing_of, TextOut, left}
+use Rattle.paint.specs.Painting as paint
+use Rattle.text.specs.Dumped as dumped
+use Rattle.text.specs.Dumped.{RowOut}
+use Rattle.text.specs.declared.recording.FileText.{FileText}
+use Rattle.text.specs.declared.recording.Size.{Size}
+use Rattle.text.specs.Files.{Text, text_of, FileOut}
+use Rattle.text.specs.contracts.listing.list_screen as list-call
+use Rattle.text.specs.contracts.listing.refusal_line as refusal-call
+use Rattle.text.specs.contracts.painted.attrs_text as attrs-call
+use Rattle.text.specs.contracts.painted.row_text as row_call
+use Rattle.text.specs.contracts.recording.size_of as size_call
+use Rattle.text.specs.contracts.recording.recording_text as recording_call
+use Rattle.text.specs.contracts.recording.file_text as file-call
+use Rattle.theorem_once.specs.Texts.{Lists, Refuses, Details, Paints, Sizes, Records, Prints, ListOnce, RefusalOnce, DetailsOnce, RowOnce, SizeOnce, RecordingOnce, FileOnce}
 
 -- a result is what its number and its count of bytes say
 listing-there : (r : Result ℕ Refusal) → result_of (listing_of r).number (listing_of r).bytes ≡ r
@@ -53,52 +48,27 @@ listing-once r q e = sym (listing-there r) ∙ ap (λ (x : Listing). result_of x
 text-once : (r q : Result ℕ Refusal) (b c : List ℕ) → left r b ≡ left q c → (r ≡ q) × (b ≡ c)
 text-once r q b c h = (listing-once r q (ap (λ (x : TextOut). x.answer) h), ap (λ (x : TextOut). x.bytes) h)
 
--- `list_screen`: the bytes
-module _ (screen : Screen) (given : Words) (bytes : List ℕ) where
-  abbrev pub Lists : Result ℕ Refusal → List ℕ → Type 0
-  Lists r b = left r b ≡ listed screen given bytes
+pub one_list : ListOnce
+one_list screen given bytes r q b c e f = text-once r q b c (e ∙ sym f)
 
-  pub one_list : (r q : Result ℕ Refusal) (b c : List ℕ) → Lists r b → Lists q c → (r ≡ q) × (b ≡ c)
-  one_list r q b c e f = text-once r q b c (e ∙ sym f)
+pub one-refusal : RefusalOnce
+one-refusal n bytes r q b c e f = text-once r q b c (e ∙ sym f)
 
--- `refusal_line`: the bytes
-module _ (n : ℕ) (bytes : List ℕ) where
-  abbrev pub Refuses : Result ℕ Refusal → List ℕ → Type 0
-  Refuses r b = left r b ≡ refused-listed n bytes
+pub one-details : DetailsOnce
+one-details screen panels given bytes r q b c e f = text-once r q b c (e ∙ sym f)
 
-  pub one-refusal : (r q : Result ℕ Refusal) (b c : List ℕ) → Refuses r b → Refuses q c → (r ≡ q) × (b ≡ c)
-  one-refusal r q b c e f = text-once r q b c (e ∙ sym f)
+pub one-row : RowOnce
+one-row screen row panels ids given bytes r q d e p o l m b c f g =
+    let h = f ∙ sym g in (
+      listing-once r q (ap (λ (x : RowOut). x.answer) h),
+      ap (λ (x : RowOut). x.depth) h,
+      ap (λ (x : RowOut). x.painting) h,
+      ap (λ (x : RowOut). x.list) h,
+      ap (λ (x : RowOut). x.bytes) h,
+    )
 
--- `attrs_text`: the bytes
-module _ (screen : Screen) (panels : Bool) (given : dumped.AttrTables) (bytes : List ℕ) where
-  abbrev pub Details : Result ℕ Refusal → List ℕ → Type 0
-  Details r b = left r b ≡ attrs-dumped panels screen given bytes
-
-  pub one-details : (r q : Result ℕ Refusal) (b c : List ℕ) → Details r b → Details q c → (r ≡ q) × (b ≡ c)
-  one-details r q b c e f = text-once r q b c (e ∙ sym f)
-
--- `row_text`: the depth words, the painting table, the list of pieces and the bytes
-module _ (screen : Screen) (row : ℕ) (panels : Bool) (ids : Attributes) (given : paint.RowLent) (bytes : List ℕ) where
-  abbrev pub Paints : Result ℕ Refusal → List ℕ → List ℕ → List ℕ → List ℕ → Type 0
-  Paints r d p l b = row_out (listing_of r) d p l b ≡ row-dumped panels screen row ids given bytes
-
-  pub one-row : (r q : Result ℕ Refusal) (d e p o l m b c : List ℕ) → Paints r d p l b → Paints q e o m c → (r ≡ q) × (d ≡ e) × (p ≡ o) × (l ≡ m) × (b ≡ c)
-  one-row r q d e p o l m b c f g =
-      let h = f ∙ sym g in (
-        listing-once r q (ap (λ (x : RowOut). x.answer) h),
-        ap (λ (x : RowOut). x.depth) h,
-        ap (λ (x : RowOut). x.painting) h,
-        ap (λ (x : RowOut). x.list) h,
-        ap (λ (x : RowOut). x.bytes) h,
-      )
-
--- `size_of`
-module _ (file : List ℕ) (setup : Setup) where
-  abbrev pub Sizes : Result Size Refusal → Type 0
-  Sizes r = r ≡ size_of file (setup-of setup)
-
-  pub one_size : (r q : Result Size Refusal) → Sizes r → Sizes q → r ≡ q
-  one_size r q e f = e ∙ sym f
+pub one_size : SizeOnce
+one_size file setup r q e f = e ∙ sym f
 
 -- a file's text is what its number, its count of bytes and its screen say
 abbrev text-in : Text → FileText
@@ -114,25 +84,15 @@ file-there r = ap (λ (a : Result Unit Refusal). record { answer = a; bytes = r.
 file-once : (r q : FileText) → text_of r ≡ text_of q → r ≡ q
 file-once r q e = sym (file-there r) ∙ ap text-in e ∙ file-there q
 
--- `recording_text`: the ten tables and the bytes
-module _ (file : List ℕ) (setup : Setup) (lent : Tables) (bytes : List ℕ) where
-  abbrev pub Records : FileText → Tables → List ℕ → Type 0
-  Records r t b = file-out (showed r b) t ≡ recording-text file (setup-of setup) lent bytes
+pub one-recording : RecordingOnce
+one-recording file setup lent bytes r q t u b c e f =
+    let h = e ∙ sym f in
+    (file-once r q (ap (λ (x : FileOut). x.showed.text) h), ap (λ (x : FileOut). x.tables) h, ap (λ (x : FileOut). x.showed.bytes) h)
 
-  pub one-recording : (r q : FileText) (t u : Tables) (b c : List ℕ) → Records r t b → Records q u c → (r ≡ q) × (t ≡ u) × (b ≡ c)
-  one-recording r q t u b c e f =
-      let h = e ∙ sym f in
-      (file-once r q (ap (λ (x : FileOut). x.showed.text) h), ap (λ (x : FileOut). x.tables) h, ap (λ (x : FileOut). x.showed.bytes) h)
-
--- `file_text`: the ten tables and the bytes
-module _ (file : List ℕ) (setup : Setup) (lent : Tables) (bytes : List ℕ) where
-  abbrev pub Prints : FileText → Tables → List ℕ → Type 0
-  Prints r t b = file-out (showed r b) t ≡ bytes-text file (setup-of setup) lent bytes
-
-  pub one-file : (r q : FileText) (t u : Tables) (b c : List ℕ) → Prints r t b → Prints q u c → (r ≡ q) × (t ≡ u) × (b ≡ c)
-  one-file r q t u b c e f =
-      let h = e ∙ sym f in
-      (file-once r q (ap (λ (x : FileOut). x.showed.text) h), ap (λ (x : FileOut). x.tables) h, ap (λ (x : FileOut). x.showed.bytes) h)
+pub one-file : FileOnce
+one-file file setup lent bytes r q t u b c e f =
+    let h = e ∙ sym f in
+    (file-once r q (ap (λ (x : FileOut). x.showed.text) h), ap (λ (x : FileOut). x.tables) h, ap (λ (x : FileOut). x.showed.bytes) h)
 
 -- No call asks anything, and the promises are the sources' clauses: at the arguments a, the result r and the arguments at exit e.
 module _ {M : Type 1} {𝓤 : Ura M} (𝓛 : Logic 𝓤) (mem : Memory → SProp 𝓤) (run : Routine → Fun 𝓤) where

@@ -8,7 +8,7 @@ use Rattle.rules.specs.Steps.{call}
 use Rattle.rules.specs.Calls.{Canvas, step_call}
 use Rattle.rules.proofs.laws.Answers.{settle-kept}
 use Rattle.screen.specs.Tables.{ScreenLent}
-use Rattle.file_steps.specs.Steps.{call_at}
+use Rattle.walk.specs.Steps.{call_at}
 use Rattle.refine_steps.specs.Lent.{lent_of}
 use Rattle.refine_paint.specs.Canvases.{WholeCanvas}
 use Rattle.refine_paint.proofs.Runs.{unset-by, visible-by, skip_by}

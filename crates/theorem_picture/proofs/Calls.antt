@@ -17,27 +17,27 @@ use Rattle.rules.specs.Plans.{Plan, a-fill, a-push}
 use Rattle.rules.specs.Steps.{Screen, refusal, done}
 use Rattle.rules.proofs.All.{both, never}
 use Rattle.row.specs.Words.{Words, word-ops}
-use Rattle.row_judge.specs.Building.{step_number}
+use Rattle.row.specs.Building.{step_number}
 use Rattle.rect.specs.Rects.{box_of}
 use Rattle.segments.specs.Segs.{segs, segs-of}
 use Rattle.screen.specs.declared.Screen as shown
 use Rattle.screen.specs.Judging.{judged}
 use Rattle.screen.specs.Tables.{ScreenLent}
-use Rattle.screen_layers.specs.declared.LayerProps.{LayerProps}
-use Rattle.step_fill.specs.declared.Draw.{Draw}
-use Rattle.step_fill.specs.Fills as fills
-use Rattle.step_fill.specs.Fills.{draw-of, paints, paints-of, filled, fill_number, fill_done, first_number}
-use Rattle.step_push.specs.Push as push
-use Rattle.step_push.specs.Push.{pushed, push-number}
-use Rattle.step_pop.specs.Pop as pop
-use Rattle.step_pop.specs.Pop.{popped, first, number-after, number, good_lengths, good-open}
-use Rattle.step_filter.specs.Filter as filter
-use Rattle.step_filter.specs.Filter.{FilterGiven, filtered, filter-number}
-use Rattle.file_read.specs.Reading.{props_in}
+use Rattle.screen.specs.declared.layers.LayerProps.{LayerProps}
+use Rattle.fill.specs.declared.Draw.{Draw}
+use Rattle.fill.specs.Fills as fills
+use Rattle.fill.specs.Fills.{draw-of, paints, paints-of, filled, fill_number, fill_done, first_number}
+use Rattle.layers.specs.Push as push
+use Rattle.layers.specs.Push.{pushed, push-number}
+use Rattle.pop.specs.Pop as pop
+use Rattle.pop.specs.Pop.{popped, first, number-after, number, good_lengths, good-open}
+use Rattle.layers.specs.Filter as filter
+use Rattle.layers.specs.Filter.{FilterGiven, filtered, filter-number}
+use Rattle.walk.specs.Reading.{props_in}
 use Rattle.rules.proofs.laws.Answers.{settle-number, settle-kept}
-use Rattle.file_steps.specs.Steps.{rows_words, fill-part, fill-into, push-part, push-into, pop-part, pop-into, filter-part, filter-into, with_value, call_at}
-use Rattle.file_steps.proofs.Calls.{same-fill, same-pop}
-use Rattle.file_steps.proofs.Lists.{paints-words-length, segments-words-length, paints-said, segments-said}
+use Rattle.walk.specs.Steps.{rows_words, fill-part, fill-into, push-part, push-into, pop-part, pop-into, filter-part, filter-into, with_value, call_at}
+use Rattle.walk.proofs.Calls.{same-fill, same-pop}
+use Rattle.walk.proofs.Lists.{paints-words-length, segments-words-length, paints-said, segments-said}
 use Rattle.theorem_picture.specs.Calls.{fill-at, push_at, pop-at, filter-at, fill-said, pop-said, filter-said}
 
 -- a done step has passed its first tests

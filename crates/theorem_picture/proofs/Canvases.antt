@@ -13,8 +13,8 @@ use Rattle.rules.specs.Recording.{shape, sections, recording}
 use Rattle.rules.specs.Calls.{Canvas, fresh-canvas, step_call, record-call}
 use Rattle.screen.specs.Judging.{good-tables, arenas}
 use Rattle.screen.specs.Tables.{lengths, ScreenLent}
-use Rattle.file_steps.specs.Steps.{call_at}
-use Rattle.file_call.specs.Recorded.{recorded}
+use Rattle.walk.specs.Steps.{call_at}
+use Rattle.walk.specs.Recorded.{recorded}
 use Rattle.refine_steps.proofs.Walks.{Follow}
 use Rattle.refine_paint.specs.Canvases.{WholeCanvas}
 use Rattle.refine_paint.proofs.Painted.{step-whole}

@@ -12,7 +12,7 @@ use Rattle.rules.specs.Boxes.{rows_of}
 use Rattle.rules.specs.Plans.{Frame, Step}
 use Rattle.rules.specs.Calls.{paints-on, Canvas, bucket-on, begin-call, painter-of, paint-call}
 use Rattle.screen.specs.Tables.{ScreenLent}
-use Rattle.paint_command.specs.Painting.{StepOut}
+use Rattle.paint.specs.Painting.{StepOut}
 use Rattle.refine_paint.specs.Canvases.{WholeCanvas}
 use Rattle.refine_paint.proofs.Whole.{begin-whole}
 use Rattle.rules_picture.specs.Turns as rule

@@ -10,7 +10,7 @@ use Rattle.rules.specs.Painting.{Painted}
 use Rattle.rules.specs.Calls.{Canvas, begin-call, paint-call}
 use Rattle.rules.proofs.All.{never}
 use Rattle.screen.specs.Tables.{ScreenLent}
-use Rattle.paint_command.specs.Painting.{StepOut}
+use Rattle.paint.specs.Painting.{StepOut}
 use Rattle.refine_paint.specs.Canvases.{WholeCanvas}
 use Rattle.refine_paint.proofs.Whole.{begin-whole}
 use Rattle.rules_picture.specs.Turns.{turns, said-finished, has-finished}

@@ -12,7 +12,7 @@ use borrow.Author.Tests.{ltb-true, ltb-false}
 use Rattle.sizes.specs.Sizes.{piece-size}
 use Rattle.rules.specs.Lists.{join}
 use Rattle.rules.specs.Painting.{Piece}
-use Rattle.paint_pieces.specs.Pieces.{tag_of, index_of, piece-words, laid}
+use Rattle.paint.specs.Pieces.{tag_of, index_of, piece-words, laid}
 use Rattle.theorem_picture.specs.Turns.{piece-in, pieces-in}
 
 layer-back : (b : Bool) (a : Option ℕ) → leb 3 (tag_of b a) ≡ b

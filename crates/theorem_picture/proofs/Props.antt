@@ -9,14 +9,14 @@ use lib.Ieee.{binary32, fits}
 use Rattle.rules.specs.Answers.{Done}
 use Rattle.rules.specs.Plans.{Frame, Step, a-push}
 use Rattle.screen.specs.Tables.{ScreenLent}
-use Rattle.screen_layers.specs.declared.LayerProps.{LayerProps}
-use Rattle.screen_layers.specs.Layers.{good-given}
-use Rattle.step_push.specs.Push.{pushed, push-number, after}
-use Rattle.step_push.proofs.Laws.{bad-props, ready}
-use Rattle.file_read.specs.Reading.{props_in, props_said}
-use Rattle.file_read.proofs.Given.{good-props-said}
+use Rattle.screen.specs.declared.layers.LayerProps.{LayerProps}
+use Rattle.screen.specs.Layers.{good-given}
+use Rattle.layers.specs.Push.{pushed, push-number, after}
+use Rattle.layers.proofs.PushLaws.{bad-props, ready}
+use Rattle.walk.specs.Reading.{props_in, props_said}
+use Rattle.walk.proofs.Given.{good-props-said}
 use Rattle.rules.proofs.laws.Answers.{settle-number}
-use Rattle.file_steps.specs.Steps.{rows_words, push-part}
+use Rattle.walk.specs.Steps.{rows_words, push-part}
 use Rattle.rules_picture.proofs.Cases.{by}
 use Rattle.theorem_picture.specs.Calls.{push_at}
 use Rattle.theorem_picture.specs.Reached.{Reached, by-push}

@@ -20,9 +20,9 @@ use Rattle.rules.specs.Calls.{Canvas, fresh-canvas, step_call, begin-call, paint
 use Rattle.rules.proofs.All.{both}
 use Rattle.screen.specs.Judging.{good-fixed, judged_reset}
 use Rattle.screen.specs.Tables.{zeros, lengths, ScreenLent, reset_to}
-use Rattle.file_read.specs.Reading.{draw_in, props_in}
-use Rattle.file_steps.specs.Steps.{placement_in, call_at}
-use Rattle.file_steps.proofs.Lists.{paints-said, segments-said}
+use Rattle.walk.specs.Reading.{draw_in, props_in}
+use Rattle.walk.specs.Steps.{placement_in, call_at}
+use Rattle.walk.proofs.Lists.{paints-said, segments-said}
 use Rattle.rules.proofs.laws.Answers.{settle-number}
 use Rattle.refine_steps.proofs.Reset.{judged-facts, rooms, fresh-sound, fresh-words}
 use Rattle.refine_paint.specs.Canvases.{depth-of, painting-of, WholeCanvas}
@@ -33,7 +33,7 @@ use Rattle.refine_paint.proofs.Runs.{write-whole, same-screen}
 use Rattle.rules_picture.proofs.Turns.{call-screen}
 use Rattle.rules_picture.proofs.Walked.{built-append}
 use Rattle.rules_picture.specs.Built.{no_step, then}
-use Rattle.step_filter.specs.Filter.{given}
+use Rattle.layers.specs.Filter.{given}
 use Rattle.theorem_picture.specs.Calls.{fill-at, push_at, pop-at, filter-at, fill-said, pop-said, filter-said}
 use Rattle.theorem_picture.specs.Reached.{Reached, by-reset, by-fill, by-push, by-pop, by-filter, by-begin, by-paint, by-write, begin-at, paint-at, write-at}
 use Rattle.theorem_picture.specs.Standing.{canvas-words, Stands}

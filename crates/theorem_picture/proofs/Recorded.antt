@@ -20,9 +20,9 @@ use Rattle.rules.proofs.Logged.{Logged, logged-call, walk-logged}
 use Rattle.rules.specs.Calls.{begin-call}
 use Rattle.screen.specs.Judging.{judged_reset}
 use Rattle.screen.specs.Tables.{lengths, ScreenLent, reset_to}
-use Rattle.file_steps.specs.Steps.{call_at}
-use Rattle.file_judge.specs.Judging.{judged}
-use Rattle.file_call.specs.Recorded.{or-fresh, played, recorded-in, of-sections, recorded}
+use Rattle.walk.specs.Steps.{call_at}
+use Rattle.file.specs.Judging.{judged}
+use Rattle.walk.specs.Recorded.{or-fresh, played, recorded-in, of-sections, recorded}
 use Rattle.refine_steps.specs.Lent.{lent_of}
 use Rattle.rules.proofs.laws.Answers.{settle-number, settle-kept}
 use Rattle.refine_steps.proofs.Refined.{Refines, step-refines, reset-refines}

@@ -18,10 +18,10 @@ use Rattle.rules.specs.Painting.{Piece, Painted, paint-steps}
 use Rattle.rules.specs.Calls.{paints-on, Canvas, bucket-on, Given, painter-of, paint-call}
 use Rattle.screen.specs.Tables.{ScreenLent}
 use Rattle.refine_steps.specs.Lent.{lent_of}
-use Rattle.paint_pieces.specs.Pieces.{piece-words, laid}
-use Rattle.paint_command.specs.Painting.{StepOut}
-use Rattle.paint_pieces.proofs.Spreading.{length-pieces}
-use Rattle.paint_whole.specs.Running.{one_more, run, most, standing, row-painted}
+use Rattle.paint.specs.Pieces.{piece-words, laid}
+use Rattle.paint.specs.Painting.{StepOut}
+use Rattle.paint.proofs.Spreading.{length-pieces}
+use Rattle.paint.specs.Running.{one_more, run, most, standing, row-painted}
 use Rattle.refine_paint.specs.Canvases.{given_out, WholeCanvas}
 use Rattle.refine_paint.proofs.Whole.{paint-whole}
 use Rattle.rules_picture.specs.Turns.{next-step}

@@ -18,12 +18,12 @@ use Rattle.rules.specs.Painting as rules
 use Rattle.rules.specs.Painting.{Piece, received}
 use Rattle.screen.specs.declared.Screen.{Screen}
 use Rattle.screen.specs.Tables.{ScreenLent}
-use Rattle.paint_command.specs.Painting as paint
-use Rattle.paint_command.specs.Painting.{StepOut, out, refused, left, settled, painted-row}
-use Rattle.paint_pieces.proofs.Spreading.{length-pieces}
-use Rattle.paint_screen.specs.Stepping.{Attributes, attributes, number, row_step, stepped}
-use Rattle.paint_whole.specs.Running.{goes_on, ended, one_more, run, most, standing, call_step, row-painted}
-use Rattle.paint_whole.proofs.Runs.{stops, more}
+use Rattle.paint.specs.Painting as paint
+use Rattle.paint.specs.Painting.{StepOut, out, refused, left, settled, painted-row}
+use Rattle.paint.proofs.Spreading.{length-pieces}
+use Rattle.paint.specs.Stepping.{Attributes, attributes, number, row_step, stepped}
+use Rattle.paint.specs.Running.{goes_on, ended, one_more, run, most, standing, call_step, row-painted}
+use Rattle.paint.proofs.WholeRuns.{stops, more}
 use Rattle.rules_picture.specs.Turns.{Gave, from, said-finished}
 use Rattle.rules.proofs.All.{and_left, and_right}
 use Rattle.rules_picture.proofs.Cases.{by}

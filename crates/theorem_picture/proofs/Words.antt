@@ -15,13 +15,13 @@ use Rattle.rules.specs.Plans.{Step}
 use Rattle.rules.specs.Steps.{Screen, done, refusal, perform, call}
 use Rattle.rules.specs.Calls.{Canvas, Given, step_call, begin-call, paint-call, write-call, blank}
 use Rattle.rules.proofs.laws.Maps.{planned}
-use Rattle.file_steps.specs.Steps.{call_at}
+use Rattle.walk.specs.Steps.{call_at}
 use Rattle.refine_steps.specs.Lent.{screen-of, lent_of}
 use Rattle.rules.proofs.laws.Answers.{settle-kept}
 use Rattle.refine_steps.proofs.Refined.{stepped}
-use Rattle.paint_command.specs.Painting.{StepOut}
-use Rattle.paint_screen.specs.Beginning as painter
-use Rattle.paint_screen.specs.Rows.{Wrote}
+use Rattle.paint.specs.Painting.{StepOut}
+use Rattle.paint.specs.Beginning as painter
+use Rattle.paint.specs.DirectRuns.{Wrote}
 use Rattle.refine_paint.specs.Canvases.{depth-of, painting-of, given_out, wrote_of, WholeCanvas}
 use Rattle.refine_paint.proofs.Painted.{begin-painted, step-painted}
 use Rattle.rules_picture.proofs.Turns.{call-screen, call-begun}

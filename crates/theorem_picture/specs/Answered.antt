@@ -7,13 +7,13 @@ use Rattle.rules.specs.Inputs.{Props}
 use Rattle.rules.specs.Plans.{Frame, Step, a-push}
 use Rattle.rules.specs.Calls.{Canvas, step_call, begin-call, paint-call, unset-call, visible-call, write-call, can-skip-call}
 use Rattle.screen.specs.Tables.{ScreenLent}
-use Rattle.screen_layers.specs.declared.LayerProps.{LayerProps}
-use Rattle.step_fill.specs.declared.Draw.{Draw}
-use Rattle.step_filter.specs.Filter.{FilterGiven}
-use Rattle.file_read.specs.Reading.{props_in}
-use Rattle.file_steps.specs.Steps.{call_at}
+use Rattle.screen.specs.declared.layers.LayerProps.{LayerProps}
+use Rattle.fill.specs.declared.Draw.{Draw}
+use Rattle.layers.specs.Filter.{FilterGiven}
+use Rattle.walk.specs.Reading.{props_in}
+use Rattle.walk.specs.Steps.{call_at}
 use Rattle.depth.specs.Listing.{listing}
-use Rattle.paint_screen.specs.Rows.{unset-of, visible-of, skip-of-row}
+use Rattle.paint.specs.DirectRuns.{unset-of, visible-of, skip-of-row}
 use Rattle.refine_paint.specs.Canvases.{given_out, wrote_of, WholeCanvas}
 use Rattle.theorem_picture.specs.Calls.{fill-at, push_at, pop-at, filter-at, fill-said, pop-said, filter-said}
 use Rattle.theorem_picture.specs.Reached.{Reached, begin-at, paint-out, write-out}

@@ -5,13 +5,13 @@ use Rattle.rules.specs.Answers.{Answer}
 use Rattle.rules.specs.Plans.{Step, a-fill, a-pop, a-filter}
 use Rattle.segments.specs.Segs.{segs-of}
 use Rattle.screen.specs.Tables.{ScreenLent}
-use Rattle.screen_layers.specs.declared.LayerProps.{LayerProps}
-use Rattle.step_fill.specs.declared.Draw.{Draw}
-use Rattle.step_fill.specs.Fills.{draw-of, paints-of, filled}
-use Rattle.step_push.specs.Push.{pushed}
-use Rattle.step_pop.specs.Pop.{popped}
-use Rattle.step_filter.specs.Filter.{FilterGiven, filter-of, filtered}
-use Rattle.file_steps.specs.Steps.{fill-part, fill-into, push-part, push-into, pop-part, pop-into, filter-part, filter-into, with_value}
+use Rattle.screen.specs.declared.layers.LayerProps.{LayerProps}
+use Rattle.fill.specs.declared.Draw.{Draw}
+use Rattle.fill.specs.Fills.{draw-of, paints-of, filled}
+use Rattle.layers.specs.Push.{pushed}
+use Rattle.pop.specs.Pop.{popped}
+use Rattle.layers.specs.Filter.{FilterGiven, filter-of, filtered}
+use Rattle.walk.specs.Steps.{fill-part, fill-into, push-part, push-into, pop-part, pop-into, filter-part, filter-into, with_value}
 
 -- `fill` with any words as paints, four each, and as segments, five each
 unfoldable pub fill-at : List ℕ → List ℕ → Draw → ScreenLent → Answer ScreenLent

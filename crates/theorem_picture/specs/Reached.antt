@@ -6,14 +6,14 @@ use Rattle.rules.specs.Inputs.{Props}
 use Rattle.rules.specs.Plans.{Frame, Step, a-push}
 use Rattle.screen.specs.declared.Screen.{Screen}
 use Rattle.screen.specs.Tables.{tables, ScreenLent, lent, reset_to}
-use Rattle.screen_layers.specs.declared.LayerProps.{LayerProps}
-use Rattle.step_fill.specs.declared.Draw.{Draw}
-use Rattle.step_filter.specs.Filter.{FilterGiven}
-use Rattle.file_read.specs.Reading.{props_in}
-use Rattle.paint_command.specs.Painting as paint
-use Rattle.paint_screen.specs.Beginning.{canvas, beginning}
-use Rattle.paint_screen.specs.Stepping.{attributes, stepped}
-use Rattle.paint_screen.specs.Rows.{Wrote, write-of}
+use Rattle.screen.specs.declared.layers.LayerProps.{LayerProps}
+use Rattle.fill.specs.declared.Draw.{Draw}
+use Rattle.layers.specs.Filter.{FilterGiven}
+use Rattle.walk.specs.Reading.{props_in}
+use Rattle.paint.specs.Painting as paint
+use Rattle.paint.specs.Beginning.{canvas, beginning}
+use Rattle.paint.specs.Stepping.{attributes, stepped}
+use Rattle.paint.specs.DirectRuns.{Wrote, write-of}
 use Rattle.theorem_picture.specs.Calls.{fill-at, push_at, pop-at, filter-at, fill-said, pop-said, filter-said}
 
 -- the words with another screen, other depth words and other painting words

@@ -13,7 +13,7 @@ use Rattle.rules.specs.Plain.{plain}
 use Rattle.rules.specs.Calls.{Canvas, begin-call, record-call}
 use Rattle.screen.specs.Judging.{good-tables, arenas}
 use Rattle.screen.specs.Tables.{lengths, ScreenLent, reset_to}
-use Rattle.file_call.specs.Recorded.{recorded}
+use Rattle.walk.specs.Recorded.{recorded}
 use Rattle.refine_paint.specs.Canvases.{WholeCanvas}
 use Rattle.refine_file.specs.Played.{place}
 use Rattle.rules_picture.specs.Turns.{Turn, from, has-finished, painted}

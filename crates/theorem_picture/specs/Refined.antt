@@ -13,9 +13,9 @@ use Rattle.rules.specs.Calls.{Canvas, fresh-canvas, step_call, begin-call, paint
 use Rattle.row.specs.Words.{Words, word-ops}
 use Rattle.screen.specs.Judging.{judged_reset, good-tables}
 use Rattle.screen.specs.Tables.{lengths, ScreenLent, reset_to}
-use Rattle.step_pop_rows.specs.Closing.{touched-in}
-use Rattle.file_steps.specs.Steps.{call_at}
-use Rattle.file_call.specs.Recorded.{recorded}
+use Rattle.pop.specs.Closing.{touched-in}
+use Rattle.walk.specs.Steps.{call_at}
+use Rattle.walk.specs.Recorded.{recorded}
 use Rattle.refine_row.specs.Encode.{encode, Fine}
 use Rattle.refine_layers.specs.Touched.{Reaching}
 use Rattle.refine_steps.specs.Sound.{Sound}

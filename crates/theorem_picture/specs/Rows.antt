@@ -7,9 +7,9 @@ use Rattle.rules.specs.Plans.{Frame, bucket, Step}
 use Rattle.rules.specs.Painting.{received}
 use Rattle.rules.specs.Plain.{plain}
 use Rattle.screen.specs.Tables.{ScreenLent}
-use Rattle.paint_command.specs.Painting as paint
-use Rattle.paint_screen.specs.Stepping.{attributes}
-use Rattle.paint_whole.specs.Running.{row-painted}
+use Rattle.paint.specs.Painting as paint
+use Rattle.paint.specs.Stepping.{attributes}
+use Rattle.paint.specs.Running.{row-painted}
 use Rattle.rules_picture.specs.Turns.{Gave, from, said-finished}
 use Rattle.theorem_picture.specs.Reached.{Reached, with-canvas, begin-at, paint-out}
 use Rattle.theorem_picture.specs.Turns.{Turn, pieces-in, gave-out, turned, log, finished-at}

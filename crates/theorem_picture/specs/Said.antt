@@ -6,12 +6,12 @@ use Rattle.rules.specs.Answers.{Done}
 use Rattle.rules.specs.Inputs.{Props, good-props}
 use Rattle.rules.specs.Plans.{Frame, Step, a-push}
 use Rattle.screen.specs.Tables.{ScreenLent}
-use Rattle.screen_layers.specs.declared.LayerProps.{LayerProps}
-use Rattle.screen_layers.specs.Layers.{good-given}
-use Rattle.step_fill.specs.declared.Draw.{Draw}
-use Rattle.step_filter.specs.Filter.{FilterGiven}
-use Rattle.file_read.specs.Reading.{props_in, props_said}
-use Rattle.file_steps.specs.Steps.{call_at}
+use Rattle.screen.specs.declared.layers.LayerProps.{LayerProps}
+use Rattle.screen.specs.Layers.{good-given}
+use Rattle.fill.specs.declared.Draw.{Draw}
+use Rattle.layers.specs.Filter.{FilterGiven}
+use Rattle.walk.specs.Reading.{props_in, props_said}
+use Rattle.walk.specs.Steps.{call_at}
 use Rattle.theorem_picture.specs.Calls.{fill-at, push_at, pop-at, filter-at, fill-said, pop-said, filter-said}
 use Rattle.theorem_picture.specs.Reached.{Reached}
 

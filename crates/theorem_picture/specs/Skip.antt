@@ -10,9 +10,9 @@ use Rattle.rules.specs.Plans.{Frame, bucket, buckets-across, Step}
 use Rattle.rules.specs.Steps.{reset}
 use Rattle.rules.specs.Calls.{Canvas, begin-call, painter-of, can-skip-call}
 use Rattle.screen.specs.Tables.{ScreenLent}
-use Rattle.paint_screen.specs.Judging.{wide}
-use Rattle.paint_screen.specs.Stepping.{part}
-use Rattle.paint_screen.specs.Rows.{skip-of-row}
+use Rattle.paint.specs.Judging.{wide}
+use Rattle.paint.specs.Stepping.{part}
+use Rattle.paint.specs.DirectRuns.{skip-of-row}
 use Rattle.rules_picture.specs.Built.{Built}
 use Rattle.rules_picture.specs.Turns.{Turn, has-finished, painted}
 use Rattle.rules_picture.specs.Skip.{FillsPainted}

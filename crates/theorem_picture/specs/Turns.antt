@@ -4,7 +4,7 @@ use Rattle.sizes.specs.Sizes.{piece-size}
 use Rattle.rules.specs.Spans.{span}
 use Rattle.rules.specs.Painting.{Piece}
 use Rattle.screen.specs.Tables.{ScreenLent}
-use Rattle.paint_command.specs.Painting.{StepOut}
+use Rattle.paint.specs.Painting.{StepOut}
 use Rattle.rules_picture.specs.Turns as rule
 use Rattle.rules_picture.specs.Turns.{Gave}
 use Rattle.theorem_picture.specs.Reached.{paint-out, paint-at}

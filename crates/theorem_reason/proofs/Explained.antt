@@ -23,16 +23,16 @@ use Rattle.rules_picture.specs.Recorded.{history, Readable, said}
 use Rattle.rules_picture.proofs.Walked.{all-walks}
 use Rattle.rules_reason.specs.Reasons.{Asked, reason}
 use Rattle.screen.specs.Tables.{ScreenLent, reset_to}
-use Rattle.file_call.specs.Recorded.{recorded-in, recorded}
-use Rattle.file_call.proofs.Accepted.{reset-judged, good-frame, walk-done}
+use Rattle.walk.specs.Recorded.{recorded-in, recorded}
+use Rattle.walk.proofs.Accepted.{reset-judged, good-frame, walk-done}
 use Rattle.refine_steps.proofs.Refined.{reset-refines}
 use Rattle.refine_steps.proofs.Walks.{walk-refines}
 use Rattle.refine_file.specs.Played.{place}
-use Rattle.tile_steps.specs.Telling.{Telling, tell-at, nothing-told}
+use Rattle.tile.specs.Telling.{Telling, tell-at, nothing-told}
 use Rattle.refine_tile.proofs.Walked.{tile-told}
 use Rattle.refine_tile.proofs.Reasons as read
 use Rattle.rules_reason.specs.Answers.{off-screen}
-use Rattle.tile_call.specs.Explained.{Explained, told_of, explained-of, explained-as, explained}
+use Rattle.tile.specs.Explained.{Explained, told_of, explained-of, explained-as, explained}
 use Rattle.theorem_picture.specs.Reached.{Reached}
 use Rattle.theorem_picture.proofs.Picture.{picture}
 use Rattle.theorem_picture.proofs.Recorded.{recorded-reached}

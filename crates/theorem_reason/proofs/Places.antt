@@ -15,7 +15,7 @@ use Rattle.rules.proofs.All.{All, nil, cons, all_append, all-over, never, and_le
 use Rattle.rules_picture.proofs.Cases.{by}
 use Rattle.rules_picture.proofs.Shown.{hides-of}
 use Rattle.rules_reason.specs.Reasons.{Asked, Account, account-of, place_of, newest-hider}
-use Rattle.tile_steps.specs.Telling.{Line}
+use Rattle.tile.specs.Telling.{Line}
 use Rattle.refine_tile.specs.Retold.{entry_of, tells, Say, said, says}
 use Rattle.refine_tile.proofs.Numbers.{told-all, Numbered, all-numbered, a-paint, a-layer, more-paints, more-layers, is-paint, is-layer, asks, of-kind, Once, none_left, once}
 use Rattle.refine_tile.proofs.Shows.{hiding, names, Unnamed}

@@ -9,13 +9,13 @@ use Rattle.rules_reason.specs.Reasons.{Asked, reason}
 use Rattle.rules_picture.specs.Recorded.{history, Readable, said}
 use Rattle.rules_picture.specs.Turns.{from}
 use Rattle.screen.specs.Tables.{ScreenLent}
-use Rattle.file_call.specs.Recorded.{recorded}
+use Rattle.walk.specs.Recorded.{recorded}
 use Rattle.refine_file.specs.Played.{place}
 use Rattle.theorem_picture.specs.Reached.{begin-at}
 use Rattle.theorem_picture.specs.Turns.{Turn, log}
 use Rattle.theorem_picture.specs.Picture.{finished}
 use Rattle.rules_reason.specs.Answers.{off-screen}
-use Rattle.tile_call.specs.Explained.{explained-as, explained}
+use Rattle.tile.specs.Explained.{explained-as, explained}
 use Rattle.theorem_reason.specs.Reasons.{Painted}
 
 -- A recording that is accepted, a row and a tile of its screen, which is that of the frame that its reset made: the call is done, leaves what the recording call leaves, and gives the reason of the

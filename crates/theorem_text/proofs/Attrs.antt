@@ -19,18 +19,18 @@ use Rattle.rules.specs.Attributes.{PaintAttr, no-paint, LayerAttr, no-layer, Fil
 use Rattle.screen.specs.Attributes.{paint-attr-words}
 use Rattle.rules.specs.Plans.{bucket, buckets-across, Layer}
 use Rattle.rules.specs.Steps.{Screen}
-use Rattle.text_details.specs.Details.{Detail, paint-attributes, layer-attributes, filter-paints, paint-attr-line, layer-attr-line, filter-paint-line, attr-lines, painted-row, painted-lines, detail-lines}
+use Rattle.text.specs.Details.{Detail, paint-attributes, layer-attributes, filter-paints, paint-attr-line, layer-attr-line, filter-paint-line, attr-lines, painted-row, painted-lines, detail-lines}
 use Rattle.screen.specs.Tables.{float-0}
-use Rattle.step_filter.specs.Filter.{filter-paint-words}
-use Rattle.file_read.specs.Reading.{pattern_of}
+use Rattle.layers.specs.Filter.{filter-paint-words}
+use Rattle.walk.specs.Reading.{pattern_of}
 use Rattle.refine_steps.specs.Sound.{Sound}
 use Rattle.refine_steps.specs.Lent.{table, attr-words, attr-opacity, layers-opacities, lent_of}
-use Rattle.text_screen.specs.Places.{joined}
-use Rattle.text_screen.proofs.Joins.{join-append}
-use Rattle.text_details.specs.Bytes.{detail-bytes, details-text}
-use Rattle.text_details.specs.Tables.{opacity-bits, paint-attr-of, paint-attr-at, layer-attr-of, layer-attr-at, filter-of, filter-at, paint-lines, layer-lines, filter-lines}
-use Rattle.text_details.proofs.Lines.{no_nan}
-use Rattle.text_row.specs.Dumped.{tables, attrs-text}
+use Rattle.text.specs.Places.{joined}
+use Rattle.text.proofs.Joins.{join-append}
+use Rattle.text.specs.Bytes.{detail-bytes, details-text}
+use Rattle.text.specs.Tables.{opacity-bits, paint-attr-of, paint-attr-at, layer-attr-of, layer-attr-at, filter-of, filter-at, paint-lines, layer-lines, filter-lines}
+use Rattle.text.proofs.DetailsLines.{no_nan}
+use Rattle.text.specs.Dumped.{tables, attrs-text}
 
 -- record i, of m words each, stands first from word m * i on
 module _ {A B : Type 0} (f : A → List B) (m : ℕ) (long : (x : A) → length (f x) ≡ m) (d : A) where

@@ -15,8 +15,8 @@ use Rattle.rules.specs.Painting.{begin}
 use Rattle.rules.specs.Calls.{Canvas, blank, begin-call}
 use Rattle.rules.proofs.All.{all_replicate, never}
 use Rattle.screen.specs.Tables.{ScreenLent}
-use Rattle.paint_screen.specs.Judging.{begin_number}
-use Rattle.paint_screen.specs.Beginning.{beginning}
+use Rattle.paint.specs.Judging.{begin_number}
+use Rattle.paint.specs.Beginning.{beginning}
 use Rattle.refine_steps.specs.Sound.{Sound}
 use Rattle.refine_steps.specs.Lent.{lent_of}
 use Rattle.refine_paint.specs.Fair.{FairRows}

@@ -23,16 +23,16 @@ use Rattle.rules.specs.Calls.{Canvas, bucket-on, painter-of}
 use Rattle.rules.proofs.All.{All}
 use Rattle.screen.specs.declared.Screen as declared
 use Rattle.screen.specs.Tables.{ScreenLent}
-use Rattle.paint_command.specs.Painting as paint
-use Rattle.paint_command.specs.Painting.{StepOut, out, refused, left, settled, painted-row}
-use Rattle.paint_pieces.proofs.Spreading.{length-pieces}
-use Rattle.paint_screen.specs.Stepping.{Attributes, attributes, number, row_step, stepped}
-use Rattle.paint_whole.specs.Running.{goes_on, ended, one_more, run, most, standing, row-painted}
-use Rattle.text_screen.specs.Listed.{written, begun-with}
-use Rattle.text_details.specs.Details as detail
-use Rattle.text_details.specs.Bytes.{details-text}
-use Rattle.text_row.specs.Pieces.{most-pieces, piece-list}
-use Rattle.text_row.specs.Dumped.{with-text, row-most, row-dumped}
+use Rattle.paint.specs.Painting as paint
+use Rattle.paint.specs.Painting.{StepOut, out, refused, left, settled, painted-row}
+use Rattle.paint.proofs.Spreading.{length-pieces}
+use Rattle.paint.specs.Stepping.{Attributes, attributes, number, row_step, stepped}
+use Rattle.paint.specs.Running.{goes_on, ended, one_more, run, most, standing, row-painted}
+use Rattle.text.specs.Listed.{written, begun-with}
+use Rattle.text.specs.Details as detail
+use Rattle.text.specs.Bytes.{details-text}
+use Rattle.text.specs.Pieces.{most-pieces, piece-list}
+use Rattle.text.specs.Dumped.{with-text, row-most, row-dumped}
 use Rattle.refine_steps.specs.Sound.{Fitting}
 use Rattle.refine_paint.proofs.Painters.{all-taken}
 use Rattle.rules_picture.proofs.Finishes.{work}

@@ -17,15 +17,15 @@ use Rattle.rules.specs.Steps.{Screen}
 use Rattle.rules.specs.Rows.{Row, fresh-row}
 use Rattle.rules.specs.Painting.{Piece, Painted, begin, paint-steps, paint-row}
 use Rattle.rules.specs.Calls.{Canvas, bucket-on, painter-of, begin-call, paint-call}
-use Rattle.text_details.specs.Details.{piece-line, painted-row}
+use Rattle.text.specs.Details.{piece-line, painted-row}
 use Rattle.screen.specs.Tables.{ScreenLent}
-use Rattle.paint_command.specs.Painting as paint
-use Rattle.paint_screen.specs.Stepping.{attributes}
-use Rattle.text_screen.specs.Places.{joined}
-use Rattle.text_screen.specs.Listed.{written}
-use Rattle.text_details.specs.Bytes.{details-text}
-use Rattle.text_row.specs.Pieces.{word, piece-at, row-lines}
-use Rattle.text_row.specs.Dumped.{with-text, pieces-written, row-dumped}
+use Rattle.paint.specs.Painting as paint
+use Rattle.paint.specs.Stepping.{attributes}
+use Rattle.text.specs.Places.{joined}
+use Rattle.text.specs.Listed.{written}
+use Rattle.text.specs.Bytes.{details-text}
+use Rattle.text.specs.Pieces.{word, piece-at, row-lines}
+use Rattle.text.specs.Dumped.{with-text, pieces-written, row-dumped}
 use Rattle.refine_paint.specs.Canvases.{WholeCanvas}
 use Rattle.rules_picture.specs.Turns.{Gave, from, steps_of, said-finished, turns, has-finished}
 use Rattle.refine_paint.proofs.Whole.{begin-whole}

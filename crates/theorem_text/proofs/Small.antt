@@ -19,8 +19,8 @@ use Rattle.rules.specs.Recording.{LayerRec, layer-rec, good-count, records, sect
 use Rattle.rules.specs.Walk.{props-of, walk-all}
 use Rattle.rules.proofs.All.{All, nil, cons, all_append, all_take, all_drop, all-over}
 use Rattle.rules.proofs.laws.Maps.{planned}
-use Rattle.file_form.specs.Each.{each}
-use Rattle.file_form.specs.Words.{word_from, words-in}
+use Rattle.file.specs.Each.{each}
+use Rattle.file.specs.Words.{word_from, words-in}
 use Rattle.refine_text.proofs.Walked.{Keeps, walk-keeps-by}
 
 abbrev pub Word : ℕ → Type 0

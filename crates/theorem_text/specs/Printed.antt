@@ -16,15 +16,15 @@ use Rattle.rules.specs.Lines.{rowlist-screen, rowlist}
 use Rattle.row.specs.Words.{words}
 use Rattle.screen.specs.Judging.{good-fixed}
 use Rattle.screen.specs.Tables.{Tables, lengths, ScreenLent}
-use Rattle.file_form.specs.Words.{words-in}
-use Rattle.paint_command.specs.Painting as paint
-use Rattle.paint_screen.specs.Stepping.{attributes}
-use Rattle.text_screen.specs.Listed.{screen-lines, text_of, listed, written, begun-with}
-use Rattle.text_details.specs.Details.{Detail, attr-lines, painted-row, painted-lines, detail-lines}
-use Rattle.text_details.specs.Bytes.{details-text}
-use Rattle.text_row.specs.Pieces.{piece-list}
-use Rattle.text_row.specs.Dumped.{RowOut, with-text, row-dumped, tables, attrs-text}
-use Rattle.text_file.specs.Files.{FileOut, size, over, words-text, bytes-text, Usual, is-roomy}
+use Rattle.file.specs.Words.{words-in}
+use Rattle.paint.specs.Painting as paint
+use Rattle.paint.specs.Stepping.{attributes}
+use Rattle.text.specs.Listed.{screen-lines, text_of, listed, written, begun-with}
+use Rattle.text.specs.Details.{Detail, attr-lines, painted-row, painted-lines, detail-lines}
+use Rattle.text.specs.Bytes.{details-text}
+use Rattle.text.specs.Pieces.{piece-list}
+use Rattle.text.specs.Dumped.{RowOut, with-text, row-dumped, tables, attrs-text}
+use Rattle.text.specs.Files.{FileOut, size, over, words-text, bytes-text, Usual, is-roomy}
 use Rattle.refine_steps.specs.Sound.{Sound}
 use Rattle.refine_steps.specs.Lent.{lent_of}
 use Rattle.refine_paint.specs.Fair.{FairRows}

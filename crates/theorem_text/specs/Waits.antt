@@ -6,9 +6,9 @@ use Rattle.rules.specs.Steps.{Screen}
 use Rattle.rules.specs.Painting.{begin}
 use Rattle.rules.specs.Calls.{Canvas, paints-on, painter-of}
 use Rattle.screen.specs.Tables.{ScreenLent}
-use Rattle.paint_command.specs.Painting.{StepOut}
+use Rattle.paint.specs.Painting.{StepOut}
 use Rattle.refine_paint.specs.Canvases.{WholeCanvas}
-use Rattle.text_row.specs.Pieces.{most-pieces}
+use Rattle.text.specs.Pieces.{most-pieces}
 use Rattle.theorem_picture.specs.Standing.{canvas-words}
 
 -- Words at which row r stands at its first step, painting having begun, on the screen s.

@@ -9,6 +9,7 @@ use Rattle.rules.specs.Lines.{words_of}
 use Rattle.rules_reason.specs.Answers.{Question, refused-bytes, why-words, why-text, question-line}
 use Rattle.text_programs.specs.Programs.{Wanted, by_width}
 use Rattle.text_programs.specs.Streams.{Takes, Skips}
+use Rattle.text_programs.specs.Failures.{Begins}
 use Rattle.text_programs.proofs.Cut.{cut, read_over, no-width-cut}
 use Rattle.text_why.specs.Questions.{question-of}
 use Rattle.why.specs.declared.Query.{Query}
@@ -40,6 +41,13 @@ file_read w q m (Ok x) None mid a b ts e t p = tt
 file_read w q m (Ok x) (Some fs) mid a b ts e t p =
     let read : ts ≡ take 65537 fs = t.0 ∙ ap (λ k. take k fs) (sym e) in
     subst (Appends a b) (ap (answer w q) read ∙ answer-cut w q fs) p
+
+pub file_begun : (w : Wanted) (q : Query) (m : ℕ) (known mid a b : Option (List ℕ)) (ts : List ℕ) → 65537 ≡ m → Takes m known mid ts
+    → Begins a b (answer w q ts) → IfSome known (λ fs. Begins a b (answer w q fs))
+file_begun w q m None mid a b ts e t p = tt
+file_begun w q m (Some fs) mid a b ts e t p =
+    let read : ts ≡ take 65537 fs = t.0 ∙ ap (λ k. take k fs) (sym e) in
+    subst (Begins a b) (ap (answer w q) read ∙ answer-cut w q fs) p
 
 -- a file's first bytes were read and answered about after question i's line, and the others passed over
 pub next_read : {E : Type 0} (w : Wanted) (q : Query) (i size m k : ℕ) (r : Result (Unit {0}) E) (known mid new a b c : Option (List ℕ)) (ts : List ℕ) → m ≡ min size 65537

@@ -1,6 +1,6 @@
 -- What is asked by the arguments after the options.
-use Rattle.std.specs.Prelude.{ℕ, Bool, true, false, if◌then◌else◌, List, [], ◌∷◌, codes, Option, Some, None, bytes_eq, option_map}
-use Rattle.text_programs.specs.Arguments.{number_of}
+use Rattle.std.specs.Prelude.{ℕ, Bool, true, false, if◌then◌else◌, List, [], ◌∷◌, codes, ⊤, Option, Some, None, bytes_eq, option_map}
+use Rattle.text_programs.specs.Arguments.{number_of, read_arguments}
 use Rattle.text_why.specs.declared.Question.{Question}
 use Rattle.text_why.specs.declared.Question.TheVariants.{Every, One}
 use Rattle.why.specs.declared.Query.{Query}
@@ -27,3 +27,11 @@ request_of (row ∷ tile ∷ []) = option_map File (query_of row tile Every)
 request_of (row ∷ tile ∷ kind ∷ []) = None
 request_of (row ∷ tile ∷ kind ∷ n ∷ []) = elim (question_of kind n) [ Some q ↦ option_map File (query_of row tile q) | None ↦ None ]
 request_of (row ∷ tile ∷ kind ∷ n ∷ w ∷ ws) = None
+
+-- one file is asked about, or nothing is asked
+abbrev pub IsOfFile : Request → Type 0
+IsOfFile Stream = ⊥
+IsOfFile (File q) = ⊤
+
+abbrev pub AsksOfFile : List (List ℕ) → Type 0
+AsksOfFile args = elim (request_of (read_arguments false args).others) [ Some r ↦ IsOfFile r | None ↦ ⊤ ]

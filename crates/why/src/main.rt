@@ -2,16 +2,22 @@
 // stream. What fails is told on standard error, and so is the usage; nothing else goes there.
 #![tactic(auto)]
 
-ghost use Rattle.std.specs.Prelude.{◌≡◌, ◌≢◌, ◌≤◌, ◌<◌, ◌↔◌, ◌++◌, false, length, map, take, drop, string_bytes, Some, None, IfSome, IfOk, IfErr, OnOk, IsOkUnless, IsErrOf, MatchBool};
+ghost use Rattle.std.specs.Prelude.{◌≡◌, ◌≢◌, ◌≤◌, ◌<◌, ◌↔◌, ◌⊎◌, ◌++◌, false, length, map, take, drop, string_bytes, Some, None, IfSome, IfOk, IfErr, OnOk, IsErrOf, MatchBool};
 ghost use Rattle.std.specs.Io.KnownBytes.{Appends};
 ghost use Rattle.rules_reason.specs.Answers.{question-line};
 ghost use Rattle.screen.specs.Screens.{setup-of};
-ghost use Rattle.text_file.specs.Files.{Usual};
+ghost use Rattle.screen.specs.Lent.{tables_in};
+ghost use Rattle.text.specs.Files.{Usual};
+ghost use Rattle.text_programs.specs.Tables.{Long};
+ghost use Rattle.text_programs.specs.Failures.{IsOfWriting, Begins};
 ghost use Rattle.text_programs.specs.Arguments.{read_arguments, wanted_of};
 ghost use Rattle.text_programs.specs.Streams.{first_item, after_item};
-ghost use Rattle.why.specs.Requests.{question_of, query_of, request_of};
+ghost use Rattle.why.specs.Requests.{question_of, query_of, request_of, IsOfFile, AsksOfFile};
+ghost use Rattle.why.specs.Desks.{Ready};
 ghost use Rattle.why.specs.Printed.{answer, item_answer, stream_answers, reply, printed};
 
+use screen::Lent;
+use std::alloc::Global;
 use std::io;
 use std::io::{Input, Print, Read, Write};
 use std::process::ExitCode;
@@ -19,10 +25,10 @@ use std::rt::Env;
 use text_programs::failure::Failure;
 use text_programs::options::{Want, arguments, number, read_options};
 use text_programs::stream::{read, skip_rest, word};
-use text_programs::tables::{file_buffer, text_buffer};
+use text_programs::tables::{Tables, file_buffer, text_buffer};
 use text_programs::{no_width_text, read_all, write_text};
 use text_why::{Question, question_text, why_text};
-use tile_reason::Asked;
+use tile::Asked;
 
 // A question at a tile.
 #[derive(Clone, Copy)]
@@ -83,40 +89,32 @@ fn read_request(others: &[String]) -> Option<Request>
     }
 }
 
-// Writes what is wanted of a question about a file's bytes: no other bytes can be handed to it.
-fn print<W: Write>(
-    output: &mut W,
-    file: &[u8],
-    want: Want,
-    query: Query,
-    text: &[u8],
-) -> Result<(), Failure>
-    requires { text.now ≡ answer (wanted_of want) query file.now }
-    ensures ok { OnOk result (Appends (W.contents output.old) (W.contents output.new) (answer (wanted_of want) query file.now)) }
-    ensures err { IsOkUnless result Failure.CannotWrite }
-{
-    write_text(output, text)
-}
-
-// Writes the line before question i's answer in a stream, and no other bytes.
-fn print_line<W: Write>(output: &mut W, i: u64, line: &[u8]) -> Result<(), Failure>
-    requires { line.now ≡ question-line i }
-    ensures ok { OnOk result (Appends (W.contents output.old) (W.contents output.new) (question-line i)) }
-    ensures err { IsOkUnless result Failure.CannotWrite }
-{
-    write_text(output, line)
+// What an answer is made in: the tables that take a file's screen, the text.
+#[derive(Drop)]
+struct Desk<'a> {
+    lent: Lent<'a>,
+    text: &'a mut [u8],
 }
 
 // What is wanted, put first; how long it is.
-fn wanted_text(file: &[u8], want: Want, query: Query, out: &mut [u8]) -> usize
-    requires { Usual (setup-of want.setup) × (264256 ≤ length out.old) }
+fn wanted_text(file: &[u8], want: Want, query: Query, lent: &mut Lent<'_>, out: &mut [u8]) -> usize
+    requires { Usual (setup-of want.setup) × Long (tables_in lent.old) × (264256 ≤ length out.old) }
+    ensures long { Long (tables_in lent.new) }
     ensures value { result ≡ length (answer (wanted_of want) query file.now) }
     ensures out_after { take result out.new ≡ answer (wanted_of want) query file.now }
 {
     if want.no_width {
         return no_width_text(file, out);
     }
-    why_text(file, want.setup, query.row, query.tile, query.question, out)
+    why_text(
+        file,
+        want.setup,
+        query.row,
+        query.tile,
+        query.question,
+        lent,
+        out,
+    )
 }
 
 fn print_answer<W: Write>(
@@ -124,40 +122,47 @@ fn print_answer<W: Write>(
     file: &[u8],
     want: Want,
     query: Query,
+    desk: &mut Desk<'_>,
 ) -> Result<(), Failure>
-    requires { Usual (setup-of want.setup) }
+    requires { Usual (setup-of want.setup) × Ready desk.old }
+    ensures ready { Ready desk.new }
     ensures ok { OnOk result (Appends (W.contents output.old) (W.contents output.new) (answer (wanted_of want) query file.now)) }
-    ensures err { IsOkUnless result Failure.CannotWrite }
+    ensures begun { Begins (W.contents output.old) (W.contents output.new) (answer (wanted_of want) query file.now) }
+    ensures err { IfErr result IsOfWriting }
 {
-    let mut out = text_buffer();
-    let n = wanted_text(file, want, query, &mut out);
-    print(output, file, want, query, &out[..n])
+    let n = wanted_text(file, want, query, &mut desk.lent, desk.text);
+    write_text(output, &desk.text[..n])
 }
 
 fn print_question<W: Write>(output: &mut W, i: u64) -> Result<(), Failure>
     ensures ok { OnOk result (Appends (W.contents output.old) (W.contents output.new) (question-line i)) }
-    ensures err { IsOkUnless result Failure.CannotWrite }
+    ensures begun { Begins (W.contents output.old) (W.contents output.new) (question-line i) }
+    ensures err { IfErr result IsOfWriting }
 {
-    let mut out = [0u8; 32];
-    let n = question_text(i, &mut out);
-    print_line(output, i, &out[..n])
+    let mut line = [0u8; 32];
+    let n = question_text(i, &mut line);
+    write_text(output, &line[..n])
 }
 
-// One question about the file on the input.
+// One question about the file on the input. Nothing is written before the file is read; where writing fails, a beginning of the answer is written.
 fn answer_file<R: Read, W: Write>(
     input: &mut R,
     output: &mut W,
     want: Want,
     query: Query,
+    buffer: &mut [u8],
+    desk: &mut Desk<'_>,
 ) -> Result<(), Failure>
-    requires { Usual (setup-of want.setup) }
+    requires { Usual (setup-of want.setup) × Ready desk.old × (65537 ≡ length buffer.old) }
     ensures ok { OnOk result (IfSome (R.remaining input.old) (λ file.
         Appends (W.contents output.old) (W.contents output.new) (answer (wanted_of want) query file))) }
+    ensures begun { IfSome (R.remaining input.old) (λ file.
+        Begins (W.contents output.old) (W.contents output.new) (answer (wanted_of want) query file)) }
+    ensures unread { IfErr result (λ e. IsOfWriting e ⊎ (output.new ≡ output.old)) }
     ensures err { IfErr result (λ e. e ≢ Failure.Usage) }
 {
-    let mut bytes = file_buffer();
-    let n = read_all(input, &mut bytes)?;
-    print_answer(output, &bytes[..n], want, query)
+    let n = read_all(input, buffer)?;
+    print_answer(output, &buffer[..n], want, query, desk)
 }
 
 // Question i of a stream, about the file of so many bytes after its head.
@@ -168,16 +173,18 @@ fn answer_next<R: Read, W: Write>(
     size: usize,
     want: Want,
     query: Query,
+    buffer: &mut [u8],
+    desk: &mut Desk<'_>,
 ) -> Result<(), Failure>
-    requires { Usual (setup-of want.setup) }
+    requires { Usual (setup-of want.setup) × Ready desk.old × (65537 ≡ length buffer.old) }
+    ensures ready { Ready desk.new }
     ensures ok { OnOk result (IfSome (R.remaining input.old) (λ bs. (R.remaining input.new ≡ Some (drop size bs))
         × Appends (W.contents output.old) (W.contents output.new) (question-line i ++ answer (wanted_of want) query (take size bs)))) }
     ensures err { IfErr result (λ e. e ≢ Failure.Usage) }
 {
-    let mut bytes = file_buffer();
-    let n = read(input, &mut bytes, size)?;
+    let n = read(input, buffer, size)?;
     print_question(output, i)?;
-    print_answer(output, &bytes[..n], want, query)?;
+    print_answer(output, &buffer[..n], want, query, desk)?;
     skip_rest(input, size)
 }
 
@@ -187,8 +194,11 @@ fn next<R: Read, W: Write>(
     output: &mut W,
     i: u64,
     want: Want,
+    buffer: &mut [u8],
+    desk: &mut Desk<'_>,
 ) -> Result<bool, Failure>
-    requires { Usual (setup-of want.setup) }
+    requires { Usual (setup-of want.setup) × Ready desk.old × (65537 ≡ length buffer.old) }
+    ensures ready { Ready desk.new }
     ensures ok { IfOk result (λ more. IfSome (R.remaining input.old) (λ bs. MatchBool more
         ((12 ≤ length bs) × (R.remaining input.new ≡ Some (after_item 12 bs))
         × Appends (W.contents output.old) (W.contents output.new) (item_answer (wanted_of want) i (first_item 12 bs)))
@@ -204,7 +214,8 @@ fn next<R: Read, W: Write>(
         tile: word(&head, 8),
         question: Question::Every,
     };
-    answer_next(input, output, i, word(&head, 0) as usize, want, query)?;
+    let size = word(&head, 0) as usize;
+    answer_next(input, output, i, size, want, query, buffer, desk)?;
     Ok(true)
 }
 
@@ -213,14 +224,16 @@ fn answer_stream<R: Read, W: Write>(
     input: &mut R,
     output: &mut W,
     want: Want,
+    buffer: &mut [u8],
+    desk: &mut Desk<'_>,
 ) -> Result<(), Failure>
-    requires { Usual (setup-of want.setup) }
+    requires { Usual (setup-of want.setup) × Ready desk.old × (65537 ≡ length buffer.old) }
     ensures ok { OnOk result (IfSome (R.remaining input.old) (λ stream.
         Appends (W.contents output.old) (W.contents output.new) (stream_answers (wanted_of want) stream))) }
     ensures err { IfErr result (λ e. e ≢ Failure.Usage) }
 {
     for i in 0..u64::MAX {
-        if !next(input, output, i, want)? {
+        if !next(input, output, i, want, buffer, desk)? {
             return Ok(());
         }
     }
@@ -232,35 +245,86 @@ fn answer_request<R: Read, W: Write>(
     output: &mut W,
     want: Want,
     request: Request,
+    buffer: &mut [u8],
+    desk: &mut Desk<'_>,
+) -> Result<(), Failure>
+    requires { Usual (setup-of want.setup) × Ready desk.old × (65537 ≡ length buffer.old) }
+    ensures ok { OnOk result (IfSome (R.remaining input.old) (λ bytes.
+        Appends (W.contents output.old) (W.contents output.new) (reply (wanted_of want) request bytes))) }
+    ensures begun { IsOfFile request → IfSome (R.remaining input.old) (λ bytes.
+        Begins (W.contents output.old) (W.contents output.new) (reply (wanted_of want) request bytes)) }
+    ensures unread { IsOfFile request → IfErr result (λ e. IsOfWriting e ⊎ (output.new ≡ output.old)) }
+    ensures err { IfErr result (λ e. e ≢ Failure.Usage) }
+{
+    match request {
+        Request::Stream => answer_stream(input, output, want, buffer, desk),
+        Request::File(query) => answer_file(input, output, want, query, buffer, desk),
+    }
+}
+
+// The same, in the program's own tables and buffers, made once.
+fn answer_input<R: Read, W: Write>(
+    alloc: Global,
+    input: &mut R,
+    output: &mut W,
+    want: Want,
+    request: Request,
 ) -> Result<(), Failure>
     requires { Usual (setup-of want.setup) }
     ensures ok { OnOk result (IfSome (R.remaining input.old) (λ bytes.
         Appends (W.contents output.old) (W.contents output.new) (reply (wanted_of want) request bytes))) }
+    ensures begun { IsOfFile request → IfSome (R.remaining input.old) (λ bytes.
+        Begins (W.contents output.old) (W.contents output.new) (reply (wanted_of want) request bytes)) }
+    ensures unread { IsOfFile request → IfErr result (λ e. IsOfWriting e ⊎ (output.new ≡ output.old)) }
     ensures err { IfErr result (λ e. e ≢ Failure.Usage) }
 {
-    match request {
-        Request::Stream => answer_stream(input, output, want),
-        Request::File(query) => answer_file(input, output, want, query),
-    }
+    let mut tables = Tables::new(alloc)?;
+    let mut text = text_buffer(alloc)?;
+    let mut buffer = file_buffer(alloc)?;
+    let mut desk = Desk {
+        lent: tables.lend(),
+        text: text.as_mut_slice(),
+    };
+    answer_request(
+        input,
+        output,
+        want,
+        request,
+        buffer.as_mut_slice(),
+        &mut desk,
+    )
 }
 
 // What the program does with its arguments, from its input to its output.
-fn run<R: Read, W: Write>(args: &[String], input: &mut R, output: &mut W) -> Result<(), Failure>
+fn run<R: Read, W: Write>(
+    alloc: Global,
+    args: &[String],
+    input: &mut R,
+    output: &mut W,
+) -> Result<(), Failure>
     ensures usage { IsErrOf result Failure.Usage ↔ (request_of (read_arguments false (map string_bytes args.now)).others ≡ None) }
     ensures untouched { IsErrOf result Failure.Usage → (input.new ≡ input.old) × (output.new ≡ output.old) }
     ensures printed { OnOk result (IfSome (R.remaining input.old) (λ bytes.
         Appends (W.contents output.old) (W.contents output.new) (printed (map string_bytes args.now) bytes))) }
+    ensures unread { AsksOfFile (map string_bytes args.now) → IfErr result (λ e. IsOfWriting e ⊎ (output.new ≡ output.old)) }
+    ensures begun { AsksOfFile (map string_bytes args.now) → IfSome (R.remaining input.old) (λ bytes.
+        Begins (W.contents output.old) (W.contents output.new) (printed (map string_bytes args.now) bytes)) }
 {
     let options = read_options(args, false);
     let Some(request) = read_request(options.others) else {
         return Err(Failure::Usage);
     };
-    answer_request(input, output, options.want, request)
+    answer_input(alloc, input, output, options.want, request)
 }
 
 fn start<E: Env + AllocGlobal + Input + Print>(rt: &E) -> Result<(), Failure> {
     let args = arguments(rt)?;
-    run(args.as_slice(), &mut rt.reader(), &mut io::writer(rt))
+    run(
+        rt.alloc(),
+        args.as_slice(),
+        &mut rt.reader(),
+        &mut io::writer(rt),
+    )
 }
 
 fn main(rt: HostRuntime) -> ExitCode {

@@ -1,5 +1,5 @@
 use Rattle.std.proofs.Common.{rules}
-use Rattle.screen.proofs.Laws.{few_rows}
+use Rattle.screen.proofs.ScreenLaws.{few_rows}
 use Rattle.screen.proofs.judge_reset.Goals as goal
 
 pub is_good_rooms-requires : goal.is_good_rooms-requires

@@ -1,9 +1,9 @@
 -- The first line stands first, the refusal after it.
 use native.Mathlib.Omega.{arith}
-use Rattle.text_dump.proofs.Files.{line_first, whole-text}
+use Rattle.text_dump.proofs.Files.{whole-text}
 use Rattle.text_dump.proofs.no_width_dump.Goals as goal
 
 pub returns-clause-out_after : goal.returns-clause-out_after
 returns-clause-out_after c =
-    let line = line_first c.args.i _ (omega arith) c.put_recording-k.ensures in
-    (whole-text c.args.i _ _ line.0 line.1 c.no_width_text-more.ensures.value c.no_width_text-more.ensures.out_after (omega arith)).1
+    let line = c.put_recording-k.ensures in
+    (whole-text c.args.i _ _ line.value line.out_after c.no_width_text-more.ensures.value c.no_width_text-more.ensures.out_after (omega arith)).1

@@ -1,9 +1,9 @@
--- The word, the number, the line feed.
 use native.Mathlib.Omega.{arith}
-use Rattle.text.proofs.Laws.{then, within}
-use Rattle.text_dump.specs.Rowdump.{recording-line}
+use Rattle.text_dump.proofs.Files.{line-few}
 use Rattle.text_dump.proofs.put_recording.Goals as goal
 
-pub returns : goal.returns
-unfolding recording-line
-returns c = within (omega arith) (then c.put_text-a.ensures (then c.put_digits-b.ensures c.put_byte.ensures))
+pub print_first-requires-clause-within : goal.print_first-requires-clause-within
+print_first-requires-clause-within c = omega (arith, line-few c.args.i)
+
+pub returns-clause-short : goal.returns-clause-short
+returns-clause-short c = omega (arith, line-few c.args.i, c.print_first.ensures.value)

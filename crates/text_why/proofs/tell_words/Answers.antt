@@ -4,8 +4,8 @@ use mathlib.Core.Path.{sym, ◌∙◌}
 use Rattle.std.proofs.lemmas.Result.{err_from_is_err_and}
 use Rattle.rules.proofs.All.{never}
 use Rattle.screen.specs.Screens.{setup-of}
-use Rattle.file_form.proofs.Laid.{good-form}
-use Rattle.tile_call.proofs.Explaining.{view-seen, view-unseen}
+use Rattle.file.proofs.Laid.{good-form}
+use Rattle.tile.proofs.Explaining.{view-seen, view-unseen}
 use Rattle.text_why.proofs.Accepted.{formless, ready, good-view, off-answer, told-of}
 use Rattle.text_why.proofs.tell_words.Goals as goal
 

@@ -1,4 +1,4 @@
-use Rattle.file_read.proofs.Given.{good-props-said, props-good}
+use Rattle.walk.proofs.Given.{good-props-said, props-good}
 use Rattle.theorem_picture.proofs.Props.{push-reached}
 use Rattle.theorem_picture.proofs.Reached.{reached, step-reached}
 use Rattle.theorem_picture.proofs.Answered.{stands-answered, calls-said, refused-kept}

@@ -1,3 +1,4 @@
+use Rattle.why.specs.Desks.{Ready}
 use Rattle.text_programs.specs.Arguments.{wanted_of}
 use Rattle.text_programs.proofs.Streaming.{Completes}
 use Rattle.why.specs.Printed.{item_answer}
@@ -5,6 +6,7 @@ use Rattle.why.proofs.answer_stream.Given as goal
 
 abbrev pub invariant-loop-i : goal.invariant-loop-i
 invariant-loop-i g l =
-    Completes (item_answer (wanted_of l.want)) 12 l.i (g.R.Read.remaining l.initial.input) (g.R.Read.remaining l.input)
+    Ready l.desk
+    × Completes (item_answer (wanted_of l.want)) 12 l.i (g.R.Read.remaining l.initial.input) (g.R.Read.remaining l.input)
     (g.W.Write.contents l.initial.output)
     (g.W.Write.contents l.output)

@@ -1,7 +1,7 @@
 -- The form, then the reset to the viewport that stands at place 1.
 use Rattle.std.proofs.lemmas.Result.{err_from_is_err_and}
 use Rattle.screen.specs.Screens.{setup-of}
-use Rattle.file_form.proofs.Laid.{good-form, bad-form}
+use Rattle.file.proofs.Laid.{good-form, bad-form}
 use Rattle.host.proofs.Ways.{no-file, a-file}
 use Rattle.host.proofs.border.judge_file.Goals as goal
 

@@ -1,6 +1,6 @@
 -- The form, then the number.
 use mathlib.Core.Path.{◌∙◌}
-use Rattle.file_form.proofs.Laid.{good-form, bad-form}
+use Rattle.file.proofs.Laid.{good-form, bad-form}
 use Rattle.host.proofs.Ways.{unasked-form, unasked-file}
 use Rattle.host.proofs.border.refuse_setup.Goals as goal
 

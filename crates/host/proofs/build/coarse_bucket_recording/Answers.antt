@@ -3,7 +3,7 @@
 use Rattle.std.proofs.Common.{rules}
 use Rattle.screen.specs.Screens.{setup-of}
 use Rattle.screen.specs.Tables.{Tables, tables}
-use Rattle.host.proofs.Asked.{recording_asked}
+use Rattle.host.proofs.HostAsked.{recording_asked}
 use Rattle.host.proofs.Built.{recording_built}
 use Rattle.host.proofs.Unheld.{recording_unheld}
 use Rattle.host.proofs.build.coarse_bucket_recording.Goals as goal

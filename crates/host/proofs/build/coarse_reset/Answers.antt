@@ -4,8 +4,8 @@ use mathlib.Core.Path.{refl, sym}
 use Rattle.std.proofs.Common.{rules, true}
 use Rattle.screen.specs.Screens.{setup-of}
 use Rattle.screen.specs.Tables.{Tables, tables}
-use Rattle.host_screen.proofs.Words.{written_back}
-use Rattle.host.proofs.Asked.{reset_asked}
+use Rattle.host.proofs.Words.{written_back}
+use Rattle.host.proofs.HostAsked.{reset_asked}
 use Rattle.host.proofs.Built.{reset_built}
 use Rattle.host.proofs.Unheld.{reset_unheld}
 use Rattle.host.proofs.build.coarse_reset.Goals as goal

@@ -1,6 +1,6 @@
 -- Words that ask for no setup are refused; else the lengths in the setup that they ask for.
 use Rattle.screen.specs.Screens.{setup-of}
-use Rattle.host.proofs.Asked.{sizes_asked}
+use Rattle.host.proofs.HostAsked.{sizes_asked}
 use Rattle.host.proofs.lengths.coarse_sizes.Goals as goal
 
 pub returns : goal.returns

@@ -1,5 +1,5 @@
 -- The call's own equation, carried over to the words.
-use Rattle.host.proofs.Results.{skip_roomed}
+use Rattle.host.proofs.HostResults.{skip_roomed}
 use Rattle.host.proofs.painting.coarse_can_skip.Goals as goal
 
 pub returns : goal.returns

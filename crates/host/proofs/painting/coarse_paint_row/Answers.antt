@@ -1,6 +1,6 @@
 -- The call's own equation, carried over to the words.
 use Rattle.std.proofs.Common.{rules}
-use Rattle.host.proofs.Results.{row_roomed}
+use Rattle.host.proofs.HostResults.{row_roomed}
 use Rattle.host.proofs.painting.coarse_paint_row.Goals as goal
 
 pub returns : goal.returns

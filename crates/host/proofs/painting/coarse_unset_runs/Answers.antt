@@ -1,5 +1,5 @@
 -- The call's own equation, carried over to the words.
-use Rattle.host.proofs.Results.{unset_roomed}
+use Rattle.host.proofs.HostResults.{unset_roomed}
 use Rattle.host.proofs.painting.coarse_unset_runs.Goals as goal
 
 pub returns : goal.returns

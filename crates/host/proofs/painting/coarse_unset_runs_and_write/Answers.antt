@@ -1,5 +1,5 @@
 -- The call's own equation, carried over to the words.
-use Rattle.host.proofs.Results.{write_roomed}
+use Rattle.host.proofs.HostResults.{write_roomed}
 use Rattle.host.proofs.painting.coarse_unset_runs_and_write.Goals as goal
 
 pub returns : goal.returns

@@ -1,5 +1,5 @@
 -- The call's own equation, carried over to the words.
-use Rattle.host.proofs.Results.{visible_roomed}
+use Rattle.host.proofs.HostResults.{visible_roomed}
 use Rattle.host.proofs.painting.coarse_visible_runs.Goals as goal
 
 pub returns : goal.returns

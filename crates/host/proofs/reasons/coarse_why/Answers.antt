@@ -8,9 +8,9 @@ use Rattle.std.proofs.Common.{rules}
 use Rattle.rules.proofs.All.{both}
 use Rattle.screen.specs.Screens.{setup-of}
 use Rattle.screen.specs.Tables.{Tables, tables}
-use Rattle.host_screen.proofs.Words.{was_good}
+use Rattle.host.proofs.Words.{was_good}
 use Rattle.host.specs.Reasons.{reason-size}
-use Rattle.host.proofs.Asked.{why_asked}
+use Rattle.host.proofs.HostAsked.{why_asked}
 use Rattle.host.proofs.Questions.{why_unheld, why_built}
 use Rattle.host.proofs.reasons.coarse_why.Goals as goal
 

@@ -1,2 +1,0 @@
-pub mod Spans
-pub mod Listing

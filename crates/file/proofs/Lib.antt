@@ -1,0 +1,9 @@
+pub mod Bytes
+pub mod Eaches
+pub mod Laid
+pub mod Reading
+pub mod Counted
+pub mod Fields
+pub mod Laws
+pub mod Listed
+pub mod Orders

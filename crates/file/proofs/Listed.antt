@@ -1,0 +1,128 @@
+-- A file's segment section as a list of its own, and its lists' order.
+use Prim.Native.Nat.{ℕ, zero, suc, ◌+◌, ◌-◌, ◌*◌, ◌/◌, ◌≤◌, ◌<◌}
+use native.Mathlib.Nat.{add-zero, add_assoc, mul-zero}
+use native.Mathlib.Omega.{arith}
+use mathlib.Core.Path.{◌≡◌, refl, sym, ap, ◌∙◌}
+use mathlib.Core.Bool.{Bool, true, false, not, cond}
+use mathlib.Core.List.{List, [], ◌∷◌}
+use lib.ListN.{length, get_or, take, drop, length-take, length-drop}
+use lib.Seq.{get_or-take, get_or-drop}
+use lib.Dec.{leb, eqb}
+use borrow.Author.Tests.{leb-true, ne_eqb}
+use Rattle.std.specs.Prelude.{Result, Ok, Err}
+use Rattle.std.specs.Result.{is_ok}
+use Rattle.sizes.specs.declared.answers.Refusal.{Refusal}
+use Rattle.sizes.specs.Refusals.{number_of, answer_number}
+use Rattle.sizes.proofs.Refusals.{not_done}
+use Rattle.std.specs.List.{list_all, range_with_len}
+use Rattle.rules.specs.Lists.{every, slice}
+use Rattle.rules.specs.Segments.{Segment, good-segment, ordered, judge-segments}
+use Rattle.rules.specs.Spans.{good-range}
+use Rattle.segments.specs.Segs.{seg-at, segs, segs-of}
+use Rattle.segments.proofs.Laws.{segs-slice}
+use Rattle.file.specs.Each.{each}
+use Rattle.file.specs.Places.{segment_from}
+use Rattle.rules.proofs.All.{both}
+
+-- the segments of a part are the file's
+module _ (ws : List ℕ) (a n m : ℕ) (e : m ≡ 5 * n) (fits : a + m ≤ length ws) where
+  abbrev part : List ℕ
+  part = take m (drop a ws)
+
+  in-part : (i j : ℕ) → 5 * i + j < m → get_or part (5 * i + j) 0 ≡ get_or ws (a + 5 * i + j) 0
+  in-part i j h = rw (get_or-take m (drop a ws) (5 * i + j) 0 h, get_or-drop a ws (5 * i + j) 0, add_assoc a (5 * i) j)
+
+  one-part : (i : ℕ) → i < n → seg-at part i ≡ segment_from ws (a + 5 * i)
+  unfolding seg-at segment_from
+  one-part i h =
+      let z : get_or part (5 * i) 0 ≡ get_or ws (a + 5 * i) 0 = rw (add-zero (5 * i), add-zero (a + 5 * i)) at (in-part i 0 (omega arith)) in
+      rw (z, in-part i 1 (omega arith), in-part i 2 (omega arith), in-part i 3 (omega arith), in-part i 4 (omega arith))
+
+  from-part : (k i : ℕ) → i + k ≤ n → segs part i k ≡ each segment_from 5 ws (a + 5 * i) k
+  unfolding segs each
+  from-part zero i h = refl
+  from-part (suc k) i h =
+      let p : a + 5 * (i + 1) ≡ a + 5 * i + 5 = omega arith in
+      rw (one-part i (omega arith), from-part k (i + 1) (omega arith), p)
+
+  pub part_length : length part ≡ m
+  part_length = simp (length-take, length-drop) (omega arith)
+
+  pub part_count : length part / 5 ≡ n
+  part_count = rw (part_length, e) (omega arith)
+
+  -- the segment section, lent as a part of the words, is the recording's segment list
+  pub part-segments : segs-of part ≡ each segment_from 5 ws a n
+  part-segments = rw part_count (rw (mul-zero, add-zero) at (from-part n 0 (omega arith)))
+
+-- the part that the code lends: n segments from place a on
+abbrev pub lent : List ℕ → ℕ → ℕ → List ℕ
+lent ws a n = take (a + 5 * n - a) (drop a ws)
+
+module _ (ws : List ℕ) (a n : ℕ) (fits : a + n * 5 ≤ length ws) where
+  width : a + 5 * n - a ≡ 5 * n
+  width = omega arith
+
+  room : a + (a + 5 * n - a) ≤ length ws
+  room = omega arith
+
+  pub lent-count : length (lent ws a n) / 5 ≡ n
+  lent-count = part_count ws a n (a + 5 * n - a) width room
+
+  pub lent-segments : segs-of (lent ws a n) ≡ each segment_from 5 ws a n
+  lent-segments = part-segments ws a n (a + 5 * n - a) width room
+
+-- a test of every place of the list
+segs-tested : (ws : List ℕ) (i k : ℕ) → list_all (λ (j : ℕ). good-segment (seg-at ws j)) (range_with_len i k) ≡ every good-segment (segs ws i k)
+unfolding segs
+segs-tested ws i zero = refl
+segs-tested ws i (suc k) = rw (segs-tested ws (i + 1) k)
+
+pub segments-tested : (ws : List ℕ) (a n : ℕ) → a + n * 5 ≤ length ws
+    → list_all (λ (j : ℕ). good-segment (seg-at (lent ws a n) j)) (range_with_len 0 n) ≡ every good-segment (each segment_from 5 ws a n)
+segments-tested ws a n h =
+    segs-tested (lent ws a n) 0 n
+    ∙ ap (every good-segment) (rw (lent-count ws a n h) at (lent-segments ws a n h))
+
+module _ {A : Type 0} (test : A → Bool) where
+  every_drop : (n : ℕ) (xs : List A) → every test xs ≡ true → every test (drop n xs) ≡ true
+  every_drop zero xs q = q
+  every_drop (suc n) [] q = q
+  every_drop (suc n) (x ∷ xs) q = every_drop n xs (both (test x) (every test xs) q).1
+
+  every_take : (n : ℕ) (xs : List A) → every test xs ≡ true → every test (take n xs) ≡ true
+  every_take zero xs q = refl
+  every_take (suc n) [] q = q
+  every_take (suc n) (x ∷ xs) q =
+      let h = both (test x) (every test xs) q in
+      rw h.0 (every_take n xs h.1)
+
+-- what an `Ok` says of its answer
+pub fine : {T : Type 0} (r : Result T Refusal) → is_ok r ≡ eqb (answer_number r) 0
+fine (Ok x) = refl
+fine (Err r) = sym (ne_eqb (number_of r) 0 (not_done r))
+
+only-order : (t : Bool) → eqb (cond (not t) 5 0) 0 ≡ t
+only-order true = refl
+only-order false = refl
+
+judged-good : (ss : List Segment) → every good-segment ss ≡ true → eqb (judge-segments false ss) 0 ≡ ordered ss
+unfolding judge-segments
+judged-good ss q = rw q (only-order (ordered ss))
+
+-- a range of a list of good segments: only its order is left to be judged
+module _ (ws : List ℕ) (a b : ℕ) (g : good-range a b (length ws / 5) ≡ true) where
+  range-order : a ≤ b
+  range-order = leb-true a b (both (leb a b) (leb b (length ws / 5)) g).0
+
+  range-end : b ≤ length ws / 5
+  range-end = leb-true b (length ws / 5) (both (leb a b) (leb b (length ws / 5)) g).1
+
+  pub range-fits : (a ≤ b) × (5 * b ≤ length ws)
+  range-fits = let h = range-end in (range-order, omega arith)
+
+  pub range-judged : every good-segment (segs-of ws) ≡ true
+      → eqb (judge-segments false (segs ws a (b - a))) 0 ≡ ordered (slice a b (segs-of ws))
+  range-judged q =
+      rw (segs-slice ws a b range-order range-end)
+      (judged-good (slice a b (segs-of ws)) (every_take good-segment (b - a) (drop a (segs-of ws)) (every_drop good-segment a (segs-of ws) q)))

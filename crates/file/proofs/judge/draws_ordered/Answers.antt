@@ -1,0 +1,30 @@
+use Prim.Native.Nat.{◌+◌, ◌*◌, ◌/◌}
+use native.Mathlib.Omega.{arith}
+use mathlib.Core.Path.{refl, ◌∙◌}
+use borrow.Author.Rules.{rules}
+use borrow.Author.Tests.{tests}
+use lib.ListN.{length}
+use Rattle.std.proofs.lemmas.Iterator.{YieldsList-from_range, serves_from_Range}
+use Rattle.std.proofs.lemmas.Iterator.Search.{all_from_yields_List}
+use Rattle.segments.specs.Segs.{segs-of}
+use Rattle.file.specs.Places.{draw_from}
+use Rattle.file.proofs.Eaches.{each_place, every-at}
+use Rattle.file.specs.Judging.{draw_range, draw_ordered}
+use Rattle.file.proofs.judge.draws_ordered.Goals as goal
+
+pub all-requires-clause-callable : goal.all-requires-clause-callable
+unfolding draw_range draw_from
+all-requires-clause-callable c =
+    serves_from_Range (λ x q k. search (rules, tests))
+    (λ x a b.
+    let r = every-at draw_from 7 c.args.w.now (draw_range (length c.args.list.now / 5)) c.args.draws.at c.args.draws.count x b c.requires.1.0 in
+    search (rules, tests, r))
+
+pub returns : goal.returns
+unfolding draw_ordered draw_from
+returns c =
+    let w = c.args.w.now in
+    let s = c.args.draws in
+    let test = draw_ordered (segs-of c.args.list.now) in
+    all_from_yields_List (λ i. test (draw_from w (s.at + 7 * i))) _ _ _ c.all.ensures.ran (YieldsList-from_range 0 s.count s.count refl (omega arith)) (λ x b q k. search (rules, tests))
+    ∙ each_place draw_from 7 w test s.at s.count

@@ -1,0 +1,6 @@
+pub mod Each
+pub mod Layouts
+pub mod Places
+pub mod Words
+pub mod Counted
+pub mod Judging

@@ -1,0 +1,97 @@
+// The recording file's form (answer 3): where each section stands. A section is a part of the caller's words, not a copy.
+ghost use Rattle.std.specs.Prelude.{◌≡◌, ◌/◌, ◌≤◌, length};
+ghost use Rattle.rules.specs.Recording.{good-count};
+ghost use Rattle.file.specs.Layouts.{stands, section_at, form_of};
+ghost use Rattle.file.specs.Words.{filled, filled-with};
+
+use sizes::answers::Refusal;
+use sizes::{DRAW, LAYER, MOST_RECORDS, NODE, PAINT, SEGMENT};
+
+// The place of its first record among the file's words, and how many records it has.
+#[derive(Clone, Copy)]
+pub struct Section {
+    pub at: usize,
+    pub count: usize,
+}
+
+// The sections after the viewport, whose four words stand at place 1. The root has two words.
+#[derive(Clone, Copy)]
+pub struct Layout {
+    pub paints: Section,
+    pub segments: Section,
+    pub draws: Section,
+    pub layers: Section,
+    pub nodes: Section,
+    pub root: Section,
+}
+
+// A count is 1 where it is fixed, else at most 4,096.
+fn is_good_count(fixed: bool, n: u32) -> bool
+    ensures { result ≡ good-count fixed n }
+{
+    if fixed {
+        n == 1
+    } else {
+        n as usize <= MOST_RECORDS
+    }
+}
+
+// The section whose count stands at place `at`, of records of `size` words, and the place past it.
+#[tactic(auto, unfolding(crate::specs::Layouts::stands))]
+fn find_section(
+    words: &[u32],
+    at: usize,
+    size: usize,
+    fixed: bool,
+) -> Result<(Section, usize), Refusal>
+    requires { size ≤ 22 }
+    ensures { result ≡ section_at size fixed words.now at }
+{
+    if at < words.len()
+        && is_good_count(fixed, words[at])
+        && words[at] as usize * size <= words.len() - (at + 1)
+    {
+        let first = at + 1;
+        let count = words[at] as usize;
+        Ok((Section { at: first, count }, first + count * size))
+    } else {
+        Err(Refusal::BadForm)
+    }
+}
+
+// Where the sections of a file stand, or BadForm, 3: the file is not exactly its counted sections.
+pub fn read_form(words: &[u32]) -> Result<Layout, Refusal>
+    ensures { result ≡ form_of words.now }
+{
+    let (_, a) = find_section(words, 0, 4, true)?;
+    let (paints, b) = find_section(words, a, PAINT, false)?;
+    let (segments, c) = find_section(words, b, SEGMENT, false)?;
+    let (draws, d) = find_section(words, c, DRAW, false)?;
+    let (layers, e) = find_section(words, d, LAYER, false)?;
+    let (nodes, f) = find_section(words, e, NODE, false)?;
+    let (root, g) = find_section(words, f, 2, true)?;
+    if words.len() != g {
+        return Err(Refusal::BadForm);
+    }
+    Ok(Layout {
+        paints,
+        segments,
+        draws,
+        layers,
+        nodes,
+        root,
+    })
+}
+
+// The bytes' whole words, little-endian, put first in `words`; how many there are. Up to three bytes left over are not read: their file is refused by 3.
+pub fn words_of_bytes(bytes: &[u8], words: &mut [u32]) -> usize
+    requires { length bytes.now / 4 ≤ length words.old }
+    ensures { filled result words.new ≡ filled-with bytes.now words.old }
+{
+    let n = bytes.len() / 4;
+    for i in 0..n {
+        let at = 4 * i;
+        words[i] = u32::from_le_bytes([bytes[at], bytes[at + 1], bytes[at + 2], bytes[at + 3]]);
+    }
+    n
+}

@@ -1,2 +1,0 @@
-pub mod Recordings
-pub mod Accepted

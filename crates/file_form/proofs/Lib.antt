@@ -1,4 +1,0 @@
-pub mod Bytes
-pub mod Eaches
-pub mod Laid
-pub mod Reading

@@ -1,4 +1,0 @@
-pub mod Each
-pub mod Layouts
-pub mod Places
-pub mod Words

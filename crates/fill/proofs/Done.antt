@@ -1,0 +1,232 @@
+-- What a fill's number 0 gives, and what a done fill leaves. Assumes nothing.
+use mathlib.Core.Path.{◌≡◌, refl, sym, ap, ◌∙◌}
+use mathlib.Core.Bool.{Bool, true, false, cond}
+use mathlib.Core.List.{List, [], ◌∷◌, append-nil}
+use Prim.Native.Nat.{ℕ, ◌+◌, ◌-◌, ◌*◌, ◌≤◌, ◌<◌}
+use native.Mathlib.Omega.{arith}
+use lib.Dec.{ltb, eqb}
+use lib.ListN.{length, drop, take-append-drop}
+use lib.Seq.{drop_at, drop-length}
+use borrow.Author.Tests.{eqb-true, eqb-false, ne_eqb, ltb-true, ltb-false}
+use Rattle.sizes.specs.Sizes.{paint-attr-size}
+use Rattle.rules.specs.Lists.{join}
+use Rattle.rules.specs.Answers.{answer, Done, BadRecord, first_of}
+use Rattle.rules.specs.Boxes.{rows_of}
+use Rattle.rules.specs.Segments.{judge-segments}
+use Rattle.rules.specs.Inputs.{good-fill}
+use Rattle.rules.specs.Attributes.{attrs-full}
+use Rattle.screen.specs.Attributes.{paint-attr-words}
+use Rattle.rules.specs.Plans.{Plan, draw-puts}
+use Rattle.rules.proofs.All.{never}
+use Rattle.rules.specs.Steps as steps
+use Rattle.rules.specs.Steps.{do-puts, done, passes, refusal}
+use Rattle.cmd.specs.Attrs.{words-at, put-paint}
+use Rattle.cmd.specs.declared.attrs.PaintFillAttrs.{PaintFillAttrs}
+use Rattle.row.specs.Words.{Words, word, word-ops}
+use Rattle.row.specs.Arena.{sizes, lay}
+use Rattle.row.proofs.RowsLaws.{lay-cut}
+use Rattle.row.specs.Building.{rows_at, screen-at, good_rows, step_number}
+use Rattle.rect.specs.Rects.{box_of}
+use Rattle.screen.specs.declared.Screen.{Screen}
+use Rattle.screen.specs.Screens.{frame-of, state-of, screen-after, counted}
+use Rattle.screen.proofs.ScreenLaws.{few_rows, same-layers, paint-count, layer-attr-count, filter-count}
+use Rattle.segments.specs.Segs as segs
+use Rattle.segments.specs.Segs.{segs-of}
+use Rattle.segments.proofs.Laws as listed
+use Rattle.fill.specs.Filling as filling
+use Rattle.fill.specs.Filling.{puts_of, FillReady}
+use Rattle.fill.specs.Tallies.{cuts-of}
+use Rattle.fill.proofs.Rising.{rising}
+use Rattle.fill.proofs.Judged.{all-landed, roomy-judged}
+use Rattle.fill.specs.declared.Draw.{Draw}
+use Rattle.fill.specs.Fills.{draw-of, paints-of, job_of, Passing, FillLent, lent, fill-plan, first-of-lent, fill_number, fill_done, filled}
+use Rattle.fill.proofs.Inputs.{GoodDraw, draw-facts}
+use Rattle.fill.proofs.Planned.{state-frame, state-next, plan-layers, plan-next, refused-bad, refused-are, puts-are, rows_are, attrs-same, attrs-more, full-attrs, paints-more, filters-same}
+use Rattle.fill.proofs.Numbers.{passing, long, rowed, good-are}
+
+module _ (l : FillLent) (ps ss : List ℕ) (d : Draw) where
+  -- what is refused alters nothing
+  pub refused : {n : ℕ} → n ≡ fill_number l ps ss d → (n ≡ 0 → ⊥) → answer n l ≡ filled l ps ss d
+  refused {n} e h = rw (← e, ne_eqb n 0 h)
+
+-- the number 0
+said-no : (f : ℕ) (g : Bool) (r : ℕ) → cond (eqb f Done) (cond g r BadRecord) f ≡ 0 → (f ≡ 0) × (g ≡ true) × (r ≡ 0)
+said-no f g r h = go (eqb f Done) g refl h
+  where
+    go : (b g : Bool) → eqb f Done ≡ b → cond b (cond g r BadRecord) f ≡ 0 → (f ≡ 0) × (g ≡ true) × (r ≡ 0)
+    go true true e k = (eqb-true f 0 e, refl, k)
+    go true false e k = absurd (omega arith)
+    go false g e k = absurd (eqb-false f 0 e k)
+
+none-of-five : (a b c d e : Bool) → first_of ((a, 6) ∷ (b, 8) ∷ (c, 9) ∷ (d, 10) ∷ (e, 11) ∷ []) ≡ 0 → (b ≡ false) × (c ≡ false) × (d ≡ false) × (e ≡ false)
+none-of-five true b c d e h = absurd (omega arith)
+none-of-five false true c d e h = absurd (omega arith)
+none-of-five false false true d e h = absurd (omega arith)
+none-of-five false false false true e h = absurd (omega arith)
+none-of-five false false false false true h = absurd (omega arith)
+none-of-five false false false false false h = (refl, refl, refl, refl)
+
+-- no refusal: none of its own, and no limit passed
+own-and-tests : (r x : ℕ) → cond (eqb r Done) x r ≡ 0 → (r ≡ 0) × (x ≡ 0)
+own-and-tests r x h = go (eqb r Done) refl h
+  where
+    go : (b : Bool) → eqb r Done ≡ b → cond b x r ≡ 0 → (r ≡ 0) × (x ≡ 0)
+    go true e k = (eqb-true r 0 e, k)
+    go false e k = absurd (eqb-false r 0 e k)
+
+tests : (p : Plan) (t : steps.Screen Words) → refusal Words word-ops p t ≡ 0
+    → (p.refused ≡ 0) × (ltb 1048577 p.next ≡ false) × (attrs-full p.attrs ≡ false)
+    × (passes Words word-ops (word 0) t.state.frame.c p.puts t.rows ≡ false) × (passes Words word-ops (word 1) t.state.frame.d p.puts t.rows ≡ false)
+unfolding refusal
+tests p t h =
+    let deep = ltb 16 (length p.layers) in
+    let ids = ltb 1048577 p.next in
+    let full = attrs-full p.attrs in
+    let row = passes Words word-ops (word 0) t.state.frame.c p.puts t.rows in
+    let fills = passes Words word-ops (word 1) t.state.frame.d p.puts t.rows in
+    let a = own-and-tests p.refused (first_of ((deep, 6) ∷ (ids, 8) ∷ (full, 9) ∷ (row, 10) ∷ (fills, 11) ∷ [])) h in
+    let b = none-of-five deep ids full row fills a.1 in
+    (a.0, b.0, b.1, b.2, b.3)
+
+-- what the number 0 says
+pub record Zero (l : FillLent) (ps ss : List ℕ) (d : Draw) : Type 0 where
+  pub first : first-of-lent l ps ss ≡ 0
+  pub draw : good-fill (paints-of ps) (segs-of ss) (draw-of d) ≡ true
+  pub list : judge-segments false (segs.segs ss d.start (d.end - d.start)) ≡ 0
+  pub ids : l.screen.next_draw_id ≤ 1048576
+  pub attrs : attrs-full (fill-plan l.screen ps ss d).attrs ≡ false
+  pub ready : FillReady (job_of l.screen ps d) (rows_of (box_of l.screen.viewport)) ss d.start d.end l.words
+
+module _ (l : FillLent) (ps ss : List ℕ) (d : Draw) where
+  parts : fill_number l ps ss d ≡ 0 → (first-of-lent l ps ss ≡ 0)
+      × (good_rows (frame-of l.screen) l.screen.layers (fill-plan l.screen ps ss d).puts (screen-at (state-of l.screen) l.words).rows ≡ true)
+      × (refusal Words word-ops (fill-plan l.screen ps ss d) (done Words word-ops (fill-plan l.screen ps ss d) (screen-at (state-of l.screen) l.words)) ≡ 0)
+  unfolding fill_number step_number
+  parts h =
+      let p = fill-plan l.screen ps ss d in
+      let t = screen-at (state-of l.screen) l.words in
+      said-no (first-of-lent l ps ss) (good_rows (frame-of l.screen) l.screen.layers p.puts t.rows) (refusal Words word-ops p (done Words word-ops p t)) h
+
+  done-frame : (done Words word-ops (fill-plan l.screen ps ss d) (screen-at (state-of l.screen) l.words)).state.frame ≡ frame-of l.screen
+  unfolding done
+  done-frame = state-frame l.screen
+
+  -- a refused draw is not done
+  good-own : (fill-plan l.screen ps ss d).refused ≡ 0 → good-fill (paints-of ps) (segs-of ss) (draw-of d) ≡ true
+  good-own e = go (good-fill (paints-of ps) (segs-of ss) (draw-of d)) refl
+    where
+      go : (b : Bool) → good-fill (paints-of ps) (segs-of ss) (draw-of d) ≡ b → good-fill (paints-of ps) (segs-of ss) (draw-of d) ≡ true
+      go true h = h
+      go false h = let z : ◌≡◌ {A = ℕ} 4 0 = sym (refused-bad l.screen ps ss d h) ∙ e in absurd (omega arith)
+
+  pub zero-says : fill_number l ps ss d ≡ 0 → Zero l ps ss d
+  zero-says h =
+      let a = parts h in
+      let t = tests (fill-plan l.screen ps ss d) (done Words word-ops (fill-plan l.screen ps ss d) (screen-at (state-of l.screen) l.words)) a.2 in
+      let q = good-own t.0 in
+      let g = draw-facts ps ss d q in
+      let e : judge-segments false (segs.segs ss d.start (d.end - d.start)) ≡ 0 = sym (refused-are l.screen ps ss d g q) ∙ t.0 in
+      let j = listed.judged (segs.segs ss d.start (d.end - d.start)) e in
+      let o = rowed l ps ss d a.0 in
+      let p = passing l ps ss d a.0 in
+      let n = few_rows (box_of l.screen.viewport) p.view in
+      record {
+        first = a.0;
+        draw = q;
+        list = e;
+        ids = omega (arith, ltb-false 1048577 (fill-plan l.screen ps ss d).next t.1, plan-next l.screen ps ss d);
+        attrs = t.2;
+        ready =
+            record {
+              fits = record { arenas = record { rows = n; c = o.c; d = o.d; long = long l ps ss d a.0 }; layers = o.layers; starts = o.starts; bottom = o.bottom };
+              before = g.range;
+              within = omega (arith, g.ends);
+              good = j.good;
+              room =
+                  roomy-judged (job_of l.screen ps d) (box_of l.screen.viewport) (rows_of (box_of l.screen.viewport)) l.words o.layers (long l ps ss d a.0) n
+                  (all-landed o (segs.segs ss d.start (d.end - d.start)) j.good)
+                  (rising (segs.origin (job_of l.screen ps d).scene) (segs.bounds (job_of l.screen ps d).scene) (segs.segs ss d.start (d.end - d.start)) j.order)
+                  (sym (good-are l ps ss d a.0 q) ∙ a.1) o.c o.d
+                  (rw (done-frame, rows_are l.screen ps ss d g l.words p, puts-are l.screen ps ss d g p) at t.3)
+                  (rw (done-frame, rows_are l.screen ps ss d g l.words p, puts-are l.screen ps ss d g p) at t.4);
+            };
+      }
+
+-- a table that gets no words
+no_words : (xs : List ℕ) (at : ℕ) → words-at xs at [] ≡ xs
+no_words xs at = let e : at + 0 ≡ at = omega arith in rw (append-nil, e) (take-append-drop at xs)
+
+-- the attribute that the code writes
+abbrev pub attr-of : Screen → Draw → PaintFillAttrs
+attr-of s d =
+    record {
+      paint = d.paint;
+      blend = d.blend;
+      mask = d.mask;
+      draw_id = s.next_draw_id;
+      thread_idx = d.thread;
+      origin_x = s.viewport.x0;
+      origin_y = s.viewport.y0;
+      panel = d.panel;
+    }
+
+module _ (l : FillLent) (ps ss : List ℕ) (d : Draw) (z : Zero l ps ss d) where
+  good : GoodDraw ps ss d
+  good = draw-facts ps ss d z.draw
+
+  fine : Passing l.screen
+  fine = passing l ps ss d z.first
+
+  screen-by : screen-after l.screen (fill-plan l.screen ps ss d)
+      ≡ counted l.screen (l.screen.next_draw_id + 1) (length (fill-plan l.screen ps ss d).attrs.paints) (length (fill-plan l.screen ps ss d).attrs.layers) (length (fill-plan l.screen ps ss d).attrs.filters)
+  screen-by =
+      same-layers l.screen fine.screen (fill-plan l.screen ps ss d) (plan-layers l.screen ps ss d)
+      ∙ ap (λ (n : ℕ). counted l.screen n (length (fill-plan l.screen ps ss d).attrs.paints) (length (fill-plan l.screen ps ss d).attrs.layers) (length (fill-plan l.screen ps ss d).attrs.filters)) (plan-next l.screen ps ss d)
+
+  -- without segments: an id, and nothing else
+  module _ (u : d.start ≡ d.end) where
+    screen-empty : screen-after l.screen (fill-plan l.screen ps ss d) ≡ counted l.screen (l.screen.next_draw_id + 1) (l.screen.paint_attrs + 0) l.screen.layer_attrs l.screen.filter_paints
+    screen-empty =
+        let e : l.screen.paint_attrs + 0 ≡ l.screen.paint_attrs = omega arith in
+        screen-by ∙ rw (attrs-same l.screen ps ss d good u, paint-count l.screen, layer-attr-count l.screen, filter-count l.screen, e)
+
+    words-empty : lay (done Words word-ops (fill-plan l.screen ps ss d) (screen-at (state-of l.screen) l.words)).rows ≡ l.words
+    unfolding draw-puts do-puts
+    words-empty =
+        rw (rows_are l.screen ps ss d good l.words fine, listed.segs-end ss d.start d.end (omega arith))
+        (lay-cut (sizes l.screen.c l.screen.d) (rows_of (box_of l.screen.viewport)) l.words (long l ps ss d z.first))
+
+    table_empty : words-at l.paint-attrs (paint-attr-size * l.screen.paint_attrs) (join paint-attr-words (drop l.screen.paint_attrs (fill-plan l.screen ps ss d).attrs.paints)) ≡ l.paint-attrs
+    table_empty =
+        let e : drop l.screen.paint_attrs (state-of l.screen).attrs.paints ≡ [] = ap (λ (n : ℕ). drop n (state-of l.screen).attrs.paints) (sym (paint-count l.screen)) ∙ drop-length (state-of l.screen).attrs.paints in
+        rw (attrs-same l.screen ps ss d good u, e) (no_words l.paint-attrs (paint-attr-size * l.screen.paint_attrs))
+
+    pub done-empty : {s : Screen} → 0 ≡ fill_number l ps ss d
+        → s ≡ counted l.screen (l.screen.next_draw_id + 1) (l.screen.paint_attrs + 0) l.screen.layer_attrs l.screen.filter_paints
+        → answer 0 (lent s l.words l.paint-attrs) ≡ filled l ps ss d
+    unfolding fill_done
+    done-empty e h = rw (h, ← e, screen-empty, words-empty, table_empty)
+
+  -- with some: an attribute too, and what is put on rows
+  module _ (u : d.start ≡ d.end → ⊥) where
+    screen-some : screen-after l.screen (fill-plan l.screen ps ss d) ≡ counted l.screen (l.screen.next_draw_id + 1) (l.screen.paint_attrs + 1) l.screen.layer_attrs l.screen.filter_paints
+    screen-some = screen-by ∙ rw (attrs-more l.screen ps ss d good u, paints-more l.screen fine d, layer-attr-count l.screen, filters-same l.screen fine d)
+
+    table-some : words-at l.paint-attrs (paint-attr-size * l.screen.paint_attrs) (join paint-attr-words (drop l.screen.paint_attrs (fill-plan l.screen ps ss d).attrs.paints)) ≡ put-paint l.paint-attrs l.screen.paint_attrs (attr-of l.screen d)
+    table-some =
+        rw (attrs-more l.screen ps ss d good u, drop_at (state-of l.screen).attrs.paints _ l.screen.paint_attrs (paint-count l.screen), state-next l.screen, state-frame l.screen)
+
+    pub room-for-attr : l.screen.paint_attrs < 1024
+    room-for-attr = go (ltb l.screen.paint_attrs 1024) refl
+      where
+        go : (b : Bool) → ltb l.screen.paint_attrs 1024 ≡ b → l.screen.paint_attrs < 1024
+        go true e = ltb-true l.screen.paint_attrs 1024 e
+        go false e = never (sym (full-attrs l.screen fine d (ltb-false l.screen.paint_attrs 1024 e)) ∙ (rw (attrs-more l.screen ps ss d good u) at z.attrs))
+
+    pub done-some : {s : Screen} {w : Words} {t : List ℕ} → 0 ≡ fill_number l ps ss d
+        → s ≡ counted l.screen (l.screen.next_draw_id + 1) (l.screen.paint_attrs + 1) l.screen.layer_attrs l.screen.filter_paints
+        → w ≡ lay (filling.done (job_of l.screen ps d) (puts_of (job_of l.screen ps d) (cuts-of (job_of l.screen ps d) ss d.start d.end)) (rows_at (frame-of l.screen) l.words))
+        → t ≡ put-paint l.paint-attrs l.screen.paint_attrs (attr-of l.screen d)
+        → answer 0 (lent s w t) ≡ filled l ps ss d
+    unfolding fill_done
+    done-some e h i k = rw (h, i, k, ← e, screen-some, rows_are l.screen ps ss d good l.words fine, table-some)

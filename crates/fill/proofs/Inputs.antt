@@ -1,0 +1,115 @@
+-- The inputs of a fill: paints as words, and the scene of a judged screen. Assumes nothing.
+use mathlib.Core.Path.{◌≡◌, refl, sym, ap, ◌∙◌}
+use mathlib.Core.Bool.{Bool, true, false, ◌&&◌}
+use mathlib.Core.List.{List}
+use Prim.Native.Nat.{ℕ, zero, suc, ◌+◌, ◌*◌, ◌/◌, ◌≤◌, ◌<◌}
+use native.Mathlib.Omega.{arith}
+use lib.Dec.{leb, ltb, eqb}
+use lib.ListN.{length, get_or}
+use borrow.Author.Tests.{leb-true, ltb-true}
+use Rattle.rules.specs.Boxes.{Box, scene-tiles}
+use Rattle.rules.specs.Spans.{good-range}
+use Rattle.rules.specs.Blends.{good-blend, is-default}
+use Rattle.rules.specs.Plans.{eligible}
+use Rattle.rules.specs.Inputs.{Paint, good-paint, good-handle, good-thread, good-panel, few-paints, good-draw, good-fill, draw-paint}
+use Rattle.rules.proofs.All.{both}
+use Rattle.rect.specs.Rects.{box_of, Small}
+use Rattle.rect.proofs.Boxes.{small-viewport, view}
+use Rattle.screen.specs.declared.Screen.{Screen}
+use Rattle.screen.proofs.ScreenLaws.{clip, good-clip-of}
+use Rattle.segments.specs.declared.Scene.{Scene}
+use Rattle.segments.specs.Segs.{segs-of, SceneOf}
+use Rattle.segments.proofs.Laws.{segs-count}
+use Rattle.fill.specs.declared.Draw.{Draw}
+use Rattle.fill.specs.Fills.{draw-of, paint-at, paints, paints-of, good-fill-at, scene-at, Passing}
+
+module _ (ws : List ℕ) where
+  paints-length : (i k : ℕ) → length (paints ws i k) ≡ k
+  unfolding paints
+  paints-length i zero = refl
+  paints-length i (suc k) = ap suc (paints-length (i + 1) k)
+
+  pub paints-count : length (paints-of ws) ≡ length ws / 4
+  paints-count = paints-length 0 (length ws / 4)
+
+  there : (z : Paint) (i k x y : ℕ) → x < k → y ≡ i + x → get_or (paints ws i k) x z ≡ paint-at ws y
+  unfolding paints
+  there z i zero x y h e = absurd (omega arith)
+  there z i (suc k) zero y h e = let q : y ≡ i = omega arith in rw q
+  there z i (suc k) (suc x) y h e = there z (i + 1) k x y (omega arith) (omega arith)
+
+  pub paint-there : (z : Paint) (x : ℕ) → x < length ws / 4 → get_or (paints-of ws) x z ≡ paint-at ws x
+  paint-there z x h = there z 0 (length ws / 4) x x h (omega arith)
+
+-- what a fill is told, at the words
+module _ (ps ss : List ℕ) (d : Draw) where
+  paint_at : (x y z w v b : Bool) → ltb d.paint (length ps / 4) ≡ b
+      → (x && b && good-paint (paint-at ps d.paint) && y && z && w) ≡ (x && b && good-paint (draw-paint (paints-of ps) (draw-of d)) && y && z && w)
+  paint_at x y z w v true e = rw (paint-there ps (record { opaque = 0; handle = 0 }) d.paint (ltb-true _ _ e))
+  paint_at true y z w v false e = refl
+  paint_at false y z w v false e = refl
+
+  fill_at : good-fill-at ps ss d ≡ good-fill (paints-of ps) (segs-of ss) (draw-of d)
+  fill_at =
+      rw (paints-count ps, segs-count ss)
+      (ap (λ (t : Bool). few-paints (length ps / 4) && t)
+      (paint_at (good-thread d.thread && good-range d.start d.end (length ss / 5)) (good-blend (draw-of d).blend) (good-handle d.mask) (good-panel d.panel) true
+      (ltb d.paint (length ps / 4)) refl))
+
+  pub fill-told : {r b : Bool} → r ≡ good-fill-at ps ss d → r ≡ b → good-fill (paints-of ps) (segs-of ss) (draw-of d) ≡ b
+  fill-told p q = sym fill_at ∙ sym p ∙ q
+
+  -- rule 6, at the words
+  pub eligible_at : d.paint < length ps / 4 → (o : Bool) → (o && is-default (draw-of d).blend && eqb d.mask 0 && eqb (get_or ps (4 * d.paint) 0) 1) ≡ eligible o (draw-paint (paints-of ps) (draw-of d)) (draw-of d)
+  eligible_at h o = rw (paint-there ps (record { opaque = 0; handle = 0 }) d.paint h)
+
+-- a good draw's range and paint
+pub record GoodDraw (ps ss : List ℕ) (d : Draw) : Type 0 where
+  pub range : d.start ≤ d.end
+  pub ends : d.end ≤ length ss / 5
+  pub paint : d.paint < length ps / 4
+
+pub draw-facts : (ps ss : List ℕ) (d : Draw) → good-fill (paints-of ps) (segs-of ss) (draw-of d) ≡ true → GoodDraw ps ss d
+draw-facts ps ss d g =
+    let t = good-thread d.thread in
+    let a = leb d.start d.end in
+    let b = leb d.end (length (segs-of ss)) in
+    let p = ltb d.paint (length (paints-of ps)) in
+    let q = good-paint (draw-paint (paints-of ps) (draw-of d)) in
+    let r = good-blend (draw-of d).blend in
+    let m = good-handle d.mask in
+    let h7 = both (few-paints (length (paints-of ps))) (good-draw (paints-of ps) (segs-of ss) (draw-of d)) g in
+    let h6 = both (t && (a && b) && p && q && r && m) (good-panel d.panel) h7.1 in
+    let h5 = both (t && (a && b) && p && q && r) m h6.0 in
+    let h4 = both (t && (a && b) && p && q) r h5.0 in
+    let h3 = both (t && (a && b) && p) q h4.0 in
+    let h2 = both (t && (a && b)) p h3.0 in
+    let h1 = both t (a && b) h2.0 in
+    let h0 = both a b h1.1 in
+    let y : d.end ≤ length (segs-of ss) = leb-true _ _ h0.1 in
+    let z : d.paint < length (paints-of ps) = ltb-true _ _ h2.1 in
+    record { range = leb-true _ _ h0.0; ends = rw (segs-count ss) at y; paint = rw (paints-count ps) at z }
+
+-- the scene
+pub scene-is : (v c : Box) (s : Scene) → SceneOf v c s → s ≡ scene-at v c
+unfolding scene-tiles
+scene-is v c s o =
+    let x : s.x ≡ v.x0 = ap (λ (b : Box). b.x0) o.corner in
+    let y : s.y ≡ v.y0 = ap (λ (b : Box). b.y0) o.corner in
+    let p : s.columns.first ≡ (v.x0 + c.x0) / 4 = ap (λ (b : Box). b.x0) o.area in
+    let q : s.rows.first ≡ (v.y0 + c.y0) / 4 = ap (λ (b : Box). b.y0) o.area in
+    let r : s.columns.end ≡ (v.x0 + c.x1) / 4 = ap (λ (b : Box). b.x1) o.area in
+    let t : s.rows.end ≡ (v.y0 + c.y1) / 4 = ap (λ (b : Box). b.y1) o.area in
+    rw (← p, ← q, ← r, ← t, ← x, ← y)
+
+pub scene-of-it : (v c : Box) → SceneOf v c (scene-at v c)
+unfolding scene-tiles
+scene-of-it v c = record { corner = refl; area = refl }
+
+pub small-both : (s : Screen) → Passing s → Small (box_of s.viewport) × Small (box_of s.clip_bbox)
+small-both s o =
+    let v = view (box_of s.viewport) o.view in
+    let k = clip (box_of s.viewport) (box_of s.clip_bbox) s.layers o.view (good-clip-of s o.screen) in (
+      small-viewport (box_of s.viewport) o.view,
+      record { left = k.left; top = k.top; right = omega (arith, k.right, v.wide); bottom = omega (arith, k.bottom, v.high) },
+    )

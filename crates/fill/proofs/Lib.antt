@@ -1,0 +1,13 @@
+pub mod Inputs
+pub mod Planned
+pub mod Numbers
+pub mod Done
+pub mod Example
+pub mod RowsLaws
+pub mod Runs
+pub mod JudgeLaws
+pub mod Hands
+pub mod Running
+pub mod Rising
+pub mod Judged
+pub mod Sure

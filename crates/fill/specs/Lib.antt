@@ -1,0 +1,4 @@
+pub mod Fills
+pub mod Filling
+pub mod Tallies
+pub mod Sure

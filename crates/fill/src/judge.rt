@@ -1,0 +1,204 @@
+// Judging a fill's segments and the rows that they come to (answers 4, 5, 10 and 11), in one pass, before anything is done: by a sure look,
+// and exactly where that look is not sure. Parts.
+ghost use Rattle.std.specs.Prelude.{◌≡◌, true, false, ◌-◌, ◌*◌, ◌≤◌, ◌<◌, length};
+ghost use Rattle.sizes.specs.Sizes.{tile-end, most-layers, most-room, row-size};
+ghost use Rattle.sizes.specs.Refusals.{answer_number};
+ghost use Rattle.rules.specs.Segments.{cut_in, good-segment, judge-segments};
+ghost use Rattle.span.specs.Spans.{tiles};
+ghost use Rattle.sizes.specs.Widths.{bucket-tiles};
+ghost use Rattle.row.specs.Counts.{counts};
+ghost use Rattle.segments.specs.Segs.{segs, segment-of, origin, bounds};
+ghost use Rattle.row.specs.Arena.{count-rows};
+ghost use Rattle.row.specs.Room.{at-hand, Low};
+ghost use Rattle.fill.specs.Tallies.{edge_count, added, tally_cuts, verdict, cuts-of, none_yet, marked_by, limits_of, hand_cuts, Took, list-number, Rowed};
+ghost use Rattle.fill.specs.Sure.{Few, Roomed, RoomAt, number_in};
+
+use crate::rows::Job;
+use row::acts::is_unsplit;
+use row::judge::is_good_row;
+use row::part;
+use row::room::{Counts, Fault, Hand, Limits, NO_ROW, ONE_COMMAND, turn_to};
+use segments::{NO_SEGMENT, Segment, place, segment_at};
+use sizes::answers::Refusal;
+use sizes::width::Width;
+use sizes::{DEPTHS, LEVELS, RENDERS, ROW, TILE_ALPHAS, TILE_END};
+use span::Stretch;
+
+// One piece, if there are tiles from first to end.
+fn edge(first: u32, end: u32) -> usize
+    ensures { result ≡ edge_count first «end» }
+{
+    if first < end { 1 } else { 0 }
+}
+
+// What a stretch becomes, on a row that has its layers.
+fn added_by(eligible: bool, stretch: Stretch, width: Width) -> Counts
+    requires { (stretch.tiles.first ≤ tile-end) × (stretch.tiles.«end» ≤ tile-end) }
+    ensures { counts result.renders result.depths 0 ≡ added (bucket-tiles width) eligible (tiles stretch.tiles) stretch.alpha }
+{
+    if is_unsplit(eligible, stretch.alpha) {
+        return ONE_COMMAND;
+    }
+    let low = width.above(stretch.tiles.first);
+    let high = width.below(stretch.tiles.end);
+    if high <= low {
+        return ONE_COMMAND;
+    }
+    // A piece on each side where the stretch is not at a bucket's edge.
+    Counts {
+        renders: edge(0, width.within(stretch.tiles.first))
+            + edge(0, width.within(stretch.tiles.end)),
+        depths: 1,
+    }
+}
+
+// BadOrder, 5, is found from here on, unless the order is kept.
+fn mark(hand: Hand, follows: bool) -> Hand
+    ensures { at-hand result ≡ marked_by (at-hand hand) follows }
+{
+    Hand {
+        renders: hand.renders,
+        depths: hand.depths,
+        row: hand.row,
+        found: if follows { hand.found } else { Fault::BadOrder },
+    }
+}
+
+// What the rows of a fill have room for.
+fn limits_of(job: Job) -> Limits
+    ensures { result ≡ limits_of job }
+{
+    Limits {
+        c: job.c,
+        d: job.d,
+        layers: job.layers,
+        once: 0,
+    }
+}
+
+// One more good segment: BadRecord, 4, where it gets on a row whose record is bad.
+#[inline(never)]
+fn judge_segment(rows: &[u32], job: Job, hand: Hand, segment: Segment) -> Result<Hand, Refusal>
+    requires { Rowed job (count-rows rows.now) rows.now × (good-segment (segment-of segment) ≡ true) × Low (at-hand hand) }
+    ensures { Took (hand_cuts job rows.now (at-hand hand) (cut_in (origin job.scene) (bounds job.scene) (segment-of segment))) result }
+{
+    let Some(placed) = place(segment, job.scene) else {
+        return Ok(hand);
+    };
+    let limits = limits_of(job);
+    let more = added_by(job.eligible, placed.stretch, job.width);
+    if hand.row == placed.row {
+        return Ok(hand.add(limits, more));
+    }
+    let turned = turn_to(rows, limits, hand.found, placed.row)?;
+    Ok(turned.add(limits, more))
+}
+
+// One by one: 4 for a bad segment or for the bad record of a row that gets one, then 5 for their order, then 10, then 11.
+fn judge_each(rows: &[u32], list: &[u32], start: usize, end: usize, job: Job) -> Result<(), Refusal>
+    requires { Rowed job (count-rows rows.now) rows.now × (start ≤ «end») × (5 * «end» ≤ length list.now) }
+    ensures { answer_number result ≡ list-number (judge-segments false (segs list.now start («end» - start))) (verdict (tally_cuts job rows.now none_yet (cuts-of job list.now start «end»))) }
+{
+    let mut last = NO_SEGMENT;
+    let mut hand = NO_ROW;
+    for i in start..end {
+        let next = segment_at(list, i);
+        if !next.is_good() {
+            return Err(Refusal::BadRecord);
+        }
+        hand = judge_segment(rows, job, mark(hand, last.precedes(next)), next)?;
+        last = next;
+    }
+    hand.found.answer()
+}
+
+// The row's record is good, with room for the most that so many segments come to: a command each, and for each of the `split` solid ones that
+// may be split a command and a depth fill more.
+fn has_room(state: &[u32], job: Job, segments: usize, split: usize) -> bool
+    requires { (length state.now ≡ row-size) × (job.c ≤ most-room) × (job.d ≤ most-room) × (job.layers ≤ most-layers) × Few segments split }
+    ensures { result ≡ true → Roomed job state.now segments split }
+{
+    if !is_good_row(state, job.c, job.d, job.layers) {
+        return false;
+    }
+    state[DEPTHS] as usize + split <= job.d as usize
+        && state[RENDERS] as usize + job.layers as usize + segments + split
+            <= job.c as usize + state[LEVELS] as usize
+}
+
+// The same of a row of the scene, by its number there; of any other row nothing is asked.
+fn has_room_at(rows: &[u32], job: Job, row: u32, segments: usize, split: usize) -> bool
+    requires { Rowed job (count-rows rows.now) rows.now × Few segments split }
+    ensures { result ≡ true → RoomAt job rows.now row segments split }
+{
+    if job.scene.rows.end <= row || row < job.scene.rows.first {
+        return true;
+    }
+    let state = part(rows, ROW, (row - job.scene.y / 4) as usize);
+    has_room(state, job, segments, split)
+}
+
+// Yes only where the exact number is 0: rows rise, each segment is good and in order, and each row has room for the most that its segments come
+// to, looked at once for all of them.
+fn is_sure(rows: &[u32], list: &[u32], start: usize, end: usize, job: Job) -> bool
+    requires { Rowed job (count-rows rows.now) rows.now × (start < «end») × (5 * «end» ≤ length list.now) }
+    ensures { result ≡ true → number_in job rows.now list.now start «end» ≡ 0 }
+{
+    let weight: usize = if job.eligible { 1 } else { 0 };
+    let mut row = list[5 * start + 1];
+    let mut from = start;
+    let mut edge: u32 = 0;
+    let mut split: usize = 0;
+    let mut i = start;
+    while i < end {
+        let at = 5 * i;
+        let here = list[at + 1];
+        if here != row {
+            if here < row || !has_room_at(rows, job, row, i - from, split) {
+                return false;
+            }
+            row = here;
+            from = i;
+            edge = 0;
+            split = 0;
+        }
+        let first = list[at + 2];
+        if first < edge {
+            return false;
+        }
+        edge = list[at + 3];
+        if edge <= first || TILE_END < edge {
+            return false;
+        }
+        let kind = list[at];
+        if kind == 0 {
+            if list[at + 4] != 0 {
+                return false;
+            }
+            split += weight;
+        } else {
+            if kind != 1 || u32::MAX - TILE_ALPHAS * (edge - first) < list[at + 4] {
+                return false;
+            }
+        }
+        i += 1;
+    }
+    row < TILE_END && has_room_at(rows, job, row, i - from, split)
+}
+
+// The segments from start to end of a list: 4 for a bad one or for the bad record of a row that gets one, then 5 for their order, then 10, then 11.
+pub fn judge_list(
+    rows: &[u32],
+    list: &[u32],
+    start: usize,
+    end: usize,
+    job: Job,
+) -> Result<(), Refusal>
+    requires { Rowed job (count-rows rows.now) rows.now × (start ≤ «end») × (5 * «end» ≤ length list.now) }
+    ensures { answer_number result ≡ list-number (judge-segments false (segs list.now start («end» - start))) (verdict (tally_cuts job rows.now none_yet (cuts-of job list.now start «end»))) }
+{
+    if start < end && is_sure(rows, list, start, end, job) {
+        return Ok(());
+    }
+    judge_each(rows, list, start, end, job)
+}

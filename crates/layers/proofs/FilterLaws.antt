@@ -1,0 +1,485 @@
+-- A filter fill's number and what it leaves, way by way through the code. Assumes nothing.
+use mathlib.Core.Path.{◌≡◌, refl, sym, ap, ◌∙◌}
+use mathlib.Core.Bool.{Bool, true, false, ◌&&◌, ◌||◌, cond}
+use mathlib.Core.List.{List, [], ◌∷◌, map, append-nil}
+use Rattle.std.specs.Prelude.{Option, None, Some, unwrap_or}
+use Prim.Native.Nat.{ℕ, suc, ◌+◌, ◌-◌, ◌*◌, ◌/◌, ◌≤◌, ◌<◌}
+use native.Mathlib.Nat.{min-le_right}
+use native.Mathlib.Omega.{arith}
+use lib.Dec.{eqb, ltb, leb}
+use lib.IntN.{ℤ, pos, sub_ℕ}
+use lib.ListN.{length, drop, length-append, take-append-drop}
+use lib.Seq.{drop_at, drop-length}
+use borrow.Author.Tests.{eq-eqb, ne_eqb, le-ltb, lt-ltb, leb-true, leb-false, ltb-true}
+use Rattle.sizes.specs.Sizes.{paint-attr-size, paint-attr-table, filter-paint-size, filter-paint-table}
+use Rattle.rules.specs.Lists.{range, join, is_none}
+use Rattle.rules.specs.Inputs.{good-pixmap, good-filter, few-paints, good-panel}
+use Rattle.rules.specs.Answers.{answer}
+use Rattle.rules.specs.Boxes.{Box, width, height, rows_of, empty-box, span_of, good-dest, good_viewport}
+use Rattle.rules.specs.Spans.{Span}
+use Rattle.rules.specs.Attributes.{attrs-full}
+use Rattle.screen.specs.Attributes.{paint-attr-words}
+use Rattle.rules.specs.Plans as plans
+use Rattle.rules.specs.Plans.{Act, paint, on, Plan, still, plan-filter, plan-filter-in, filter-puts, draws-nothing}
+use Rattle.rules.specs.Steps.{do-puts, done, refusal}
+use Rattle.rules.proofs.All.{both, neither}
+use Rattle.rules.proofs.laws.Bounds.{dest-facts}
+use Rattle.cmd.specs.Attrs.{words-at, paint-words, put-paint, put-filter}
+use Rattle.row.specs.Words.{Words, word-ops}
+use Rattle.row.specs.Cmds.{Short}
+use Rattle.row.specs.Arena.{sizes, lay}
+use Rattle.row.proofs.RowsLaws.{lay-cut}
+use Rattle.sizes.specs.Widths.{bucket-tiles}
+use Rattle.row.specs.Acts.{acted}
+use Rattle.row.specs.Building.{Whole, rows_at, screen-at, good_rows, step_number}
+use Rattle.rect.specs.declared.Rect.{Rect}
+use Rattle.rect.specs.Rects.{box_of}
+use Rattle.screen.specs.declared.Screen.{Screen}
+use Rattle.screen.specs.Screens.{frame-of, state-of, screen-after, good_screen, counted}
+use Rattle.screen.specs.Judging.{judged}
+use Rattle.rect.proofs.Boxes.{view}
+use Rattle.screen.proofs.ScreenLaws.{bounds, clip, good-clip-of, clip-of, same-layers, paint-count, layer-attr-count, filter-count, layer-count}
+use Rattle.screen.proofs.Passed.{Passed, passed}
+use Rattle.row.specs.Room.{rows_told}
+use Rattle.layers.specs.Band.{band_number, each, OnRows}
+use Rattle.layers.proofs.RowsLaws.{puts-each}
+use Rattle.layers.proofs.Numbers.{band-answer, band-step, band-room, paint-adds, run-told}
+use Rattle.layers.proofs.Passing.{passed-whole, rows-within, decide, surely, below}
+use Rattle.layers.specs.Filter.{FilterGiven, filter-of, good-given, paint-from, attrs-of, FilterLent, lent, plan-of, filter-number, filter-paint-words, after, filtered, own-box}
+
+frame_is : (s : Screen) → (state-of s).frame ≡ frame-of s
+unfolding state-of
+frame_is s = refl
+
+next-is : (s : Screen) → (state-of s).next ≡ s.next_draw_id
+unfolding state-of
+next-is s = refl
+
+-- the plan, by what the code finds
+module _ (g : FilterGiven) (s : Screen) where
+  plan-bad : good-given g ≡ false → plan-of g s ≡ still 4 (state-of s)
+  unfolding plan-filter
+  plan-bad h = rw h
+
+  module _ (k : good_screen s ≡ true) (h : good-given g ≡ true) where
+    box-is : plans.filter-box (state-of s).frame.viewport (plans.box_of (state-of s)) (filter-of g) ≡ own-box g s
+    box-is = rw (clip-of s k, frame_is s)
+
+    abbrev made : Box → Plan
+    made b = cond (draws-nothing (filter-of g) b) (still 0 (state-of s)) (plan-filter-in b g.count (filter-of g) g.panel (state-of s))
+
+    plan-made : plan-of g s ≡ made (own-box g s)
+    unfolding plan-filter
+    plan-made = rw h (ap made box-is)
+
+    plan-nothing : draws-nothing (filter-of g) (own-box g s) ≡ true → plan-of g s ≡ still 0 (state-of s)
+    plan-nothing e = plan-made ∙ rw e
+
+    plan-drawn : draws-nothing (filter-of g) (own-box g s) ≡ false → plan-of g s ≡ plan-filter-in (own-box g s) g.count (filter-of g) g.panel (state-of s)
+    plan-drawn e = plan-made ∙ rw e
+
+-- what a fill puts on a row of its box
+abbrev pub own-act : FilterGiven → Screen → Act
+own-act g s = paint (span_of (own-box g s)) None s.paint_attrs
+
+-- the counts of a plan that draws nothing, and of one that draws
+module _ (s : Screen) (k : good_screen s ≡ true) where
+  same_full : attrs-full (state-of s).attrs ≡ false
+  same_full =
+      let b = bounds s k in
+      rw (paint-count s, layer-attr-count s, filter-count s, le-ltb _ _ b.paints, le-ltb _ _ b.layer-attrs, le-ltb _ _ b.filters)
+
+  module _ (g : FilterGiven) where
+    abbrev drawn-plan : Plan
+    drawn-plan = plan-filter-in (own-box g s) g.count (filter-of g) g.panel (state-of s)
+
+    drawn-paints : length drawn-plan.attrs.paints ≡ s.paint_attrs + 1
+    unfolding plan-filter-in
+    drawn-paints = rw (length-append, paint-count s)
+
+    drawn-layers : length drawn-plan.attrs.layers ≡ s.layer_attrs
+    unfolding plan-filter-in
+    drawn-layers = layer-attr-count s
+
+    drawn-filters : length drawn-plan.attrs.filters ≡ s.filter_paints + 1
+    unfolding plan-filter-in
+    drawn-filters = rw (length-append, filter-count s)
+
+    drawn-next : drawn-plan.next ≡ s.next_draw_id + 1
+    unfolding plan-filter-in
+    drawn-next = rw (next-is s)
+
+    drawn-open : length drawn-plan.layers ≡ s.layers
+    unfolding plan-filter-in
+    drawn-open = layer-count s
+
+    drawn-puts : drawn-plan.puts ≡ map (on (own-act g s)) (range ((own-box g s).y0 / 4) (((own-box g s).y1 + 3) / 4))
+    unfolding plan-filter-in filter-puts
+    drawn-puts = rw (paint-count s)
+
+    drawn-fine : drawn-plan.refused ≡ 0
+    unfolding plan-filter-in
+    drawn-fine = refl
+
+-- the box lies on the screen
+module _ (g : FilterGiven) (s : Screen) (k : good_screen s ≡ true) (v : good_viewport (box_of s.viewport) ≡ true) where
+  pub box-bottom : (own-box g s).y1 ≤ height (box_of s.viewport)
+  box-bottom = omega (arith, min-le_right (g.placement.dest.y1 - s.viewport.y0) s.clip_bbox.y1, (clip (box_of s.viewport) (box_of s.clip_bbox) s.layers v (good-clip-of s k)).bottom)
+
+  box-right : (own-box g s).x1 ≤ width (box_of s.viewport)
+  box-right = omega (arith, min-le_right (g.placement.dest.x1 - s.viewport.x0) s.clip_bbox.x1, (clip (box_of s.viewport) (box_of s.clip_bbox) s.layers v (good-clip-of s k)).right)
+
+  pub run-within : ((own-box g s).y1 + 3) / 4 ≤ rows_of (box_of s.viewport)
+  run-within = rows-within (box_of s.viewport) v (own-box g s).y1 box-bottom
+
+-- the number
+abbrev pub judged-at : Screen → Words → ℕ
+judged-at s w = judged s (length w.state) (length w.render) (length w.fills)
+
+module _ (g : FilterGiven) (s : Screen) (w : Words) (ps : List ℕ) (fs : List ℤ) where
+  pub bad-screen : (judged-at s w ≡ 0 → ⊥) → judged-at s w ≡ filter-number g (lent s w ps fs)
+  unfolding filter-number step_number
+  bad-screen h = rw (ne_eqb (judged-at s w) 0 h, ne_eqb (judged-at s w) 0 h)
+
+  module _ (z : judged-at s w ≡ 0) where
+    pub bad-attrs : (length ps ≡ paint-attr-table → ⊥) → 4 ≡ filter-number g (lent s w ps fs)
+    unfolding filter-number step_number
+    bad-attrs h = rw (z, ne_eqb _ _ h)
+
+    pub bad-paints : length ps ≡ paint-attr-table → (length fs ≡ filter-paint-table → ⊥) → 4 ≡ filter-number g (lent s w ps fs)
+    unfolding filter-number step_number
+    bad-paints e h = rw (z, eq-eqb _ _ e, ne_eqb _ _ h)
+
+    -- the screen's own facts
+    pub fit : Passed s (length w.state) (length w.render) (length w.fills) (rows_of (box_of s.viewport))
+    fit = passed s (length w.state) (length w.render) (length w.fills) z
+
+    pub whole : Whole (frame-of s) w
+    whole = passed-whole s w fit
+
+    module _ (e : length ps ≡ paint-attr-table) (f : length fs ≡ filter-paint-table) where
+      either_way : (plan-of g s).refused ≡ 4 → (t : Bool) → 4 ≡ cond t (refusal Words word-ops (plan-of g s) (done Words word-ops (plan-of g s) (screen-at (state-of s) w))) 4
+      unfolding refusal
+      either_way r true = rw r
+      either_way r false = refl
+
+      pub bad-given : good-given g ≡ false → 4 ≡ filter-number g (lent s w ps fs)
+      unfolding filter-number step_number
+      bad-given h =
+          rw (z, eq-eqb _ _ e, eq-eqb _ _ f)
+          (either_way (ap (λ (p : Plan). p.refused) (plan-bad g s h)) (good_rows (frame-of s) s.layers (plan-of g s).puts (rows_at (frame-of s) w)))
+
+      -- of the rows x to b
+      number_is : (x b : ℕ) → b ≤ rows_of (box_of s.viewport) → (plan-of g s).refused ≡ 0 → (plan-of g s).puts ≡ map (on (own-act g s)) (range x b) → length (plan-of g s).layers ≡ s.layers
+          → filter-number g (lent s w ps fs) ≡ band-answer (band_number s.c s.d s.layers w.state (range x b)) (plan-of g s)
+      unfolding filter-number
+      number_is x b m r q n =
+          rw (z, eq-eqb _ _ e, eq-eqb _ _ f)
+          (band-step s w whole (own-act g s) x b m (plan-of g s) r q
+          (λ t. rw n (paint-adds _ s.layers (span_of (own-box g s)) s.paint_attrs (bounds s fit.screen).deep)))
+
+      module _ (h : good-given g ≡ true) where
+        pub nothing-number : draws-nothing (filter-of g) (own-box g s) ≡ true → 0 ≡ filter-number g (lent s w ps fs)
+        unfolding band-answer band_number rows_told
+        nothing-number d =
+            let q = plan-nothing g s fit.screen h d in
+            let b = bounds s fit.screen in
+            sym
+            (number_is 0 0 (omega arith) (ap (λ (p : Plan). p.refused) q) (ap (λ (p : Plan). p.puts) q) (ap (λ (p : Plan). length p.layers) q ∙ layer-count s)
+            ∙ rw (q, layer-count s, le-ltb 16 s.layers b.deep, next-is s, le-ltb 1048577 s.next_draw_id b.ids, same_full s fit.screen))
+
+        module _ (d : draws-nothing (filter-of g) (own-box g s) ≡ false) where
+          is-drawn : plan-of g s ≡ drawn-plan s fit.screen g
+          is-drawn = plan-drawn g s fit.screen h d
+
+          abbrev pub rows-number : ℕ
+          rows-number = band_number s.c s.d s.layers w.state (range ((own-box g s).y0 / 4) (((own-box g s).y1 + 3) / 4))
+
+          drawn-number : filter-number g (lent s w ps fs) ≡ band-answer rows-number (drawn-plan s fit.screen g)
+          drawn-number =
+              number_is ((own-box g s).y0 / 4) (((own-box g s).y1 + 3) / 4) (run-within g s fit.screen fit.view)
+              (ap (λ (p : Plan). p.refused) is-drawn ∙ drawn-fine s fit.screen g) (ap (λ (p : Plan). p.puts) is-drawn ∙ drawn-puts s fit.screen g)
+              (ap (λ (p : Plan). length p.layers) is-drawn ∙ drawn-open s fit.screen g)
+              ∙ ap (band-answer rows-number) is-drawn
+
+          answer-is : band-answer rows-number (drawn-plan s fit.screen g)
+              ≡ cond (eqb rows-number 4) 4
+              (cond (ltb 1048577 (s.next_draw_id + 1)) 8
+              (cond (ltb 1024 (s.paint_attrs + 1) || ltb 1024 s.layer_attrs || ltb 256 (s.filter_paints + 1)) 9 (cond (eqb rows-number 10) 10 0)))
+          unfolding band-answer
+          answer-is =
+              rw (
+                drawn-open s fit.screen g,
+                le-ltb 16 s.layers (bounds s fit.screen).deep,
+                drawn-next s fit.screen g,
+                drawn-paints s fit.screen g,
+                drawn-layers s fit.screen g,
+                drawn-filters s fit.screen g,
+              )
+
+          module _ (k : ℕ) (r : k ≡ rows-number) where
+            few-layers : ltb 1024 s.layer_attrs ≡ false
+            few-layers = le-ltb 1024 s.layer_attrs (bounds s fit.screen).layer-attrs
+
+            pub bad-rows : k ≡ 4 → 4 ≡ filter-number g (lent s w ps fs)
+            bad-rows q = sym (drawn-number ∙ answer-is ∙ rw (← r, q))
+
+            module _ (q : k ≡ 4 → ⊥) where
+              pub no-ids : 1048577 ≤ s.next_draw_id → 8 ≡ filter-number g (lent s w ps fs)
+              no-ids m = sym (drawn-number ∙ answer-is ∙ rw (← r, ne_eqb k 4 q, lt-ltb 1048577 (s.next_draw_id + 1) (omega arith)))
+
+              module _ (i : s.next_draw_id < 1048577) where
+                pub no-attrs : 1024 ≤ s.paint_attrs → 9 ≡ filter-number g (lent s w ps fs)
+                no-attrs m = sym (drawn-number ∙ answer-is ∙ rw (← r, ne_eqb k 4 q, le-ltb 1048577 (s.next_draw_id + 1) (omega arith), lt-ltb 1024 (s.paint_attrs + 1) (omega arith)))
+
+                module _ (j : s.paint_attrs < 1024) where
+                  pub no-paints : 256 ≤ s.filter_paints → 9 ≡ filter-number g (lent s w ps fs)
+                  no-paints m =
+                      sym
+                      (drawn-number ∙ answer-is
+                      ∙ rw (
+                        ← r,
+                        ne_eqb k 4 q,
+                        le-ltb 1048577 (s.next_draw_id + 1) (omega arith),
+                        le-ltb 1024 (s.paint_attrs + 1) (omega arith),
+                        few-layers,
+                        lt-ltb 256 (s.filter_paints + 1) (omega arith),
+                      ))
+
+                  pub else-number : s.filter_paints < 256 → k ≡ filter-number g (lent s w ps fs)
+                  else-number m =
+                      sym
+                      (drawn-number ∙ answer-is
+                      ∙ rw (
+                        ← r,
+                        ne_eqb k 4 q,
+                        le-ltb 1048577 (s.next_draw_id + 1) (omega arith),
+                        le-ltb 1024 (s.paint_attrs + 1) (omega arith),
+                        few-layers,
+                        le-ltb 256 (s.filter_paints + 1) (omega arith),
+                      )
+                      (rw (← r) at (run-told s.c s.d s.layers w.state (range ((own-box g s).y0 / 4) (((own-box g s).y1 + 3) / 4)) (λ t. q (r ∙ t)))))
+
+-- the box and the rows that the code finds
+module _ (g : FilterGiven) (s : Screen) (w : Words) (z : judged-at s w ≡ 0) (b : Rect) (e : box_of b ≡ own-box g s) where
+  ok : Passed s (length w.state) (length w.render) (length w.fills) (rows_of (box_of s.viewport))
+  ok = passed s (length w.state) (length w.render) (length w.fills) z
+
+  top-is : b.y0 ≡ (own-box g s).y0
+  top-is = ap (λ (x : Box). x.y0) e
+
+  bottom-is : b.y1 ≡ (own-box g s).y1
+  bottom-is = ap (λ (x : Box). x.y1) e
+
+  pub bottom-small : b.y1 ≤ 32768
+  bottom-small =
+      omega (arith, bottom-is, box-bottom g s ok.screen ok.view, (view (box_of s.viewport) ok.view).high)
+
+  pub rows-asked : (s.layers ≤ 16) × (s.c ≤ 1024) × ((b.y1 + 3) / 4 ≤ 512) × ((b.y1 + 3) / 4 * 54 ≤ length w.state)
+  rows-asked =
+      let h : (b.y1 + 3) / 4 ≤ rows_of (box_of s.viewport) = rw bottom-is (run-within g s ok.screen ok.view) in
+      let o = passed-whole s w ok in
+      ((bounds s ok.screen).deep, o.c, omega (arith, o.rows), omega (arith, ok.row_words))
+
+  pub number-of-rows : (k : ℕ) → k ≡ band_number s.c s.d s.layers w.state (range (b.y0 / 4) ((b.y1 + 3) / 4))
+      → k ≡ band_number s.c s.d s.layers w.state (range ((own-box g s).y0 / 4) (((own-box g s).y1 + 3) / 4))
+  number-of-rows k h = rw (top-is, bottom-is) at h
+
+handle-small : (o : Option ℕ) → good-pixmap o ≡ true → unwrap_or o 0 < 2147483648
+handle-small None q = omega arith
+handle-small (Some h) q = ltb-true _ _ q
+
+-- what was given, judged good
+pub record Sound (g : FilterGiven) : Type 0 where
+  pub pixmap : unwrap_or g.pixmap 0 < 2147483648
+  pub left : g.placement.dest.x0 ≤ 32768
+  pub top : g.placement.dest.y0 ≤ 32768
+  pub across : g.placement.source_x ≤ 32768
+  pub down : g.placement.source_y ≤ 32768
+  pub count : g.count ≤ 4096
+
+pub sound : (g : FilterGiven) → good-given g ≡ true → Sound g
+sound g h =
+    let f = filter-of g in
+    let a = good-pixmap g.pixmap in
+    let b = good-dest f.dest in
+    let c = leb f.source-x 32768 in
+    let d = leb f.source-y 32768 in
+    let h0 = both (good-filter f && few-paints g.count) (good-panel g.panel) h in
+    let h1 = both (good-filter f) (few-paints g.count) h0.0 in
+    let h2 = both (a && b && c) d h1.0 in
+    let h3 = both (a && b) c h2.0 in
+    let h4 = both a b h3.0 in
+    let k = dest-facts f h1.0 in
+    record {
+      pixmap = handle-small g.pixmap h4.0;
+      left = omega (arith, k.across, k.right);
+      top = omega (arith, k.down, k.bottom);
+      across = leb-true _ _ h3.1;
+      down = leb-true _ _ h2.1;
+      count = leb-true _ _ h1.1;
+    }
+
+-- what a filter fill judged 0 may rely on
+pub record FilterReady (g : FilterGiven) (s : Screen) (w : Words) (ps : List ℕ) (fs : List ℤ) : Type 0 where
+  pub zero : judged-at s w ≡ 0
+  pub attrs : length ps ≡ paint-attr-table
+  pub paints : length fs ≡ filter-paint-table
+  pub good : good-given g ≡ true
+
+-- .. and that draws something
+pub record Free (g : FilterGiven) (s : Screen) (w : Words) : Type 0 where
+  pub id : s.next_draw_id < 1048577
+  pub attr : s.paint_attrs < 1024
+  pub paint : s.filter_paints < 256
+  pub on : OnRows s s.layers (acted (bucket-tiles s.width) s.layers (own-act g s)) ((own-box g s).y0 / 4) (((own-box g s).y1 + 3) / 4) w
+
+module _ (g : FilterGiven) (s : Screen) (w : Words) (ps : List ℕ) (fs : List ℤ) (q : filter-number g (lent s w ps fs) ≡ 0) where
+  not-zero : {n : ℕ} → suc n ≡ filter-number g (lent s w ps fs) → ⊥
+  not-zero e = omega (arith, e, q)
+
+  pub ready : FilterReady g s w ps fs
+  ready =
+      let z : judged-at s w ≡ 0 = decide (judged-at s w) 0 (λ h. h (bad-screen g s w ps fs h ∙ q)) in
+      let a : length ps ≡ paint-attr-table = decide (length ps) paint-attr-table (λ h. not-zero (bad-attrs g s w ps fs z h)) in
+      let b : length fs ≡ filter-paint-table = decide (length fs) filter-paint-table (λ h. not-zero (bad-paints g s w ps fs z a h)) in
+      record { zero = z; attrs = a; paints = b; good = surely (good-given g) (λ h. not-zero (bad-given g s w ps fs z a b h)) }
+
+  module _ (d : draws-nothing (filter-of g) (own-box g s) ≡ false) where
+    pub free : Free g s w
+    free =
+        let y = ready in
+        let k = rows-number g s w ps fs y.zero y.attrs y.paints y.good d in
+        let n : k ≡ 4 → ⊥ = λ t. not-zero (bad-rows g s w ps fs y.zero y.attrs y.paints y.good d k refl t) in
+        let i : s.next_draw_id < 1048577 = below s.next_draw_id 1048577 (λ h. not-zero (no-ids g s w ps fs y.zero y.attrs y.paints y.good d k refl n h)) in
+        let j : s.paint_attrs < 1024 = below s.paint_attrs 1024 (λ h. not-zero (no-attrs g s w ps fs y.zero y.attrs y.paints y.good d k refl n i h)) in
+        let m : s.filter_paints < 256 = below s.filter_paints 256 (λ h. not-zero (no-paints g s w ps fs y.zero y.attrs y.paints y.good d k refl n i j h)) in
+        let t : k ≡ 0 = else-number g s w ps fs y.zero y.attrs y.paints y.good d k refl n i j m ∙ q in
+        let f = fit g s w ps fs y.zero in
+        let c : s.layers ≤ 16 = (bounds s f.screen).deep in
+        record {
+          id = i;
+          attr = j;
+          paint = m;
+          on =
+              band-room s w (passed-whole s w f) (own-act g s) ((own-box g s).y0 / 4) (((own-box g s).y1 + 3) / 4) (run-within g s f.screen f.view) s.layers c
+              c (paint-adds _ s.layers (span_of (own-box g s)) s.paint_attrs c) t;
+        }
+
+    -- the box's tiles
+    pub short : Short (span_of (own-box g s))
+    unfolding span_of
+    short =
+        let f = fit g s w ps fs ready.zero in
+        let b = own-box g s in
+        let e = (neither (is_none g.pixmap) (empty-box b) d).1 in
+        let l = leb-false b.x1 b.x0 (neither (leb b.x1 b.x0) (leb b.y1 b.y0) e).0 in
+        let r = box-right g s f.screen f.view in
+        let v = (view (box_of s.viewport) f.view).wide in
+        rw e (omega arith, omega arith)
+
+-- what it leaves
+nothing-at : {A : Type 0} (xs : List A) (at : ℕ) → words-at xs at [] ≡ xs
+nothing-at xs at = let e : at + 0 ≡ at = omega arith in rw (e, append-nil) (take-append-drop at xs)
+
+module _ (g : FilterGiven) (s : Screen) (w : Words) (ps : List ℕ) (fs : List ℤ) (y : FilterReady g s w ps fs) where
+  ok-screen : good_screen s ≡ true
+  ok-screen = (fit g s w ps fs y.zero).screen
+
+  no-paints-more : drop s.paint_attrs (state-of s).attrs.paints ≡ []
+  no-paints-more = ap (λ (n : ℕ). drop n (state-of s).attrs.paints) (sym (paint-count s)) ∙ drop-length (state-of s).attrs.paints
+
+  no-filters-more : drop s.filter_paints (state-of s).attrs.filters ≡ []
+  no-filters-more = ap (λ (n : ℕ). drop n (state-of s).attrs.filters) (sym (filter-count s)) ∙ drop-length (state-of s).attrs.filters
+
+  still-screen : screen-after s (still 0 (state-of s)) ≡ counted s s.next_draw_id s.paint_attrs s.layer_attrs s.filter_paints
+  still-screen = same-layers s ok-screen (still 0 (state-of s)) refl ∙ rw (next-is s, paint-count s, layer-attr-count s, filter-count s)
+
+  still-rows : (done Words word-ops (still 0 (state-of s)) (screen-at (state-of s) w)).rows ≡ rows_at (frame-of s) w
+  unfolding done do-puts
+  still-rows = rw (frame_is s)
+
+  pub after_nothing : (x : Screen) → draws-nothing (filter-of g) (own-box g s) ≡ true
+      → x ≡ counted s s.next_draw_id s.paint_attrs s.layer_attrs s.filter_paints → lent x w ps fs ≡ after g (lent s w ps fs)
+  unfolding after
+  after_nothing x d e =
+      rw (
+        plan-nothing g s ok-screen y.good d,
+        still-screen,
+        still-rows,
+        no-paints-more,
+        no-filters-more,
+        nothing-at ps (paint-attr-size * s.paint_attrs),
+        nothing-at fs (filter-paint-size * s.filter_paints),
+        lay-cut (sizes s.c s.d) (rows_of (box_of s.viewport)) w (whole g s w ps fs y.zero).long,
+        e,
+      )
+
+  module _ (d : draws-nothing (filter-of g) (own-box g s) ≡ false) where
+    abbrev drawn : Plan
+    drawn = drawn-plan s ok-screen g
+
+    same-open : drawn.layers ≡ (state-of s).layers
+    unfolding plan-filter-in
+    same-open = refl
+
+    drawn-screen : screen-after s drawn ≡ counted s (s.next_draw_id + 1) (s.paint_attrs + 1) s.layer_attrs (s.filter_paints + 1)
+    drawn-screen = same-layers s ok-screen drawn same-open ∙ rw (drawn-next s ok-screen g, drawn-paints s ok-screen g, drawn-layers s ok-screen g, drawn-filters s ok-screen g)
+
+    drawn-rows : (done Words word-ops drawn (screen-at (state-of s) w)).rows
+        ≡ each (acted (bucket-tiles s.width) s.layers (own-act g s)) (range ((own-box g s).y0 / 4) (((own-box g s).y1 + 3) / 4)) (rows_at (frame-of s) w)
+    unfolding done
+    drawn-rows =
+        rw (drawn-open s ok-screen g, drawn-puts s ok-screen g, frame_is s)
+        (puts-each _ s.layers (own-act g s) (range ((own-box g s).y0 / 4) (((own-box g s).y1 + 3) / 4)) (rows_at (frame-of s) w))
+
+    drawn-attr : join paint-attr-words (drop s.paint_attrs drawn.attrs.paints)
+        ≡ paint-words (attrs-of s g.count g.panel)
+    unfolding plan-filter-in
+    drawn-attr = rw (drop_at (state-of s).attrs.paints _ s.paint_attrs (paint-count s), filter-count s, next-is s, frame_is s)
+
+    drawn-paint : join filter-paint-words (drop s.filter_paints drawn.attrs.filters)
+        ≡ pos 0 ∷ pos (unwrap_or g.pixmap 0) ∷ sub_ℕ g.placement.source_x g.placement.dest.x0 ∷ sub_ℕ g.placement.source_y g.placement.dest.y0 ∷ []
+    unfolding plan-filter-in
+    drawn-paint = rw (drop_at (state-of s).attrs.filters _ s.filter_paints (filter-count s))
+
+    pub after-drawn : (x : Screen) (ws : Words) (t : Span) (b : Rect) → box_of b ≡ own-box g s → t ≡ span_of (box_of b)
+        → x ≡ counted s (s.next_draw_id + 1) (s.paint_attrs + 1) s.layer_attrs (s.filter_paints + 1)
+        → ws ≡ lay (each (acted (bucket-tiles s.width) s.layers (paint t None s.paint_attrs)) (range (b.y0 / 4) ((b.y1 + 3) / 4)) (rows_at (frame-of s) w))
+        → lent x ws (put-paint ps s.paint_attrs (attrs-of s g.count g.panel)) (put-filter fs s.filter_paints (paint-from g.placement.dest g.placement.source_x g.placement.source_y (unwrap_or g.pixmap 0))) ≡ after g (lent s w ps fs)
+    unfolding after
+    after-drawn x ws t b e f h i =
+        rw (
+          plan-drawn g s ok-screen y.good d,
+          drawn-screen,
+          drawn-rows,
+          drawn-attr,
+          drawn-paint,
+          h,
+          i,
+          f ∙ ap span_of e,
+          top-is g s w y.zero b e,
+          bottom-is g s w y.zero b e,
+        )
+
+-- a box that the code finds draws what the rules' box does
+pub told-by : (g : FilterGiven) (s : Screen) (b : Rect) (t : Bool) → box_of b ≡ own-box g s → draws-nothing (filter-of g) (box_of b) ≡ t → draws-nothing (filter-of g) (own-box g s) ≡ t
+told-by g s b t e h = sym (ap (λ (x : Box). draws-nothing (filter-of g) x) e) ∙ h
+
+-- what painting its rows asks
+pub paint-asked : (g : FilterGiven) (s : Screen) (w : Words) (ps : List ℕ) (fs : List ℤ) (q : filter-number g (lent s w ps fs) ≡ 0) (d : draws-nothing (filter-of g) (own-box g s) ≡ false)
+    (b : Rect) (t : Span) → box_of b ≡ own-box g s → t ≡ span_of (box_of b)
+    → Short t × OnRows s s.layers (acted (bucket-tiles s.width) s.layers (paint t None s.paint_attrs)) (b.y0 / 4) ((b.y1 + 3) / 4) w
+paint-asked g s w ps fs q d b t e f =
+    let z = (ready g s w ps fs q).zero in
+    rw (f ∙ ap span_of e, top-is g s w z b e, bottom-is g s w z b e) (short g s w ps fs q d, (free g s w ps fs q d).on)
+
+-- the call
+module _ (g : FilterGiven) (l : FilterLent) where
+  pub refused-is : (n : ℕ) → n ≡ filter-number g l → (n ≡ 0 → ⊥) → answer n l ≡ filtered g l
+  unfolding filtered
+  refused-is n e h = rw (← e, ne_eqb n 0 h)
+
+  pub done-is : (t : FilterLent) → filter-number g l ≡ 0 → t ≡ after g l → answer 0 t ≡ filtered g l
+  unfolding filtered
+  done-is t q e = rw (e, q)

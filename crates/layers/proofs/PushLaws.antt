@@ -1,0 +1,291 @@
+-- A push's number and what it leaves, way by way through the code. Assumes nothing.
+use mathlib.Core.Path.{◌≡◌, refl, sym, ap, ◌∙◌}
+use mathlib.Core.Bool.{Bool, true, false, ◌&&◌, not, cond}
+use mathlib.Core.List.{List, [], ◌∷◌, map}
+use Rattle.std.specs.Prelude.{Option, None, Some}
+use Prim.Native.Nat.{ℕ, suc, ◌+◌, ◌-◌, ◌*◌, ◌≤◌, ◌<◌}
+use native.Mathlib.Nat.{min-le_right}
+use native.Mathlib.Omega.{arith}
+use lib.Dec.{eqb, ltb}
+use lib.ListN.{length, set}
+use lib.Ieee.{Float}
+use borrow.Author.Tests.{eq-eqb, ne_eqb, le-ltb, lt-ltb}
+use Rattle.sizes.specs.Sizes.{open-layer-size, open-layer-table, opacity-count}
+use Rattle.rules.specs.Lists.{range}
+use Rattle.rules.specs.Answers.{answer}
+use Rattle.rules.specs.Boxes.{Box, height, rows_of, rows_in, empty-box, good_viewport}
+use Rattle.rules.specs.Blends.{destructive}
+use Rattle.rules.specs.Inputs as rule
+use Rattle.rules.specs.Inputs.{good-props}
+use Rattle.rules.specs.Attributes.{attrs-full}
+use Rattle.rules.specs.Plans.{touch, on, Layer, layer-box, plan-push}
+use Rattle.rules.specs.Steps.{done, refusal}
+use Rattle.rules.proofs.All.{both}
+use Rattle.cmd.specs.Attrs.{words-at}
+use Rattle.row.specs.Words.{Words, word-ops}
+use Rattle.row.specs.Arena.{lay}
+use Rattle.sizes.specs.Widths.{bucket-tiles}
+use Rattle.row.specs.Acts.{acted}
+use Rattle.row.specs.Building.{Whole, rows_at, screen-at, good_rows, step_number}
+use Rattle.rect.specs.declared.Rect.{Rect}
+use Rattle.rect.specs.Rects.{box_of}
+use Rattle.screen.specs.declared.Screen.{Screen}
+use Rattle.screen.specs.Screens.{frame-of, state-of, screen-after, good_screen}
+use Rattle.screen.specs.Judging.{judged}
+use Rattle.rect.proofs.Boxes.{view}
+use Rattle.screen.proofs.ScreenLaws.{bounds, clip, good-clip-of, clip-of, paint-count, layer-attr-count, filter-count, layer-count}
+use Rattle.screen.proofs.Passed.{Passed, passed}
+use Rattle.screen.specs.declared.layers.LayerProps.{LayerProps}
+use Rattle.screen.specs.Layers.{clip-of as clip-in, props-of, good-pattern, good-given, layer-of, layer-words}
+use Rattle.layers.specs.Band.{band_number, each, OnRows}
+use Rattle.layers.proofs.RowsLaws.{puts-each}
+use Rattle.layers.proofs.Numbers.{Adding, band-answer, band-step, band-room, touch-adds, run-told}
+use Rattle.layers.proofs.Passing.{passed-whole, rows-within, decide, surely, below}
+use Rattle.layers.specs.declared.push.Run.{Run}
+use Rattle.layers.specs.Push.{PushLent, lent, plan-of, push-number, after, pushed, no_run, box-run, touch_run, on-layer}
+
+-- the new layer's box, and the rows that it touches at once
+abbrev pub own-box : LayerProps → Screen → Box
+own-box p s = layer-box (box_of s.viewport) (box_of s.clip_bbox) (clip-in p.clip)
+
+abbrev pub own-run : LayerProps → Screen → Run
+own-run p s = touch_run p.blend.compose (own-box p s)
+
+frame_is : (s : Screen) → (state-of s).frame ≡ frame-of s
+unfolding state-of
+frame_is s = refl
+
+next-is : (s : Screen) → (state-of s).next ≡ s.next_draw_id
+unfolding state-of
+next-is s = refl
+
+-- the plan of a push on a good screen
+module _ (p : LayerProps) (s : Screen) (g : good_screen s ≡ true) where
+  plan-layers : (plan-of p s).layers ≡ record { props = props-of p; bounds = own-box p s } ∷ (state-of s).layers
+  unfolding plan-push
+  plan-layers = rw (clip-of s g, frame_is s)
+
+  plan-deep : length (plan-of p s).layers ≡ s.layers + 1
+  plan-deep = ap (λ (ls : List Layer). length ls) plan-layers ∙ omega (arith, layer-count s)
+
+  plan-next : (plan-of p s).next ≡ s.next_draw_id
+  unfolding plan-push
+  plan-next = next-is s
+
+  plan-attrs : attrs-full (plan-of p s).attrs ≡ false
+  unfolding plan-push
+  plan-attrs =
+      let b = bounds s g in
+      rw (paint-count s, layer-attr-count s, filter-count s, le-ltb _ _ b.paints, le-ltb _ _ b.layer-attrs, le-ltb _ _ b.filters)
+
+  run-puts : (t : Bool) (b : Box) → cond t (map (on touch) (rows_in b)) [] ≡ map (on touch) (range (cond t (box-run b) no_run).a (cond t (box-run b) no_run).b)
+  run-puts true b = refl
+  run-puts false b = refl
+
+  plan-puts : (plan-of p s).puts ≡ map (on touch) (range (own-run p s).a (own-run p s).b)
+  unfolding plan-push touch_run
+  plan-puts = rw (clip-of s g, frame_is s) (run-puts (destructive p.blend.compose && not (empty-box (own-box p s))) (own-box p s))
+
+  plan-fine : good-props (props-of p) ≡ true → (plan-of p s).refused ≡ 0
+  unfolding plan-push
+  plan-fine h = rw h
+
+  plan-adds : length (plan-of p s).layers ≤ 16 → Adding s.layers (acted (bucket-tiles s.width) (length (plan-of p s).layers) touch)
+  plan-adds h = rw plan-deep (touch-adds _ s.layers (omega (arith, plan-deep)))
+
+-- the box lies on the screen, and so do the rows
+own-bottom : (v b : Box) (o : Option rule.Clip) (h : ℕ) → b.y1 ≤ h → (layer-box v b o).y1 ≤ h
+own-bottom v b None h e = e
+own-bottom v b (Some c) h e = omega (arith, min-le_right (c.bounds.y1 - v.y0) b.y1)
+
+module _ (p : LayerProps) (s : Screen) (g : good_screen s ≡ true) (v : good_viewport (box_of s.viewport) ≡ true) where
+  pub box-bottom : (own-box p s).y1 ≤ height (box_of s.viewport)
+  box-bottom = own-bottom (box_of s.viewport) (box_of s.clip_bbox) (clip-in p.clip) (height (box_of s.viewport)) (clip (box_of s.viewport) (box_of s.clip_bbox) s.layers v (good-clip-of s g)).bottom
+
+  run-bottom : (t : Bool) (b : Box) → b.y1 ≤ height (box_of s.viewport) → (cond t (box-run b) no_run).b ≤ rows_of (box_of s.viewport)
+  run-bottom true b h = rows-within (box_of s.viewport) v b.y1 h
+  run-bottom false b h = omega arith
+
+  pub run-within : (own-run p s).b ≤ rows_of (box_of s.viewport)
+  unfolding touch_run
+  run-within = run-bottom (destructive p.blend.compose && not (empty-box (own-box p s))) (own-box p s) box-bottom
+
+-- the number
+abbrev pub judged-at : Screen → Words → ℕ
+judged-at s w = judged s (length w.state) (length w.render) (length w.fills)
+
+module _ (p : LayerProps) (s : Screen) (w : Words) (ls : List ℕ) (os : List Float) where
+  pub bad-screen : (judged-at s w ≡ 0 → ⊥) → judged-at s w ≡ push-number p (lent s w ls os)
+  unfolding push-number step_number
+  bad-screen h = rw (ne_eqb (judged-at s w) 0 h, ne_eqb (judged-at s w) 0 h)
+
+  module _ (z : judged-at s w ≡ 0) where
+    pub bad_layers : (length ls ≡ open-layer-table → ⊥) → 4 ≡ push-number p (lent s w ls os)
+    unfolding push-number step_number
+    bad_layers h = rw (z, ne_eqb _ _ h)
+
+    pub bad_opacities : length ls ≡ open-layer-table → (length os ≡ opacity-count → ⊥) → 4 ≡ push-number p (lent s w ls os)
+    unfolding push-number step_number
+    bad_opacities e h = rw (z, eq-eqb _ _ e, ne_eqb _ _ h)
+
+    -- the screen's own facts
+    pub fit : Passed s (length w.state) (length w.render) (length w.fills) (rows_of (box_of s.viewport))
+    fit = passed s (length w.state) (length w.render) (length w.fills) z
+
+    pub whole : Whole (frame-of s) w
+    whole = passed-whole s w fit
+
+    module _ (e : length ls ≡ open-layer-table) (f : length os ≡ opacity-count) where
+      either_way : (plan-of p s).refused ≡ 4 → (g : Bool) → 4 ≡ cond g (refusal Words word-ops (plan-of p s) (done Words word-ops (plan-of p s) (screen-at (state-of s) w))) 4
+      unfolding refusal
+      either_way r true = rw r
+      either_way r false = refl
+
+      plan-bad : good-props (props-of p) ≡ false → (plan-of p s).refused ≡ 4
+      unfolding plan-push
+      plan-bad h = rw h
+
+      bad-pattern : good-pattern p.opacity p.nan ≡ false → 4 ≡ push-number p (lent s w ls os)
+      unfolding push-number step_number
+      bad-pattern h = rw (z, eq-eqb _ _ e, eq-eqb _ _ f, h)
+
+      bad-rest : good-pattern p.opacity p.nan ≡ true → good-props (props-of p) ≡ false → 4 ≡ push-number p (lent s w ls os)
+      unfolding push-number step_number
+      bad-rest g h =
+          rw (z, eq-eqb _ _ e, eq-eqb _ _ f, g)
+          (either_way (plan-bad h) (good_rows (frame-of s) s.layers (plan-of p s).puts (rows_at (frame-of s) w)))
+
+      pub bad-props : good-given p ≡ false → 4 ≡ push-number p (lent s w ls os)
+      bad-props h = by (good-pattern p.opacity p.nan) refl h
+        where
+          by : (b : Bool) → good-pattern p.opacity p.nan ≡ b → (b && good-props (props-of p)) ≡ false → 4 ≡ push-number p (lent s w ls os)
+          by true g h = bad-rest g h
+          by false g h = bad-pattern g
+
+      module _ (good : good-given p ≡ true) where
+        own-pattern : good-pattern p.opacity p.nan ≡ true
+        own-pattern = (both (good-pattern p.opacity p.nan) (good-props (props-of p)) good).0
+
+        h : good-props (props-of p) ≡ true
+        h = (both (good-pattern p.opacity p.nan) (good-props (props-of p)) good).1
+
+        abbrev pub rows-number : ℕ
+        rows-number = band_number s.c s.d s.layers w.state (range (own-run p s).a (own-run p s).b)
+
+        number_is : push-number p (lent s w ls os) ≡ band-answer rows-number (plan-of p s)
+        unfolding push-number
+        number_is =
+            rw (z, eq-eqb _ _ e, eq-eqb _ _ f, own-pattern)
+            (band-step s w whole touch (own-run p s).a (own-run p s).b (run-within p s fit.screen fit.view) (plan-of p s)
+            (plan-fine p s fit.screen h) (plan-puts p s fit.screen) (plan-adds p s fit.screen))
+
+        answer-is : band-answer rows-number (plan-of p s) ≡ cond (eqb rows-number 4) 4 (cond (ltb 16 (s.layers + 1)) 6 (cond (eqb rows-number 10) 10 0))
+        unfolding band-answer
+        answer-is =
+            let b = bounds s fit.screen in
+            rw (plan-deep p s fit.screen, plan-next p s fit.screen, le-ltb 1048577 s.next_draw_id b.ids, plan-attrs p s fit.screen)
+
+        module _ (k : ℕ) (r : k ≡ rows-number) where
+          pub bad-rows : k ≡ 4 → 4 ≡ push-number p (lent s w ls os)
+          bad-rows q = sym (number_is ∙ answer-is ∙ rw (← r, q))
+
+          module _ (q : k ≡ 4 → ⊥) where
+            pub deep : 16 ≤ s.layers → 6 ≡ push-number p (lent s w ls os)
+            deep m = sym (number_is ∙ answer-is ∙ rw (← r, ne_eqb k 4 q, lt-ltb 16 (s.layers + 1) (omega arith)))
+
+            pub else-number : s.layers < 16 → k ≡ push-number p (lent s w ls os)
+            else-number m =
+                sym
+                (number_is ∙ answer-is
+                ∙ rw (← r, ne_eqb k 4 q, le-ltb 16 (s.layers + 1) (omega arith))
+                (rw (← r) at (run-told s.c s.d s.layers w.state (range (own-run p s).a (own-run p s).b) (λ t. q (r ∙ t)))))
+
+-- the box and the rows that the code finds
+module _ (p : LayerProps) (s : Screen) (w : Words) (z : judged-at s w ≡ 0) (b : Rect) (e : box_of b ≡ own-box p s) where
+  ok : Passed s (length w.state) (length w.render) (length w.fills) (rows_of (box_of s.viewport))
+  ok = passed s (length w.state) (length w.render) (length w.fills) z
+
+  pub bottom-small : b.y1 ≤ 32768
+  bottom-small =
+      let h : b.y1 ≡ (own-box p s).y1 = ap (λ (x : Box). x.y1) e in
+      omega (arith, box-bottom p s ok.screen ok.view, (view (box_of s.viewport) ok.view).high)
+
+  module _ (r : Run) (f : r ≡ touch_run p.blend.compose (box_of b)) where
+    pub run_is : r ≡ own-run p s
+    run_is = f ∙ ap (touch_run p.blend.compose) e
+
+    pub rows-asked : (s.layers ≤ 16) × (s.c ≤ 1024) × (r.b ≤ 512) × (r.b * 54 ≤ length w.state)
+    rows-asked =
+        let h : r.b ≤ rows_of (box_of s.viewport) = rw run_is (run-within p s ok.screen ok.view) in
+        let o = passed-whole s w ok in
+        ((bounds s ok.screen).deep, o.c, omega (arith, o.rows), omega (arith, ok.row_words))
+
+    pub number-of-rows : (k : ℕ) → k ≡ band_number s.c s.d s.layers w.state (range r.a r.b) → k ≡ band_number s.c s.d s.layers w.state (range (own-run p s).a (own-run p s).b)
+    number-of-rows k h = rw run_is at h
+
+-- what a push judged 0 may rely on
+pub record PushReady (p : LayerProps) (s : Screen) (w : Words) (ls : List ℕ) (os : List Float) : Type 0 where
+  pub zero : judged-at s w ≡ 0
+  pub layers : length ls ≡ open-layer-table
+  pub opacities : length os ≡ opacity-count
+  pub free : s.layers < 16
+  pub on : OnRows s (s.layers + 1) (acted (bucket-tiles s.width) (s.layers + 1) touch) (own-run p s).a (own-run p s).b w
+
+module _ (p : LayerProps) (s : Screen) (w : Words) (ls : List ℕ) (os : List Float) (q : push-number p (lent s w ls os) ≡ 0) where
+  not-zero : {n : ℕ} → suc n ≡ push-number p (lent s w ls os) → ⊥
+  not-zero e = omega (arith, e, q)
+
+  pub ready : PushReady p s w ls os
+  ready =
+      let z : judged-at s w ≡ 0 = decide (judged-at s w) 0 (λ h. h (bad-screen p s w ls os h ∙ q)) in
+      let a : length ls ≡ open-layer-table = decide (length ls) open-layer-table (λ h. not-zero (bad_layers p s w ls os z h)) in
+      let b : length os ≡ opacity-count = decide (length os) opacity-count (λ h. not-zero (bad_opacities p s w ls os z a h)) in
+      let g : good-given p ≡ true = surely (good-given p) (λ h. not-zero (bad-props p s w ls os z a b h)) in
+      let k = rows-number p s w ls os z a b g in
+      let n : k ≡ 4 → ⊥ = λ t. not-zero (bad-rows p s w ls os z a b g k refl t) in
+      let m : s.layers < 16 = below s.layers 16 (λ h. not-zero (deep p s w ls os z a b g k refl n h)) in
+      let t : k ≡ 0 = else-number p s w ls os z a b g k refl n m ∙ q in
+      let f = fit p s w ls os z in
+      record {
+        zero = z;
+        layers = a;
+        opacities = b;
+        free = m;
+        on =
+            band-room s w (passed-whole s w f) touch (own-run p s).a (own-run p s).b (run-within p s f.screen f.view) (s.layers + 1) (omega arith)
+            (omega arith) (touch-adds _ s.layers (omega arith)) t;
+      }
+
+-- what it leaves
+module _ (p : LayerProps) (s : Screen) (w : Words) (ls : List ℕ) (os : List Float) (y : PushReady p s w ls os) (b : Rect) (e : box_of b ≡ own-box p s) where
+  ok-screen : good_screen s ≡ true
+  ok-screen = (passed s (length w.state) (length w.render) (length w.fills) y.zero).screen
+
+  plan-counts : (length (plan-of p s).attrs.paints ≡ s.paint_attrs) × (length (plan-of p s).attrs.layers ≡ s.layer_attrs) × (length (plan-of p s).attrs.filters ≡ s.filter_paints)
+  unfolding plan-push
+  plan-counts = (paint-count s, layer-attr-count s, filter-count s)
+
+  screen-is : screen-after s (plan-of p s) ≡ on-layer s b
+  unfolding screen-after
+  screen-is = rw (plan-deep p s ok-screen, plan-layers p s ok-screen, ← e, plan-next p s ok-screen, plan-counts.0, plan-counts.1, plan-counts.2)
+
+  rows_are : (done Words word-ops (plan-of p s) (screen-at (state-of s) w)).rows ≡ each (acted (bucket-tiles s.width) (s.layers + 1) touch) (range (own-run p s).a (own-run p s).b) (rows_at (frame-of s) w)
+  unfolding done
+  rows_are = rw (plan-deep p s ok-screen, plan-puts p s ok-screen, frame_is s) (puts-each _ (s.layers + 1) touch (range (own-run p s).a (own-run p s).b) (rows_at (frame-of s) w))
+
+  pub after_is : (x : Screen) (ws : Words) (r : Run) → x ≡ on-layer s b → r ≡ touch_run p.blend.compose (box_of b)
+      → ws ≡ lay (each (acted (bucket-tiles s.width) (s.layers + 1) touch) (range r.a r.b) (rows_at (frame-of s) w))
+      → lent x ws (words-at ls (open-layer-size * s.layers) (layer-words (layer-of p b) p.nan)) (set os s.layers p.opacity) ≡ after p (lent s w ls os)
+  unfolding after
+  after_is x ws r f g h =
+      rw (screen-is, rows_are, plan-layers p s ok-screen, f, h, run_is p s w y.zero b e r g, ← e)
+
+-- the call
+module _ (p : LayerProps) (l : PushLent) where
+  pub refused-is : (n : ℕ) → n ≡ push-number p l → (n ≡ 0 → ⊥) → answer n l ≡ pushed p l
+  unfolding pushed
+  refused-is n e h = rw (← e, ne_eqb n 0 h)
+
+  pub done-is : (t : PushLent) → push-number p l ≡ 0 → t ≡ after p l → answer 0 t ≡ pushed p l
+  unfolding pushed
+  done-is t q e = rw (e, q)

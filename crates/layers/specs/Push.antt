@@ -1,0 +1,76 @@
+-- A push at a screen's words: its number, and every lent word afterwards (rule 8).
+use Rattle.std.specs.Prelude.{ℕ, ◌+◌, ◌*◌, ◌/◌, false, ◌&&◌, not, cond, List, [], ◌∷◌, length, set, eqb, Float}
+use Rattle.sizes.specs.Sizes.{open-layer-size, open-layer-table, opacity-count}
+use Rattle.rules.specs.Answers.{Answer, Done, BadRecord, settle}
+use Rattle.rules.specs.Boxes.{Box, empty-box}
+use Rattle.rules.specs.Blends.{destructive}
+use Rattle.rules.specs.Plans.{Layer, Plan, plan-push}
+use Rattle.rules.specs.Steps.{done}
+use Rattle.cmd.specs.Attrs.{words-at}
+use Rattle.row.specs.Words.{Words, word-ops}
+use Rattle.row.specs.Arena.{lay}
+use Rattle.row.specs.Building.{rows_at, screen-at, good_rows, step_number}
+use Rattle.rect.specs.declared.Rect.{Rect}
+use Rattle.screen.specs.declared.Screen.{Screen}
+use Rattle.screen.specs.Screens.{frame-of, state-of, screen-in, screen-after}
+use Rattle.screen.specs.Judging.{judged}
+use Rattle.screen.specs.declared.layers.LayerProps.{LayerProps}
+use Rattle.screen.specs.Layers.{props-of, good-pattern, layer-words, no_words}
+use Rattle.layers.specs.declared.push.Run.{Run}
+
+-- a screen and what a push is lent of its words
+pub record PushLent : Type 0 where
+  pub screen : Screen
+  pub words : Words
+  pub layers : List ℕ
+  pub opacities : List Float
+
+abbrev pub lent : Screen → Words → List ℕ → List Float → PushLent
+lent s w ls os = record { screen = s; words = w; layers = ls; opacities = os }
+
+-- the rules' push
+abbrev pub plan-of : LayerProps → Screen → Plan
+plan-of p s = plan-push (props-of p) (state-of s)
+
+-- 2, 1 and 4 for the screen's numbers, for how many words are lent, and for a pattern that is not the opacity's
+abbrev pub first-number : LayerProps → PushLent → ℕ
+first-number p l =
+    let n = judged l.screen (length l.words.state) (length l.words.render) (length l.words.fills) in
+    cond (eqb n Done)
+    (cond (eqb (length l.layers) open-layer-table && eqb (length l.opacities) opacity-count && good-pattern p.opacity p.nan) Done BadRecord) n
+
+unfoldable pub push-number : LayerProps → PushLent → ℕ
+push-number p l =
+    let s = l.screen in
+    step_number (first-number p l) (good_rows (frame-of s) s.layers (plan-of p s).puts (rows_at (frame-of s) l.words)) (plan-of p s)
+    (screen-at (state-of s) l.words)
+
+-- the words of the innermost layer
+abbrev pub top-words : List Layer → ℕ → List ℕ
+top-words [] nan = no_words
+top-words (l ∷ ls) nan = layer-words l nan
+
+-- what a push leaves
+unfoldable pub after : LayerProps → PushLent → PushLent
+after p l =
+    let s = l.screen in
+    lent (screen-after s (plan-of p s)) (lay (done Words word-ops (plan-of p s) (screen-at (state-of s) l.words)).rows)
+    (words-at l.layers (open-layer-size * s.layers) (top-words (plan-of p s).layers p.nan)) (set l.opacities s.layers p.opacity)
+
+-- what is refused alters nothing
+unfoldable pub pushed : LayerProps → PushLent → Answer PushLent
+pushed p l = settle (push-number p l) l (after p l)
+
+-- the code's parts: the rows of a box, if the compose code is destructive and the box not empty
+abbrev pub no_run : Run
+no_run = record { a = 0; b = 0 }
+
+abbrev pub box-run : Box → Run
+box-run b = record { a = b.y0 / 4; b = (b.y1 + 3) / 4 }
+
+unfoldable pub touch_run : ℕ → Box → Run
+touch_run c b = cond (destructive c && not (empty-box b)) (box-run b) no_run
+
+abbrev pub on-layer : Screen → Rect → Screen
+on-layer s b =
+    screen-in (frame-of s) b s.next_draw_id s.paint_attrs s.layer_attrs s.filter_paints (s.layers + 1) false

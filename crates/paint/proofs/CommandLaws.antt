@@ -1,0 +1,150 @@
+-- What callers may use of a row's step. Assumes nothing.
+use mathlib.Core.Path.{◌≡◌, refl, sym, ap, ◌∙◌}
+use mathlib.Core.Bool.{Bool, true, false, cond}
+use mathlib.Core.List.{List, [], ◌∷◌}
+use mathlib.Core.Logic.{◌⊎◌, inl, inr}
+use Rattle.std.specs.Prelude.{Option, None, Some}
+use Prim.Native.Nat.{ℕ, suc, ◌≤◌, ◌+◌, ◌-◌, ◌*◌, ◌/◌}
+use native.Mathlib.Omega.{arith}
+use lib.ListN.{length}
+use lib.Dec.{ltb}
+use borrow.Author.Tests.{le-ltb}
+use Rattle.sizes.specs.declared.width.Width.{Width}
+use Rattle.sizes.specs.Sizes.{piece-size}
+use Rattle.sizes.specs.Widths.{bucket-tiles}
+use Rattle.rules.specs.Spans.{Span}
+use Rattle.rules.specs.Commands.{Command, paint-fill, layer-fill, push-buf, pop-buf, DepthFill}
+use Rattle.cmd.specs.Reading.{only_if}
+use Rattle.rules.specs.Depth.{Summary, written_from, written}
+use Rattle.rules.specs.Rows.{Row}
+use Rattle.rules.specs.Attributes.{Attrs}
+use Rattle.rules.specs.Painting as rules
+use Rattle.rules.specs.Painting.{paint-depth, paint-command, paint-step}
+use Rattle.paint.specs.Answers.{Painted}
+use Rattle.paint.specs.Painting.{word, attrs-at, RowLent, lent, StepOut, out, painter-at, good-paint, good-command, fill-shown, command-shown, depth-step, command-step, depth-fill-at, command-at, bad-row, refused, left, next-step, settled, painted-row}
+use Rattle.paint.specs.Summaries.{good-summary, summary-at, Sound}
+use Rattle.paint.specs.Standing.{Stands, PainterReady, Holds}
+use Rattle.paint.proofs.Steps.{then_finished, good_counts}
+use Rattle.paint.proofs.ByRules.{held, same_row, next}
+
+-- the contract's equation allows one result
+pub once : (r q : Painted) (d d' p p' l l' : List ℕ) → out r d p l ≡ out q d' p' l' → (r ≡ q) × (d ≡ d') × (p ≡ p') × (l ≡ l')
+once r q d d' p p' l l' e =
+    (ap (λ (o : StepOut). o.answer) e, ap (λ (o : StepOut). o.depth) e, ap (λ (o : StepOut). o.painting) e, ap (λ (o : StepOut). o.list) e)
+
+-- Nothing is forged, and the summary is sound for the depth words: the step is the rules' step of the row. It is refused, by 14, only if the list is shorter than its pieces.
+module _ (width : Width) (a : Attrs) (ps : List ℕ) (paints : ℕ) (ls : List ℕ) (layers : ℕ) (h : Holds a ps paints ls layers)
+    (r : Row) (s re fi D P l : List ℕ) (g : Stands a (length D) r s re fi) (q : PainterReady a r (painter-at D P))
+    (o : Sound (bucket-tiles width) (summary-at s) D) where
+  abbrev v : ℕ
+  v = bucket-tiles width
+
+  stands : painted-row v a (lent s re fi D P l) ≡ settled (Some (paint-step v a r (painter-at D P))) D P l
+  unfolding painted-row
+  stands = rw (next width a r s re fi D P l g q o)
+
+  pub by-rules : painted-row v (attrs-at ps paints ls layers) (lent s re fi D P l) ≡ settled (Some (paint-step v a r (painter-at D P))) D P l
+  by-rules = same_row v (attrs-at ps paints ls layers) a (held a ps paints ls layers h) (lent s re fi D P l) ∙ stands
+
+  fits : length (paint-step v a r (painter-at D P)).pieces ≤ length l / piece-size
+      → settled (Some (paint-step v a r (painter-at D P))) D P l ≡ left (paint-step v a r (painter-at D P)) l
+  unfolding settled
+  fits m = rw (le-ltb _ _ m)
+
+  pub by-rules-done : length (paint-step v a r (painter-at D P)).pieces ≤ length l / piece-size
+      → painted-row v (attrs-at ps paints ls layers) (lent s re fi D P l) ≡ left (paint-step v a r (painter-at D P)) l
+  by-rules-done m = by-rules ∙ fits m
+
+-- Every row. The number is 0, 4 or 14, and any but 0 leaves every word as it was.
+abbrev pub Kept : StepOut → List ℕ → List ℕ → List ℕ → Type 0
+Kept o d p l = (o.depth ≡ d) × (o.painting ≡ p) × (o.list ≡ l)
+
+abbrev pub Settled : StepOut → List ℕ → List ℕ → List ℕ → Type 0
+Settled o d p l =
+    (o.answer.number ≡ 0) ⊎ (((o.answer.number ≡ 4) ⊎ (o.answer.number ≡ 14)) × Kept o d p l)
+
+settles : (o : Option rules.Painted) (d p l : List ℕ) → Settled (settled o d p l) d p l
+unfolding settled
+settles None d p l = inr (inl refl, (refl, refl, refl))
+settles (Some o) d p l = go (ltb (length l / piece-size) (length o.pieces))
+  where
+    go : (t : Bool) → Settled (cond t (out (refused 14) d p l) (left o l)) d p l
+    go true = inr (inr refl, (refl, refl, refl))
+    go false = inl refl
+
+pub done-or-kept : (v : ℕ) (a : Attrs) (w : RowLent) → Settled (painted-row v a w) w.depth w.painting w.list
+unfolding painted-row
+done-or-kept v a w = settles (next-step v a w) w.depth w.painting w.list
+
+-- After the last step: finished, no piece, and nothing changes.
+pub at-the-end : (v : ℕ) (ps : List ℕ) (paints : ℕ) (ls : List ℕ) (layers : ℕ) (s re fi D P l : List ℕ)
+    → 4 * word s 0 ≤ length re → 2 * word s 1 ≤ length fi → word P 1 ≤ 16 → good-summary s ≡ true → word P 0 ≡ word s 1 + word s 0 → length P ≡ 2
+    → painted-row v (attrs-at ps paints ls layers) (lent s re fi D P l) ≡ out (record { number = 0; finished = true; pieces = 0 }) D P l
+at-the-end v ps paints ls layers s re fi D P l h1 h2 h3 h0 e two =
+    sym (then_finished v (attrs-at ps paints ls layers) D P l s re fi (good_counts s re fi P h1 h2 h3 (omega arith) h0 D l) (omega arith) (omega arith) two)
+
+-- A step leaves as many depth words as there were, and two painting words.
+length-written : (id : ℕ) (r : Span) (i : ℕ) (bs : List ℕ) → length (written_from i id r bs) ≡ length bs
+length-written id r i [] = refl
+length-written id r i (b ∷ bs) = ap suc (length-written id r (suc i) bs)
+
+abbrev Long : ℕ → Option rules.Painted → Type 0
+Long n None = Unit
+Long n (Some o) = length o.painter.buckets ≡ n
+
+long-if : (n : ℕ) (t : Bool) (o : rules.Painted) → length o.painter.buckets ≡ n → Long n (only_if t o)
+long-if n true o h = h
+long-if n false o h = tt
+
+module _ (v : ℕ) (a : Attrs) (u : Summary) (p : rules.Painter) where
+  long-depth : (o : Option DepthFill) → Long (length p.buckets) (depth-step v a p o)
+  unfolding depth-step paint-depth written
+  long-depth None = tt
+  long-depth (Some f) = long-if _ (good-paint a f.attribute) _ (length-written (rules.paint-id a f.attribute) f.buckets 0 p.buckets)
+
+  long-shown : (c : Command) → length (command-shown v a u c p).painter.buckets ≡ length p.buckets
+  unfolding command-shown fill-shown paint-command
+  long-shown (paint-fill t x i) = refl
+  long-shown (layer-fill t x i) = refl
+  long-shown (push-buf t) = refl
+  long-shown pop-buf = refl
+
+  long-command : (o : Option Command) → Long (length p.buckets) (command-step v a u p o)
+  unfolding command-step
+  long-command None = tt
+  long-command (Some c) = long-if _ (good-command a p.nesting c) _ (long-shown c)
+
+long-next : (v : ℕ) (a : Attrs) (w : RowLent) → Long (length w.depth) (next-step v a w)
+unfolding next-step
+long-next v a w = go (bad-row w) (ltb p.steps (word w.state 1)) (ltb (p.steps - word w.state 1) (word w.state 0))
+  where
+    p : rules.Painter
+    p = painter-at w.depth w.painting
+
+    go : (t y x : Bool)
+        → Long (length w.depth)
+        (cond t None
+        (cond y (depth-step v a p (depth-fill-at (length w.depth) w.fills (word w.state 1 - (p.steps + 1))))
+        (cond x (command-step v a (summary-at w.state) p (command-at w.render (p.steps - word w.state 1)))
+        (Some (record { finished = true; pieces = []; painter = p })))))
+    go true y x = tt
+    go false true x = long-depth v a (summary-at w.state) p _
+    go false false true = long-command v a (summary-at w.state) p _
+    go false false false = refl
+
+abbrev SameLong : StepOut → List ℕ → Type 0
+SameLong o d = (length o.depth ≡ length d) × (length o.painting ≡ 2)
+
+settled-long : (o : Option rules.Painted) (d p l : List ℕ) → length p ≡ 2 → Long (length d) o → SameLong (settled o d p l) d
+unfolding settled
+settled-long None d p l e h = (refl, e)
+settled-long (Some o) d p l e h = go (ltb (length l / piece-size) (length o.pieces))
+  where
+    go : (t : Bool) → SameLong (cond t (out (refused 14) d p l) (left o l)) d
+    go true = (refl, e)
+    go false = (h, refl)
+
+pub same-lengths : (v : ℕ) (a : Attrs) (w : RowLent) → length w.painting ≡ 2
+    → (length (painted-row v a w).depth ≡ length w.depth) × (length (painted-row v a w).painting ≡ 2)
+unfolding painted-row
+same-lengths v a w e = settled-long (next-step v a w) w.depth w.painting w.list e (long-next v a w)

@@ -1,0 +1,137 @@
+-- What callers may use: each contract's equation allows one result, and a step of a row leaves the others as they were. Assumes nothing.
+use mathlib.Core.Path.{◌≡◌, refl, sym, ap, ◌∙◌}
+use mathlib.Core.Bool.{Bool, true, false, ◌&&◌, cond}
+use Rattle.std.specs.Prelude.{Some}
+use mathlib.Core.List.{List}
+use Prim.Native.Nat.{ℕ, zero, suc, ◌<◌, ◌*◌}
+use native.Mathlib.Omega.{arith}
+use lib.ListN.{length, drop}
+use lib.Dec.{eqb}
+use borrow.Author.Tests.{eq-eqb, eqb-true}
+use Rattle.sizes.specs.Sizes.{paint-attr-table, layer-attr-table}
+use Rattle.sizes.specs.Widths.{bucket-tiles}
+use Rattle.rules.specs.Answers as rules
+use Rattle.rules.specs.Answers.{answer}
+use Rattle.rules.specs.Attributes.{Attrs}
+use Rattle.rules.specs.Rows.{Row}
+use Rattle.rules.specs.Painting.{paint-step}
+use Rattle.depth.proofs.Once.{out_once}
+use Rattle.row.proofs.RowsLaws.{part-0, part-suc, less, head-0, tail-0, head-suc, tail-suc, part-long}
+use Rattle.screen.specs.declared.Screen.{Screen}
+use Rattle.std.specs.Prelude.{Result}
+use Rattle.sizes.specs.declared.answers.Refusal.{Refusal}
+use Rattle.sizes.specs.Refusals.{answer_number}
+use Rattle.paint.specs.declared.pieces.Stepped.{Stepped}
+use Rattle.paint.specs.Answers.{painted_of}
+use Rattle.paint.proofs.Once.{number_once, painted_once}
+use Rattle.rules.proofs.All.{and_left, and_right}
+use Rattle.paint.specs.Painting.{attrs-at, RowLent, StepOut, out, painter-at, refused, settled, painted-row}
+use Rattle.paint.specs.Summaries.{summary-at, Sound}
+use Rattle.paint.specs.Standing.{Stands, PainterReady, Holds}
+use Rattle.paint.proofs.CommandLaws.{by-rules, same-lengths}
+use Rattle.paint.specs.Judging.{count, wide}
+use Rattle.paint.specs.Beginning.{Canvas, canvas}
+use Rattle.paint.specs.Stepping.{part, with_part, Attributes, own, in_place, number, row_step, stepped}
+use Rattle.paint.specs.DirectRuns.{Wrote, wrote}
+use Rattle.paint.proofs.Judged.{step-there}
+
+-- One result.
+pub begin-once : (r q : Result Unit Refusal) (s t : Screen) (d e p o : List ℕ)
+    → answer (answer_number r) (canvas s d p) ≡ answer (answer_number q) (canvas t e o)
+    → (r ≡ q) × (s ≡ t) × (d ≡ e) × (p ≡ o)
+begin-once r q s t d e p o h = (
+  number_once r q (ap (λ (x : rules.Answer Canvas). x.number) h),
+  ap (λ (x : rules.Answer Canvas). x.value.screen) h,
+  ap (λ (x : rules.Answer Canvas). x.value.depth) h,
+  ap (λ (x : rules.Answer Canvas). x.value.painting) h,
+)
+
+pub step-once : (r q : Result Stepped Refusal) (d e p o l m : List ℕ) → out (painted_of r) d p l ≡ out (painted_of q) e o m
+    → (r ≡ q) × (d ≡ e) × (p ≡ o) × (l ≡ m)
+step-once r q d e p o l m h = (
+  painted_once r q (ap (λ (x : StepOut). x.answer) h),
+  ap (λ (x : StepOut). x.depth) h,
+  ap (λ (x : StepOut). x.painting) h,
+  ap (λ (x : StepOut). x.list) h,
+)
+
+pub write-once : (r q : Result ℕ Refusal) (s t : Screen) (l m d e : List ℕ) → wrote r s l d ≡ wrote q t m e → (r ≡ q) × (s ≡ t) × (l ≡ m) × (d ≡ e)
+write-once r q s t l m d e h =
+    let o = out_once r q l m (ap (λ (x : Wrote). x.listed) h) in
+    (o.0, ap (λ (x : Wrote). x.screen) h, o.1, ap (λ (x : Wrote). x.depth) h)
+
+-- A part that is put in its place stands there, ..
+pub part-own : (k n r : ℕ) (xs ys : List ℕ) → r < n → length xs ≡ n * k → length ys ≡ k → part k r (with_part k r xs ys) ≡ ys
+part-own k zero r xs ys h l m = absurd (omega arith)
+part-own k (suc n) zero xs ys h l m = part-0 k 0 _ ∙ head-0 k 0 xs ys n l m
+part-own k (suc n) (suc r) xs ys h l m =
+    sym (part-suc k r _) ∙ rw (tail-suc k r xs ys n l m) (part-own k n r (drop k xs) ys (omega arith) (less n k xs l) m)
+
+-- .. and every other row's part is as it was
+pub part-other : (k n r q : ℕ) (xs ys : List ℕ) → r < n → q < n → (q ≡ r → ⊥) → length xs ≡ n * k → length ys ≡ k
+    → part k q (with_part k r xs ys) ≡ part k q xs
+part-other k zero r q xs ys h g d l m = absurd (omega arith)
+part-other k (suc n) zero zero xs ys h g d l m = absurd (d refl)
+part-other k (suc n) zero (suc q) xs ys h g d l m =
+    sym (part-suc k q _) ∙ rw (tail-0 k 0 xs ys n l m) (part-suc k q xs)
+part-other k (suc n) (suc r) zero xs ys h g d l m = part-0 k 0 _ ∙ head-suc k r xs ys n l m ∙ sym (part-0 k 0 xs)
+part-other k (suc n) (suc r) (suc q) xs ys h g d l m =
+    sym (part-suc k q _)
+    ∙ rw (tail-suc k r xs ys n l m) (part-other k n r q (drop k xs) ys (omega arith) (omega arith) (λ e. d (ap suc e)) (less n k xs l) m)
+    ∙ part-suc k q xs
+
+-- A step of row r, refused or done, leaves the depth and painting words of every other row as they were.
+module _ (s : Screen) (r : ℕ) (a : Attributes) (l : RowLent) where
+  lengths : number s r a l ≡ 0 → (r < count s) × (length l.depth ≡ count s * wide s) × (length l.painting ≡ count s * 2)
+  lengths h =
+      let re = eqb (length l.render) (count s * (4 * s.c)) in
+      let fi = eqb (length l.fills) (count s * (2 * s.d)) in
+      let de = eqb (length l.depth) (count s * wide s) in
+      let ro = eqb (length l.state) (count s * 54) in
+      let pa = eqb (length l.painting) (count s * 2) in
+      let ps = eqb (length a.paints) paint-attr-table in
+      let ls = eqb (length a.layers) layer-attr-table in
+      let t = step-there s r (re && fi && de) (ro && pa && ps && ls) h in
+      let k : (ro && pa && ps) ≡ true = and_left (ro && pa && ps) ls t.passed.tables in (
+        t.there,
+        eqb-true _ _ (and_right (re && fi) de t.passed.arenas),
+        eqb-true _ _ (and_right ro pa (and_left (ro && pa) ps k)),
+      )
+
+  module _ (q : ℕ) (g : q < count s) (d : q ≡ r → ⊥) where
+    abbrev Alone : StepOut → Type 0
+    Alone o = (part (wide s) q o.depth ≡ part (wide s) q l.depth) × (part 2 q o.painting ≡ part 2 q l.painting)
+
+    done-alone : number s r a l ≡ 0 → Alone (row_step s r a l)
+    unfolding row_step
+    done-alone h =
+        let n = lengths h in
+        let b = attrs-at a.paints s.paint_attrs a.layers s.layer_attrs in
+        let o = same-lengths (bucket-tiles s.width) b (own s r l) (part-long (count s) r 2 l.painting n.0 n.2) in (
+          part-other (wide s) (count s) r q l.depth (painted-row (bucket-tiles s.width) b (own s r l)).depth n.0 g d n.1
+              (o.0 ∙ part-long (count s) r (wide s) l.depth n.0 n.1),
+          part-other 2 (count s) r q l.painting (painted-row (bucket-tiles s.width) b (own s r l)).painting n.0 g d n.2 o.1,
+        )
+
+    pub step-alone : Alone (stepped s r a l)
+    unfolding stepped
+    step-alone = go (eqb (number s r a l) 0) refl
+      where
+        go : (t : Bool) → eqb (number s r a l) 0 ≡ t
+            → Alone (cond t (row_step s r a l) (out (refused (number s r a l)) l.depth l.painting l.list))
+        go true e = done-alone (eqb-true _ _ e)
+        go false e = (refl, refl)
+
+-- Nothing of row r is forged, and its summary is sound for its depth words: a step is the rules' step of the row.
+module _ (s : Screen) (r : ℕ) (t : Attributes) (l : RowLent) (k : number s r t l ≡ 0) (a : Attrs)
+    (h : Holds a t.paints s.paint_attrs t.layers s.layer_attrs) (w : Row)
+    (g : Stands a (length (own s r l).depth) w (own s r l).state (own s r l).render (own s r l).fills)
+    (q : PainterReady a w (painter-at (own s r l).depth (own s r l).painting)) (o : Sound (bucket-tiles s.width) (summary-at (own s r l).state) (own s r l).depth) where
+  pub step-by-rules : stepped s r t l
+      ≡ in_place s r l
+      (settled (Some (paint-step (bucket-tiles s.width) a w (painter-at (own s r l).depth (own s r l).painting))) (own s r l).depth (own s r l).painting l.list)
+  unfolding stepped row_step
+  step-by-rules =
+      rw (eq-eqb _ _ k)
+      (ap (in_place s r l)
+      (by-rules s.width a t.paints s.paint_attrs t.layers s.layer_attrs h w (own s r l).state (own s r l).render (own s r l).fills (own s r l).depth (own s r l).painting l.list g q o))

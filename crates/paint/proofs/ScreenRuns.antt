@@ -1,0 +1,81 @@
+-- The runs and `can_skip` of a row, refused or done. Assumes nothing.
+use mathlib.Core.Path.{◌≡◌, refl, ap}
+use mathlib.Core.Bool.{Bool, false, cond}
+use mathlib.Core.List.{List}
+use Prim.Native.Nat.{ℕ, ◌+◌, ◌-◌, ◌*◌, ◌/◌}
+use lib.ListN.{length, take, drop}
+use lib.Dec.{eqb}
+use borrow.Author.Tests.{ne_eqb}
+use borrow.Rule.Slice.PartMut.{put_mid}
+use Rattle.std.specs.Prelude.{Result, Ok, Err}
+use Rattle.sizes.specs.declared.answers.Refusal.{Refusal}
+use Rattle.sizes.specs.Refusals.{number_of}
+use Rattle.sizes.proofs.Refusals.{not_done}
+use Rattle.sizes.specs.Widths.{bucket-tiles}
+use Rattle.rules.specs.Answers.{Answer}
+use Rattle.rules.specs.Spans.{Span}
+use Rattle.rules.specs.Depth.{unset_answer, visible_answer}
+use Rattle.depth.specs.Answers.{skip_of}
+use Rattle.depth.specs.Listing.{RunsOut, out, out-write, numbers, listing, writing}
+use Rattle.screen.specs.declared.Screen.{Screen}
+use Rattle.paint.specs.Judging.{wide, runs_number, skip_number}
+use Rattle.paint.specs.Beginning.{begun}
+use Rattle.paint.specs.Stepping.{part}
+use Rattle.paint.specs.DirectRuns.{or-runs, unset-of, visible-of, wrote, write-in-place, write-of, record-skip, skip-of-row}
+use Rattle.paint.proofs.ScreenParts.{part-is, put_is}
+
+module _ (s : Screen) (r : ℕ) (depth : List ℕ) (t : Span) where
+  module _ (k : Refusal) (e : number_of k ≡ runs_number s r (length depth)) where
+    no-runs : (x : Answer (List Span)) (l : List ℕ) → out (Err k) l ≡ listing (or-runs (runs_number s r (length depth)) x) l
+    unfolding listing numbers
+    no-runs x l = rw (← e, ne_eqb (number_of k) 0 (not_done k))
+
+    pub unset_refused : (l : List ℕ) → out (Err k) l ≡ unset-of s r depth t l
+    unfolding unset-of
+    unset_refused l = no-runs _ l
+
+    pub visible_refused : (id : ℕ) (l : List ℕ) → out (Err k) l ≡ visible-of s r depth t id l
+    unfolding visible-of
+    visible_refused id l = no-runs _ l
+
+  module _ (h : 0 ≡ runs_number s r (length depth)) where
+    pub unset_done : (x : RunsOut) (l : List ℕ) → x ≡ listing (unset_answer (bucket-tiles s.width) (part (wide s) r depth) t (length l / 2)) l → x ≡ unset-of s r depth t l
+    unfolding unset-of
+    unset_done x l k = rw (← h) k
+
+    pub visible_done : (x : RunsOut) (id : ℕ) (l : List ℕ) → x ≡ listing (visible_answer (bucket-tiles s.width) (part (wide s) r depth) id t (length l / 2)) l
+        → x ≡ visible-of s r depth t id l
+    unfolding visible-of
+    visible_done x id l k = rw (← h) k
+
+module _ (s : Screen) (r : ℕ) (rows : List ℕ) (t : Span) (id : ℕ) where
+  pub skip_refused : (k : Refusal) → number_of k ≡ skip_number s r (length rows) → skip_of (Err k) ≡ skip-of-row s r rows t id
+  unfolding skip-of-row
+  skip_refused k e = rw (← e, ne_eqb (number_of k) 0 (not_done k))
+
+  pub skip_done : 0 ≡ skip_number s r (length rows) → (x : Answer Bool) → x ≡ record-skip (part 54 r rows) t id → x ≡ skip-of-row s r rows t id
+  unfolding skip-of-row
+  skip_done h x k = rw (← h) k
+
+module _ (s : Screen) (r : ℕ) (depth : List ℕ) (id : ℕ) (t : Span) (l : List ℕ) where
+  pub write_refused : (k : Refusal) → number_of k ≡ runs_number s r (length depth) → wrote (Err k) s l depth ≡ write-of s r depth id t l
+  unfolding write-of listing numbers
+  write_refused k e = rw (← e, ne_eqb (number_of k) 0 (not_done k))
+
+  module _ (h : 0 ≡ runs_number s r (length depth)) (b : ℕ) (f : b ≡ wide s) (q : Result ℕ Refusal) (m d : List ℕ)
+      (k : out-write q m d ≡ writing (take (r * b + b - r * b) (drop (r * b) depth)) id t l) where
+    same_write : write-in-place s r depth (out-write q m d) ≡ write-of s r depth id t l
+    unfolding write-of
+    same_write = rw (← h) (ap (write-in-place s r depth) (rw (part-is b r depth, f) at k))
+
+    in_place : (z : Screen) → z ≡ cond (eqb (out q m).number 0) (begun false s) s → wrote q z m (put_mid (r * b) (r * b + b - r * b) depth d) ≡ write-of s r depth id t l
+    in_place z j = rw (put_is b r depth d, f, j) same_write
+
+  module _ (h : 0 ≡ runs_number s r (length depth)) (b : ℕ) (f : b ≡ wide s) (m d : List ℕ) where
+    pub write_kept : (k : Refusal) → out-write (Err k) m d ≡ writing (take (r * b + b - r * b) (drop (r * b) depth)) id t l
+        → wrote (Err k) s m (put_mid (r * b) (r * b + b - r * b) depth d) ≡ write-of s r depth id t l
+    write_kept k e = in_place h b f (Err k) m d e s (rw (ne_eqb (number_of k) 0 (not_done k)))
+
+    pub write_done : (n : ℕ) → out-write (Ok n) m d ≡ writing (take (r * b + b - r * b) (drop (r * b) depth)) id t l
+        → wrote (Ok n) (begun false s) m (put_mid (r * b) (r * b + b - r * b) depth d) ≡ write-of s r depth id t l
+    write_done n e = in_place h b f (Ok n) m d e (begun false s) refl

@@ -1,0 +1,228 @@
+-- The step that is judged and the step that is done, way by way. Assumes nothing.
+use mathlib.Core.Path.{◌≡◌, refl, sym, ap, ◌∙◌}
+use mathlib.Core.Bool.{Bool, true, false, ◌||◌, not}
+use mathlib.Core.List.{List, [], ◌∷◌, map}
+use Rattle.std.specs.Prelude.{Option, None, Some, option_map, Ok, ok_or}
+use Rattle.sizes.specs.declared.answers.Refusal.TheVariants.{BadRecord}
+use Prim.Native.Nat.{ℕ, zero, suc, ◌≤◌, ◌<◌, ◌+◌, ◌-◌, ◌*◌, ◌/◌}
+use native.Mathlib.Omega.{arith}
+use lib.ListN.{length}
+use lib.Dec.{ltb}
+use borrow.Author.Tests.{lt-ltb, le-ltb, ltb-false}
+use Rattle.sizes.specs.Sizes.{piece-size}
+use Rattle.rules.specs.Attributes.{Attrs, no-attrs}
+use Rattle.rules.specs.Spans.{Span}
+use Rattle.rules.specs.Commands as rule
+use Rattle.cmd.specs.Reading.{depth_fill_of}
+use Rattle.rules.specs.Depth.{Summary, write-runs, written}
+use Rattle.rules.specs.Painting as rules
+use Rattle.rules.specs.Painting.{gives, depth-piece, paint-depth, paint-command}
+use Rattle.span.specs.declared.TileSpan.{TileSpan}
+use Rattle.span.specs.Spans.{tiles, buckets, Moves}
+use Rattle.cmd.specs.declared.command.Fill.{Fill}
+use Rattle.cmd.specs.declared.command.RenderCmd.{RenderCmd}
+use Rattle.cmd.specs.declared.command.RenderCmd.TheVariants.{PaintFill, LayerFill, PushBuf, PopBuf}
+use Rattle.cmd.specs.declared.depth_fill.DepthFill.{DepthFill}
+use Rattle.cmd.specs.Commands.{command}
+use Rattle.cmd.specs.DepthFills.{depth-fill}
+use Rattle.cmd.specs.Good.{GoodAlpha, GoodCommand}
+use Rattle.cmd.proofs.BothWays.{depth-reads-good, reads-good}
+use Rattle.paint.specs.Answers.{Painted, Advanced, advanced}
+use Rattle.paint.specs.Painting.{word, RowLent, lent, StepOut, out, painter-at, good-paint, good-layer, fill-shown, command-shown, depth-step, command-step, depth-fill-at, command-at, bad-row, next-step, refused, listed, settled, painted-row}
+use Rattle.paint.specs.declared.command.marks.Mark.{Mark}
+use Rattle.paint.specs.Reading.{paint_mark, layer_mark}
+use Rattle.paint.specs.Summaries.{good-summary, summary-at}
+use Rattle.paint.proofs.Two.{two_same}
+use Rattle.paint.proofs.Judging.{if_some, if_none, ok_some}
+
+above_zero : (n : ℕ) → (n ≡ 0 → ⊥) → 0 < n
+above_zero zero h = absurd (h refl)
+above_zero (suc n) h = omega arith
+
+module _ (D P l : List ℕ) where
+  -- no step: 4
+  pub forged : (o : Option rules.Painted) → o ≡ None → out (refused 4) D P l ≡ settled o D P l
+  unfolding settled
+  forged o e = rw e
+
+  -- a step without pieces always has room
+  pub bare : (b : Bool) (q : rules.Painter) → q.buckets ≡ D
+      → out (record { number = 0; finished = b; pieces = 0 }) D (q.steps ∷ q.nesting ∷ []) l
+      ≡ settled (Some (record { finished = b; pieces = []; painter = q })) D P l
+  unfolding settled
+  bare b q e = rw (le-ltb (length l / piece-size) 0 (omega arith), e)
+
+-- at `wide` tiles a bucket
+module _ (wide : ℕ) (attrs : Attrs) (D P l : List ℕ) where
+  -- a depth fill's two words, read
+  module _ (o : Option rule.DepthFill) (r : Option DepthFill) (h : option_map depth-fill r ≡ o) where
+    pub depth_unread : r ≡ None → out (refused 4) D P l ≡ settled (depth-step wide attrs (painter-at D P) o) D P l
+    unfolding depth-step
+    depth_unread e = forged D P l _ (ap (depth-step wide attrs (painter-at D P)) (sym h ∙ ap (option_map depth-fill) e))
+
+    module _ (f : DepthFill) (e : r ≡ Some f) where
+      is-fill : o ≡ Some (depth-fill f)
+      is-fill = sym h ∙ ap (option_map depth-fill) e
+
+      pub depth_forged : paint_mark attrs f.attrs_idx ≡ None → out (refused 4) D P l ≡ settled (depth-step wide attrs (painter-at D P) o) D P l
+      unfolding depth-step
+      depth_forged g = forged D P l _ (rw (is-fill, if_none (good-paint attrs f.attrs_idx) _ g))
+
+      pub depth_taken : (m : Mark) (x : StepOut) → paint_mark attrs f.attrs_idx ≡ Some m
+          → x
+          ≡ settled
+          (Some
+          (gives (map (depth-piece wide no-attrs f.attrs_idx m.panel) (write-runs D (buckets f.buckets))) (written D m.id (buckets f.buckets)) (word P 0 + 1) (word P 1)))
+          D P l
+          → x ≡ settled (depth-step wide attrs (painter-at D P) o) D P l
+      unfolding depth-step paint-depth
+      depth_taken m x g q =
+          let t = if_some (good-paint attrs f.attrs_idx) _ m g in
+          q ∙ rw (is-fill, t.1, t.0)
+
+  -- a command's fill, of a paint ..
+  module _ (v : Summary) (c : RenderCmd) (f : Fill) (e : c ≡ PaintFill f) where
+    pub paint_forged : paint_mark attrs f.attrs_idx ≡ None → out (refused 4) D P l ≡ settled (command-step wide attrs v (painter-at D P) (Some (command c))) D P l
+    unfolding command-step
+    paint_forged g = forged D P l _ (rw (e, if_none (good-paint attrs f.attrs_idx) _ g))
+
+    pub paint_taken : (q : Option Mark) (m : Mark) (x : StepOut) → q ≡ paint_mark attrs f.attrs_idx → Ok m ≡ ok_or q BadRecord
+        → x ≡ settled (Some (fill-shown wide no-attrs v false m.id f.attrs_idx m.panel (tiles f.span) f.alpha (painter-at D P))) D P l
+        → x ≡ settled (command-step wide attrs v (painter-at D P) (Some (command c))) D P l
+    unfolding command-step command-shown fill-shown
+    paint_taken o m x h g q =
+        let t = if_some (good-paint attrs f.attrs_idx) _ m (sym h ∙ ok_some o m BadRecord g) in
+        q ∙ rw (e, t.1, t.0)
+
+  -- .. and of a layer
+  module _ (v : Summary) (c : RenderCmd) (f : Fill) (e : c ≡ LayerFill f) where
+    pub layer_forged : layer_mark attrs f.attrs_idx ≡ None → out (refused 4) D P l ≡ settled (command-step wide attrs v (painter-at D P) (Some (command c))) D P l
+    unfolding command-step
+    layer_forged g = forged D P l _ (rw (e, if_none (good-layer attrs f.attrs_idx) _ g))
+
+    pub layer_taken : (q : Option Mark) (m : Mark) (x : StepOut) → q ≡ layer_mark attrs f.attrs_idx → Ok m ≡ ok_or q BadRecord
+        → x ≡ settled (Some (fill-shown wide no-attrs v true m.id f.attrs_idx m.panel (tiles f.span) f.alpha (painter-at D P))) D P l
+        → x ≡ settled (command-step wide attrs v (painter-at D P) (Some (command c))) D P l
+    unfolding command-step command-shown fill-shown
+    layer_taken o m x h g q =
+        let t = if_some (good-layer attrs f.attrs_idx) _ m (sym h ∙ ok_some o m BadRecord g) in
+        q ∙ rw (e, t.1, t.0)
+
+  -- buffers
+  module _ (v : Summary) (c : RenderCmd) (b : Option TileSpan) (e : c ≡ PushBuf b) where
+    pub push_forged : 16 ≤ word P 1 → out (refused 4) D P l ≡ settled (command-step wide attrs v (painter-at D P) (Some (command c))) D P l
+    unfolding command-step
+    push_forged h = forged D P l _ (rw (e, le-ltb (word P 1) 16 h))
+
+    pub push_done : (p : Painted) (P' : List ℕ) → word P 1 < 16 → advanced p P' ≡ advanced (listed 0) ((word P 0 + 1) ∷ (word P 1 + 1) ∷ [])
+        → out p D P' l ≡ settled (command-step wide attrs v (painter-at D P) (Some (command c))) D P l
+    unfolding command-step command-shown paint-command
+    push_done p P' h q =
+        ap (λ (x : Advanced). out x.answer D x.painting l) q
+        ∙ bare D P l false (record { buckets = D; steps = word P 0 + 1; nesting = word P 1 + 1 }) refl
+        ∙ rw (e, lt-ltb (word P 1) 16 h)
+
+  module _ (v : Summary) (c : RenderCmd) (e : c ≡ PopBuf) where
+    pub pop_forged : word P 1 ≡ 0 → out (refused 4) D P l ≡ settled (command-step wide attrs v (painter-at D P) (Some (command c))) D P l
+    unfolding command-step
+    pop_forged h = forged D P l _ (rw (e, h))
+
+    pub pop_done : (p : Painted) (P' : List ℕ) → (word P 1 ≡ 0 → ⊥) → advanced p P' ≡ advanced (listed 0) ((word P 0 + 1) ∷ (word P 1 - 1) ∷ [])
+        → out p D P' l ≡ settled (command-step wide attrs v (painter-at D P) (Some (command c))) D P l
+    unfolding command-step command-shown paint-command
+    pop_done p P' h q =
+        ap (λ (x : Advanced). out x.answer D x.painting l) q
+        ∙ bare D P l false (record { buckets = D; steps = word P 0 + 1; nesting = word P 1 - 1 }) refl
+        ∙ rw (e, lt-ltb 0 (word P 1) (above_zero _ h))
+
+  -- the row, judged
+  module _ (s r f : List ℕ) where
+    abbrev w : RowLent
+    w = lent s r f D P l
+
+    pub row_forged : bad-row w ≡ true → out (refused 4) D P l ≡ painted-row wide attrs w
+    unfolding painted-row next-step
+    row_forged h = forged D P l _ (rw h)
+
+    module _ (good : bad-row w ≡ false) where
+      -- the depth fill at its place, ..
+      pub then_depth : (x : StepOut) (k : ℕ) → word P 0 < word s 1 → k ≡ word s 1 - (word P 0 + 1)
+          → x ≡ settled (depth-step wide attrs (painter-at D P) (depth-fill-at (length D) f k)) D P l
+          → x ≡ painted-row wide attrs w
+      unfolding painted-row next-step
+      then_depth x k h e q = q ∙ rw (good, lt-ltb _ _ h, e)
+
+      module _ (h5 : word s 1 ≤ word P 0) where
+        -- .. the command at its place, ..
+        module _ (h6 : word P 0 - word s 1 < word s 0) (o : Option RenderCmd) (q : option_map command o ≡ command-at r (word P 0 - word s 1)) where
+          pub then_unread : o ≡ None → out (refused 4) D P l ≡ painted-row wide attrs w
+          unfolding painted-row next-step command-step
+          then_unread b =
+              let none-there : command-at r (word P 0 - word s 1) ≡ None = sym q ∙ ap (option_map command) b in
+              forged D P l _ (rw (good, le-ltb _ _ h5, lt-ltb _ _ h6, none-there))
+
+          pub then_command : (x : StepOut) (c : RenderCmd) → o ≡ Some c
+              → x ≡ settled (command-step wide attrs (summary-at s) (painter-at D P) (Some (command c))) D P l → x ≡ painted-row wide attrs w
+          unfolding painted-row next-step
+          then_command x c b u =
+              let there : command-at r (word P 0 - word s 1) ≡ Some (command c) = sym q ∙ ap (option_map command) b in
+              u ∙ rw (good, le-ltb _ _ h5, lt-ltb _ _ h6, there)
+
+        -- .. or finished
+        pub then_finished : word s 0 ≤ word P 0 - word s 1 → length P ≡ 2
+            → out (record { number = 0; finished = true; pieces = 0 }) D P l ≡ painted-row wide attrs w
+        unfolding painted-row next-step
+        then_finished h two =
+            ap (λ (x : List ℕ). out (record { number = 0; finished = true; pieces = 0 }) D x l) (two_same P two)
+            ∙ bare D P l true (painter-at D P) refl
+            ∙ rw (good, le-ltb _ _ h5, le-ltb _ _ h)
+
+-- the counts of a row that is not forged
+module _ (s r f P : List ℕ) where
+  pub good_counts : 4 * word s 0 ≤ length r → 2 * word s 1 ≤ length f → word P 1 ≤ 16 → word P 0 ≤ word s 1 + word s 0 → good-summary s ≡ true
+      → (D l : List ℕ) → bad-row (lent s r f D P l) ≡ false
+  good_counts h1 h2 h3 h4 h0 D l = rw (le-ltb _ _ h1, le-ltb _ _ h2, le-ltb _ _ h3, le-ltb _ _ h4, h0)
+
+  pub record Counts : Type 0 where
+    pub renders : 4 * word s 0 ≤ length r
+    pub depths : 2 * word s 1 ≤ length f
+    pub steps : word P 0 ≤ word s 1 + word s 0
+
+  pub counts : bad-row (lent s r f [] P []) ≡ false → Counts
+  counts e = go (ltb (length r) (4 * word s 0)) (ltb (length f) (2 * word s 1)) (ltb 16 (word P 1)) (ltb (word s 1 + word s 0) (word P 0)) refl refl refl e
+    where
+      go : (a b c d : Bool) → ltb (length r) (4 * word s 0) ≡ a → ltb (length f) (2 * word s 1) ≡ b → ltb (word s 1 + word s 0) (word P 0) ≡ d
+          → (a || b || c || d || not (good-summary s)) ≡ false → Counts
+      go false false false false p q t e = record { renders = ltb-false _ _ p; depths = ltb-false _ _ q; steps = ltb-false _ _ t }
+      go true b c d p q t e = let z : ◌≡◌ {A = ℕ} 0 1 = cc in absurd (omega arith)
+      go false true c d p q t e = let z : ◌≡◌ {A = ℕ} 0 1 = cc in absurd (omega arith)
+      go false false true d p q t e = let z : ◌≡◌ {A = ℕ} 0 1 = cc in absurd (omega arith)
+      go false false false true p q t e = let z : ◌≡◌ {A = ℕ} 0 1 = cc in absurd (omega arith)
+
+-- what a depth fill that was read gives its doing half
+pub depth_good : (n s i : ℕ) (r : Option DepthFill) (f : DepthFill) → option_map depth-fill r ≡ depth_fill_of n s i → r ≡ Some f
+    → (f.buckets.first ≤ f.buckets.end) × (f.buckets.end ≤ n)
+depth_good n s i r f h e =
+    let g = depth-reads-good n s i (depth-fill f) (sym h ∙ ap (option_map depth-fill) e) in
+    (g.in_order, g.in-limit)
+
+-- what a command that was read gives
+pub command_good : (ws : List ℕ) (k : ℕ) (r : Option RenderCmd) (c : RenderCmd) → option_map command r ≡ command-at ws k → r ≡ Some c → GoodCommand (command c)
+command_good ws k r c h e = reads-good _ _ _ _ (command c) (sym h ∙ ap (option_map command) e)
+
+moves : (a : Option ℕ) (s : Span) → GoodAlpha s a → Moves a (s.end - s.first)
+moves None s g = tt
+moves (Some a) s g = g
+
+abbrev pub GoodFill : Fill → Type 0
+GoodFill f = (f.span.first ≤ f.span.end) × (f.span.end ≤ 8192) × Moves f.alpha (f.span.end - f.span.first)
+
+pub paint_good : (c : RenderCmd) (f : Fill) → c ≡ PaintFill f → GoodCommand (command c) → GoodFill f
+paint_good c f e g =
+    let h : GoodCommand (command (PaintFill f)) = rw e at g in
+    (h.0.in_order, h.0.in-limit, moves f.alpha (tiles f.span) h.1)
+
+pub layer_good : (c : RenderCmd) (f : Fill) → c ≡ LayerFill f → GoodCommand (command c) → GoodFill f
+layer_good c f e g =
+    let h : GoodCommand (command (LayerFill f)) = rw e at g in
+    (h.0.in_order, h.0.in-limit, moves f.alpha (tiles f.span) h.1)

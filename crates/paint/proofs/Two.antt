@@ -1,0 +1,22 @@
+-- A row's painting words are two. Assumes nothing.
+use mathlib.Core.Path.{◌≡◌, refl}
+use mathlib.Core.List.{List, [], ◌∷◌}
+use Prim.Native.Nat.{ℕ}
+use native.Mathlib.Omega.{arith}
+use lib.ListN.{length, set}
+use Rattle.paint.specs.Answers.{word}
+
+pub two_set : (p : List ℕ) (x : ℕ) → length p ≡ 2 → set p 0 x ≡ x ∷ word p 1 ∷ []
+two_set [] x h = absurd (omega arith)
+two_set (a ∷ []) x h = absurd (omega arith)
+two_set (a ∷ b ∷ []) x h = refl
+two_set (a ∷ b ∷ c ∷ p) x h = absurd (omega arith)
+
+pub two_both : (p : List ℕ) (x y : ℕ) → length p ≡ 2 → set (set p 0 x) 1 y ≡ x ∷ y ∷ []
+two_both p x y h = rw (two_set p x h)
+
+pub two_same : (p : List ℕ) → length p ≡ 2 → p ≡ word p 0 ∷ word p 1 ∷ []
+two_same [] h = absurd (omega arith)
+two_same (a ∷ []) h = absurd (omega arith)
+two_same (a ∷ b ∷ []) h = refl
+two_same (a ∷ b ∷ c ∷ p) h = absurd (omega arith)

@@ -1,0 +1,20 @@
+-- The unset runs go to the front of the list, are spread to pieces, and the place moves on.
+use Rattle.std.proofs.lemmas.Result.{err_from_is_err_and}
+use Rattle.paint.proofs.Filling.{depth_refused, depth_ready, depth_done}
+use Rattle.paint.proofs.command.fills.paint_depth.Goals as goal
+
+pub returns-in_err-n : goal.returns-in_err-n
+returns-in_err-n c =
+    let p = err_from_is_err_and c.from_residual.result c.from_residual.ensures.1 in
+    rw (p.1, p.2) (depth_refused c.args.width _ _ c.args.list.now _ _ _ _ c.args.mark.panel c.args.fill.buckets c.requires.first_bound.0 c.requires.first_bound.1
+    c.requires.first_bound.3 _ c.in_err-n.ensures)
+
+pub spread-requires : goal.spread-requires
+spread-requires c = rw c.tiles.ensures (depth_ready c.args.width c.args.depth.now c.args.painting.now c.args.list.now _ _ _
+    c.args.fill.attrs_idx c.args.mark.panel c.args.fill.buckets c.requires.first_bound.0 c.requires.first_bound.1 c.requires.first_bound.3 _
+    c.in_ok-n.ensures c.requires.first_bound.2)
+
+pub returns : goal.returns
+returns c = depth_done c.args.width _ c.args.painting.now c.args.list.now _ _ _ _ c.args.mark.panel c.args.fill.buckets
+    c.requires.first_bound.0 c.requires.first_bound.1 c.requires.first_bound.3 _ c.in_ok-n.ensures _ _ _
+    c.advance.ensures (rw c.tiles.ensures at c.spread.ensures)

@@ -1,0 +1,21 @@
+-- The shown runs go to the front of the list, are spread to pieces, and the place moves on.
+use Rattle.std.proofs.lemmas.Result.{err_from_is_err_and}
+use Rattle.paint.specs.Summaries.{summary-at}
+use Rattle.paint.proofs.Filling.{fill_refused, fill_ready, fill_done}
+use Rattle.paint.proofs.command.fills.paint_fill.Goals as goal
+
+pub returns-in_err-n : goal.returns-in_err-n
+returns-in_err-n c =
+    let p = err_from_is_err_and c.from_residual.result c.from_residual.ensures.1 in
+    rw (p.1, p.2) (fill_refused c.args.row.now.width _ _ c.args.list.now _ (summary-at c.args.row.now.state.now) _ _ _ c.args.mark.panel c.args.fill.span c.args.fill.alpha
+    c.requires.first_bound.0 c.requires.first_bound.1 _ (rw c.summary_of-sum.ensures at c.in_err-n.ensures))
+
+pub spread-requires : goal.spread-requires
+spread-requires c = fill_ready c.args.row.now.width c.args.depth.now c.args.painting.now c.args.list.now _ (summary-at c.args.row.now.state.now) c.args.layer _
+    c.args.fill.attrs_idx c.args.mark.panel c.args.fill.span c.args.fill.alpha c.requires.first_bound.0 c.requires.first_bound.1 _
+    (rw c.summary_of-sum.ensures at c.in_ok-n.ensures) c.requires.first_bound.2
+
+pub returns : goal.returns
+returns c = fill_done c.args.row.now.width _ c.args.painting.now c.args.list.now _ (summary-at c.args.row.now.state.now) _ _ _ c.args.mark.panel c.args.fill.span
+    c.args.fill.alpha c.requires.first_bound.0 c.requires.first_bound.1 _ (rw c.summary_of-sum.ensures at c.in_ok-n.ensures) _ _ _
+    c.advance.ensures c.spread.ensures

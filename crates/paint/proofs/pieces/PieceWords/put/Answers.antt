@@ -1,0 +1,10 @@
+-- The words are stored one after the other.
+use mathlib.Core.List.{[], ◌∷◌}
+use Prim.Native.Nat.{◌*◌}
+use native.Mathlib.Omega.{arith}
+use Rattle.sizes.specs.Sizes.{piece-size}
+use Rattle.cmd.proofs.Tables.{stored}
+use Rattle.paint.proofs.pieces.PieceWords.put.Goals as goal
+
+pub returns : goal.returns
+returns c = stored _ (piece-size * c.args.k) _ (_ ∷ _ ∷ _ ∷ _ ∷ _ ∷ _ ∷ []) (omega arith)

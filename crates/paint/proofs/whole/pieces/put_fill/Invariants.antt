@@ -1,0 +1,16 @@
+-- Invariant: after the first run, the runs up to bucket `from` are in the list, and those from there on are still to come.
+use mathlib.Core.Path.{◌≡◌}
+use Prim.Native.Nat.{◌-◌}
+use Rattle.sizes.specs.Widths.{bucket-tiles}
+use Rattle.paint.specs.Kinds.{high-met}
+use Rattle.paint.proofs.Putting.{PutCut}
+use Rattle.paint.proofs.whole.pieces.put_fill.Given as goal
+
+abbrev pub invariant-loop-run : goal.invariant-loop-run
+invariant-loop-run l = record {
+  put : PutCut l.cut l.depth l.initial.from l.initial.pieces.count l.initial.pieces.list.now l.from l.pieces.count l.pieces.list.now;
+  same : l.pieces.list.ghost_name ≡ l.initial.pieces.list.ghost_name;
+}
+
+abbrev pub decreases-loop-run : goal.decreases-loop-run
+decreases-loop-run l = high-met (bucket-tiles l.cut.width) l.cut.words.span - l.from

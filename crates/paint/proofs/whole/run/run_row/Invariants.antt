@@ -1,0 +1,21 @@
+-- So far the row's steps before this one are those of the rules, and their pieces stand in the list. The run ends at the limit, among commands that go
+-- together or after a step.
+use mathlib.Core.Path.{◌≡◌}
+use Prim.Native.Nat.{◌-◌, ◌≤◌, ◌*◌}
+use lib.ListN.{length}
+use Rattle.sizes.specs.Sizes.{piece-size}
+use Rattle.paint.specs.Painting.{out, listed}
+use Rattle.paint.specs.Running.{standing}
+use Rattle.paint.specs.Rows.{steps_of}
+use Rattle.paint.proofs.WholeRuns.{Rest}
+use Rattle.paint.proofs.whole.run.run_row.Given as goal
+
+abbrev pub invariant-loop-steps : goal.invariant-loop-steps
+invariant-loop-steps l = record {
+  rest : Rest (steps_of l.row) l.limit (standing l.initial.depth l.initial.painting l.initial.list) (out (listed l.pieces) l.depth l.painting l.list) l.steps;
+  few : piece-size * l.pieces ≤ length l.list;
+  none : l.steps ≡ 0 → l.pieces ≡ 0;
+}
+
+abbrev pub decreases-loop-steps : goal.decreases-loop-steps
+decreases-loop-steps l = l.limit - l.steps

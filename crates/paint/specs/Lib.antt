@@ -1,0 +1,14 @@
+pub mod Pieces
+pub mod Answers
+pub mod Summaries
+pub mod Painting
+pub mod Standing
+pub mod Reading
+pub mod Judging
+pub mod Beginning
+pub mod Stepping
+pub mod DirectRuns
+pub mod Running
+pub mod Kinds
+pub mod Rows
+pub mod Cuts

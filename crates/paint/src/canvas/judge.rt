@@ -1,0 +1,120 @@
+// What a call's screen, its lengths and its row say, before anything of the row is read.
+ghost use Rattle.std.specs.Prelude.{◌≡◌, true, length};
+ghost use Rattle.sizes.specs.Refusals.{answer_number};
+ghost use Rattle.paint.specs.Judging.{depth-long, arenas-long, tables-long, judged, of_row, begin_number, step_number, runs_number, skip_number};
+
+use crate::canvas::stored::Stored;
+use screen::{Screen, is_good_room};
+use sizes::answers::Refusal;
+use sizes::{LAYER_TABLE, PAINT_TABLE, ROW};
+
+// The arena of depth words is lent exactly.
+fn is_depth(screen: Screen, depth: usize) -> bool
+    ensures { result ≡ depth-long screen depth }
+{
+    depth == screen.rows() * screen.buckets()
+}
+
+// All three arenas are.
+fn is_arenas(screen: Screen, stored: &Stored<'_>, depth: usize) -> bool
+    ensures { result ≡ arenas-long screen (length stored.now.render.now) (length stored.now.fills.now) depth }
+{
+    let n = screen.rows();
+    stored.render.len() == n * (4 * screen.c as usize)
+        && stored.fills.len() == n * (2 * screen.d as usize)
+        && is_depth(screen, depth)
+}
+
+// The tables that a step reads are.
+fn is_tables(screen: Screen, stored: &Stored<'_>, painting: usize) -> bool
+    ensures { result ≡ tables-long screen (length stored.now.rows.now) painting (length stored.now.paint_attrs.now) (length stored.now.layer_attrs.now) }
+{
+    let n = screen.rows();
+    stored.rows.len() == n * ROW
+        && painting == n * 2
+        && stored.paint_attrs.len() == PAINT_TABLE
+        && stored.layer_attrs.len() == LAYER_TABLE
+}
+
+// 2, then 1, then 4: the screen's numbers, and whether the arenas and tables that are lent have their lengths.
+#[tactic(auto, unfolding(crate::specs::Judging::judged))]
+#[inline(always)]
+fn judge(screen: Screen, arenas: bool, tables: bool) -> Result<(), Refusal>
+    ensures { answer_number result ≡ judged screen arenas tables }
+{
+    if !screen.viewport.is_good_viewport() {
+        return Err(Refusal::BadViewport);
+    }
+    if !is_good_room(screen.c) || !is_good_room(screen.d) || !arenas {
+        return Err(Refusal::BadArena);
+    }
+    if !tables || !screen.is_good() {
+        return Err(Refusal::BadRecord);
+    }
+    Ok(())
+}
+
+// The same, then 12 where there is no such row.
+#[inline(always)]
+fn judge_row(screen: Screen, row: usize, arenas: bool, tables: bool) -> Result<(), Refusal>
+    ensures { answer_number result ≡ of_row (judged screen arenas tables) screen row }
+{
+    judge(screen, arenas, tables)?;
+    if screen.rows() <= row {
+        return Err(Refusal::BadRun);
+    }
+    Ok(())
+}
+
+// Before painting is begun: 2, 1, 4, then 13 with a layer open.
+#[tactic(auto, unfolding(crate::specs::Judging::begin_number))]
+pub fn judge_begin(screen: Screen, depth: usize, painting: usize) -> Result<(), Refusal>
+    ensures { answer_number result ≡ begin_number screen depth painting }
+{
+    judge(
+        screen,
+        is_depth(screen, depth),
+        painting == screen.rows() * 2,
+    )?;
+    if screen.layers != 0 {
+        return Err(Refusal::Open);
+    }
+    Ok(())
+}
+
+// Before a step of a row: 2, 1, 4, 12 for no such row, then 13 with a layer open or where painting has not begun.
+#[tactic(auto, unfolding(crate::specs::Judging::step_number))]
+#[inline(always)]
+pub fn judge_step(
+    screen: Screen,
+    row: usize,
+    stored: &Stored<'_>,
+    depth: usize,
+    painting: usize,
+) -> Result<(), Refusal>
+    ensures { answer_number result ≡ step_number screen row (arenas-long screen (length stored.now.render.now) (length stored.now.fills.now) depth) (tables-long screen (length stored.now.rows.now) painting (length stored.now.paint_attrs.now) (length stored.now.layer_attrs.now)) }
+{
+    let arenas = is_arenas(screen, stored, depth);
+    let tables = is_tables(screen, stored, painting);
+    judge_row(screen, row, arenas, tables)?;
+    if 0 < screen.layers || !screen.painting {
+        return Err(Refusal::Open);
+    }
+    Ok(())
+}
+
+// Before a call that is lent the depth words: 2, 1, 4, 12 for no such row.
+#[tactic(auto, unfolding(crate::specs::Judging::runs_number))]
+pub fn judge_runs(screen: Screen, row: usize, depth: usize) -> Result<(), Refusal>
+    ensures { answer_number result ≡ runs_number screen row depth }
+{
+    judge_row(screen, row, is_depth(screen, depth), true)
+}
+
+// Before one that is lent the rows' records: the same.
+#[tactic(auto, unfolding(crate::specs::Judging::skip_number))]
+pub fn judge_skip(screen: Screen, row: usize, rows: usize) -> Result<(), Refusal>
+    ensures { answer_number result ≡ skip_number screen row rows }
+{
+    judge_row(screen, row, true, rows == screen.rows() * ROW)
+}

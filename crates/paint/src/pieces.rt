@@ -1,0 +1,157 @@
+// Pieces, seven words each, and what a painting step leaves: pieces in the list, and one step more. Parts: where a function asks something, its callers have
+// judged it.
+ghost use Rattle.std.specs.Prelude.{◌≡◌, Ok, [], ◌∷◌, map, ℕ, ◌+◌, ◌*◌, ◌-◌, ◌≤◌, ◌<◌, length};
+ghost use Rattle.sizes.specs.Sizes.{piece-size};
+ghost use Rattle.rules.specs.Spans.{Span, span};
+ghost use Rattle.rules.specs.Depth.{tiles-of};
+ghost use Rattle.span.specs.Spans.{Moves};
+ghost use Rattle.cmd.specs.Attrs.{words-at};
+ghost use Rattle.paint.specs.Pieces.{tag_of, words_of, piece-words, brush-piece, Fits, run_at, runs-at, laid};
+ghost use Rattle.paint.specs.Answers.{word, painted_of, listed, advanced};
+
+use sizes::PIECE;
+
+// What a step has painted. finished: no step was left. pieces: how many stand in the list.
+#[derive(Clone, Copy)]
+pub struct Stepped {
+    pub finished: bool,
+    pub pieces: usize,
+}
+
+// A step is done: in the row's two words, one step more and the nesting after it; and so many pieces in the list.
+#[tactic(auto, using(crate::proofs::Two::two_both))]
+pub fn advance(painting: &mut [u32], nesting: u32, pieces: usize) -> Stepped
+    requires { (length painting.old ≡ 2) × (word painting.old 0 < 4294967295) }
+    ensures { advanced (painted_of (Ok result)) painting.new ≡ advanced (listed pieces) ((word painting.old 0 + 1) ∷ nesting ∷ []) }
+{
+    painting[0] += 1;
+    painting[1] = nesting;
+    Stepped {
+        finished: false,
+        pieces,
+    }
+}
+
+// A piece as it stands in the list. `tag`: 1 and 2 paint, solid and alpha, 3 and 4 layer; tiles from `first` to `end`; `alpha`: its alpha index, or 0.
+// `nesting`: how many buffers are open.
+#[derive(Clone, Copy)]
+pub struct PieceWords {
+    pub tag: u32,
+    pub attrs_idx: u32,
+    pub first: u32,
+    pub end: u32,
+    pub alpha: u32,
+    pub nesting: u32,
+    pub panel: u32,
+}
+
+impl PieceWords {
+    // Written as piece k of the list.
+    pub fn put(self, list: &mut [u32], k: usize)
+        requires { piece-size * k + piece-size ≤ length list.old }
+        ensures { list.new ≡ words-at list.old (piece-size * k) (words_of self) }
+    {
+        let at = PIECE * k;
+        list[at] = self.tag;
+        list[at + 1] = self.attrs_idx;
+        list[at + 2] = self.first;
+        list[at + 3] = self.end;
+        list[at + 4] = self.alpha;
+        list[at + 5] = self.nesting;
+        list[at + 6] = self.panel;
+    }
+}
+
+// A list of pieces that is lent, of which the first `count` are written.
+#[derive(Drop)]
+pub struct Pieces<'a> {
+    pub list: &'a mut [u32],
+    pub count: usize,
+    ghost few: { piece-size * count ≤ length list.now },
+}
+
+impl<'a> Pieces<'a> {
+    // A list whose first `count` pieces are written before.
+    pub fn new(list: &'a mut [u32], count: usize) -> Pieces<'a>
+        requires { piece-size * count ≤ length list.old }
+        ensures same { result.list.ghost_name ≡ list.entry.ghost_name }
+        ensures list { result.list.now ≡ list.old }
+        ensures count { result.count ≡ count }
+    {
+        Pieces { list, count }
+    }
+
+    // How many words of the list are left.
+    pub fn left(&self) -> usize
+        ensures { result + piece-size * self.now.count ≡ length self.now.list.now }
+    {
+        self.list.len() - PIECE * self.count
+    }
+
+    // One piece more.
+    pub fn push(&mut self, piece: PieceWords)
+        requires { piece-size * self.old.count + piece-size ≤ length self.old.list.now }
+        ensures same { self.new.list.ghost_name ≡ self.old.list.ghost_name }
+        ensures list { self.new.list.now ≡ words-at self.old.list.now (piece-size * self.old.count) (words_of piece) }
+        ensures count { self.new.count ≡ self.old.count + 1 }
+    {
+        piece.put(self.list, self.count);
+        self.count += 1;
+    }
+}
+
+// Paint or layer, solid or alpha, as a tag.
+fn tag(layer: bool, alpha: Option<u32>) -> u32
+    ensures { result ≡ tag_of layer alpha }
+{
+    match (layer, alpha) {
+        (false, None) => 1,
+        (false, Some(_)) => 2,
+        (true, None) => 3,
+        (true, Some(_)) => 4,
+    }
+}
+
+// What the pieces of one step have in common. `first` is the tile that the alpha index belongs to.
+#[derive(Clone, Copy)]
+pub struct Brush {
+    pub layer: bool,
+    pub attrs_idx: u32,
+    pub first: u32,
+    pub alpha: Option<u32>,
+    pub nesting: u32,
+    pub panel: u32,
+}
+
+impl Brush {
+    // The piece over the tiles a to b.
+    fn piece(self, a: u32, b: u32) -> PieceWords
+        requires { (self.first ≤ a) × Moves self.alpha (a - self.first) }
+        ensures { words_of result ≡ piece-words (brush-piece self (span a b)) }
+    {
+        let alpha = span::moved(self.alpha, a - self.first);
+        PieceWords {
+            tag: tag(self.layer, alpha),
+            attrs_idx: self.attrs_idx,
+            first: a,
+            end: b,
+            alpha: alpha.unwrap_or(0),
+            nesting: self.nesting,
+            panel: self.panel,
+        }
+    }
+}
+
+// The n runs at the list's start, two words each, in units of `width` tiles, become n pieces in their place, from the last to the first.
+pub fn spread(list: &mut [u32], n: usize, width: u32, brush: Brush)
+    requires { (piece-size * n ≤ length list.old) × ((k : ℕ) → k < n → Fits width brush (run_at list.old k)) }
+    ensures { list.new ≡ laid (map (λ (r : Span). brush-piece brush (tiles-of width r)) (runs-at n list.old)) list.old }
+{
+    let mut left = n;
+    while 0 < left {
+        let k = left - 1;
+        let piece = brush.piece(list[2 * k] * width, list[2 * k + 1] * width);
+        piece.put(list, k);
+        left = k;
+    }
+}

@@ -1,0 +1,96 @@
+// A row painted from where it stands: one step, or all of them. `paint_step` and `paint_row` are public calls: they have no `requires`. The
+// others are their parts.
+ghost use Rattle.std.specs.Prelude.{◌≡◌, ◌≤◌};
+ghost use Rattle.sizes.specs.Widths.{bucket-tiles};
+ghost use Rattle.paint.specs.Answers.{painted_of};
+ghost use Rattle.paint.specs.Painting.{attrs-at, lent, out};
+ghost use Rattle.paint.specs.Judging.{wide};
+ghost use Rattle.paint.specs.Stepping.{attributes, StepReady, stepped};
+ghost use Rattle.paint.specs.Running.{most, row-run, row-painted};
+
+use crate::canvas::judge::judge_step;
+use crate::canvas::{Stepped, Stored};
+use crate::command::{Attributes, Row};
+use crate::whole::run::run_row;
+use row::part;
+use screen::Screen;
+use sizes::ROW;
+use sizes::answers::Refusal;
+
+pub mod ends;
+pub mod pieces;
+pub mod plain;
+pub mod reading;
+pub mod run;
+
+// At most `limit` steps of a row that is there, painting having begun: the row's own parts are handed on.
+fn row_part(
+    screen: Screen,
+    row: usize,
+    stored: &Stored<'_>,
+    depth: &mut [u32],
+    painting: &mut [u32],
+    list: &mut [u32],
+    limit: usize,
+) -> Result<Stepped, Refusal>
+    requires { (limit ≤ most) × StepReady (wide screen) screen.c screen.d screen.paint_attrs screen.layer_attrs row (attributes stored.now.paint_attrs.now stored.now.layer_attrs.now) (lent stored.now.rows.now stored.now.render.now stored.now.fills.now depth.old painting.old list.old) }
+    ensures { out (painted_of result) depth.new painting.new list.new
+        ≡ row-run (bucket-tiles screen.width) limit (attrs-at stored.now.paint_attrs.now screen.paint_attrs stored.now.layer_attrs.now screen.layer_attrs) (wide screen) screen.c screen.d row (lent stored.now.rows.now stored.now.render.now stored.now.fills.now depth.old painting.old list.old) }
+{
+    let b = screen.buckets();
+    let u = row * b;
+    let v = row * 2;
+    let read = Row {
+        state: part(stored.rows, ROW, row),
+        render: part(stored.render, 4 * screen.c as usize, row),
+        fills: part(stored.fills, 2 * screen.d as usize, row),
+        attrs: Attributes {
+            paint_attrs: stored.paint_attrs,
+            paints: screen.paint_attrs,
+            layer_attrs: stored.layer_attrs,
+            layers: screen.layer_attrs,
+        },
+        width: screen.width,
+    };
+    run_row(
+        &read,
+        &mut depth[u..u + b],
+        &mut painting[v..v + 2],
+        list,
+        limit,
+    )
+}
+
+// One step of one row: its depth fills last to first, then its render commands in order, then finished, as often as asked. The pieces stand at the list's
+// start. BadViewport, BadArena, BadRecord, BadRun for no such row, Open or NoRoom: refused, every word stays.
+pub fn paint_step(
+    screen: Screen,
+    row: usize,
+    stored: &Stored<'_>,
+    depth: &mut [u32],
+    painting: &mut [u32],
+    list: &mut [u32],
+) -> Result<Stepped, Refusal>
+    ensures { out (painted_of result) depth.new painting.new list.new
+        ≡ stepped screen row (attributes stored.now.paint_attrs.now stored.now.layer_attrs.now) (lent stored.now.rows.now stored.now.render.now stored.now.fills.now depth.old painting.old list.old) }
+{
+    judge_step(screen, row, stored, depth.len(), painting.len())?;
+    row_part(screen, row, stored, depth, painting, list, 1)
+}
+
+// The row's next steps, one after the other, until one is refused or the row is finished; refused where the first step is. The pieces stand one after the other
+// in the list. finished: no step is left. At most 2,049 steps, which no row passes: C, D and the one that finds nothing left.
+pub fn paint_row(
+    screen: Screen,
+    row: usize,
+    stored: &Stored<'_>,
+    depth: &mut [u32],
+    painting: &mut [u32],
+    list: &mut [u32],
+) -> Result<Stepped, Refusal>
+    ensures { out (painted_of result) depth.new painting.new list.new
+        ≡ row-painted screen row (attributes stored.now.paint_attrs.now stored.now.layer_attrs.now) (lent stored.now.rows.now stored.now.render.now stored.now.fills.now depth.old painting.old list.old) }
+{
+    judge_step(screen, row, stored, depth.len(), painting.len())?;
+    row_part(screen, row, stored, depth, painting, list, 2049)
+}

@@ -1,0 +1,328 @@
+// Commands that one look at their words and the depth words settles: fills and buffers. Parts: where a function asks something, its callers have judged it.
+ghost use Rattle.std.specs.Prelude.{◌≡◌, IfSome, List, ℕ, ◌+◌, ◌*◌, ◌≤◌, ◌<◌, length};
+ghost use Rattle.sizes.specs.Sizes.{tile-end, most-layers, piece-size};
+ghost use Rattle.rules.specs.Attributes.{Attrs};
+ghost use Rattle.rules.specs.Spans.{span};
+ghost use Rattle.rules.specs.Depth.{Summary, can_skip};
+ghost use Rattle.sizes.specs.Widths.{bucket-tiles};
+ghost use Rattle.paint.specs.Painting.{word, out, listed};
+ghost use Rattle.paint.specs.Reading.{attrs_of};
+ghost use Rattle.paint.specs.Running.{most};
+ghost use Rattle.paint.specs.Rows.{steps_of, mark_in, FillSays, Says, SaysAt};
+ghost use Rattle.paint.specs.Kinds.{summary-by, good-index, Calm, place, Reaches, Onward};
+
+use crate::command::{Mark, Row};
+use crate::pieces::{PieceWords, Pieces};
+use crate::shown::is_good_summary;
+use crate::whole::ends::{hidden_end, seen_end};
+use crate::whole::pieces::{Cut, most_runs, put_fill};
+use crate::whole::reading::{FillLook, Hull, Look, Partly};
+use cmd::command::{CmdWords, good_span_word};
+use sizes::width::Width;
+use sizes::{DEPTHS, END, FIRST, LARGEST, MOST_LAYERS, PIECE, RENDERS, TILE_ALPHAS, TILE_END};
+
+// What a fill's attribute says, a paint's or a layer's by the tag, if it is there and good.
+fn mark_of(row: &Row<'_>, tag: u32, i: u32) -> Option<Mark>
+    ensures { result ≡ mark_in (attrs_of row.now.attrs) tag i }
+{
+    if tag <= 2 {
+        return row.attrs.paint(i);
+    }
+    row.attrs.layer(i)
+}
+
+// A solid fill has no alpha index, another one that can be moved over the whole width.
+fn is_good_index(tag: u32, alpha: u32, width: u32) -> bool
+    requires { width ≤ tile-end }
+    ensures { result ≡ good-index tag alpha width }
+{
+    if alpha == 0 {
+        return true;
+    }
+    if tag % 2 == 1 {
+        return false;
+    }
+    alpha <= 4294967295 - TILE_ALPHAS * width
+}
+
+impl Hull {
+    // By the summary alone, nothing hides the tiles.
+    #[tactic(auto, unfolding(rules::specs::Depth::can_skip))]
+    fn is_apart(self, first: u32, end: u32, id: u32) -> bool
+        ensures { result ≡ can_skip (summary-by self.from self.to self.largest) (span first «end») id }
+    {
+        self.largest <= id || self.to <= first || end <= self.from
+    }
+}
+
+// What one look shows of a fill's words, with its attribute's id.
+fn sure_fill(depth: &[u32], width: Width, words: CmdWords, id: u32, hull: Hull) -> FillLook
+    ensures { FillSays (bucket-tiles width) (summary-by hull.from hull.to hull.largest) depth.now id words.tag words.span words.alpha result }
+{
+    let first = words.span / 65536;
+    let end = words.span % 65536;
+    if end <= first || TILE_END < end || !is_good_index(words.tag, words.alpha, end - first) {
+        return FillLook::Unsure;
+    }
+    let e = width.above(end) as usize;
+    if depth.len() < e {
+        return FillLook::Unsure;
+    }
+    if hull.is_apart(first, end, id) {
+        return FillLook::Whole;
+    }
+    let a = width.below(first) as usize;
+    if depth[a] <= id {
+        if e <= a + 1 {
+            return FillLook::Whole;
+        }
+        let stop = seen_end(depth, a, e, id);
+        if e <= stop {
+            return FillLook::Whole;
+        }
+        return FillLook::Partly(true, stop);
+    }
+    if e <= a + 1 {
+        return FillLook::Hidden;
+    }
+    let end_hidden = hidden_end(depth, a, e, id);
+    if e <= end_hidden {
+        return FillLook::Hidden;
+    }
+    FillLook::Partly(false, end_hidden)
+}
+
+// What a buffer's words show.
+fn sure_buffer(words: CmdWords, nesting: u32) -> Look
+    ensures { (v : ℕ) (a : Attrs) (u : Summary) (D : List ℕ) → Says v a u D nesting words.tag words.span words.alpha words.attrs_idx result }
+{
+    if words.alpha != 0 || words.attrs_idx != 0 {
+        return Look::Unsure;
+    }
+    if words.tag == 6 {
+        if good_span_word(TILE_END, words.span) && nesting < MOST_LAYERS {
+            return Look::Push;
+        }
+        return Look::Unsure;
+    }
+    if words.span != 0 {
+        return Look::Unsure;
+    }
+    if words.tag == 5 && nesting < MOST_LAYERS {
+        return Look::Push;
+    }
+    if words.tag == 7 && 0 < nesting {
+        return Look::Pop;
+    }
+    Look::Unsure
+}
+
+// What one look shows of a command's words.
+fn look_at(row: &Row<'_>, depth: &[u32], words: CmdWords, nesting: u32, hull: Hull) -> Look
+    ensures { Says (bucket-tiles row.now.width) (attrs_of row.now.attrs) (summary-by hull.from hull.to hull.largest) depth.now nesting words.tag words.span words.alpha words.attrs_idx result }
+{
+    if 4 < words.tag {
+        return sure_buffer(words, nesting);
+    }
+    if words.tag == 0 {
+        return Look::Unsure;
+    }
+    let Some(mark) = mark_of(row, words.tag, words.attrs_idx) else {
+        return Look::Unsure;
+    };
+    match sure_fill(depth, row.width, words, mark.id, hull) {
+        FillLook::Unsure => Look::Unsure,
+        FillLook::Whole => Look::Whole(mark.panel),
+        FillLook::Hidden => Look::Hidden,
+        FillLook::Partly(seen, stop) => Look::Partly(Partly { seen, stop, mark }),
+    }
+}
+
+// The command at place k.
+fn words_at(render: &[u32], k: usize) -> CmdWords
+    requires { 4 * k + 4 ≤ length render.now }
+    ensures { result ≡ record { tag = word render.now (4 * k); span = word render.now (4 * k + 1); alpha = word render.now (4 * k + 2); attrs_idx = word render.now (4 * k + 3) } }
+{
+    let at = 4 * k;
+    CmdWords {
+        tag: render[at],
+        span: render[at + 1],
+        alpha: render[at + 2],
+        attrs_idx: render[at + 3],
+    }
+}
+
+// Where a run of commands ended: the place of the next command, the nesting, and a fill that is shown in part there, if that is why.
+#[derive(Clone, Copy)]
+struct Reached {
+    at: usize,
+    nesting: u32,
+    part: Option<Partly>,
+}
+
+// The commands from `start` on, up to `stop` or the first that is not shown or hidden whole.
+fn run_sure(
+    row: &Row<'_>,
+    depth: &[u32],
+    pieces: &mut Pieces<'_>,
+    start: usize,
+    stop: usize,
+    nesting: u32,
+) -> Reached
+    requires calm { Calm row.now.state.now row.now.render.now row.now.fills.now }
+    requires start_le_stop { (start ≤ stop) × (stop ≤ word row.now.state.now 0) × (nesting ≤ most-layers) }
+    ensures same { pieces.new.list.ghost_name ≡ pieces.old.list.ghost_name }
+    ensures reaches { Reaches (steps_of row.now) depth.now (word row.now.state.now 1) (place start pieces.old.count nesting pieces.old.list.now) (place result.at pieces.new.count result.nesting pieces.new.list.now) }
+    ensures at_le_stop { result.at ≤ stop }
+    ensures at_lt_stop { IfSome result.part (λ q. (result.at < stop) × SaysAt row.now depth.now result.nesting result.at (Look.Partly q)) }
+{
+    let hull = Hull {
+        from: row.state[FIRST],
+        to: row.state[END],
+        largest: row.state[LARGEST],
+    };
+    let mut at = start;
+    let mut level = nesting;
+    while at < stop {
+        let words = words_at(row.render, at);
+        match look_at(row, depth, words, level, hull) {
+            Look::Whole(panel) => {
+                if pieces.left() < PIECE {
+                    break;
+                }
+                pieces.push(PieceWords {
+                    tag: words.tag,
+                    attrs_idx: words.attrs_idx,
+                    first: words.span / 65536,
+                    end: words.span % 65536,
+                    alpha: words.alpha,
+                    nesting: level,
+                    panel,
+                });
+            }
+            Look::Hidden => {}
+            Look::Push => {
+                level += 1;
+            }
+            Look::Pop => {
+                level -= 1;
+            }
+            Look::Partly(part) => {
+                return Reached {
+                    at,
+                    nesting: level,
+                    part: Some(part),
+                };
+            }
+            Look::Unsure => {
+                break;
+            }
+        }
+        at += 1;
+    }
+    Reached {
+        at,
+        nesting: level,
+        part: None,
+    }
+}
+
+// The commands from `start` on, up to `stop` or the first that the looks do not settle. A fill that is shown in part is finished from where
+// its look stopped, if the list has room for any result.
+fn run_commands(
+    row: &Row<'_>,
+    depth: &[u32],
+    pieces: &mut Pieces<'_>,
+    start: usize,
+    stop: usize,
+    nesting: u32,
+) -> Reached
+    requires calm { Calm row.now.state.now row.now.render.now row.now.fills.now }
+    requires start_le_stop { (start ≤ stop) × (stop ≤ word row.now.state.now 0) × (nesting ≤ most-layers) }
+    ensures same { pieces.new.list.ghost_name ≡ pieces.old.list.ghost_name }
+    ensures reaches { Reaches (steps_of row.now) depth.now (word row.now.state.now 1) (place start pieces.old.count nesting pieces.old.list.now) (place result.at pieces.new.count result.nesting pieces.new.list.now) }
+    ensures at_le_stop { result.at ≤ stop }
+{
+    let mut at = start;
+    let mut level = nesting;
+    loop {
+        let reached = run_sure(row, depth, pieces, at, stop, level);
+        let Some(part) = reached.part else {
+            return reached;
+        };
+        let next = reached.at;
+        let words = words_at(row.render, next);
+        if pieces.left() < PIECE * most_runs(words.span, row.width) {
+            return reached;
+        }
+        level = reached.nesting;
+        let cut = Cut {
+            words,
+            nesting: level,
+            mark: part.mark,
+            width: row.width,
+        };
+        put_fill(depth, cut, part.seen, part.stop, pieces);
+        at = next + 1;
+    }
+}
+
+// How far a run went: the steps done, and how many pieces stand in the list.
+#[derive(Clone, Copy)]
+pub struct Gone {
+    pub steps: usize,
+    pub pieces: usize,
+}
+
+// No step, and the pieces that there were.
+fn none_done(pieces: usize) -> Gone
+    ensures { (result.steps ≡ 0) × (result.pieces ≡ pieces) }
+{
+    Gone { steps: 0, pieces }
+}
+
+// The row's next commands, at most `limit`, as far as one look settles each, after `pieces` pieces of the list; none where depth fills are left or the words
+// are no row's. It refuses nothing: what it leaves is judged step by step.
+pub fn run_plain(
+    row: &Row<'_>,
+    depth: &[u32],
+    painting: &mut [u32],
+    list: &mut [u32],
+    pieces: usize,
+    limit: usize,
+) -> Gone
+    requires lens { (length depth.now ≤ 65535) × (length painting.old ≡ 2) }
+    requires pieces_in_bounds { (piece-size * pieces ≤ length list.old) × (limit ≤ most) }
+    ensures onward { Onward (steps_of row.now) result.steps (out (listed pieces) depth.now painting.old list.old) (out (listed result.pieces) depth.now painting.new list.new) }
+    ensures still { result.steps ≡ 0 → result.pieces ≡ pieces }
+    ensures steps_le_limit { (result.steps ≤ limit) × (piece-size * result.pieces ≤ length list.old) }
+{
+    let depths = row.state[DEPTHS];
+    let done = painting[0];
+    if done < depths {
+        return none_done(pieces);
+    }
+    let renders = row.state[RENDERS];
+    let next = done - depths;
+    if renders <= next
+        || row.render.len() < 4 * renders as usize
+        || row.fills.len() < 2 * depths as usize
+    {
+        return none_done(pieces);
+    }
+    let nesting = painting[1];
+    if MOST_LAYERS < nesting || !is_good_summary(row.state) {
+        return none_done(pieces);
+    }
+    let start = next as usize;
+    let some = limit.min(renders as usize - start);
+    let mut out = Pieces::new(list, pieces);
+    let reached = run_commands(row, depth, &mut out, start, start + some, nesting);
+    let steps = reached.at - start;
+    painting[0] = done + steps as u32;
+    painting[1] = reached.nesting;
+    Gone {
+        steps,
+        pieces: out.count,
+    }
+}

@@ -1,3 +1,0 @@
-pub mod Painting
-pub mod Standing
-pub mod Reading

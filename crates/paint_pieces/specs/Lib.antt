@@ -1,2 +1,0 @@
-pub mod Pieces
-pub mod Answers

@@ -1,4 +1,0 @@
-pub mod Judging
-pub mod Beginning
-pub mod Stepping
-pub mod Rows

@@ -1,4 +1,0 @@
-pub mod Running
-pub mod Kinds
-pub mod Rows
-pub mod Cuts

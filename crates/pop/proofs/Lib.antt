@@ -1,0 +1,12 @@
+pub mod Ready
+pub mod Numbers
+pub mod Opening
+pub mod Doing
+pub mod Popping
+pub mod Touched
+pub mod Going
+pub mod Closed
+pub mod Running
+pub mod Rooms
+pub mod Clipping
+pub mod Judging

@@ -1,0 +1,534 @@
+-- A pop's number, way by way, and what stands when it is 0. Assumes nothing.
+use mathlib.Core.Path.{◌≡◌, refl, sym, ap, ◌∙◌}
+use mathlib.Core.Bool.{Bool, true, false, ◌&&◌, ◌||◌, not, cond}
+use mathlib.Core.List.{List, [], ◌∷◌, ◌++◌, map}
+use Rattle.std.specs.Prelude.{None, Some}
+use Prim.Native.Nat.{ℕ, zero, suc, ◌+◌, ◌-◌, ◌*◌, ◌/◌, ◌%◌, ◌≤◌, ◌<◌}
+use native.Mathlib.Omega.{arith}
+use lib.Dec.{leb, ltb, eqb}
+use lib.ListN.{length, length-append}
+use borrow.Author.Tests.{ne_eqb, eqb-true, eqb-false, le-ltb, lt-ltb, le-leb, lt-leb, ltb-true, ltb-false, leb-true, leb-false}
+use Rattle.sizes.specs.Widths.{bucket-tiles}
+use Rattle.rules.specs.Lists.{some_of, join, slice}
+use Rattle.rules.specs.Answers.{first_of}
+use Rattle.rules.specs.Boxes.{Box, rows_of, rows_in, span_of, good_viewport, scene-tiles}
+use Rattle.rules.specs.Spans.{Span}
+use Rattle.rules.specs.Segments.{Segment, ordered, judge-segments, Cut, cut_in, cuts}
+use Rattle.rules.specs.Inputs.{Clip}
+use Rattle.sizes.specs.Sizes.{open-layer-table, opacity-count, layer-attr-table}
+use Rattle.rules.specs.Attributes.{attrs-full}
+use Rattle.rules.specs.Plans.{bucket, Layer, close, pop, Put, on, Plan, clip-box, clip-segments, clip-fits, close-puts, closing, with-layer, plan-pop}
+use Rattle.rules.specs.Steps.{Screen, done, passes, refusal}
+use Rattle.rules.specs.Walk.{good-room}
+use Rattle.rules.proofs.All.{All, all-over, both}
+use Rattle.row.specs.Words.{Words, word, word-ops}
+use Rattle.rect.specs.Rects.{box_of}
+use Rattle.screen.specs.declared.Screen as code
+use Rattle.screen.specs.Screens.{frame-of, state-of, good_screen}
+use Rattle.screen.specs.Judging.{good-rooms, judged}
+use Rattle.screen.proofs.ScreenLaws as screens
+use Rattle.screen.proofs.ScreenLaws.{Bounds, bounds, few_rows, paint-count, layer-attr-count, filter-count}
+use Rattle.segments.specs.declared.Scene.{Scene}
+use Rattle.segments.specs.Segs.{segs, segs-of, origin, bounds as scene-bounds, SceneOf}
+use Rattle.segments.proofs.Laws.{segs-slice, segs-count, cut-in-scene, judged as judged-list}
+use Rattle.row.specs.Building.{rows_at, Whole, screen-at, step_number}
+use Rattle.screen.specs.Layers.{layer-at, open_at, good_layer, good_own_box}
+use Rattle.pop.specs.Closing.{touched-in, good-pops, full_by, pops-number, runs-full, done-puts}
+use Rattle.pop.proofs.Closed.{Close, closing as a-closing, members}
+use Rattle.pop.proofs.Running.{cuts-sorted}
+use Rattle.pop.proofs.Rooms.{touched-inside}
+use Rattle.pop.proofs.Clipping.{close-all, close-in}
+use Rattle.pop.specs.Pop.{PopLent, lent, layers-in, own-rows, good-open, good_lengths, late, first, state-in, pop-plan, number-after, number, Judged}
+use Rattle.pop.proofs.Ready.{Closeable, all-fine, full_is, deep_is, full-plain, full-clip}
+
+-- 2, 1 and 4 are not given: a good viewport, the words of its rows, good counts
+pub record Screened (s : code.Screen) (w : Words) : Type 0 where
+  pub view : good_viewport (box_of s.viewport) ≡ true
+  pub whole : Whole (frame-of s) w
+  pub bounds : Bounds s
+
+three : (a b c : Bool) → ◌≡◌ {A = ℕ} (cond (not a) 2 (cond (not b) 1 (cond (not c) 4 0))) 0 → (a ≡ true) × (b ≡ true) × (c ≡ true)
+three true true true e = (refl, refl, refl)
+three true true false e = absurd (omega arith)
+three true false c e = absurd (omega arith)
+three false b c e = absurd (omega arith)
+
+module _ (s : code.Screen) (w : Words) where
+  n : ℕ
+  n = rows_of (box_of s.viewport)
+
+  pub screened : judged s (length w.state) (length w.render) (length w.fills) ≡ 0 → Screened s w
+  unfolding judged
+  screened e =
+      let n = rows_of (box_of s.viewport) in
+      let a = length w.state in
+      let r = length w.render in
+      let i = length w.fills in
+      let t = three (good_viewport (box_of s.viewport)) (good-rooms n s.c s.d r i) (eqb a (n * 54) && good_screen s) e in
+      let gc = good-room s.c in
+      let gd = good-room s.d in
+      let er = eqb r (n * (4 * s.c)) in
+      let ef = eqb i (n * (2 * s.d)) in
+      let h3 = both (gc && gd && er) ef t.1 in
+      let h2 = both (gc && gd) er h3.0 in
+      let h1 = both gc gd h2.0 in
+      let k = both (eqb a (n * 54)) (good_screen s) t.2 in
+      record {
+        view = t.0;
+        whole =
+            record {
+              rows = few_rows (box_of s.viewport) t.0;
+              c = (screens.room s.c h1.0).few;
+              d = (screens.room s.d h1.1).few;
+              long = record { state = eqb-true a (n * 54) k.0; render = eqb-true r (n * (4 * s.c)) h2.1; fills = eqb-true i (n * (2 * s.d)) h3.1 };
+            };
+        bounds = bounds s k.1;
+      }
+
+-- the innermost of n open layers
+module _ (t : List ℕ) where
+  pub layers-first : (n : ℕ) → 1 ≤ n → layers-in t n ≡ layer-at t (n - 1) ∷ layers-in t (n - 1)
+  unfolding layers-in
+  layers-first zero h = absurd (omega arith)
+  layers-first (suc n) h = let e : suc n - 1 ≡ n = omega arith in rw e
+
+  pub layers-length : (n : ℕ) → length (layers-in t n) ≡ n
+  unfolding layers-in
+  layers-length zero = refl
+  layers-length (suc n) = ap suc (layers-length n)
+
+  pub own_first : (n : ℕ) → 1 ≤ n → own-rows (layers-in t n) ≡ rows_in (layer-at t (n - 1)).bounds
+  unfolding own-rows
+  own_first n h = rw (layers-first n h)
+
+  pub open-first : (v : Box) (n : ℕ) → 1 ≤ n
+      → good-open v t n ≡ (good_layer (open_at t (n - 1)) && good_own_box v (layer-at t (n - 1)).bounds && good_own_box v (clip-box v (layers-in t (n - 1))))
+  unfolding good-open
+  open-first v zero h = absurd (omega arith)
+  open-first v (suc n) h = let e : suc n - 1 ≡ n = omega arith in rw e
+
+-- the tests before the rows
+module _ (s : code.Screen) (l : PopLent) (ws : List ℕ) where
+  abbrev lens : Bool
+  lens = good_lengths (length l.layers) (length l.opacities) (length l.attrs) (length ws)
+
+  abbrev opened : Bool
+  opened = good-open (box_of s.viewport) l.layers s.layers
+
+  abbrev numbered : ℕ
+  numbered = judged s (length l.words.state) (length l.words.render) (length l.words.fills)
+
+  by_first : {k : ℕ} → first s l ws ≡ k → (k ≡ 0 → ⊥) → k ≡ number s l ws
+  unfolding number-after step_number
+  by_first {k} e h = rw (e, ne_eqb k 0 h)
+
+  pub by-screen : {k : ℕ} → k ≡ numbered → (k ≡ 0 → ⊥) → k ≡ number s l ws
+  unfolding first
+  by-screen {k} e h = let p : first s l ws ≡ k = rw (← e, ne_eqb k 0 h) in by_first p h
+
+  pub by_lengths : numbered ≡ 0 → lens ≡ false → 4 ≡ number s l ws
+  unfolding first
+  by_lengths e h = let p : first s l ws ≡ 4 = rw (e, h) in by_first p (λ (z : 4 ≡ 0). omega arith)
+
+  pub by-open : numbered ≡ 0 → lens ≡ true → opened ≡ false → 4 ≡ number s l ws
+  unfolding first
+  by-open e g h = let p : first s l ws ≡ 4 = rw (e, g, h) in by_first p (λ (z : 4 ≡ 0). omega arith)
+
+  pub all_first : numbered ≡ 0 → lens ≡ true → opened ≡ true → first s l ws ≡ 0
+  unfolding first
+  all_first e g h = rw (e, g, h)
+
+  open_none : s.layers ≡ 0 → opened ≡ true
+  unfolding good-open
+  open_none h = rw h
+
+  pub by-none : numbered ≡ 0 → lens ≡ true → s.layers ≡ 0 → 7 ≡ number s l ws
+  unfolding number-after step_number own-rows layers-in plan-pop refusal good-pops
+  by-none e g h = rw (all_first e g (open_none h), h)
+
+-- the tests after it
+shift : (m : ℕ) → ltb 1048577 (m + 1) ≡ ltb 1048576 m
+shift m = go (ltb 1048576 m) refl
+  where
+    go : (b : Bool) → ltb 1048576 m ≡ b → ltb 1048577 (m + 1) ≡ b
+    go true e = lt-ltb 1048577 (m + 1) (omega (arith, ltb-true 1048576 m e))
+    go false e = le-ltb 1048577 (m + 1) (omega (arith, ltb-false 1048576 m e))
+
+one-attr : (m : ℕ) → ltb 1024 (m + 1) ≡ leb 1024 m
+one-attr m = go (leb 1024 m) refl
+  where
+    go : (b : Bool) → leb 1024 m ≡ b → ltb 1024 (m + 1) ≡ b
+    go true e = lt-ltb 1024 (m + 1) (omega (arith, leb-true 1024 m e))
+    go false e = le-ltb 1024 (m + 1) (omega (arith, leb-false 1024 m e))
+
+or-end : (b : Bool) → (b || false) ≡ b
+or-end true = refl
+or-end false = refl
+
+module _ (p : Plan) (scr : Screen Words) (next a : ℕ) (few : length p.layers ≤ 16) (e : p.next ≡ next + 1) (q : attrs-full p.attrs ≡ leb 1024 a) where
+  abbrev rows-after : List Words
+  rows-after = done-puts (bucket scr.state.frame) (length p.layers) p.puts scr.rows
+
+  late_of : (good full : Bool)
+      → (good ≡ true → p.refused ≡ 0 → passes Words word-ops (word 0) scr.state.frame.c p.puts rows-after ≡ full)
+      → (good ≡ true → p.refused ≡ 0 → passes Words word-ops (word 1) scr.state.frame.d p.puts rows-after ≡ false)
+      → step_number 0 good p scr ≡ late good p.refused next a full
+  unfolding step_number refusal done late
+  late_of false full f g = refl
+  late_of true full f g = go (eqb p.refused 0) refl
+    where
+      go : (b : Bool) → eqb p.refused 0 ≡ b
+          → cond b (first_of ((ltb 16 (length p.layers), 6) ∷ (ltb 1048577 p.next, 8) ∷ (attrs-full p.attrs, 9)
+          ∷ (passes Words word-ops (word 0) scr.state.frame.c p.puts rows-after, 10)
+          ∷ (passes Words word-ops (word 1) scr.state.frame.d p.puts rows-after, 11) ∷ [])) p.refused
+          ≡ cond b (first_of ((ltb 1048576 next, 8) ∷ (leb 1024 a, 9) ∷ (full, 10) ∷ [])) p.refused
+      go true i =
+          let z = eqb-true p.refused 0 i in
+          rw (le-ltb 16 (length p.layers) few, e, shift next, q, f refl z, g refl z)
+      go false i = refl
+
+-- a pop's plan, with a layer open
+module _ (s : code.Screen) (l : PopLent) (ws : List ℕ) (low : 1 ≤ s.layers) (o : Screened s l.words) where
+  abbrev layer : Layer
+  layer = layer-at l.layers (s.layers - 1)
+
+  abbrev view : Box
+  view = box_of s.viewport
+
+  abbrev parent : Box
+  parent = clip-box (box_of s.viewport) (layers-in l.layers (s.layers - 1))
+
+  abbrev rs : List Words
+  rs = rows_at (frame-of s) l.words
+
+  abbrev xs : List ℕ
+  xs = touched-in s.layers (rows_at (frame-of s) l.words) (rows_in (layer-at l.layers (s.layers - 1)).bounds)
+
+  abbrev listed : ℕ
+  listed = judge-segments (not (clip-fits layer.props.clip (segs-of ws))) (clip-segments layer.props.clip (segs-of ws))
+
+  abbrev puts : List Put
+  puts = closing layer.props.clip view layer.bounds parent s.layer_attrs (segs-of ws) xs ++ map (on pop) xs
+
+  pub plan-is : pop-plan s l ws
+      ≡ record { refused = listed; next = (state-of s).next + 1; attrs = with-layer (state-in s l.layers) layer.props; layers = layers-in l.layers (s.layers - 1); puts = puts }
+  unfolding plan-pop
+  plan-is = rw (own_first l.layers s.layers low, layers-first l.layers s.layers low, layer-attr-count s)
+
+  abbrev good : Bool
+  good = good-pops s.c s.d s.layers rs (rows_in layer.bounds)
+
+  next-is : (state-of s).next ≡ s.next_draw_id
+  unfolding state-of
+  next-is = refl
+
+  attrs-is : attrs-full (with-layer (state-in s l.layers) layer.props) ≡ leb 1024 s.layer_attrs
+  attrs-is =
+      rw (paint-count s, filter-count s, length-append, layer-attr-count s, le-ltb 1024 s.paint_attrs o.bounds.paints, le-ltb 256 s.filter_paints o.bounds.filters)
+      (or-end (ltb 1024 (s.layer_attrs + 1)) ∙ one-attr s.layer_attrs)
+
+  few-left : length (layers-in l.layers (s.layers - 1)) ≤ 16
+  few-left = rw (layers-length l.layers (s.layers - 1)) (omega (arith, o.bounds.deep))
+
+  number-late : (full : Bool)
+      → (good ≡ true → listed ≡ 0 → passes Words word-ops (word 0) s.c puts (done-puts (bucket-tiles s.width) (length (layers-in l.layers (s.layers - 1))) puts rs) ≡ full)
+      → (good ≡ true → listed ≡ 0 → passes Words word-ops (word 1) s.d puts (done-puts (bucket-tiles s.width) (length (layers-in l.layers (s.layers - 1))) puts rs) ≡ false)
+      → late good listed s.next_draw_id s.layer_attrs full ≡ number-after s l ws 0
+  unfolding number-after
+  number-late full f h =
+      rw (plan-is, own_first l.layers s.layers low)
+      (sym
+      (late_of (record { refused = listed; next = (state-of s).next + 1; attrs = with-layer (state-in s l.layers) layer.props; layers = layers-in l.layers (s.layers - 1); puts = puts })
+      (screen-at (state-in s l.layers) l.words) s.next_draw_id s.layer_attrs few-left (ap (λ (k : ℕ). k + 1) next-is) attrs-is good full f h))
+
+  module _ (bottom : (layer.bounds.y1 + 3) / 4 ≤ rows_of (box_of s.viewport)) where
+    abbrev top : ℕ
+    top = (layer-at l.layers (s.layers - 1)).bounds.y0 / 4
+
+    abbrev end_row : ℕ
+    end_row = ((layer-at l.layers (s.layers - 1)).bounds.y1 + 3) / 4
+
+    low_rows : All (λ (x : ℕ). x < length rs) xs
+    low_rows = touched-inside o.whole top end_row s.layers bottom
+
+    module _ (y : good ≡ true) where
+      -- without a clip
+      pub plain-closeable : (t : Span) (i : ℕ) → Closeable (frame-of s) s.layers top end_row (map (on (close t None i)) xs) l.words
+      plain-closeable t i =
+          record {
+            whole = o.whole;
+            low = low;
+            deep = o.bounds.deep;
+            bottom = bottom;
+            fine = all-fine s.c s.d s.layers low rs (rows_in layer.bounds) y;
+            closes = all-over (on (close t None i)) (λ (x : ℕ) (h : x < length rs). one x h) low_rows;
+            found = all-over (on (close t None i)) (λ (x : ℕ) (h : some_of (eqb x) xs ≡ true). h) (members xs);
+          }
+        where
+          one : (x : ℕ) → x < length rs → Close (length rs) (on (close t None i) x)
+          one x h = record { row = h; act = a-closing }
+
+      -- with one
+      pub clip-closeable : (i : ℕ) (ks : List Cut) → Closeable (frame-of s) s.layers top end_row (close-puts i xs ks) l.words
+      clip-closeable i ks =
+          record {
+            whole = o.whole;
+            low = low;
+            deep = o.bounds.deep;
+            bottom = bottom;
+            fine = all-fine s.c s.d s.layers low rs (rows_in layer.bounds) y;
+            closes = close-all i xs (length rs) low_rows ks;
+            found = close-in i xs ks;
+          }
+
+    pub puts_plain : layer.props.clip ≡ None → puts ≡ map (on (close (span_of layer.bounds) None s.layer_attrs)) xs ++ map (on pop) xs
+    unfolding closing
+    puts_plain c = rw c
+
+    no-list : layer.props.clip ≡ None → listed ≡ 0
+    unfolding judge-segments ordered
+    no-list c = rw c
+
+    pub number-plain : layer.props.clip ≡ None → late good 0 s.next_draw_id s.layer_attrs (full_by s.c 2 rs xs) ≡ number-after s l ws 0
+    number-plain c =
+        ap (λ (k : ℕ). late good k s.next_draw_id s.layer_attrs (full_by s.c 2 rs xs)) (sym (no-list c))
+        ∙ number-late (full_by s.c 2 rs xs)
+        (λ y z. let v = plain-closeable y (span_of layer.bounds) s.layer_attrs in
+        rw (puts_plain c) (full_is v (length (layers-in l.layers (s.layers - 1))) ∙ full-plain v (span_of layer.bounds) s.layer_attrs refl))
+        (λ y z. let v = plain-closeable y (span_of layer.bounds) s.layer_attrs in
+        rw (puts_plain c) (deep_is v (length (layers-in l.layers (s.layers - 1)))))
+
+    module _ (c : Clip) (e : layer.props.clip ≡ Some c) where
+      pub puts-clip : puts ≡ close-puts s.layer_attrs xs (cuts view parent (slice c.start c.end (segs-of ws))) ++ map (on pop) xs
+      unfolding closing
+      puts-clip = rw e
+
+      -- a range that passes the list
+      pub number-long : c.start ≤ c.end → length ws / 5 < c.end → 4 ≡ number-after s l ws 0
+      unfolding judge-segments late
+      number-long h i =
+          let z : listed ≡ 4 = rw (e, le-leb c.start c.end h, lt-leb c.end (length (segs-of ws)) (rw (segs-count ws) i)) in
+          four good ∙ ap (λ (k : ℕ). late good k s.next_draw_id s.layer_attrs false) (sym z)
+          ∙ number-late false (λ y q. absurd (bad (sym z ∙ q))) (λ y q. absurd (bad (sym z ∙ q)))
+        where
+          bad : ◌≡◌ {A = ℕ} 4 0 → ⊥
+          bad z = omega arith
+
+          four : (b : Bool) → 4 ≡ late b 4 s.next_draw_id s.layer_attrs false
+          four true = refl
+          four false = refl
+
+      module _ (h : c.start ≤ c.end) (i : c.end ≤ length ws / 5) where
+        pub the-list : segs ws c.start (c.end - c.start) ≡ slice c.start c.end (segs-of ws)
+        the-list = segs-slice ws c.start c.end h i
+
+        pub listed-is : listed ≡ judge-segments false (segs ws c.start (c.end - c.start))
+        listed-is = rw (e, le-leb c.start c.end h, le-leb c.end (length (segs-of ws)) (rw (segs-count ws) i), the-list)
+
+        module _ (d : Scene) (w : SceneOf view parent d) where
+          same-join : (ss : List Segment) → join (cut_in (origin d) (scene-bounds d)) ss ≡ join (cut_in view (scene-tiles view parent)) ss
+          same-join [] = refl
+          same-join (x ∷ ss) = rw (cut-in-scene w x, same-join ss)
+
+          pub cuts-is : join (cut_in (origin d) (scene-bounds d)) (segs ws c.start (c.end - c.start)) ≡ cuts view parent (slice c.start c.end (segs-of ws))
+          unfolding cuts
+          cuts-is = same-join (segs ws c.start (c.end - c.start)) ∙ ap (join (cut_in view (scene-tiles view parent))) the-list
+
+          abbrev ks : List Cut
+          ks = join (cut_in (origin d) (scene-bounds d)) (segs ws c.start (c.end - c.start))
+
+          puts-scene : puts ≡ close-puts s.layer_attrs xs ks ++ map (on pop) xs
+          puts-scene = puts-clip ∙ ap (λ (q : List Cut). close-puts s.layer_attrs xs q ++ map (on pop) xs) (sym cuts-is)
+
+          pub number-clip : late good (judge-segments false (segs ws c.start (c.end - c.start))) s.next_draw_id s.layer_attrs (full_by s.c 1 rs xs || runs-full s.c xs rs 0 0 ks) ≡ number-after s l ws 0
+          number-clip =
+              ap (λ (k : ℕ). late good k s.next_draw_id s.layer_attrs (full_by s.c 1 rs xs || runs-full s.c xs rs 0 0 ks)) (sym listed-is)
+              ∙ number-late (full_by s.c 1 rs xs || runs-full s.c xs rs 0 0 ks)
+              (λ y z. let v = clip-closeable y s.layer_attrs ks in
+              rw puts-scene
+              (full_is v (length (layers-in l.layers (s.layers - 1)))
+              ∙ full-clip v s.layer_attrs ks (cuts-sorted (origin d) (scene-bounds d) (segs ws c.start (c.end - c.start)) (judged-list (segs ws c.start (c.end - c.start)) (sym listed-is ∙ z)).order) refl))
+              (λ y z. let v = clip-closeable y s.layer_attrs ks in
+              rw puts-scene (deep_is v (length (layers-in l.layers (s.layers - 1)))))
+
+-- a number 0, taken apart
+pub zero-first : (s : code.Screen) (l : PopLent) (ws : List ℕ) → number s l ws ≡ 0 → first s l ws ≡ 0
+zero-first s l ws e = go (eqb (first s l ws) 0) refl
+  where
+    go : (b : Bool) → eqb (first s l ws) 0 ≡ b → first s l ws ≡ 0
+    go true p = eqb-true (first s l ws) 0 p
+    go false p = by_first s l ws refl (eqb-false (first s l ws) 0 p) ∙ e
+
+module _ (s : code.Screen) (l : PopLent) (ws : List ℕ) (e : first s l ws ≡ 0) where
+  pub zero-tests : (judged s (length l.words.state) (length l.words.render) (length l.words.fills) ≡ 0)
+      × (good_lengths (length l.layers) (length l.opacities) (length l.attrs) (length ws) ≡ true) × (good-open (box_of s.viewport) l.layers s.layers ≡ true)
+  unfolding first
+  zero-tests = go (eqb (judged s (length l.words.state) (length l.words.render) (length l.words.fills)) 0) refl _ refl _ refl e
+    where
+      n : ℕ
+      n = judged s (length l.words.state) (length l.words.render) (length l.words.fills)
+
+      go : (a : Bool) → eqb n 0 ≡ a → (b : Bool) → good_lengths (length l.layers) (length l.opacities) (length l.attrs) (length ws) ≡ b
+          → (c : Bool) → good-open (box_of s.viewport) l.layers s.layers ≡ c
+          → cond (not a) n (cond (not b) 4 (cond (not c) 4 0)) ≡ 0
+          → (n ≡ 0) × (good_lengths (length l.layers) (length l.opacities) (length l.attrs) (length ws) ≡ true) × (good-open (box_of s.viewport) l.layers s.layers ≡ true)
+      go true p true q true r z = (eqb-true n 0 p, q, r)
+      go true p true q false r z = absurd (omega arith)
+      go true p false q c r z = absurd (omega arith)
+      go false p b q c r z = absurd (eqb-false n 0 p z)
+
+pub record Passed (g : Bool) (r n a : ℕ) (f : Bool) : Type 0 where
+  pub good : g ≡ true
+  pub listed : r ≡ 0
+  pub ids : n ≤ 1048576
+  pub attrs : a < 1024
+  pub room : f ≡ false
+
+pub late-zero : (good : Bool) (listed next attrs : ℕ) (full : Bool) → late good listed next attrs full ≡ 0 → Passed good listed next attrs full
+unfolding late
+late-zero false r n a f z = absurd (omega arith)
+late-zero true r n a f z = go (eqb r 0) refl (ltb 1048576 n) refl (leb 1024 a) refl f refl z
+  where
+    go : (b : Bool) → eqb r 0 ≡ b → (c : Bool) → ltb 1048576 n ≡ c → (d : Bool) → leb 1024 a ≡ d → (e : Bool) → f ≡ e
+        → cond b (cond c 8 (cond d 9 (cond e 10 0))) r ≡ 0 → Passed true r n a f
+    go true p false q false h false i z = record { good = refl; listed = eqb-true r 0 p; ids = ltb-false 1048576 n q; attrs = leb-false 1024 a h; room = i }
+    go true p false q false h true i z = absurd (omega arith)
+    go true p false q true h e i z = absurd (omega arith)
+    go true p true q d h e i z = absurd (omega arith)
+    go false p c q d h e i z = absurd (eqb-false r 0 p z)
+
+-- the numbers after the first, test by test
+-- the number k of the rows: 4 if one is not good, 10 if one is full with x commands more
+module _ (c d n x : ℕ) (rs : List Words) (is : List ℕ) {k : ℕ} (e : k ≡ pops-number c d n x rs is) where
+  pub rows-bad : k ≡ 4 → good-pops c d n rs is ≡ false
+  unfolding pops-number
+  rows-bad h = go (good-pops c d n rs is) (full_by c x rs (touched-in n rs is)) (sym e ∙ h)
+    where
+      go : (g f : Bool) → ◌≡◌ {A = ℕ} (cond g (cond f 10 0) 4) 4 → g ≡ false
+      go true true h = absurd (omega arith)
+      go true false h = absurd (omega arith)
+      go false f h = refl
+
+  pub rows-good : (k ≡ 4 → ⊥) → good-pops c d n rs is ≡ true
+  unfolding pops-number
+  rows-good h = go (good-pops c d n rs is) (full_by c x rs (touched-in n rs is)) (λ z. h (e ∙ z))
+    where
+      go : (g f : Bool) → (◌≡◌ {A = ℕ} (cond g (cond f 10 0) 4) 4 → ⊥) → g ≡ true
+      go true f h = refl
+      go false f h = absurd (h refl)
+
+  pub rows-full : k ≡ 10 → full_by c x rs (touched-in n rs is) ≡ true
+  unfolding pops-number
+  rows-full h = go (good-pops c d n rs is) (full_by c x rs (touched-in n rs is)) (sym e ∙ h)
+    where
+      go : (g f : Bool) → ◌≡◌ {A = ℕ} (cond g (cond f 10 0) 4) 10 → f ≡ true
+      go true true h = refl
+      go true false h = absurd (omega arith)
+      go false f h = absurd (omega arith)
+
+  module _ (p : k ≡ 4 → ⊥) where
+    pub rows-roomy : (k ≡ 10 → ⊥) → full_by c x rs (touched-in n rs is) ≡ false
+    unfolding pops-number
+    rows-roomy h = go (good-pops c d n rs is) (full_by c x rs (touched-in n rs is)) (λ z. p (e ∙ z)) (λ z. h (e ∙ z))
+      where
+        go : (g f : Bool) → (◌≡◌ {A = ℕ} (cond g (cond f 10 0) 4) 4 → ⊥) → (◌≡◌ {A = ℕ} (cond g (cond f 10 0) 4) 10 → ⊥) → f ≡ false
+        go true true p h = absurd (h refl)
+        go true false p h = refl
+        go false f p h = absurd (p refl)
+
+    pub rows-ten : (k ≡ 0 → ⊥) → k ≡ 10
+    unfolding pops-number
+    rows-ten h = e ∙ go (good-pops c d n rs is) (full_by c x rs (touched-in n rs is)) (λ z. p (e ∙ z)) (λ z. h (e ∙ z))
+      where
+        go : (g f : Bool) → (◌≡◌ {A = ℕ} (cond g (cond f 10 0) 4) 4 → ⊥) → (◌≡◌ {A = ℕ} (cond g (cond f 10 0) 4) 0 → ⊥) → ◌≡◌ {A = ℕ} (cond g (cond f 10 0) 4) 10
+        go true true p h = refl
+        go true false p h = absurd (h refl)
+        go false f p h = absurd (p refl)
+
+    -- nothing comes between
+    pub rows_last : (next attrs : ℕ) → next ≤ 1048576 → attrs < 1024 → k ≡ late (good-pops c d n rs is) 0 next attrs (full_by c x rs (touched-in n rs is))
+    unfolding pops-number late
+    rows_last next attrs i j = e ∙ rw (rows-good p, le-ltb 1048576 next i, lt-leb 1024 attrs j)
+
+module _ (g : Bool) (r n a : ℕ) (f : Bool) where
+  pub late-rows : g ≡ false → 4 ≡ late g r n a f
+  unfolding late
+  late-rows h = rw h
+
+  module _ (h : g ≡ true) where
+    pub late-list : {k : ℕ} → k ≡ r → (k ≡ 0 → ⊥) → k ≡ late g r n a f
+    unfolding late
+    late-list {k} i j = i ∙ rw (h, ne_eqb r 0 (λ (z : r ≡ 0). j (i ∙ z)))
+
+    module _ (z : r ≡ 0) where
+      pub late-ids : 1048576 < n → 8 ≡ late g r n a f
+      unfolding late
+      late-ids i = rw (h, z, lt-ltb 1048576 n i)
+
+      pub late-attrs : n ≤ 1048576 → 1024 ≤ a → 9 ≡ late g r n a f
+      unfolding late
+      late-attrs i j = rw (h, z, le-ltb 1048576 n i, le-leb 1024 a j)
+
+      pub late-full : n ≤ 1048576 → a < 1024 → f ≡ true → 10 ≡ late g r n a f
+      unfolding late
+      late-full i j k = rw (h, z, le-ltb 1048576 n i, lt-leb 1024 a j, k)
+
+      pub late-done : n ≤ 1048576 → a < 1024 → f ≡ false → 0 ≡ late g r n a f
+      unfolding late
+      late-done i j k = rw (h, z, le-ltb 1048576 n i, lt-leb 1024 a j, k)
+
+pub either-one : (a b : Bool) → a ≡ true → (a || b) ≡ true
+either-one a b e = rw e
+
+pub either-two : (a b : Bool) → a ≡ false → b ≡ true → (a || b) ≡ true
+either-two a b e i = rw (e, i)
+
+pub either-none : (a b : Bool) → a ≡ false → b ≡ false → (a || b) ≡ false
+either-none a b e i = rw (e, i)
+
+pub lengths-facts : (t o a w : ℕ) → good_lengths t o a w ≡ true → (t ≡ open-layer-table) × (o ≡ opacity-count) × (a ≡ layer-attr-table)
+unfolding good_lengths
+lengths-facts t o a w g =
+    let h3 = both (eqb t open-layer-table && eqb o opacity-count && eqb a layer-attr-table) (eqb (w % 5) 0) g in
+    let h2 = both (eqb t open-layer-table && eqb o opacity-count) (eqb a layer-attr-table) h3.0 in
+    let h1 = both (eqb t open-layer-table) (eqb o opacity-count) h2.0 in
+    (eqb-true t open-layer-table h1.0, eqb-true o opacity-count h1.1, eqb-true a layer-attr-table h2.1)
+
+pub above-0 : (n : ℕ) → (n ≡ 0 → ⊥) → 1 ≤ n
+above-0 zero h = absurd (h refl)
+above-0 (suc n) h = omega arith
+
+module _ (s : code.Screen) (l : PopLent) (ws : List ℕ) where
+  -- opacities and attributes are not read after the first tests
+  less-lent : number-after s (lent l.words l.layers [] []) ws 0 ≡ number-after s l ws 0
+  unfolding number-after
+  less-lent = refl
+
+  pub by-opened : judged s (length l.words.state) (length l.words.render) (length l.words.fills) ≡ 0
+      → good_lengths (length l.layers) (length l.opacities) (length l.attrs) (length ws) ≡ true
+      → cond (good-open (box_of s.viewport) l.layers s.layers) (number-after s (lent l.words l.layers [] []) ws 0) 4 ≡ number s l ws
+  by-opened e h = go (good-open (box_of s.viewport) l.layers s.layers) refl
+    where
+      go : (b : Bool) → good-open (box_of s.viewport) l.layers s.layers ≡ b → cond b (number-after s (lent l.words l.layers [] []) ws 0) 4 ≡ number s l ws
+      go true p = less-lent ∙ ap (number-after s l ws) (sym (all_first s l ws e h p))
+      go false p = by-open s l ws e h p
+
+  -- a number 0 is what the doing half requires
+  pub zero-judged : number s l ws ≡ 0 → Judged s l.layers ws l.words
+  zero-judged e =
+      let f = zero-first s l ws e in
+      let t = zero-tests s l ws f in
+      record {
+        screen = t.0;
+        table = (lengths-facts (length l.layers) (length l.opacities) (length l.attrs) (length ws) t.1).0;
+        some = above-0 s.layers (λ (z : s.layers ≡ 0). seven (by-none s l ws t.0 t.1 z ∙ e));
+        layer = t.2;
+        rows = less-lent ∙ ap (number-after s l ws) (sym f) ∙ e;
+      }
+    where
+      seven : ◌≡◌ {A = ℕ} 7 0 → ⊥
+      seven z = omega arith
+
+  pub zero-lengths : number s l ws ≡ 0 → (length l.layers ≡ open-layer-table) × (length l.opacities ≡ opacity-count) × (length l.attrs ≡ layer-attr-table)
+  zero-lengths e =
+      lengths-facts (length l.layers) (length l.opacities) (length l.attrs) (length ws) (zero-tests s l ws (zero-first s l ws e)).1

@@ -1,0 +1,225 @@
+-- The innermost layer as the code reads it: its box, its parent's, its clip. Assumes nothing.
+use mathlib.Core.Path.{◌≡◌, refl, sym, ap, ◌∙◌}
+use mathlib.Core.Bool.{Bool, true, false, ◌&&◌, ◌||◌, not, cond}
+use mathlib.Core.List.{List, []}
+use Prim.Native.Nat.{ℕ, zero, suc, ◌+◌, ◌-◌, ◌/◌, ◌%◌, ◌≤◌, ◌<◌}
+use native.Mathlib.Omega.{arith}
+use lib.Dec.{leb, eqb}
+use lib.ListN.{length}
+use borrow.Author.Tests.{eqb-true, leb-true, leb-false}
+use Rattle.rules.specs.Lists.{join, range}
+use Rattle.rules.specs.Boxes.{Box, width, height, by_4, empty-box, rows_of, span_of, whole}
+use Rattle.rules.specs.Blends.{good-blend}
+use Rattle.rules.specs.Inputs.{good-handle, good-thread, good-panel}
+use Rattle.rules.specs.Segments.{judge-segments, cut_in}
+use Rattle.rules.specs.Plans.{clip-box}
+use Rattle.rules.proofs.All.{both}
+use Rattle.row.specs.Words.{Words}
+use Rattle.row.specs.Cmds.{Short}
+use Rattle.rect.specs.declared.Rect.{Rect}
+use Rattle.rect.specs.Rects.{box_of, Small}
+use Rattle.rect.proofs.Boxes as boxes
+use Rattle.rect.proofs.Boxes.{small-viewport}
+use Rattle.cmd.specs.Blends.{blend_of}
+use Rattle.screen.specs.declared.Screen as code
+use Rattle.screen.specs.Screens.{frame-of}
+use Rattle.segments.specs.declared.Scene.{Scene}
+use Rattle.segments.specs.Segs.{segs, origin, bounds, SceneOf, Starts}
+use Rattle.segments.proofs.Laws.{scene-starts}
+use Rattle.row.specs.Building.{rows_at}
+use Rattle.screen.specs.declared.layers.OpenLayer.{OpenLayer}
+use Rattle.screen.specs.Layers.{layer-at, box_in, clip-in, open_at, good_layer, good_own_box}
+use Rattle.screen.proofs.LayersLaws.{without-clip, has-clip}
+use Rattle.pop.specs.Closing.{touched-in, good-pops, full_by, runs-full}
+use Rattle.pop.proofs.Judging.{not-true, not-false}
+use Rattle.pop.specs.Pop.{lent, layers-in, good-open, late, number-after}
+use Rattle.pop.proofs.Numbers.{Screened, layers-first, open-first, number-plain, number-long, number-clip}
+
+-- an open layer's box, as facts
+pub record OwnBox (v b : Box) : Type 0 where
+  pub tiles : b.y1 % 4 ≡ 0
+  pub left : b.x0 ≤ 32768
+  pub top : b.y0 ≤ 32768
+  pub right : b.x1 ≤ width v
+  pub bottom : b.y1 ≤ height v
+
+pub own-facts : (v b : Box) → good_own_box v b ≡ true → OwnBox v b
+unfolding good_own_box
+own-facts v b g =
+    let t1 = by_4 b.x0 in
+    let t2 = by_4 b.y0 in
+    let t3 = by_4 b.x1 in
+    let t4 = by_4 b.y1 in
+    let t5 = leb b.x0 32768 in
+    let t6 = leb b.y0 32768 in
+    let t7 = leb b.x1 (width v) in
+    let h7 = both (t1 && t2 && t3 && t4 && t5 && t6 && t7) (leb b.y1 (height v)) g in
+    let h6 = both (t1 && t2 && t3 && t4 && t5 && t6) t7 h7.0 in
+    let h5 = both (t1 && t2 && t3 && t4 && t5) t6 h6.0 in
+    let h4 = both (t1 && t2 && t3 && t4) t5 h5.0 in
+    let h3 = both (t1 && t2 && t3) t4 h4.0 in
+    record {
+      tiles = eqb-true (b.y1 % 4) 0 h3.1;
+      left = leb-true b.x0 32768 h4.1;
+      top = leb-true b.y0 32768 h5.1;
+      right = leb-true b.x1 (width v) h6.1;
+      bottom = leb-true b.y1 (height v) h7.1;
+    }
+
+pub record Ranged (l : OpenLayer) : Type 0 where
+  pub flag : l.flag ≤ 1
+  pub range : l.start ≤ l.«end»
+
+pub layer-facts : (l : OpenLayer) → good_layer l ≡ true → Ranged l
+unfolding good_layer
+layer-facts l g =
+    let t1 = good-blend (blend_of l.blend) in
+    let t2 = good-handle l.mask in
+    let t3 = leb l.flag 1 in
+    let t4 = leb l.start l.«end» in
+    let t5 = good-thread l.thread in
+    let h5 = both (t1 && t2 && t3 && t4 && t5) (good-panel l.panel) g in
+    let h4 = both (t1 && t2 && t3 && t4) t5 h5.0 in
+    let h3 = both (t1 && t2 && t3) t4 h4.0 in
+    let h2 = both (t1 && t2) t3 h3.0 in
+    record { flag = leb-true l.flag 1 h2.1; range = leb-true l.start l.«end» h3.1 }
+
+module _ {v b : Box} (o : OwnBox v b) where
+  pub last_row : (b.y1 + 3) / 4 ≤ rows_of v
+  last_row = omega (arith, o.tiles, o.bottom)
+
+  span-end : (t : Bool) → width v ≤ 4096 → cond t (b.x0 / 4) (b.x1 / 4) ≤ 8192
+  span-end true h = omega (arith, o.left)
+  span-end false h = omega (arith, o.right)
+
+  pub own-span : width v ≤ 4096 → Short (span_of b)
+  unfolding span_of
+  own-span h = (omega (arith, o.left), span-end (empty-box b) h)
+
+  pub own-small : width v ≤ 4096 → height v ≤ 2048 → Small b
+  own-small h g = record { left = o.left; top = o.top; right = omega (arith, o.right); bottom = omega (arith, o.bottom) }
+
+-- the parent's box
+module _ (v : Box) (t : List ℕ) (n : ℕ) where
+  pub parent-none : n ≡ 1 → (q : Rect) → box_of q ≡ whole v → box_of q ≡ clip-box v (layers-in t (n - 1))
+  unfolding layers-in
+  parent-none e q h = let z : n - 1 ≡ 0 = omega arith in rw z h
+
+  pub parent-some : (n ≡ 1 → ⊥) → 1 ≤ n → (q : Rect) → q ≡ box_in t (n - 2) → box_of q ≡ clip-box v (layers-in t (n - 1))
+  parent-some h low q e =
+      let k : 1 ≤ n - 1 = more h low in
+      let z : n - 2 ≡ n - 1 - 1 = omega arith in
+      rw (layers-first t (n - 1) k) (ap box_of (e ∙ ap (box_in t) z))
+    where
+      go : (b : Bool) → leb 1 (n - 1) ≡ b → (n ≡ 1 → ⊥) → 1 ≤ n → 1 ≤ n - 1
+      go true e h low = leb-true 1 (n - 1) e
+      go false e h low = absurd (h (omega (arith, leb-false 1 (n - 1) e)))
+
+      more : (n ≡ 1 → ⊥) → 1 ≤ n → 1 ≤ n - 1
+      more h low = go (leb 1 (n - 1)) refl h low
+
+-- the layer y and the parent's box q as the code has read them
+module _ (s : code.Screen) (w : Words) (t ws : List ℕ) (low : 1 ≤ s.layers) (o : Screened s w) (y : OpenLayer) (e : y ≡ open_at t (s.layers - 1)) (q : Rect)
+    (p : box_of q ≡ clip-box (box_of s.viewport) (layers-in t (s.layers - 1))) where
+  abbrev view : Box
+  view = box_of s.viewport
+
+  abbrev test : Bool
+  test = good_layer y && good_own_box (box_of s.viewport) (box_of y.bbox) && good_own_box (box_of s.viewport) (box_of q)
+
+  abbrev all : ℕ
+  all = cond (good-open (box_of s.viewport) t s.layers) (number-after s (lent w t [] []) ws 0) 4
+
+  test-is : test ≡ good-open view t s.layers
+  test-is = rw (e, p) (sym (open-first t view s.layers low))
+
+  pub open-bad : {r : Bool} → r ≡ test → not r ≡ true → 4 ≡ all
+  open-bad {r} i j = let z : good-open view t s.layers ≡ false = sym test-is ∙ sym i ∙ not-true r j in rw z
+
+  module _ {r : Bool} (i : r ≡ test) (j : not r ≡ false) where
+    opened : good-open view t s.layers ≡ true
+    opened = sym test-is ∙ sym i ∙ not-false r j
+
+    tests : (good_layer y ≡ true) × (good_own_box view (box_of y.bbox) ≡ true) × (good_own_box view (box_of q) ≡ true)
+    tests =
+        let a = both (good_layer y && good_own_box view (box_of y.bbox)) (good_own_box view (box_of q)) (sym i ∙ not-false r j) in
+        let b = both (good_layer y) (good_own_box view (box_of y.bbox)) a.0 in
+        (b.0, b.1, a.1)
+
+    is_all : number-after s (lent w t [] []) ws 0 ≡ all
+    is_all = rw opened
+
+    own-box : OwnBox view (box_of y.bbox)
+    own-box = own-facts view (box_of y.bbox) tests.1
+
+    pub open-range : y.start ≤ y.«end»
+    open-range = (layer-facts y tests.0).range
+
+    pub open-small : Small (box_of s.viewport) × Small (box_of q)
+    open-small =
+        let f = boxes.view view o.view in
+        (small-viewport view o.view, own-small (own-facts view (box_of q) tests.2) f.wide f.high)
+
+    pub open-scene : (d : Scene) → SceneOf (box_of s.viewport) (box_of q) d → Starts (origin d) (bounds d)
+    open-scene d k = scene-starts k
+
+    module _ {a b : ℕ} (ea : a ≡ y.bbox.y0 / 4) (eb : b ≡ (y.bbox.y1 + 3) / 4) where
+      pub open-bottom : b ≤ rows_of (box_of s.viewport)
+      open-bottom = rw eb (last_row own-box)
+
+      a-is : a ≡ (layer-at t (s.layers - 1)).bounds.y0 / 4
+      a-is = ea ∙ ap (λ (z : OpenLayer). z.bbox.y0 / 4) e
+
+      b-is : b ≡ ((layer-at t (s.layers - 1)).bounds.y1 + 3) / 4
+      b-is = eb ∙ ap (λ (z : OpenLayer). (z.bbox.y1 + 3) / 4) e
+
+      bottom-is : ((layer-at t (s.layers - 1)).bounds.y1 + 3) / 4 ≤ rows_of (box_of s.viewport)
+      bottom-is = rw (← b-is) open-bottom
+
+      abbrev rs : List Words
+      rs = rows_at (frame-of s) w
+
+      pub open_plain : y.flag ≡ 0 → {k : ℕ}
+          → k ≡ late (good-pops s.c s.d s.layers rs (range a b)) 0 s.next_draw_id s.layer_attrs (full_by s.c 2 rs (touched-in s.layers rs (range a b)))
+          → k ≡ all
+      open_plain f h =
+          h
+          ∙ rw (a-is, b-is) (number-plain s (lent w t [] []) ws low o bottom-is (without-clip t (s.layers - 1) (ap (λ (z : OpenLayer). z.flag) (sym e) ∙ f)))
+          ∙ is_all
+
+      flagged : (y.flag ≡ 0 → ⊥) → (open_at t (s.layers - 1)).flag ≡ 1
+      flagged f = ap (λ (z : OpenLayer). z.flag) (sym e) ∙ go (eqb y.flag 0) refl
+        where
+          go : (b : Bool) → eqb y.flag 0 ≡ b → y.flag ≡ 1
+          go true z = absurd (f (eqb-true y.flag 0 z))
+          go false z = one y.flag (layer-facts y tests.0).flag f
+            where
+              one : (n : ℕ) → n ≤ 1 → (n ≡ 0 → ⊥) → n ≡ 1
+              one zero h g = absurd (g refl)
+              one (suc zero) h g = refl
+              one (suc (suc n)) h g = absurd (omega arith)
+
+      module _ (f : y.flag ≡ 0 → ⊥) {x z : ℕ} (ex : x ≡ y.start) (ez : z ≡ y.«end») where
+        start_is : x ≡ (clip-in t (s.layers - 1)).start
+        start_is = ex ∙ ap (λ (k : OpenLayer). k.start) e
+
+        end_is : z ≡ (clip-in t (s.layers - 1)).end
+        end_is = ez ∙ ap (λ (k : OpenLayer). k.«end») e
+
+        ranged : (clip-in t (s.layers - 1)).start ≤ (clip-in t (s.layers - 1)).end
+        ranged = rw (← start_is, ← end_is) (rw (ex, ez) open-range)
+
+        pub open-long : length ws / 5 < z → 4 ≡ all
+        open-long h =
+            number-long s (lent w t [] []) ws low o bottom-is (clip-in t (s.layers - 1)) (has-clip t (s.layers - 1) (flagged f)) ranged (rw (← end_is) h)
+            ∙ is_all
+
+        pub open-clip : z ≤ length ws / 5 → (d : Scene) → SceneOf (box_of s.viewport) (box_of q) d → {k : ℕ}
+            → k ≡ late (good-pops s.c s.d s.layers rs (range a b)) (judge-segments false (segs ws x (z - x))) s.next_draw_id s.layer_attrs
+            (full_by s.c 1 rs (touched-in s.layers rs (range a b)) || runs-full s.c (touched-in s.layers rs (range a b)) rs 0 0 (join (cut_in (origin d) (bounds d)) (segs ws x (z - x))))
+            → k ≡ all
+        open-clip h d c i =
+            i
+            ∙ rw (a-is, b-is, start_is, end_is)
+            (number-clip s (lent w t [] []) ws low o bottom-is (clip-in t (s.layers - 1)) (has-clip t (s.layers - 1) (flagged f)) ranged (rw (← end_is) h) d (rw p at c))
+            ∙ is_all

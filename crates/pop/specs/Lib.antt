@@ -1,0 +1,2 @@
+pub mod Pop
+pub mod Closing

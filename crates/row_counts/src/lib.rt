@@ -1,2 +1,0 @@
-// What judging a step needs of a row, three numbers: definitions and laws. No code.
-#![tactic(auto)]

@@ -1,8 +1,0 @@
--- The record is good, and the sums stay within C and D.
-use mathlib.Core.Path.{sym, ◌∙◌}
-use borrow.Author.Tests.{leb-true}
-use Rattle.step_fill_judge.proofs.Sure.{room-found}
-use Rattle.step_fill_judge.proofs.has_room.Goals as goal
-
-pub returns-then-state-split : goal.returns-then-state-split
-returns-then-state-split c = λ e. room-found _ _ _ _ (sym c.is_good_row.ensures ∙ c.if-not-is_good_row.false) c.if-state-split.true (leb-true _ _ e)

@@ -1,9 +1,0 @@
--- So far the segments before i are good and tallied: the row at hand with its counts, and the number found so far.
-use Rattle.segments.specs.Segs.{segment-of}
-use Rattle.row_screen.specs.Arena.{count-rows}
-use Rattle.row_room.specs.Room.{at-hand}
-use Rattle.step_fill_judge.proofs.Hands.{Passing}
-use Rattle.step_fill_judge.proofs.judge_each.Given as goal
-
-abbrev pub invariant-loop-i : goal.invariant-loop-i
-invariant-loop-i l = Passing l.job (count-rows l.rows) l.rows l.list l.start l.end (segment-of l.last) (at-hand l.hand) l.i

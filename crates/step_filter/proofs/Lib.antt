@@ -1,3 +1,0 @@
-pub mod Laws
-pub mod Judging
-pub mod Doing

@@ -1,4 +1,0 @@
-pub mod Laws
-pub mod Judging
-pub mod Numbers
-pub mod Passing

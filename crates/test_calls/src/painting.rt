@@ -1,0 +1,94 @@
+// The painting calls of a sequence. A call that lists something is lent so many words of a list, full of marks; they follow its answer.
+use crate::answers::{Answers, MARK};
+use crate::call::Painting;
+use crate::tables::{Shape, Table, Tables, first};
+use paint::{
+    Stepped, Stored, begin_painting, can_skip, paint_step, unset_runs, unset_runs_and_write,
+    visible_runs,
+};
+use screen::{Lent, Screen};
+use sizes::answers::{Refusal, answer_number};
+
+// Most words of a list.
+const LIST: usize = 64;
+
+impl Painting {
+    fn room(self) -> usize {
+        match self {
+            Painting::UnsetRuns { room, .. }
+            | Painting::VisibleRuns { room, .. }
+            | Painting::UnsetRunsAndWrite { room, .. } => room,
+            Painting::Begin | Painting::CanSkip { .. } => 0,
+        }
+    }
+
+    pub fn run(self, screen: &mut Screen, lent: &mut Lent<'_>, answers: &mut Answers<'_>) {
+        let mut marks = [MARK; LIST];
+        let list = &mut marks[..self.room().min(LIST)];
+        match self {
+            Painting::Begin => {
+                let done = begin_painting(screen, lent.depth, lent.painting);
+                answers.put(answer_number(done));
+            }
+            Painting::UnsetRuns { row, tiles, .. } => {
+                let runs = unset_runs(*screen, row, lent.depth, tiles, list);
+                answers.put_runs(runs, list);
+            }
+            Painting::VisibleRuns { row, id, tiles, .. } => {
+                let runs = visible_runs(*screen, row, lent.depth, tiles, id, list);
+                answers.put_runs(runs, list);
+            }
+            // Done, it ends painting.
+            Painting::UnsetRunsAndWrite {
+                row,
+                id,
+                buckets,
+                ..
+            } => {
+                let runs = unset_runs_and_write(screen, row, lent.depth, buckets, id, list);
+                answers.put_runs(runs, list);
+            }
+            Painting::CanSkip { row, tiles, id } => {
+                answers.put_skip(can_skip(*screen, row, lent.rows, tiles, id));
+            }
+        }
+    }
+}
+
+impl Tables {
+    // A step of a row, with what a screen is lent. What it only reads and what it changes are parts of one loan, so it is made here.
+    fn paint_step(
+        &mut self,
+        screen: Screen,
+        row: usize,
+        short: Option<Table>,
+        list: &mut [u32],
+    ) -> Result<Stepped, Refusal> {
+        let n = Shape::of_screen(screen).lengths(short);
+        let stored = Stored {
+            rows: first(&mut self.rows, n.rows),
+            render: first(&mut self.render, n.render),
+            fills: first(&mut self.fills, n.fills),
+            paint_attrs: first(&mut self.paint_attrs, n.paint_attrs),
+            layer_attrs: first(&mut self.layer_attrs, n.layer_attrs),
+        };
+        let depth = first(&mut self.depth, n.depth);
+        let painting = first(&mut self.painting, n.painting);
+        paint_step(screen, row, &stored, depth, painting, list)
+    }
+
+    // The same, lent so many words of a list.
+    pub fn step(
+        &mut self,
+        screen: Screen,
+        row: usize,
+        room: usize,
+        short: Option<Table>,
+        answers: &mut Answers<'_>,
+    ) {
+        let mut marks = [MARK; LIST];
+        let list = &mut marks[..room.min(LIST)];
+        let done = self.paint_step(screen, row, short, list);
+        answers.put_step(done, list);
+    }
+}

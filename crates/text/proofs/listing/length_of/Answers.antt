@@ -1,0 +1,6 @@
+use mathlib.Core.Path.{refl}
+use Rattle.text.proofs.Leaving.{length-measured}
+use Rattle.text.proofs.listing.length_of.Goals as goal
+
+pub returns : goal.returns
+returns g c = length-measured _ c.print.ensures c.requires.below refl

@@ -1,0 +1,12 @@
+-- 3 for the bytes; else what their words say.
+use mathlib.Core.Path.{sym, ◌∙◌}
+use Rattle.text.proofs.Bytes.{no-width-bad, no-width-read}
+use Rattle.text.proofs.recording.no_width_refusal.Goals as goal
+
+pub returns-then-not-is_good_bytes : goal.returns-then-not-is_good_bytes
+returns-then-not-is_good_bytes c = no-width-bad c.args.file.now (sym c.is_good_bytes.ensures ∙ c.if-not-is_good_bytes.true)
+
+pub returns : goal.returns
+returns c =
+    no-width-read c.args.file.now c.no_words-words.result (sym c.is_good_bytes.ensures ∙ c.if-not-is_good_bytes.false) c.words_of_bytes-n.ensures
+    c.no_width_of.ensures

@@ -1,3 +1,0 @@
-pub mod Details
-pub mod Bytes
-pub mod Tables

@@ -1,2 +1,0 @@
-pub mod Texts
-pub mod Bytes

@@ -1,8 +1,0 @@
--- Each table lends its first words; the tables are long enough for 32 rows of 64 buckets.
-use Rattle.screen.specs.Screens.{setup-of}
-use Rattle.screen.specs.Tables.{tables}
-use Rattle.text_file.proofs.Texts.{front-shown}
-use Rattle.text_file.proofs.front_slices.Goals as goal
-
-pub returns : goal.returns
-returns c = front-shown _ _ (setup-of _) (tables _ _ _ _ _ _ _ _ _ _) _ c.slices_text.ensures

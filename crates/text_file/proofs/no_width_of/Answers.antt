@@ -1,9 +1,0 @@
--- By the form that is read.
-use Rattle.text_file.proofs.Bytes.{formless, well-formed}
-use Rattle.text_file.proofs.no_width_of.Goals as goal
-
-pub returns-in-Ok : goal.returns-in-Ok
-returns-in-Ok c = well-formed _ _ c.in-Ok.ensures
-
-pub returns-in-Err : goal.returns-in-Err
-returns-in-Err c = formless _ c.in-Err.ensures

@@ -1,5 +1,0 @@
-use Rattle.text_file.proofs.Texts.{refused_as}
-use Rattle.text_file.proofs.refuse.Goals as goal
-
-pub returns : goal.returns
-returns c = rw c.unwrap_or.ensures (refused_as _ _ _ (rw c.number.ensures at c.refusal_line.ensures))

@@ -1,5 +1,0 @@
-pub mod Joins
-pub mod Runs
-pub mod Judging
-pub mod Writing
-pub mod ByRules

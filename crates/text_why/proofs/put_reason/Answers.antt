@@ -1,7 +1,0 @@
-use Rattle.rules_reason.specs.Answers.{reason-bytes}
-use Rattle.text.proofs.Laws.{then}
-use Rattle.text_why.proofs.put_reason.Goals as goal
-
-pub returns : goal.returns
-unfolding reason-bytes
-returns c = then c.put_words-p.ensures c.put_byte.ensures

@@ -1,0 +1,6 @@
+pub mod Building
+pub mod Painting
+pub mod Recording
+pub mod Runs
+pub mod Texts
+pub mod Host

@@ -1,0 +1,98 @@
+-- The public call from the recording's answer on: each way that the code takes gives what the definition gives.
+use Prim.Native.Nat.{ℕ, ◌+◌}
+use mathlib.Core.Path.{◌≡◌, refl, sym, ap, ◌∙◌}
+use mathlib.Core.Bool.{true, false}
+use mathlib.Core.List.{List}
+use Rattle.std.specs.Prelude.{None, Ok, Err}
+use Rattle.sizes.specs.declared.answers.Refusal.{Refusal}
+use lib.ListN.{replicate}
+use borrow.Author.Tests.{ne_eqb}
+use Rattle.sizes.specs.Sizes.{line-table}
+use Rattle.sizes.specs.Widths.{bucket-tiles}
+use Rattle.rules.specs.Answers.{Answer, answer, Done, BadForm, BadRun}
+use Rattle.rules.specs.Boxes.{Box, good_viewport}
+use Rattle.rules.specs.Plans.{Frame, bucket}
+use Rattle.rules.specs.Setups.{Setup, frame, viewport-in}
+use Rattle.rules.specs.Recording.{Recording, shape, sections}
+use Rattle.rules.specs.Walk.{walk-all}
+use Rattle.rules_reason.specs.Reasons.{Reason, Asked}
+use Rattle.screen.specs.Tables.{ScreenLent}
+use Rattle.file.specs.declared.form.Layout.{Layout}
+use Rattle.file.specs.Places as file
+use Rattle.file.proofs.Laid.{GoodForm}
+use Rattle.file.specs.Judging.{box_from}
+use Rattle.rect.specs.declared.Rect.{Rect}
+use Rattle.rect.specs.Rects.{box_of, seen}
+use Rattle.rect.proofs.Snapping.{good-seen, bad-seen}
+use Rattle.file.proofs.Reading.{reads}
+use Rattle.walk.specs.Recorded.{recorded}
+use Rattle.tile.specs.Telling.{Telling, tell-at, nothing-told}
+use Rattle.tile.specs.Places.{Says}
+use Rattle.tile.specs.Reading.{reason-read}
+use Rattle.rules_reason.specs.Answers.{off-screen}
+use Rattle.tile.specs.Explained.{Explained, explained-as, no-reason, told_of, reason-told, explained-of, explained}
+
+-- a story told to its end, or refused, at w tiles a bucket: the reason that it gives
+module _ (w : ℕ) (r : Recording) (v : Box) (row tile : ℕ) (a : Asked) (l : ScreenLent) where
+  abbrev whole-story : Answer Telling
+  whole-story = walk-all Telling (tell-at w v row tile) r (nothing-told (replicate line-table 0))
+
+  told_here : told_of w v r row tile ≡ whole-story
+  unfolding told_of
+  told_here = refl
+
+  pub story-refused : (n : ℕ) → whole-story.number ≡ n → (n ≡ Done → ⊥) → no-reason n l ≡ reason-told a (told_of w v r row tile) l
+  story-refused n e h = rw (told_here, e, ne_eqb n Done h)
+
+  pub story-told : (t : Telling) → Says whole-story Done t → (x : Reason) → x ≡ reason-read a t.lines (t.paints + t.layers)
+      → explained-as Done l x ≡ reason-told a (told_of w v r row tile) l
+  story-told t s x q = rw (told_here, s.number, s.value refl, q)
+
+-- the viewport that a file's four words give in a setup
+module _ (p : Layout) (ws : List ℕ) (q : Setup) (b : Rect) (e : box_of b ≡ box_from ws 1) where
+  view-is : viewport-in q.mode (box_of b) ≡ (frame q (file.recorded p ws).viewport).viewport
+  unfolding file.recorded box_from
+  view-is = rw e
+
+  pub view-seen : (v : Rect) → Ok v ≡ seen (viewport-in q.mode (box_of b)) → (frame q (file.recorded p ws).viewport).viewport ≡ box_of v
+  view-seen v h = sym view-is ∙ sym (ap box_of (good-seen _ v h).1)
+
+  pub view-unseen : {r : Refusal} → Err r ≡ seen (viewport-in q.mode (box_of b)) → good_viewport (frame q (file.recorded p ws).viewport).viewport ≡ false
+  view-unseen h = rw (← view-is) (bad-seen _ _ h).0
+
+-- an accepted recording, by where the tile lies
+module _ (f : Frame) (r : Recording) (row tile : ℕ) (a : Asked) (l : ScreenLent) where
+  past-screen : off-screen f.viewport row tile ≡ true → explained-of f r row tile a l ≡ no-reason BadRun l
+  unfolding explained-of
+  past-screen q = rw q
+
+  on-screen : off-screen f.viewport row tile ≡ false → explained-of f r row tile a l ≡ reason-told a (told_of (bucket f) f.viewport r row tile) l
+  unfolding explained-of
+  on-screen q = rw q
+
+-- the whole call, from what the recording call gave
+module _ (ws : List ℕ) (q : Setup) (row tile : ℕ) (a : Asked) (old : ScreenLent) where
+  pub refused : (n : ℕ) (l : ScreenLent) → answer n l ≡ recorded ws q old → (n ≡ Done → ⊥) → no-reason n l ≡ explained ws q row tile a old
+  unfolding explained
+  refused n l e h = rw (← e, ne_eqb n Done h)
+
+  module _ (l : ScreenLent) (e : answer Done l ≡ recorded ws q old) where
+    pub formless : sections shape ws ≡ None → no-reason BadForm l ≡ explained ws q row tile a old
+    unfolding explained
+    formless h = rw (← e, h)
+
+    module _ (p : Layout) (g : GoodForm ws p) where
+      abbrev f : Frame
+      f = frame q (file.recorded p ws).viewport
+
+      in-form : explained ws q row tile a old ≡ explained-of f (file.recorded p ws) row tile a l
+      unfolding explained
+      in-form = rw (← e, g.same, reads p ws g.fits)
+
+      module _ (v : Box) (same : f.viewport ≡ v) where
+        pub off : off-screen v row tile ≡ true → no-reason BadRun l ≡ explained ws q row tile a old
+        off h = sym (in-form ∙ past-screen f (file.recorded p ws) row tile a l (rw same h))
+
+        pub reasoned : off-screen v row tile ≡ false → (x : Explained) → x ≡ reason-told a (told_of (bucket-tiles q.width) v (file.recorded p ws) row tile) l
+            → x ≡ explained ws q row tile a old
+        reasoned h x k = k ∙ sym (in-form ∙ on-screen f (file.recorded p ws) row tile a l (rw same h) ∙ rw same)

@@ -1,0 +1,13 @@
+pub mod Looking
+pub mod Answered
+pub mod Wording
+pub mod Closing
+pub mod Layers
+pub mod Nodes
+pub mod Records
+pub mod Said
+pub mod WalkSteps
+pub mod Lines
+pub mod Accepted
+pub mod Spots
+pub mod Explaining

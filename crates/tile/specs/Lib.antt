@@ -1,0 +1,6 @@
+pub mod Telling
+pub mod Places
+pub mod Ready
+pub mod Reading
+pub mod Reasons
+pub mod Explained

@@ -1,4 +1,0 @@
-pub mod Looking
-pub mod Answered
-pub mod Wording
-pub mod Closing

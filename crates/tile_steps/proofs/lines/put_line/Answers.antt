@@ -1,9 +1,0 @@
--- The words are stored one after the other, which makes the line.
-use native.Mathlib.Omega.{arith}
-use Rattle.std.proofs.Common.{rules}
-use Rattle.tile_steps.specs.Places.{line_of}
-use Rattle.tile_steps.proofs.Wording.{line-stored}
-use Rattle.tile_steps.proofs.lines.put_line.Goals as goal
-
-pub returns : goal.returns
-returns c = line-stored (line_of c.args.line) _ _ _ (search rules) c.index_of-flag.ensures c.args.lines.now _ (omega arith)

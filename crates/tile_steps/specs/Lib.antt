@@ -1,2 +1,0 @@
-pub mod Telling
-pub mod Places

@@ -1,0 +1,13 @@
+pub mod Boxed
+pub mod Opacity
+pub mod Given
+pub mod Calls
+pub mod Draws
+pub mod Filters
+pub mod Lists
+pub mod Runs
+pub mod Layers
+pub mod NodeRuns
+pub mod Places
+pub mod Recordings
+pub mod Accepted

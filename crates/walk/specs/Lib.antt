@@ -1,0 +1,5 @@
+pub mod Reading
+pub mod Steps
+pub mod Recordings
+pub mod Ready
+pub mod Recorded

@@ -1,0 +1,60 @@
+// The recording call: a file is judged, and walked as building steps (rule 2). `bucket_recording` is a public call; `play` is a part of it.
+ghost use Rattle.std.specs.Prelude.{◌≡◌};
+ghost use Rattle.sizes.specs.Refusals.{answer_number};
+ghost use Rattle.rules.specs.Answers.{answer};
+ghost use Rattle.rules.specs.Walk.{◌then◌, walk-all};
+ghost use Rattle.screen.specs.Screens.{setup-of};
+ghost use Rattle.screen.specs.Tables.{ScreenLent};
+ghost use Rattle.screen.specs.Lent.{whole, SameLent};
+ghost use Rattle.walk.specs.Steps.{call_at};
+ghost use Rattle.walk.specs.Recordings.{recorded_in, FitsIn};
+ghost use Rattle.walk.specs.Recorded.{judging, recorded};
+
+use crate::nodes::walk_nodes;
+use crate::steps::Recording;
+use file::form::read_form;
+use file::judge::{box_at, judge_records};
+use screen::{Lent, Screen, Setup, reset};
+use sizes::MOST_LAYERS;
+use sizes::answers::Refusal;
+
+// A recording of good form, its viewport reset: 4 or 5 for its records, then the first refused step of the walk from the root, 16 layers deep.
+fn play(screen: &mut Screen, file: &Recording<'_>, lent: &mut Lent<'_>) -> Result<(), Refusal>
+    requires { FitsIn file.now }
+    ensures same { SameLent lent.old lent.new }
+    ensures played { answer (answer_number result) (whole screen.new lent.new)
+        ≡ (judging (recorded_in file.now) then walk-all ScreenLent call_at (recorded_in file.now)) (whole screen.old lent.old) }
+{
+    judge_records(file.words, file.layout)?;
+    let at = file.layout.root.at;
+    let first = file.words[at] as usize;
+    let end = file.words[at + 1] as usize;
+    walk_nodes(MOST_LAYERS, screen, file, first, end, lent)
+}
+
+// Rule 2: the words of a recording file, in a setup. 3 for its form, then 2, 1 or 4 as a reset of its viewport, with nothing changed; then 4 and 5 for its
+// records, or the number of the first refused step of its walk, with the screen freshly reset and every word 0.
+pub fn bucket_recording(
+    screen: &mut Screen,
+    file: &[u32],
+    setup: Setup,
+    lent: &mut Lent<'_>,
+) -> Result<(), Refusal>
+    ensures same { SameLent lent.old lent.new }
+    ensures recorded { answer (answer_number result) (whole screen.new lent.new)
+        ≡ recorded file.now (setup-of setup) (whole screen.old lent.old) }
+{
+    let layout = read_form(file)?;
+    let fresh = reset(box_at(file, 1), setup, lent)?;
+    *screen = fresh;
+    let recording = Recording {
+        words: file,
+        layout,
+    };
+    if let Err(refusal) = play(screen, &recording, lent) {
+        *screen = fresh;
+        lent.clear();
+        return Err(refusal);
+    }
+    Ok(())
+}

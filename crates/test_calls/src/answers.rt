@@ -13,6 +13,7 @@ pub struct Answers<'a> {
 }
 
 impl Answers<'_> {
+    // The next word of the answers.
     pub fn put(&mut self, word: u32) {
         if self.at < self.words.len() {
             self.words[self.at] = word;
@@ -20,6 +21,7 @@ impl Answers<'_> {
         }
     }
 
+    // The next words, in order.
     pub fn put_all(&mut self, words: &[u32]) {
         for word in words {
             self.put(*word);

@@ -13,6 +13,7 @@ use screen::layers::{Clip, LayerProps};
 use sizes::width::Width;
 use span::{BucketRange, TileSpan};
 
+// A call with its arguments, as its words say (oracle/README.md).
 #[derive(Clone, Copy)]
 pub enum Call<'a> {
     Build(Step<'a>),
@@ -285,6 +286,7 @@ pub struct Calls<'a> {
 }
 
 impl<'a> Calls<'a> {
+    // From the words of a sequence.
     pub fn new(sequence: &'a [u32]) -> Calls<'a> {
         Calls {
             words: Words { left: sequence },

@@ -5,6 +5,7 @@ use rect::Rect;
 use screen::Screen;
 
 impl Forgery {
+    // Sets the word; a place that is not there sets nothing.
     pub fn run(self, screen: &mut Screen, tables: &mut Tables) {
         match self {
             Forgery::Number { place, word } => set_number(screen, place, word),

@@ -22,6 +22,7 @@ impl Painting {
         }
     }
 
+    // Makes the call on what is lent, and puts its number and what it gives.
     pub fn run(self, screen: &mut Screen, lent: &mut Lent<'_>, answers: &mut Answers<'_>) {
         let mut marks = [MARK; LIST];
         let list = &mut marks[..self.room().min(LIST)];

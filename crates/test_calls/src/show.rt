@@ -60,6 +60,7 @@ fn show_filters(answers: &mut Answers<'_>, words: &[i32]) {
     }
 }
 
+// Puts the screen's numbers, then its rows, then the attributes and filter paints that it has.
 pub fn show(answers: &mut Answers<'_>, screen: Screen, lent: &Lent<'_>) {
     show_numbers(answers, screen);
     let shape = Shape::of_screen(screen);

@@ -26,6 +26,7 @@ pub enum Table {
 }
 
 impl Table {
+    // The table of a number from 1 to 10.
     pub fn numbered(number: u32) -> Option<Table> {
         match number {
             1 => Some(Table::Render),
@@ -60,6 +61,7 @@ fn room(n: u32) -> u32
 }
 
 impl Shape {
+    // What a screen of this viewport (pixels), C, D and width of a bucket asks for.
     pub fn new(viewport: Rect, c: u32, d: u32, width: Width) -> Shape {
         Shape {
             rows: viewport.height() / 4,
@@ -69,6 +71,7 @@ impl Shape {
         }
     }
 
+    // What a screen asks for.
     pub fn of_screen(screen: Screen) -> Shape {
         Shape::new(screen.viewport, screen.c, screen.d, screen.width)
     }
@@ -132,6 +135,7 @@ pub fn first<T>(table: &mut [T], n: usize) -> &mut [T] {
 }
 
 impl Tables {
+    // All of them, zeros.
     pub fn new(alloc: Global) -> Result<Tables, AllocError> {
         Ok(Tables {
             render: vec![in alloc; 0; 16384]?,

@@ -18,6 +18,7 @@ pub struct Words<'a> {
 }
 
 impl<'a> Words<'a> {
+    // The next word, if there is one.
     pub fn try_word(&mut self) -> Option<u32>
         ensures passes { Passes self.old self.new }
         ensures one_less { IfSome result (λ _. length self.new.left.now < length self.old.left.now) }
@@ -27,12 +28,14 @@ impl<'a> Words<'a> {
         Some(*first)
     }
 
+    // The next word, 0 past the end.
     pub fn word(&mut self) -> u32
         ensures { Passes self.old self.new }
     {
         self.try_word().unwrap_or(0)
     }
 
+    // The next word as a place or a count.
     pub fn index(&mut self) -> usize
         ensures { Passes self.old self.new }
     {
@@ -57,6 +60,7 @@ impl<'a> Words<'a> {
         records
     }
 
+    // Four words: a box, in pixels.
     pub fn rect(&mut self) -> Rect
         ensures { Passes self.old self.new }
     {
@@ -68,6 +72,7 @@ impl<'a> Words<'a> {
         }
     }
 
+    // Two words: a span, in tiles.
     pub fn tiles(&mut self) -> TileSpan
         ensures { Passes self.old self.new }
     {
@@ -77,6 +82,7 @@ impl<'a> Words<'a> {
         }
     }
 
+    // Two words: a range, in buckets.
     pub fn buckets(&mut self) -> BucketRange
         ensures { Passes self.old self.new }
     {
@@ -86,6 +92,7 @@ impl<'a> Words<'a> {
         }
     }
 
+    // Two words: mix and compose.
     pub fn blend(&mut self) -> Blend
         ensures { Passes self.old self.new }
     {

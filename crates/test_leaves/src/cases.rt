@@ -10,6 +10,7 @@ use span::{BucketRange, TileSpan};
 // What a lent list is filled with before a call, and what stands for the number of parts where a split is refused.
 pub const MARK: u32 = 4294967295;
 
+// Which call of the leaves a case replays.
 #[derive(Clone, Copy, PartialEq, Eq)]
 pub enum Kind {
     Split,
@@ -142,6 +143,7 @@ impl<'a> Case<'a> {
         }
     }
 
+    // Whether the case replays this call.
     pub fn is_of(self, kind: Kind) -> bool {
         match self {
             Case::Split { .. } => kind == Kind::Split,
@@ -161,6 +163,7 @@ pub struct Cases<'a> {
 }
 
 impl<'a> Cases<'a> {
+    // From the words of a file.
     pub fn new(words: &'a [u32]) -> Cases<'a> {
         Cases {
             words: Words { left: words },

@@ -65,6 +65,7 @@ fn summed(fills: &[u32]) -> DepthState {
 }
 
 impl Case<'_> {
+    // Whether the leaf gives what the original gave.
     pub fn agrees(self) -> bool {
         match self {
             Case::Split {

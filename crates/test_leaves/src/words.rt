@@ -11,6 +11,7 @@ pub struct Words<'a> {
 }
 
 impl<'a> Words<'a> {
+    // The next word, if there is one.
     pub fn word(&mut self) -> Option<u32>
         ensures passes { Passes self.old self.new }
         ensures one_less { IfSome result (λ _. length self.new.left.now < length self.old.left.now) }
@@ -20,6 +21,7 @@ impl<'a> Words<'a> {
         Some(*first)
     }
 
+    // Two words: a span, in tiles.
     pub fn tiles(&mut self) -> Option<TileSpan>
         ensures { Passes self.old self.new }
     {
@@ -28,6 +30,7 @@ impl<'a> Words<'a> {
         Some(TileSpan { first, end })
     }
 
+    // Two words: a range, in buckets.
     pub fn buckets(&mut self) -> Option<BucketRange>
         ensures { Passes self.old self.new }
     {

@@ -10,7 +10,7 @@ use Rattle.rules.specs.Steps.{do-puts}
 use Rattle.sizes.specs.Widths.{bucket-tiles}
 use Rattle.row.specs.Words.{Words, word-ops, Room}
 use Rattle.row.specs.Acts.{drawn}
-use Rattle.row.specs.Arena.{nowhere, sizes, cut, Arenas}
+use Rattle.row.specs.Arena.{nowhere, sizes, cut, count-rows, Arenas}
 use Rattle.segments.specs.Segs.{seg-at, segs, origin, bounds, Starts}
 use Rattle.fill.specs.declared.rows.Job.{Job}
 
@@ -54,6 +54,21 @@ OnRow ws row a b = (i : ℕ) → a ≤ i → i < b → (seg-at ws i).row ≡ row
 pub data Roomy : List Put → List Words → List Words → Type 0 where
   none-put : {rs ts : List Words} → Roomy [] rs ts
   one_more : {rs ts : List Words} {p : Put} {ps : List Put} → Room (get_or rs p.row nowhere) (get_or ts p.row nowhere) → Roomy ps rs ts → Roomy (p ∷ ps) rs ts
+
+-- the rows whose records are s, as the words hold them
+abbrev pub job_rows : Job → List ℕ → Words → List Words
+job_rows j s w = cut (sizes j.c j.d) (count-rows s) w
+
+-- each row that is put on has room for what all the puts make of it
+abbrev pub RoomFor : Job → List Put → List Words → Type 0
+RoomFor j ps rs = Roomy ps rs (done j ps rs)
+
+-- segment i is there, and good; it has alpha values
+abbrev pub GoodAt : List ℕ → ℕ → Type 0
+GoodAt ws i = (5 * i + 5 ≤ length ws) × (good-segment (seg-at ws i) ≡ true)
+
+abbrev pub NotSolid : List ℕ → ℕ → Type 0
+NotSolid ws i = (seg-at ws i).kind ≡ 0 → ⊥
 
 -- n rows of words, and the job's other numbers
 pub record Fits (j : Job) (n : ℕ) (w : Words) : Type 0 where

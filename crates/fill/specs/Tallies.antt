@@ -1,5 +1,5 @@
 -- A running tally over the cut segments of a list: the counts of the row at hand, loaded from its record when the row changes.
-use Rattle.std.specs.Prelude.{ℕ, ◌+◌, ◌-◌, ◌*◌, ◌/◌, ◌≤◌, ◌≡◌, Bool, false, ◌||◌, cond, List, [], ◌∷◌, ltb, eqb, get_or, length}
+use Rattle.std.specs.Prelude.{ℕ, ◌+◌, ◌-◌, ◌*◌, ◌/◌, ◌≤◌, ◌≡◌, Bool, true, false, ◌||◌, cond, List, [], ◌∷◌, ltb, eqb, get_or, length}
 use Rattle.std.specs.Prelude.{Option, None, Some, Result, Ok, Err}
 use Rattle.sizes.specs.Sizes.{tile-end, most-layers, most-room, most-rows, row-size, renders-at, depths-at, levels-at}
 use Rattle.rules.specs.Lists.{join}
@@ -18,7 +18,9 @@ use Rattle.row.specs.declared.room.Limits.{Limits}
 use Rattle.row.specs.declared.room.Hand.{Hand}
 use Rattle.sizes.specs.declared.answers.Refusal.{Refusal}
 use Rattle.sizes.specs.declared.answers.Refusal.TheVariants as refusal
-use Rattle.row.specs.Room.{record-at, limits, Counted, hand_of, at-hand, loaded, added_to}
+use Rattle.row.specs.declared.room.Fault.{Fault}
+use Rattle.sizes.specs.Refusals.{number_of}
+use Rattle.row.specs.Room.{record-at, limits, Counted, hand_of, at-hand, loaded, added_to, fault_number}
 
 -- the counts of the row at hand, and whether a row has passed its room so far
 pub record Tally : Type 0 where
@@ -96,6 +98,15 @@ pub record Rowed (j : Job) (n : ℕ) (rows : List ℕ) : Type 0 where
 -- the number of a list and of its rows: 4 for either, then the list's, then the rows'
 abbrev pub list-number : ℕ → ℕ → ℕ
 list-number a v = cond (eqb a BadRecord) BadRecord (cond (eqb v BadRecord) BadRecord (cond (eqb a Done) v a))
+
+-- answers that come before those of ids and attributes
+abbrev pub early : ℕ → Bool
+early n = eqb n BadRecord || eqb n BadOrder
+
+-- what judging a list gives, n being its number: 4 or 5 at once, or what was found, which waits
+abbrev pub Listed : ℕ → Result Fault Refusal → Type 0
+Listed n (Ok f) = (fault_number f ≡ n) × (early n ≡ false)
+Listed n (Err x) = (number_of x ≡ n) × (early n ≡ true)
 
 -- the same hand, and 5 from here on unless the order is kept
 abbrev pub marked_by : Counted → Bool → Counted

@@ -1,16 +1,15 @@
 // Judging a fill's segments and the rows that they come to (answers 4, 5, 10 and 11), in one pass, before anything is done: by a sure look,
 // and exactly where that look is not sure. Parts.
-ghost use Rattle.std.specs.Prelude.{◌≡◌, true, false, ◌-◌, ◌*◌, ◌≤◌, ◌<◌, length};
+ghost use Rattle.std.specs.Prelude.{◌≡◌, true, ◌*◌, ◌≤◌, ◌<◌, length};
 ghost use Rattle.sizes.specs.Sizes.{tile-end, most-layers, most-room, row-size};
-ghost use Rattle.sizes.specs.Refusals.{answer_number};
-ghost use Rattle.rules.specs.Segments.{cut_in, good-segment, judge-segments};
+ghost use Rattle.rules.specs.Segments.{cut_in, good-segment};
 ghost use Rattle.span.specs.Spans.{tiles};
 ghost use Rattle.sizes.specs.Widths.{bucket-tiles};
 ghost use Rattle.row.specs.Counts.{counts};
-ghost use Rattle.segments.specs.Segs.{segs, segment-of, origin, bounds};
+ghost use Rattle.segments.specs.Segs.{segment-of, origin, bounds};
 ghost use Rattle.row.specs.Arena.{count-rows};
-ghost use Rattle.row.specs.Room.{at-hand, Low};
-ghost use Rattle.fill.specs.Tallies.{edge_count, added, tally_cuts, verdict, cuts-of, none_yet, marked_by, limits_of, hand_cuts, Took, list-number, Rowed};
+ghost use Rattle.row.specs.Room.{at-hand, Low, Told};
+ghost use Rattle.fill.specs.Tallies.{edge_count, added, marked_by, limits_of, hand_cuts, Took, Listed, Rowed};
 ghost use Rattle.fill.specs.Sure.{Few, Roomed, RoomAt, number_in};
 
 use crate::rows::Job;
@@ -94,10 +93,10 @@ fn judge_segment(rows: &[u32], job: Job, hand: Hand, segment: Segment) -> Result
     Ok(turned.add(limits, more))
 }
 
-// One by one: 4 for a bad segment or for the bad record of a row that gets one, then 5 for their order, then 10, then 11.
-fn judge_each(rows: &[u32], list: &[u32], start: usize, end: usize, job: Job) -> Result<(), Refusal>
+// One by one: BadRecord for a bad segment or for the bad record of a row that gets one, at once; else BadOrder, FullRow or FullDepth, if found.
+fn judge_each(rows: &[u32], list: &[u32], start: usize, end: usize, job: Job) -> Result<Fault, Refusal>
     requires { Rowed job (count-rows rows.now) rows.now × (start ≤ «end») × (5 * «end» ≤ length list.now) }
-    ensures { answer_number result ≡ list-number (judge-segments false (segs list.now start («end» - start))) (verdict (tally_cuts job rows.now none_yet (cuts-of job list.now start «end»))) }
+    ensures { Told (number_in job rows.now list.now start «end») result }
 {
     let mut last = NO_SEGMENT;
     let mut hand = NO_ROW;
@@ -109,7 +108,7 @@ fn judge_each(rows: &[u32], list: &[u32], start: usize, end: usize, job: Job) ->
         hand = judge_segment(rows, job, mark(hand, last.precedes(next)), next)?;
         last = next;
     }
-    hand.found.answer()
+    Ok(hand.found)
 }
 
 // The row's record is good, with room for the most that so many segments come to: a command each, and for each of the `split` solid ones that
@@ -186,19 +185,23 @@ fn is_sure(rows: &[u32], list: &[u32], start: usize, end: usize, job: Job) -> bo
     row < TILE_END && has_room_at(rows, job, row, i - from, split)
 }
 
-// The segments from start to end of a list: 4 for a bad one or for the bad record of a row that gets one, then 5 for their order, then 10, then 11.
+// The segments from start to end of a list: BadRecord for a bad one or for the bad record of a row that gets one, then BadOrder, at once; else whether some row
+// passes C, or D.
 pub fn judge_list(
     rows: &[u32],
     list: &[u32],
     start: usize,
     end: usize,
     job: Job,
-) -> Result<(), Refusal>
+) -> Result<Fault, Refusal>
     requires { Rowed job (count-rows rows.now) rows.now × (start ≤ «end») × (5 * «end» ≤ length list.now) }
-    ensures { answer_number result ≡ list-number (judge-segments false (segs list.now start («end» - start))) (verdict (tally_cuts job rows.now none_yet (cuts-of job list.now start «end»))) }
+    ensures { Listed (number_in job rows.now list.now start «end») result }
 {
     if start < end && is_sure(rows, list, start, end, job) {
-        return Ok(());
+        return Ok(Fault::Nothing);
     }
-    judge_each(rows, list, start, end, job)
+    match judge_each(rows, list, start, end, job)? {
+        Fault::BadOrder => Err(Refusal::BadOrder),
+        fault => Ok(fault),
+    }
 }

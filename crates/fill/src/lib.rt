@@ -2,15 +2,13 @@
 // story of a tile.
 #![tactic(auto)]
 
-ghost use Rattle.std.specs.Prelude.{◌≡◌, ◌||◌, ◌+◌, ◌/◌, ◌≤◌, ◌<◌, eqb, length};
-ghost use Rattle.sizes.specs.Sizes.{most-attrs, last-id};
+ghost use Rattle.std.specs.Prelude.{◌≡◌, ◌/◌, ◌<◌, eqb, length, IfOk};
 ghost use Rattle.sizes.specs.Refusals.{answer_number};
-ghost use Rattle.rules.specs.Answers.{answer, BadRecord, BadOrder};
+ghost use Rattle.rules.specs.Answers.{answer};
 ghost use Rattle.rules.specs.Inputs.{good-paint, draw-paint};
 ghost use Rattle.rules.specs.Spans.{good-range};
 ghost use Rattle.rules.specs.Plans.{eligible};
 ghost use Rattle.row.specs.Rows.{all-held, SameRows};
-ghost use Rattle.screen.specs.Screens.{counted};
 ghost use Rattle.fill.specs.Fills.{draw-of, paint-at, paints-of, good-draw-at, good-fill-at, job_of, lent, first_number, fill_number, filled, Passing};
 
 use crate::judge::judge_list;
@@ -120,14 +118,7 @@ fn judge_lent(
     Ok(())
 }
 
-// Whether a list's answer, 4 or 5, comes before those of ids and attributes, 8 and 9.
-fn comes_first(judged: Result<(), Refusal>) -> bool
-    ensures { result ≡ (eqb (answer_number judged) BadRecord || eqb (answer_number judged) BadOrder) }
-{
-    matches!(judged, Err(Refusal::BadRecord | Refusal::BadOrder))
-}
-
-// A fill, before anything is done: 2, 1, 4, 5, 8, 9 if there is a segment, 10, 11.
+// A fill, before anything is done: 2, 1, 4, 5, 8, 9 if there is a segment, 10, 11. It gives what its segments have in common.
 fn judge_fill(
     screen: Screen,
     rows: &Rows<'_>,
@@ -135,8 +126,9 @@ fn judge_fill(
     paints: &[u32],
     segments: &[u32],
     draw: Draw,
-) -> Result<(), Refusal>
-    ensures { answer_number result ≡ fill_number (lent screen (all-held rows.now) paint_attrs.now) paints.now segments.now draw }
+) -> Result<Job, Refusal>
+    ensures job { IfOk result (λ j. j ≡ job_of screen paints.now draw) }
+    ensures number { answer_number result ≡ fill_number (lent screen (all-held rows.now) paint_attrs.now) paints.now segments.now draw }
 {
     judge_lent(
         screen,
@@ -151,30 +143,18 @@ fn judge_fill(
         return Err(Refusal::BadRecord);
     }
     let job = job_of(screen, paints, draw);
-    let listed = judge_list(rows.state, segments, draw.start, draw.end, job);
-    if comes_first(listed) {
-        return listed;
-    }
+    let fault = judge_list(rows.state, segments, draw.start, draw.end, job)?;
     if LAST_ID < screen.next_draw_id {
         return Err(Refusal::Ids);
     }
     if draw.start == draw.end {
-        return Ok(());
+        return Ok(job);
     }
     if MOST_ATTRS <= screen.paint_attrs {
         return Err(Refusal::FullAttrs);
     }
-    listed
-}
-
-// A fill takes an id, and `more` attributes; it ends painting.
-fn take(screen: &mut Screen, more: u32)
-    requires { (screen.old.next_draw_id ≤ last-id) × (screen.old.paint_attrs ≤ most-attrs) × (more ≤ 1) }
-    ensures { screen.new ≡ counted screen.old (screen.old.next_draw_id + 1) (screen.old.paint_attrs + more) screen.old.layer_attrs screen.old.filter_paints }
-{
-    screen.next_draw_id += 1;
-    screen.paint_attrs += more;
-    screen.painting = false;
+    fault.answer()?;
+    Ok(job)
 }
 
 // Rules 3 to 7. The lists are lent as words, four a paint and five a segment. BadViewport, BadArena, BadRecord, BadOrder, Ids, FullAttrs, FullRow or FullDepth:
@@ -191,9 +171,9 @@ pub fn fill(
     ensures filled { answer (answer_number result) (lent screen.new (all-held rows.new) paint_attrs.new)
         ≡ filled (lent screen.old (all-held rows.old) paint_attrs.old) paints.now segments.now draw }
 {
-    judge_fill(*screen, rows, paint_attrs, paints, segments, draw)?;
+    let job = judge_fill(*screen, rows, paint_attrs, paints, segments, draw)?;
     if draw.start == draw.end {
-        take(screen, 0);
+        screen.take_fill(0);
         return Ok(());
     }
     let attrs = PaintFillAttrs {
@@ -206,9 +186,8 @@ pub fn fill(
         origin_y: screen.viewport.y0,
         panel: draw.panel,
     };
-    let job = job_of(*screen, paints, draw);
     put_paint_attrs(paint_attrs, screen.paint_attrs as usize, attrs);
     fill_rows(rows, segments, draw.start, draw.end, job);
-    take(screen, 1);
+    screen.take_fill(1);
     Ok(())
 }

@@ -332,7 +332,7 @@ pub record Free (g : FilterGiven) (s : Screen) (w : Words) : Type 0 where
   pub id : s.next_draw_id < 1048577
   pub attr : s.paint_attrs < 1024
   pub paint : s.filter_paints < 256
-  pub on : OnRows s s.layers (acted (bucket-tiles s.width) s.layers (own-act g s)) ((own-box g s).y0 / 4) (((own-box g s).y1 + 3) / 4) w
+  pub on : OnRows s (acted (bucket-tiles s.width) s.layers (own-act g s)) ((own-box g s).y0 / 4) (((own-box g s).y1 + 3) / 4) w
 
 module _ (g : FilterGiven) (s : Screen) (w : Words) (ps : List ℕ) (fs : List ℤ) (q : filter-number g (lent s w ps fs) ≡ 0) where
   not-zero : {n : ℕ} → suc n ≡ filter-number g (lent s w ps fs) → ⊥
@@ -469,7 +469,7 @@ told-by g s b t e h = sym (ap (λ (x : Box). draws-nothing (filter-of g) x) e) �
 -- what painting its rows asks
 pub paint-asked : (g : FilterGiven) (s : Screen) (w : Words) (ps : List ℕ) (fs : List ℤ) (q : filter-number g (lent s w ps fs) ≡ 0) (d : draws-nothing (filter-of g) (own-box g s) ≡ false)
     (b : Rect) (t : Span) → box_of b ≡ own-box g s → t ≡ span_of (box_of b)
-    → Short t × OnRows s s.layers (acted (bucket-tiles s.width) s.layers (paint t None s.paint_attrs)) (b.y0 / 4) ((b.y1 + 3) / 4) w
+    → Short t × OnRows s (acted (bucket-tiles s.width) s.layers (paint t None s.paint_attrs)) (b.y0 / 4) ((b.y1 + 3) / 4) w
 paint-asked g s w ps fs q d b t e f =
     let z = (ready g s w ps fs q).zero in
     rw (f ∙ ap span_of e, top-is g s w z b e, bottom-is g s w z b e) (short g s w ps fs q d, (free g s w ps fs q d).on)

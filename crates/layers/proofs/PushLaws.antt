@@ -30,7 +30,7 @@ use Rattle.row.specs.Building.{Whole, rows_at, screen-at, good_rows, step_number
 use Rattle.rect.specs.declared.Rect.{Rect}
 use Rattle.rect.specs.Rects.{box_of}
 use Rattle.screen.specs.declared.Screen.{Screen}
-use Rattle.screen.specs.Screens.{frame-of, state-of, screen-after, good_screen}
+use Rattle.screen.specs.Screens.{frame-of, state-of, screen-after, opened, good_screen}
 use Rattle.screen.specs.Judging.{judged}
 use Rattle.rect.proofs.Boxes.{view}
 use Rattle.screen.proofs.ScreenLaws.{bounds, clip, good-clip-of, clip-of, paint-count, layer-attr-count, filter-count, layer-count}
@@ -42,7 +42,7 @@ use Rattle.layers.proofs.RowsLaws.{puts-each}
 use Rattle.layers.proofs.Numbers.{Adding, band-answer, band-step, band-room, touch-adds, run-told}
 use Rattle.layers.proofs.Passing.{passed-whole, rows-within, decide, surely, below}
 use Rattle.layers.specs.declared.push.Run.{Run}
-use Rattle.layers.specs.Push.{PushLent, lent, plan-of, push-number, after, pushed, no_run, box-run, touch_run, on-layer}
+use Rattle.layers.specs.Push.{PushLent, lent, plan-of, push-number, after, pushed, no_run, box-run, touch_run}
 
 -- the new layer's box, and the rows that it touches at once
 abbrev pub own-box : LayerProps → Screen → Box
@@ -229,7 +229,7 @@ pub record PushReady (p : LayerProps) (s : Screen) (w : Words) (ls : List ℕ) (
   pub layers : length ls ≡ open-layer-table
   pub opacities : length os ≡ opacity-count
   pub free : s.layers < 16
-  pub on : OnRows s (s.layers + 1) (acted (bucket-tiles s.width) (s.layers + 1) touch) (own-run p s).a (own-run p s).b w
+  pub on : OnRows s (acted (bucket-tiles s.width) (s.layers + 1) touch) (own-run p s).a (own-run p s).b w
 
 module _ (p : LayerProps) (s : Screen) (w : Words) (ls : List ℕ) (os : List Float) (q : push-number p (lent s w ls os) ≡ 0) where
   not-zero : {n : ℕ} → suc n ≡ push-number p (lent s w ls os) → ⊥
@@ -265,7 +265,7 @@ module _ (p : LayerProps) (s : Screen) (w : Words) (ls : List ℕ) (os : List Fl
   unfolding plan-push
   plan-counts = (paint-count s, layer-attr-count s, filter-count s)
 
-  screen-is : screen-after s (plan-of p s) ≡ on-layer s b
+  screen-is : screen-after s (plan-of p s) ≡ opened s b
   unfolding screen-after
   screen-is = rw (plan-deep p s ok-screen, plan-layers p s ok-screen, ← e, plan-next p s ok-screen, plan-counts.0, plan-counts.1, plan-counts.2)
 
@@ -273,7 +273,7 @@ module _ (p : LayerProps) (s : Screen) (w : Words) (ls : List ℕ) (os : List Fl
   unfolding done
   rows_are = rw (plan-deep p s ok-screen, plan-puts p s ok-screen, frame_is s) (puts-each _ (s.layers + 1) touch (range (own-run p s).a (own-run p s).b) (rows_at (frame-of s) w))
 
-  pub after_is : (x : Screen) (ws : Words) (r : Run) → x ≡ on-layer s b → r ≡ touch_run p.blend.compose (box_of b)
+  pub after_is : (x : Screen) (ws : Words) (r : Run) → x ≡ opened s b → r ≡ touch_run p.blend.compose (box_of b)
       → ws ≡ lay (each (acted (bucket-tiles s.width) (s.layers + 1) touch) (range r.a r.b) (rows_at (frame-of s) w))
       → lent x ws (words-at ls (open-layer-size * s.layers) (layer-words (layer-of p b) p.nan)) (set os s.layers p.opacity) ≡ after p (lent s w ls os)
   unfolding after

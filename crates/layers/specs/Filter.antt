@@ -1,6 +1,6 @@
 -- A filter fill at a screen's words: its number, and every lent word afterwards (rule 11).
 use Rattle.std.specs.Prelude.{ℕ, ◌+◌, ◌*◌, ◌≡◌, Bool, false, ◌&&◌, cond, List, [], ◌∷◌, length, drop, eqb, ℤ, pos}
-use Rattle.std.specs.Prelude.{Option}
+use Rattle.std.specs.Prelude.{Option, None, Some, true}
 use Rattle.std.proofs.Math.IntN.{sub_ℕ}
 use Rattle.sizes.specs.Sizes.{paint-attr-size, paint-attr-table, filter-paint-size, filter-paint-table}
 use Rattle.rules.specs.Lists.{join}
@@ -113,6 +113,11 @@ filtered g l = settle (filter-number g l) l (after g l)
 -- the box that is drawn
 abbrev pub own-box : FilterGiven → Screen → Box
 own-box g s = filter-box (box_of s.viewport) (box_of s.clip_bbox) (filter-of g)
+
+-- what judging finds: the box that is drawn, or that nothing is
+abbrev pub Draws : FilterGiven → Screen → Option Rect → Type 0
+Draws g s None = draws-nothing (filter-of g) (own-box g s) ≡ true
+Draws g s (Some b) = (box_of b ≡ own-box g s) × (draws-nothing (filter-of g) (box_of b) ≡ false)
 
 -- judged 0, and something is drawn
 pub record Drawing (g : FilterGiven) (l : FilterLent) (b : Rect) : Type 0 where

@@ -1,7 +1,7 @@
 // A filter fill (rule 11; bucketer.rs, generate_filter_layer_fill). `filter_fill` is a public call; the others are parts of it.
-ghost use Rattle.std.specs.Prelude.{◌≡◌, ◌||◌, ◌≤◌, ◌+◌};
+ghost use Rattle.std.specs.Prelude.{◌≡◌, ◌||◌, ◌≤◌, IfOk};
 ghost use Rattle.std.proofs.Math.IntN.{sub_ℕ};
-ghost use Rattle.sizes.specs.Sizes.{most-attrs, most-filters, most-records};
+ghost use Rattle.sizes.specs.Sizes.{most-filters, most-records};
 ghost use Rattle.sizes.specs.Refusals.{answer_number};
 ghost use Rattle.rules.specs.Answers.{answer};
 ghost use Rattle.rules.specs.Boxes.{meet, to-local, empty-box};
@@ -9,10 +9,9 @@ ghost use Rattle.rules.specs.Inputs.{good-pixmap};
 ghost use Rattle.rules.specs.Lists.{is_none};
 ghost use Rattle.rect.specs.Rects.{box_of};
 ghost use Rattle.row.specs.Rows.{all-held, SameRows};
-ghost use Rattle.screen.specs.Screens.{counted};
-ghost use Rattle.layers.specs.Filter.{given_of, good-given, paint-from, attrs-of, lent, filter-number, after, filtered, Drawing};
+ghost use Rattle.layers.specs.Filter.{given_of, good-given, paint-from, attrs-of, lent, filter-number, after, filtered, Draws, Drawing};
 
-use crate::rows::{is_bad_record, judge_rows, paint_rows};
+use crate::rows::{Plain, judge_rows, on_rows};
 use cmd::attrs::{FilterPaint, PaintFillAttrs, put_filter_paint, put_paint_attrs};
 use cmd::blend::Blend;
 use rect::Rect;
@@ -119,26 +118,16 @@ fn filter_attrs(screen: Screen, paint_count: u32, panel: u32) -> PaintFillAttrs
     }
 }
 
-// A filter fill takes `more` of each, an id, an attribute and a filter paint; it ends painting.
-fn take(screen: &mut Screen, more: u32)
-    requires { (more ≤ 1) × (screen.old.next_draw_id ≤ 1048577) × (screen.old.paint_attrs ≤ most-attrs) × (screen.old.filter_paints ≤ most-filters) }
-    ensures { screen.new ≡ counted screen.old (screen.old.next_draw_id + more) (screen.old.paint_attrs + more) screen.old.layer_attrs (screen.old.filter_paints + more) }
-{
-    screen.next_draw_id += more;
-    screen.paint_attrs += more;
-    screen.filter_paints += more;
-    screen.painting = false;
-}
-
-// A filter fill, before anything is done: 2, 1, 4; then done where nothing is drawn; then 8, 9, 10.
+// A filter fill, before anything is done: 2, 1, 4; then done where nothing is drawn; then 8, 9, 10. It gives the box that is drawn, or none.
 fn judge_filter(
     screen: Screen,
     rows: &Rows<'_>,
     paint_attrs: &[u32],
     filter_paints: &[i32],
     fill: FilterFill,
-) -> Result<(), Refusal>
-    ensures { answer_number result ≡ filter-number (given_of fill) (lent screen (all-held rows.now) paint_attrs.now filter_paints.now) }
+) -> Result<Option<Rect>, Refusal>
+    ensures drawn { IfOk result (Draws (given_of fill) screen) }
+    ensures number { answer_number result ≡ filter-number (given_of fill) (lent screen (all-held rows.now) paint_attrs.now filter_paints.now) }
 {
     judge_screen(
         screen,
@@ -154,24 +143,22 @@ fn judge_filter(
     }
     let bbox = filter_box(screen.viewport, screen.clip_bbox, fill.placement.dest);
     if draws_nothing(fill.pixmap, bbox) {
-        return Ok(());
+        return Ok(None);
     }
-    let judged = judge_rows(
+    let fault = judge_rows(
         screen,
         rows.state,
         (bbox.y0 / 4) as usize,
         ((bbox.y1 + 3) / 4) as usize,
-    );
-    if is_bad_record(judged) {
-        return judged;
-    }
+    )?;
     if LAST_ID < screen.next_draw_id {
         return Err(Refusal::Ids);
     }
     if MOST_ATTRS <= screen.paint_attrs || MOST_FILTERS <= screen.filter_paints {
         return Err(Refusal::FullAttrs);
     }
-    judged
+    fault.answer()?;
+    Ok(Some(bbox))
 }
 
 // A filter fill that was judged done and draws something.
@@ -194,16 +181,19 @@ fn draw(
     let attrs = filter_attrs(*screen, fill.paint_count, fill.panel);
     put_filter_paint(filter_paints, screen.filter_paints as usize, paint);
     put_paint_attrs(paint_attrs, screen.paint_attrs as usize, attrs);
-    paint_rows(
+    let plain = Plain {
+        layers: screen.layers,
+        span: bbox.bbox_span(),
+        attrs_idx: screen.paint_attrs,
+    };
+    on_rows(
         *screen,
         rows,
         (bbox.y0 / 4) as usize,
         ((bbox.y1 + 3) / 4) as usize,
-        screen.layers,
-        bbox.bbox_span(),
-        screen.paint_attrs,
+        plain,
     );
-    take(screen, 1);
+    screen.take_filter(1);
 }
 
 // Rule 11: one id, one filter paint, one attribute, and a fill on each row of the box; or nothing. BadViewport, BadArena, BadRecord, Ids, FullAttrs or FullRow:
@@ -219,12 +209,9 @@ pub fn filter_fill(
     ensures filtered { answer (answer_number result) (lent screen.new (all-held rows.new) paint_attrs.new filter_paints.new)
         ≡ filtered (given_of fill) (lent screen.old (all-held rows.old) paint_attrs.old filter_paints.old) }
 {
-    judge_filter(*screen, rows, paint_attrs, filter_paints, fill)?;
-    let bbox = filter_box(screen.viewport, screen.clip_bbox, fill.placement.dest);
-    if draws_nothing(fill.pixmap, bbox) {
-        take(screen, 0);
-    } else {
-        draw(screen, rows, paint_attrs, filter_paints, fill, bbox);
+    match judge_filter(*screen, rows, paint_attrs, filter_paints, fill)? {
+        None => screen.take_filter(0),
+        Some(bbox) => draw(screen, rows, paint_attrs, filter_paints, fill, bbox),
     }
     Ok(())
 }

@@ -1,14 +1,13 @@
 // A push (rule 8; bucketer.rs, push_layer). `push_layer` is a public call; the others are parts of it.
-ghost use Rattle.std.specs.Prelude.{◌≡◌, ◌≤◌};
-ghost use Rattle.sizes.specs.Sizes.{most-layers};
+ghost use Rattle.std.specs.Prelude.{◌≡◌, ◌≤◌, IfOk, OnOk, OnErr};
 ghost use Rattle.sizes.specs.Refusals.{answer_number};
 ghost use Rattle.rules.specs.Answers.{answer};
 ghost use Rattle.rect.specs.Rects.{box_of};
 ghost use Rattle.row.specs.Rows.{all-held, SameRows};
 ghost use Rattle.screen.specs.LentLayers.{SameLayers};
-ghost use Rattle.layers.specs.Push.{touch_run, on-layer, lent, push-number, pushed};
+ghost use Rattle.layers.specs.Push.{touch_run, Opens, lent, push-number, after, pushed};
 
-use crate::rows::{is_bad_record, judge_rows, touch_rows};
+use crate::rows::{Touch, judge_rows, on_rows};
 use cmd::blend::Blend;
 use rect::Rect;
 use row::Rows;
@@ -39,14 +38,11 @@ fn touch_run(blend: Blend, bbox: Rect) -> Run
     }
 }
 
-// One more layer, whose own box is given; it ends painting.
-fn open(screen: &mut Screen, bbox: Rect)
-    requires { screen.old.layers ≤ most-layers }
-    ensures { screen.new ≡ on-layer screen.old bbox }
-{
-    screen.clip_bbox = bbox;
-    screen.layers += 1;
-    screen.painting = false;
+// Where a layer opens: its own box, and the rows that it touches at once.
+#[derive(Clone, Copy)]
+struct Opening {
+    bbox: Rect,
+    run: Run,
 }
 
 // A push, before anything is done: 2, 1, 4, then 6 with 16 layers open, then 10.
@@ -55,8 +51,9 @@ fn judge_push(
     rows: &Rows<'_>,
     layers: &Layers<'_>,
     props: LayerProps,
-) -> Result<(), Refusal>
-    ensures { answer_number result ≡ push-number props (lent screen (all-held rows.now) layers.now.table.now layers.now.opacities.now) }
+) -> Result<Opening, Refusal>
+    ensures opening { IfOk result (Opens screen props) }
+    ensures number { answer_number result ≡ push-number props (lent screen (all-held rows.now) layers.now.table.now layers.now.opacities.now) }
 {
     judge_screen(
         screen,
@@ -72,14 +69,12 @@ fn judge_push(
     }
     let bbox = layer_box(screen.viewport, screen.clip_bbox, props.clip);
     let run = touch_run(props.blend, bbox);
-    let judged = judge_rows(screen, rows.state, run.a, run.b);
-    if is_bad_record(judged) {
-        return judged;
-    }
+    let fault = judge_rows(screen, rows.state, run.a, run.b)?;
     if MOST_LAYERS <= screen.layers {
         return Err(Refusal::Deep);
     }
-    judged
+    fault.answer()?;
+    Ok(Opening { bbox, run })
 }
 
 // Rule 8: one more layer is open. Its opacity is copied, bit for bit. BadViewport, BadArena, BadRecord, Deep or FullRow: refused, the screen and every lent
@@ -94,12 +89,17 @@ pub fn push_layer(
     ensures same_layers { SameLayers layers.old layers.new }
     ensures pushed { answer (answer_number result) (lent screen.new (all-held rows.new) layers.new.table.now layers.new.opacities.now)
         ≡ pushed props (lent screen.old (all-held rows.old) layers.old.table.now layers.old.opacities.now) }
+    ensures unchanged { OnErr result (lent screen.new (all-held rows.new) layers.new.table.now layers.new.opacities.now
+        ≡ lent screen.old (all-held rows.old) layers.old.table.now layers.old.opacities.now) }
+    ensures done { OnOk result (lent screen.new (all-held rows.new) layers.new.table.now layers.new.opacities.now
+        ≡ after props (lent screen.old (all-held rows.old) layers.old.table.now layers.old.opacities.now)) }
 {
-    judge_push(*screen, rows, layers, props)?;
-    let bbox = layer_box(screen.viewport, screen.clip_bbox, props.clip);
-    let run = touch_run(props.blend, bbox);
+    let Opening { bbox, run } = judge_push(*screen, rows, layers, props)?;
     layers.put(screen.layers, props, bbox);
-    touch_rows(*screen, rows, run.a, run.b, screen.layers + 1);
-    open(screen, bbox);
+    let touch = Touch {
+        layers: screen.layers + 1,
+    };
+    on_rows(*screen, rows, run.a, run.b, touch);
+    screen.open_layer(bbox);
     Ok(())
 }

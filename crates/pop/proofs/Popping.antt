@@ -16,7 +16,7 @@ use Rattle.rect.specs.declared.Rect.{Rect}
 use Rattle.rect.specs.Rects.{box_of}
 use Rattle.cmd.specs.Attrs.{layer-words}
 use Rattle.screen.specs.declared.Screen as code
-use Rattle.screen.specs.Screens.{frame-of, state-of, screen-in, screen-after}
+use Rattle.screen.specs.Screens.{frame-of, state-of, closed, screen-after}
 use Rattle.screen.proofs.ScreenLaws.{paint-count, layer-attr-count, filter-count}
 use Rattle.pop.specs.Pop.{PopLent, lent, out, layers-in, number, pop-plan, new-words, popped, Judged, words-after, attr-of, tables_after}
 use Rattle.pop.proofs.Numbers.{Screened, plan-is, layers-length}
@@ -41,8 +41,7 @@ module _ (s : code.Screen) (l : PopLent) (ws : List ℕ) (j : Judged s l.layers 
 
   -- the screen
   pub screen-is : (q : Rect) → box_of q ≡ clip-box (box_of s.viewport) (layers-in l.layers (s.layers - 1))
-      → screen-in (frame-of s) q (s.next_draw_id + 1) s.paint_attrs (s.layer_attrs + 1) s.filter_paints (s.layers - 1) false
-      ≡ screen-after s (pop-plan s l ws)
+      → closed s q ≡ screen-after s (pop-plan s l ws)
   unfolding screen-after
   screen-is q p =
       rw (plan-is s l ws j.some o, ← p, next-is, paint-count s, filter-count s, length-append, layer-attr-count s, layers-length l.layers (s.layers - 1))

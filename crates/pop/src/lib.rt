@@ -2,35 +2,25 @@
 // where one asks something, its callers have judged it.
 #![tactic(auto)]
 
-ghost use Rattle.std.specs.Prelude.{◌≡◌, true, false, ◌&&◌, ◌||◌, cond, [], map, ◌++◌, ◌+◌, ◌-◌, ◌*◌, ◌/◌, ◌≤◌, ◌<◌, length, eqb};
-ghost use Rattle.sizes.specs.Sizes.{most-layers, most-attrs, last-id, open-layer-table, opacity-count, layer-attr-table};
-ghost use Rattle.sizes.specs.Widths.{bucket-tiles};
-ghost use Rattle.rules.specs.Lists.{join, range, every};
-ghost use Rattle.rules.specs.Boxes.{rows_of};
-ghost use Rattle.rules.specs.Segments.{cut_in, good-segment, judge-segments};
-ghost use Rattle.rules.specs.Plans.{on, close, pop, clip-box};
-ghost use Rattle.span.specs.Spans.{tiles};
+ghost use Rattle.std.specs.Prelude.{◌≡◌, ◌&&◌, cond, ◌+◌, ◌-◌, ◌*◌, ◌/◌, ◌≤◌, ◌<◌, length, eqb, IfOk};
+ghost use Rattle.sizes.specs.Sizes.{most-layers, most-attrs, open-layer-table, opacity-count, layer-attr-table};
+ghost use Rattle.rules.specs.Lists.{every};
+ghost use Rattle.rules.specs.Plans.{pop, clip-box};
 ghost use Rattle.rect.specs.Rects.{box_of};
-ghost use Rattle.cmd.specs.Attrs.{words-at};
-ghost use Rattle.screen.specs.Screens.{frame-of, screen-in};
 ghost use Rattle.screen.specs.Judging.{judged};
-ghost use Rattle.screen.specs.Tables.{float-0};
-ghost use Rattle.segments.specs.Segs.{segs, origin, bounds, Starts};
+ghost use Rattle.segments.specs.Segs.{origin, bounds, Starts};
 ghost use Rattle.row.specs.Rows.{all-held, SameRows};
 ghost use Rattle.screen.specs.LentLayers.{SameLayers};
 ghost use Rattle.sizes.specs.Refusals.{answer_number};
-ghost use Rattle.row.specs.Cmds.{Short};
 ghost use Rattle.row.specs.Arena.{nowhere};
-ghost use Rattle.row.specs.Building.{rows_at, Whole};
-ghost use Rattle.screen.specs.Layers.{open_at, no_words, good_layer, good_own_box};
-ghost use Rattle.pop.specs.Closing.{touched-in, good-pops, full_by, runs-full, done-puts, clip-puts, Clips, Fillable, Each};
-ghost use Rattle.pop.specs.Pop.{lent, out, layers-in, good-open, good_lengths, late, number-after, number, popped, Judged, closing-puts, words-after, attr_by, tables_after};
+ghost use Rattle.screen.specs.Layers.{open_at, good_layer, good_own_box};
+ghost use Rattle.pop.specs.Pop.{lent, out, layers-in, good_lengths, number, popped, Judged, closing-puts, words-after, attr_by, tables_after, Closes};
+ghost use Rattle.pop.specs.Named.{screen_rows, closed_by, WholeRows, InScreen, plain_number, clip_number, open_number, lent_of};
 
 use crate::rows::{
     Band, ClipPath, close_segments, close_spans, is_full_clip, judge_pop_rows, pop_rows,
 };
 use cmd::attrs::{LayerFillAttrs, put_layer_attrs};
-use layers::rows::is_bad_record;
 use rect::Rect;
 use row::Rows;
 use screen::layers::{Layers, OpenLayer, is_good_own_box};
@@ -40,6 +30,15 @@ use sizes::answers::Refusal;
 use sizes::{LAST_ID, LAYER_TABLE, MOST_ATTRS, OPACITIES, OPEN_TABLE};
 
 pub mod rows;
+
+// How the innermost layer closes: the layer, its parent's box, its box's rows, and its clip's segments where it has a clip.
+#[derive(Clone, Copy)]
+struct Closing {
+    layer: OpenLayer,
+    parent: Rect,
+    band: Band,
+    clip: Option<ClipPath>,
+}
 
 // The rows of a box.
 fn band_of(bbox: Rect) -> Band
@@ -53,7 +52,9 @@ fn band_of(bbox: Rect) -> Band
 
 // The box of the innermost layer's parent.
 fn parent_box(viewport: Rect, layers: &Layers<'_>, open: u32) -> Rect
-    requires { (1 ≤ «open») × («open» ≤ most-layers) × (length layers.now.table.now ≡ open-layer-table) }
+    requires some { 1 ≤ «open» }
+    requires deep { «open» ≤ most-layers }
+    requires table { length layers.now.table.now ≡ open-layer-table }
     ensures { box_of result ≡ clip-box (box_of viewport) (layers-in layers.now.table.now («open» - 1)) }
 {
     if open == 1 {
@@ -79,21 +80,20 @@ fn is_good_open(viewport: Rect, layer: OpenLayer, parent: Rect) -> bool
 
 // Without a clip: 4 for the rows of the band, then 8, 9 and 10.
 fn judge_plain(screen: Screen, rows: &Rows<'_>, band: Band) -> Result<(), Refusal>
-    requires { Whole (frame-of screen) (all-held rows.now) × (band.b ≤ rows_of (box_of screen.viewport)) × (1 ≤ screen.layers) × (screen.layers ≤ most-layers) }
-    ensures { answer_number result ≡ late (good-pops screen.c screen.d screen.layers (rows_at (frame-of screen) (all-held rows.now)) (range band.a band.b)) 0 screen.next_draw_id screen.layer_attrs
-        (full_by screen.c 2 (rows_at (frame-of screen) (all-held rows.now)) (touched-in screen.layers (rows_at (frame-of screen) (all-held rows.now)) (range band.a band.b))) }
+    requires whole { WholeRows screen rows.now }
+    requires band { InScreen screen band }
+    requires some { 1 ≤ screen.layers }
+    requires deep { screen.layers ≤ most-layers }
+    ensures { answer_number result ≡ plain_number screen band rows.now }
 {
-    let judged = judge_pop_rows(screen, rows, band, 1);
-    if is_bad_record(judged) {
-        return judged;
-    }
+    let fault = judge_pop_rows(screen, rows, band, 1)?;
     if LAST_ID < screen.next_draw_id {
         return Err(Refusal::Ids);
     }
     if MOST_ATTRS <= screen.layer_attrs {
         return Err(Refusal::FullAttrs);
     }
-    judged
+    fault.answer()
 }
 
 // With a clip: 4 for the rows of the band or a segment, 5 for their order, then 8, 9 and 10.
@@ -104,15 +104,16 @@ fn judge_clip(
     clip: ClipPath,
     band: Band,
 ) -> Result<(), Refusal>
-    requires { Whole (frame-of screen) (all-held rows.now) × (band.b ≤ rows_of (box_of screen.viewport)) × (1 ≤ screen.layers) × (screen.layers ≤ most-layers) × (clip.start ≤ clip.«end») × (5 * clip.«end» ≤ length list.now) × Starts (origin clip.scene) (bounds clip.scene) }
-    ensures { answer_number result ≡ late (good-pops screen.c screen.d screen.layers (rows_at (frame-of screen) (all-held rows.now)) (range band.a band.b)) (judge-segments false (segs list.now clip.start (clip.«end» - clip.start))) screen.next_draw_id screen.layer_attrs
-        (full_by screen.c 1 (rows_at (frame-of screen) (all-held rows.now)) (touched-in screen.layers (rows_at (frame-of screen) (all-held rows.now)) (range band.a band.b))
-        || runs-full screen.c (touched-in screen.layers (rows_at (frame-of screen) (all-held rows.now)) (range band.a band.b)) (rows_at (frame-of screen) (all-held rows.now)) 0 0 (join (cut_in (origin clip.scene) (bounds clip.scene)) (segs list.now clip.start (clip.«end» - clip.start)))) }
+    requires whole { WholeRows screen rows.now }
+    requires band { InScreen screen band }
+    requires some { 1 ≤ screen.layers }
+    requires deep { screen.layers ≤ most-layers }
+    requires ordered { clip.start ≤ clip.«end» }
+    requires listed { 5 * clip.«end» ≤ length list.now }
+    requires starts { Starts (origin clip.scene) (bounds clip.scene) }
+    ensures { answer_number result ≡ clip_number screen band rows.now clip list.now }
 {
-    let judged = judge_pop_rows(screen, rows, band, 0);
-    if is_bad_record(judged) {
-        return judged;
-    }
+    let fault = judge_pop_rows(screen, rows, band, 0)?;
     judge_segments(list, clip.start, clip.end)?;
     if LAST_ID < screen.next_draw_id {
         return Err(Refusal::Ids);
@@ -120,24 +121,25 @@ fn judge_clip(
     if MOST_ATTRS <= screen.layer_attrs {
         return Err(Refusal::FullAttrs);
     }
-    if judged.is_err() {
-        return judged;
-    }
+    fault.answer()?;
     if is_full_clip(screen, rows, list, clip, band) {
         return Err(Refusal::FullRow);
     }
     Ok(())
 }
 
-// With a layer open: 4 for it, then what its rows and its list say, 8, 9 and 10.
+// With a layer open: 4 for it, then what its rows and its list say, 8, 9 and 10. It gives how the layer closes.
 fn judge_open(
     screen: Screen,
     rows: &Rows<'_>,
     layers: &Layers<'_>,
     list: &[u32],
-) -> Result<(), Refusal>
-    requires { (judged screen (length rows.now.state.now) (length rows.now.render.now) (length rows.now.fills.now) ≡ 0) × (length layers.now.table.now ≡ open-layer-table) × (1 ≤ screen.layers) }
-    ensures { answer_number result ≡ cond (good-open (box_of screen.viewport) layers.now.table.now screen.layers) (number-after screen (lent (all-held rows.now) layers.now.table.now [] []) list.now 0) 4 }
+) -> Result<Closing, Refusal>
+    requires screen { judged screen (length rows.now.state.now) (length rows.now.render.now) (length rows.now.fills.now) ≡ 0 }
+    requires table { length layers.now.table.now ≡ open-layer-table }
+    requires some { 1 ≤ screen.layers }
+    ensures closing { IfOk result (Closes screen layers.now.table.now) }
+    ensures number { answer_number result ≡ open_number screen rows.now layers.now.table.now list.now }
 {
     let layer = layers.open_at(screen.layers - 1);
     let parent = parent_box(screen.viewport, layers, screen.layers);
@@ -146,7 +148,13 @@ fn judge_open(
     }
     let band = band_of(layer.bbox);
     if layer.flag == 0 {
-        return judge_plain(screen, rows, band);
+        judge_plain(screen, rows, band)?;
+        return Ok(Closing {
+            layer,
+            parent,
+            band,
+            clip: None,
+        });
     }
     if list.len() / 5 < layer.end as usize {
         return Err(Refusal::BadRecord);
@@ -156,7 +164,13 @@ fn judge_open(
         end: layer.end as usize,
         scene: scene_of(screen.viewport, parent),
     };
-    judge_clip(screen, rows, list, clip, band)
+    judge_clip(screen, rows, list, clip, band)?;
+    Ok(Closing {
+        layer,
+        parent,
+        band,
+        clip: Some(clip),
+    })
 }
 
 // A pop, before anything is done: 2, 1, 4 for the lengths, 7 with no layer open, and then as above.
@@ -166,8 +180,9 @@ fn judge_pop(
     layers: &Layers<'_>,
     layer_attrs: &[u32],
     list: &[u32],
-) -> Result<(), Refusal>
-    ensures { answer_number result ≡ number screen (lent (all-held rows.now) layers.now.table.now layers.now.opacities.now layer_attrs.now) list.now }
+) -> Result<Closing, Refusal>
+    ensures closing { IfOk result (Closes screen layers.now.table.now) }
+    ensures number { answer_number result ≡ number screen (lent_of rows.now layers.now layer_attrs.now) list.now }
 {
     judge_screen(
         screen,
@@ -190,38 +205,30 @@ fn judge_pop(
 }
 
 // Rule 9: the closing LayerFills.
-fn close_rows(screen: Screen, rows: &mut Rows<'_>, layers: &Layers<'_>, list: &[u32])
-    requires { Judged screen layers.now.table.now list.now (all-held rows.old) }
+fn close_rows(screen: Screen, rows: &mut Rows<'_>, layers: &Layers<'_>, closing: Closing, list: &[u32])
+    requires judged { Judged screen layers.now.table.now list.now (all-held rows.old) }
+    requires closing { Closes screen layers.now.table.now closing }
     ensures same { SameRows rows.old rows.new }
-    ensures rows { rows_at (frame-of screen) (all-held rows.new)
-        ≡ done-puts (bucket-tiles screen.width) (screen.layers - 1) (closing-puts screen layers.now.table.now list.now (all-held rows.old))
-        (rows_at (frame-of screen) (all-held rows.old)) }
+    ensures rows { screen_rows screen rows.new
+        ≡ closed_by screen (closing-puts screen layers.now.table.now list.now (all-held rows.old))
+        (screen_rows screen rows.old) }
 {
-    let layer = layers.open_at(screen.layers - 1);
-    let band = band_of(layer.bbox);
-    if layer.flag == 0 {
-        close_spans(screen, rows, band, layer.bbox.bbox_span());
-        return;
+    match closing.clip {
+        None => close_spans(screen, rows, closing.band, closing.layer.bbox.bbox_span()),
+        Some(clip) => close_segments(screen, rows, list, clip, closing.band),
     }
-    let parent = parent_box(screen.viewport, layers, screen.layers);
-    let clip = ClipPath {
-        start: layer.start as usize,
-        end: layer.end as usize,
-        scene: scene_of(screen.viewport, parent),
-    };
-    close_segments(screen, rows, list, clip, band);
 }
 
 // Rules 9 and 10: the closing LayerFills, then the PopBufs.
-fn do_rows(screen: Screen, rows: &mut Rows<'_>, layers: &Layers<'_>, list: &[u32])
-    requires { Judged screen layers.now.table.now list.now (all-held rows.old) }
+fn do_rows(screen: Screen, rows: &mut Rows<'_>, layers: &Layers<'_>, closing: Closing, list: &[u32])
+    requires judged { Judged screen layers.now.table.now list.now (all-held rows.old) }
+    requires closing { Closes screen layers.now.table.now closing }
     ensures same { SameRows rows.old rows.new }
     ensures rows { all-held rows.new
         ≡ words-after screen layers.now.table.now list.now (all-held rows.old) }
 {
-    close_rows(screen, rows, layers, list);
-    let layer = layers.open_at(screen.layers - 1);
-    pop_rows(screen, rows, band_of(layer.bbox));
+    close_rows(screen, rows, layers, closing, list);
+    pop_rows(screen, rows, closing.band);
 }
 
 // A clip's thread, 0 without one.
@@ -247,14 +254,20 @@ fn attr_of(screen: Screen, layer: OpenLayer, opacity: f32) -> LayerFillAttrs
 }
 
 // The layer's attribute is stored, with its opacity; then nothing stands in the layer's place.
-fn do_tables(screen: Screen, layers: &mut Layers<'_>, layer_attrs: &mut [u32])
-    requires { (length layers.old.table.now ≡ open-layer-table) × (length layers.old.opacities.now ≡ opacity-count) × (length layer_attrs.old ≡ layer-attr-table) × (1 ≤ screen.layers) × (screen.layers ≤ most-layers) × (screen.layer_attrs < most-attrs) }
+fn do_tables(screen: Screen, layers: &mut Layers<'_>, layer: OpenLayer, layer_attrs: &mut [u32])
+    requires layer { layer ≡ open_at layers.old.table.now (screen.layers - 1) }
+    requires table { length layers.old.table.now ≡ open-layer-table }
+    requires opacities { length layers.old.opacities.now ≡ opacity-count }
+    requires attrs { length layer_attrs.old ≡ layer-attr-table }
+    requires some { 1 ≤ screen.layers }
+    requires deep { screen.layers ≤ most-layers }
+    requires room { screen.layer_attrs < most-attrs }
     ensures same { SameLayers layers.old layers.new }
     ensures tables { lent nowhere layers.new.table.now layers.new.opacities.now layer_attrs.new
         ≡ tables_after screen (lent nowhere layers.old.table.now layers.old.opacities.now layer_attrs.old) }
 {
     let k = screen.layers - 1;
-    let attrs = attr_of(screen, layers.open_at(k), layers.opacities[k as usize]);
+    let attrs = attr_of(screen, layer, layers.opacities[k as usize]);
     put_layer_attrs(
         layer_attrs,
         layers.opacities,
@@ -262,18 +275,6 @@ fn do_tables(screen: Screen, layers: &mut Layers<'_>, layer_attrs: &mut [u32])
         attrs,
     );
     layers.drop_at(k);
-}
-
-// One layer less, whose parent's box is given; it took an id and an attribute, and it ends painting.
-fn close(screen: &mut Screen, parent: Rect)
-    requires { (1 ≤ screen.old.layers) × (screen.old.next_draw_id ≤ last-id) × (screen.old.layer_attrs < most-attrs) }
-    ensures { screen.new ≡ screen-in (frame-of screen.old) parent (screen.old.next_draw_id + 1) screen.old.paint_attrs (screen.old.layer_attrs + 1) screen.old.filter_paints (screen.old.layers - 1) false }
-{
-    screen.clip_bbox = parent;
-    screen.next_draw_id += 1;
-    screen.layer_attrs += 1;
-    screen.layers -= 1;
-    screen.painting = false;
 }
 
 // Rules 9 and 10: the innermost layer closes. The list has the segments of its clip, five words each. BadViewport, BadArena, BadRecord, BadOrder, NoLayer, Ids,
@@ -287,18 +288,18 @@ pub fn pop_layer(
 ) -> Result<(), Refusal>
     ensures same_rows { SameRows rows.old rows.new }
     ensures same_layers { SameLayers layers.old layers.new }
-    ensures popped { out (answer_number result) screen.new (lent (all-held rows.new) layers.new.table.now layers.new.opacities.now layer_attrs.new)
-        ≡ popped screen.old (lent (all-held rows.old) layers.old.table.now layers.old.opacities.now layer_attrs.old) list.now }
+    ensures popped { out (answer_number result) screen.new (lent_of rows.new layers.new layer_attrs.new)
+        ≡ popped screen.old (lent_of rows.old layers.old layer_attrs.old) list.now }
 {
-    judge_pop(*screen, rows, layers, layer_attrs, list)?;
-    let parent = parent_box(screen.viewport, layers, screen.layers);
+    let closing = judge_pop(*screen, rows, layers, layer_attrs, list)?;
+    // Rows by value: behind a reference their slices are loaded again for each segment.
     let mut own = Rows {
         state: rows.state,
         render: rows.render,
         fills: rows.fills,
     };
-    do_rows(*screen, &mut own, layers, list);
-    do_tables(*screen, layers, layer_attrs);
-    close(screen, parent);
+    do_rows(*screen, &mut own, layers, closing, list);
+    do_tables(*screen, layers, closing.layer, layer_attrs);
+    screen.close_layer(closing.parent);
     Ok(())
 }

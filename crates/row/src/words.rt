@@ -7,11 +7,13 @@ ghost use Rattle.rules.specs.Commands.{span-word, paint-fill, layer-fill};
 ghost use Rattle.cmd.specs.DepthFills.{depth-fill};
 ghost use Rattle.span.specs.Spans.{tiles, buckets};
 ghost use Rattle.sizes.specs.Widths.{bucket-tiles};
-ghost use Rattle.row.specs.Cmds.{Short};
-ghost use Rattle.row.specs.Words.{words, put4, hull_word, include_span, put_command, put_buf, end_buf, put_depth, Room, Ends};
+ghost use Rattle.cmd.specs.Commands.{command};
+ghost use Rattle.rules.specs.Rows.{adds};
+ghost use Rattle.row.specs.Cmds.{Short, ShortCmd};
+ghost use Rattle.row.specs.Words.{words, put4, hull_word, include_span, include-adds, put_command, put_buf, end_buf, put_depth, Room, Ends};
 ghost use Rattle.row.specs.Row.{held, Same};
 
-use cmd::command::span_word;
+use cmd::command::{CmdWords, Fill, RenderCmd};
 use cmd::depth_fill::DepthFill;
 use sizes::width::Width;
 use sizes::{DEPTHS, END, FIRST, LARGEST, LEVEL, LEVEL_BASE, LEVELS, RENDERS};
@@ -67,52 +69,52 @@ fn put_four(s: &mut [u32], n: u32, a: u32, b: u32, x: u32, y: u32)
     s[at + 3] = y;
 }
 
+// A command's four words, as command n.
+fn put_words(s: &mut [u32], n: u32, words: CmdWords)
+    requires { 4 * n + 4 ≤ length s.old }
+    ensures { s.new ≡ put4 s.old n words.tag words.span words.alpha words.attrs_idx }
+{
+    put_four(s, n, words.tag, words.span, words.alpha, words.attrs_idx);
+}
+
+// Rule 10: a fill's span counts for the innermost level; a buffer has none.
+fn include_fill(state: &mut [u32], cmd: RenderCmd)
+    requires { (length state.old ≡ row-size) × (get_or state.old levels-at 0 ≤ most-layers) × ShortCmd cmd }
+    ensures { state.new ≡ include-adds (adds (command cmd)) state.old }
+{
+    match cmd {
+        RenderCmd::PaintFill(fill) | RenderCmd::LayerFill(fill) => {
+            include_current_span(state, fill.span.first, fill.span.end);
+        }
+        RenderCmd::PushBuf(_) | RenderCmd::PopBuf => {}
+    }
+}
+
 impl Row<'_> {
-    // A fill by its words (push_cmd). Its span counts for the innermost level.
-    fn put_fill(&mut self, tag: u32, first: u32, end: u32, alpha: u32, attrs_idx: u32)
-        requires { (length self.old.state.now ≡ row-size) × (get_or self.old.state.now levels-at 0 ≤ most-layers) × (first ≤ tile-end) × («end» ≤ tile-end) × (4 * get_or self.old.state.now renders-at 0 + 4 ≤ length self.old.render.now) × (length self.old.render.now ≤ 4 * most-room) }
+    // A command (push_cmd).
+    #[tactic(auto, unfolding(crate::specs::Words::put_command))]
+    pub fn push_cmd(&mut self, cmd: RenderCmd)
+        requires { ShortCmd cmd × Room (held self.old) (put_command (command cmd) (held self.old)) }
         ensures same { Same self.old self.new }
-        ensures row { held self.new
-            ≡ words (set (include_span first «end» self.old.state.now) 0 (get_or self.old.state.now 0 0 + 1)) (put4 self.old.render.now (get_or self.old.state.now 0 0) tag (span-word (span first «end»)) alpha attrs_idx) self.old.fills.now }
+        ensures row { held self.new ≡ put_command (command cmd) (held self.old) }
     {
         let n = self.state[RENDERS];
-        include_current_span(self.state, first, end);
-        put_four(self.render, n, tag, span_word(first, end), alpha, attrs_idx);
+        include_fill(self.state, cmd);
+        put_words(self.render, n, cmd.words());
         self.state[RENDERS] = n + 1;
     }
 
-    // A PaintFill of a span of tiles, with the place of its paint attribute (push_cmd).
-    #[tactic(auto, unfolding(crate::specs::Words::put_command, rules::specs::Commands::command_words))]
+    // A PaintFill of a span of tiles, with the place of its paint attribute.
     pub fn push_paint(&mut self, span: TileSpan, alpha: Option<u32>, attrs_idx: u32)
         requires { Short (tiles span) × Room (held self.old) (put_command (paint-fill (tiles span) alpha attrs_idx) (held self.old)) }
         ensures same { Same self.old self.new }
         ensures row { held self.new ≡ put_command (paint-fill (tiles span) alpha attrs_idx) (held self.old) }
     {
-        match alpha {
-            None => {
-                self.put_fill(1, span.first, span.end, 0, attrs_idx);
-            }
-            Some(index) => {
-                self.put_fill(2, span.first, span.end, index, attrs_idx);
-            }
-        }
-    }
-
-    // A closing LayerFill of a span of tiles, with the place of its layer attribute (push_cmd).
-    #[tactic(auto, unfolding(crate::specs::Words::put_command, rules::specs::Commands::command_words))]
-    pub fn push_closing(&mut self, span: TileSpan, alpha: Option<u32>, attrs_idx: u32)
-        requires { Short (tiles span) × Room (held self.old) (put_command (layer-fill (tiles span) alpha attrs_idx) (held self.old)) }
-        ensures same { Same self.old self.new }
-        ensures row { held self.new ≡ put_command (layer-fill (tiles span) alpha attrs_idx) (held self.old) }
-    {
-        match alpha {
-            None => {
-                self.put_fill(3, span.first, span.end, 0, attrs_idx);
-            }
-            Some(index) => {
-                self.put_fill(4, span.first, span.end, index, attrs_idx);
-            }
-        }
+        self.push_cmd(RenderCmd::PaintFill(Fill {
+            span,
+            alpha,
+            attrs_idx,
+        }));
     }
 
     // Rule 5 (push_buf): a PushBuf, one level more. Its span is none so far.

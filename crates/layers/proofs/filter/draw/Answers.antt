@@ -18,13 +18,13 @@ put_paint_attrs-requires c = put-attrs-needs c.requires
 pub overflow_add-bbox : goal.overflow_add-bbox
 overflow_add-bbox c = omega (arith, bottom c.requires)
 
-pub paint_rows-requires : goal.paint_rows-requires
-paint_rows-requires c = rows-needs c.requires _ c.bbox_span.ensures
+pub on_rows-requires : goal.on_rows-requires
+on_rows-requires c = let p = rows-needs c.requires _ c.bbox_span.ensures in record { asks = λ w. p.0; rows = p.1 }
 
-pub take-requires : goal.take-requires
-take-requires c = counts-needs c.requires
+pub take_filter-requires : goal.take_filter-requires
+take_filter-requires c = let k = counts-needs c.requires in record { ids = k.0; attrs = (k.1, k.2) }
 
 pub returns-clause-drawn : goal.returns-clause-drawn
 returns-clause-drawn c =
     rw (c.put_filter_paint.ensures, c.put_paint_attrs.ensures, c.filter_paint-paint.ensures, c.unwrap_or-handle.ensures, c.filter_attrs-attrs.ensures)
-    (leaves c.requires _ _ _ c.bbox_span.ensures c.take.ensures c.paint_rows.ensures.rows)
+    (leaves c.requires _ _ _ c.bbox_span.ensures c.take_filter.ensures c.on_rows.ensures.rows)

@@ -11,13 +11,14 @@ pub returns-then-not-is_touched-clause-rows : goal.returns-then-not-is_touched-c
 returns-then-not-is_touched-clause-rows c =
     sym
     (one_out _ (c.args.screen.layers - 1) c.args.screen.layer_attrs _ _ _ _ (rw c.segment_at.ensures at c.in-Some.ensures)
-    (touched-no c.requires.0 _ _ _ c.requires.1 _ c.is_touched.ensures refl (ap not c.if-not-is_touched.true)))
+    (touched-no c.requires.whole _ _ _ c.requires.band _ c.is_touched.ensures refl (ap not c.if-not-is_touched.true)))
 
-pub close_at-requires : goal.close_at-requires
-close_at-requires c =
-    clip-here c.requires.0 _ _ _ _ (c.args.screen.layers - 1) c.args.screen.layer_attrs c.args.scene
-    (seg-at c.args.list.now c.args.i) _ c.requires.1 c.requires.3 c.requires.4 (rw c.segment_at.ensures at c.in-Some.ensures)
-    (touched-yes c.requires.0 _ _ _ c.requires.1 _ c.is_touched.ensures refl (ap not c.if-not-is_touched.false)) c.requires.5
+pub on_row-requires : goal.on_row-requires
+on_row-requires c =
+    let h = clip-here c.requires.whole _ _ _ _ (c.args.screen.layers - 1) c.args.screen.layer_attrs c.args.scene
+        (seg-at c.args.list.now c.args.i) _ c.requires.band c.requires.segment.1 c.requires.starts (rw c.segment_at.ensures at c.in-Some.ensures)
+        (touched-yes c.requires.whole _ _ _ c.requires.band _ c.is_touched.ensures refl (ap not c.if-not-is_touched.false)) c.requires.room in
+    (_, record { arenas = h.0; within = h.1; asked = h.2; room = h.3 })
 
 pub returns-in_default-clause-rows : goal.returns-in_default-clause-rows
 returns-in_default-clause-rows c =
@@ -25,7 +26,10 @@ returns-in_default-clause-rows c =
 
 pub returns-clause-rows : goal.returns-clause-rows
 returns-clause-rows c =
-    c.close_at.ensures
+    let h = clip-here c.requires.whole _ _ _ _ (c.args.screen.layers - 1) c.args.screen.layer_attrs c.args.scene
+        (seg-at c.args.list.now c.args.i) _ c.requires.band c.requires.segment.1 c.requires.starts (rw c.segment_at.ensures at c.in-Some.ensures)
+        (touched-yes c.requires.whole _ _ _ c.requires.band _ c.is_touched.ensures refl (ap not c.if-not-is_touched.false)) c.requires.room in
+    c.on_row.ensures _ (record { arenas = h.0; within = h.1; asked = h.2; room = h.3 })
     ∙ sym
     (one_in _ (c.args.screen.layers - 1) c.args.screen.layer_attrs _ _ _ _ (rw c.segment_at.ensures at c.in-Some.ensures)
-    (touched-yes c.requires.0 _ _ _ c.requires.1 _ c.is_touched.ensures refl (ap not c.if-not-is_touched.false)))
+    (touched-yes c.requires.whole _ _ _ c.requires.band _ c.is_touched.ensures refl (ap not c.if-not-is_touched.false)))

@@ -5,14 +5,7 @@ use Rattle.pop.proofs.Rooms.{long_after}
 use Rattle.pop.proofs.rows.close_segments.Goals as goal
 
 pub close_segment-requires : goal.close_segment-requires
-close_segment-requires c = (
-  c.loop-i.invariant.1.rest.whole,
-  c.loop-i.invariant.1.rest.bottom,
-  omega arith,
-  good-here c.loop-i.invariant.1 c.loop-i-test.true,
-  c.loop-i.invariant.1.rest.starts,
-  room-here c.loop-i.invariant.1 c.loop-i-test.true,
-)
+close_segment-requires c = record { whole = c.loop-i.invariant.1.rest.whole; band = c.loop-i.invariant.1.rest.bottom; segment = (omega arith, good-here c.loop-i.invariant.1 c.loop-i-test.true); starts = c.loop-i.invariant.1.rest.starts; room = room-here c.loop-i.invariant.1 c.loop-i-test.true }
 
 pub loop-i-preserved : goal.loop-i-preserved
 loop-i-preserved c = (

@@ -5,12 +5,7 @@ use Rattle.pop.proofs.Rooms.{long_after}
 use Rattle.pop.proofs.rows.close_spans.Goals as goal
 
 pub close_span-requires : goal.close_span-requires
-close_span-requires c = (
-  c.loop-r.invariant.1,
-  omega arith,
-  c.requires.2,
-  going-here c.loop-r.invariant.2 c.loop-r-test.true,
-)
+close_span-requires c = record { whole = c.loop-r.invariant.1; row = omega arith; short = c.requires.short; room = going-here c.loop-r.invariant.2 c.loop-r-test.true }
 
 pub loop-r-preserved : goal.loop-r-preserved
 loop-r-preserved c = (

@@ -6,10 +6,13 @@ use Rattle.pop.proofs.Judging.{act-other, pop-here, each-here}
 use Rattle.pop.proofs.rows.pop_row.Goals as goal
 
 pub returns-then-rows-r-clause-rows : goal.returns-then-rows-r-clause-rows
-returns-then-rows-r-clause-rows c = act-other c.requires.0 _ _ c.requires.1 c.if-rows-r.true _ (c.args.screen.layers - 1) pop
+returns-then-rows-r-clause-rows c = act-other c.requires.whole _ _ c.requires.row c.if-rows-r.true _ (c.args.screen.layers - 1) pop
 
-pub pop_at-requires : goal.pop_at-requires
-pop_at-requires c = (c.requires.0, c.requires.1, each-here c.requires.0 _ _ c.requires.1 c.if-rows-r.false Poppable c.requires.2)
+pub on_row-requires : goal.on_row-requires
+on_row-requires c = let p = each-here c.requires.whole _ _ c.requires.row c.if-rows-r.false Poppable c.requires.room in
+    (_, record { arenas = c.requires.whole; within = c.requires.row; asked = p.0; room = p.1 })
 
 pub returns-clause-rows : goal.returns-clause-rows
-returns-clause-rows c = c.pop_at.ensures ∙ pop-here c.requires.0 _ _ c.requires.1 c.if-rows-r.false _ (c.args.screen.layers - 1)
+returns-clause-rows c = let p = each-here c.requires.whole _ _ c.requires.row c.if-rows-r.false Poppable c.requires.room in
+    c.on_row.ensures _ (record { arenas = c.requires.whole; within = c.requires.row; asked = p.0; room = p.1 })
+    ∙ pop-here c.requires.whole _ _ c.requires.row c.if-rows-r.false _ (c.args.screen.layers - 1)

@@ -5,7 +5,7 @@ use Rattle.pop.proofs.Rooms.{long_after}
 use Rattle.pop.proofs.rows.pop_rows.Goals as goal
 
 pub pop_row-requires : goal.pop_row-requires
-pop_row-requires c = (c.loop-r.invariant.1, omega arith, going-here c.loop-r.invariant.2 c.loop-r-test.true)
+pop_row-requires c = record { whole = c.loop-r.invariant.1; row = omega arith; room = going-here c.loop-r.invariant.2 c.loop-r-test.true }
 
 pub loop-r-preserved : goal.loop-r-preserved
 loop-r-preserved c = (

@@ -17,7 +17,7 @@ use Rattle.rules.specs.Segments.{Segment}
 use Rattle.rules.specs.Inputs.{Props}
 use Rattle.rules.specs.Attributes.{LayerAttr, Attrs, attrs-full, no-paint, no-layer}
 use Rattle.screen.specs.Attributes.{layer-attr-words}
-use Rattle.rules.proofs.Words.{segment-words}
+use Rattle.rules.specs.Words.{segment-words}
 use Rattle.rules.specs.Rows.{Row, row-ops}
 use Rattle.rules.specs.Plans.{Frame, Layer, State, a-pop, Plan, clip-thread, plan-pop, plan}
 use Rattle.rules.specs.Steps as rule

@@ -17,7 +17,7 @@ use Rattle.rules.specs.Answers.{answer, settle, Done, BadRecord}
 use Rattle.rules.specs.Segments.{Segment}
 use Rattle.rules.specs.Inputs.{Paint, Draw, draw-segments, Clip, Props, Filter, good-filter-fill}
 use Rattle.screen.specs.Attributes.{paint-attr-words}
-use Rattle.rules.proofs.Words.{paint-words, segment-words}
+use Rattle.rules.specs.Words.{paint-words, segment-words}
 use Rattle.rules.specs.Rows.{Row, row-ops}
 use Rattle.rules.specs.Plans.{Layer, State, a-fill, a-push, a-filter, Plan, still, box_of, plan-fill, layer-box, plan-push, filter-box, draws-nothing, plan-filter-in, plan-filter, plan}
 use Rattle.rules.specs.Steps as rule

@@ -10,7 +10,7 @@ use Rattle.rules.specs.Rows.{Row, row-ops, fresh-row}
 use Rattle.rules.specs.Plans.{Frame, Step}
 use Rattle.rules.specs.Recording.{Recording}
 use Rattle.rules.specs.Walk.{walk-all}
-use Rattle.rules.proofs.Logged.{walk-logged}
+use Rattle.rules.specs.Logged.{walk-logged}
 use Rattle.rules_reason.specs.Reasons.{Asked, reason}
 use Rattle.sizes.specs.Sizes.{line-size}
 use Rattle.tile.specs.Telling.{Telling, tell-at, nothing-told}

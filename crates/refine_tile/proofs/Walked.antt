@@ -17,7 +17,7 @@ use Rattle.rules.specs.Steps.{Screen, reset, touched, call}
 use Rattle.rules.specs.Recording.{Recording}
 use Rattle.rules.specs.Walk.{walk-all}
 use Rattle.rules.specs.Plain.{Story, untold, tell-step, tell-steps}
-use Rattle.rules.proofs.Logged.{Logged, logged-call, walk-logged}
+use Rattle.rules.specs.Logged.{Logged, logged-call, walk-logged}
 use Rattle.rules.proofs.All.{and_left, and_right, or_left, or_right}
 use Rattle.rules_picture.proofs.Shape.{Shape, none_open}
 use Rattle.rules_picture.proofs.Stepped.{call-done}

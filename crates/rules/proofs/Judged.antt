@@ -15,15 +15,14 @@ use Rattle.rules.specs.Blends.{Blend, default-blend}
 use Rattle.rules.specs.Segments.{Segment}
 use Rattle.rules.specs.Inputs.{Paint, Draw, Clip, Filter}
 use Rattle.rules.specs.Rows.{Row, fresh-row, row-ops}
-use Rattle.rules.specs.Plans.{Frame}
 use Rattle.rules.specs.Steps.{Screen, reset, call}
 use Rattle.rules.specs.Recording.{Recording, LayerRec, Node}
-use Rattle.rules.proofs.Words.{file}
+use Rattle.rules.specs.Words.{file}
 use Rattle.rules.specs.Walk.{Place, needed, play}
 use Rattle.rules.specs.Lines.{header, row, P, L, B, E, refused}
-use Rattle.rules.proofs.Samples.{solid, opaque-paint, draw, any-layer, no-clip, no-filter, full, blend, clip, layer, filtered, filter, pictureless, node, rec, listed, listed-snapped}
+use Rattle.rules.specs.cases.Samples.{solid, opaque-paint, draw, any-layer, no-clip, no-filter, full, blend, clip, layer, filtered, filter, pictureless, node, rec, listed, listed-snapped}
 use Rattle.rules.specs.Setups.{Mode, exact, snapping, Setup, frame}
-use Rattle.rules.proofs.WorkedExample.{worked-words}
+use Rattle.rules.specs.cases.WorkedExample.{worked-words}
 use Rattle.rules.proofs.Computing.{computing}
 
 -- two rows and two buckets, C = 4 and D = 5, lent what they need and `a`, `b`, `c` words more

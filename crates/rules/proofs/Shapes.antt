@@ -10,7 +10,7 @@ use Rattle.rules.specs.Depth.{unset-runs, visible-runs, write-runs, written, wri
 use Rattle.rules.specs.Commands.{paint-fill, layer-fill, push-buf, pop-buf, command_words, depth-words}
 use Rattle.rules.specs.Lines.{P, B, refused, words_of, line-bytes}
 use Rattle.rules.specs.Lists.{join}
-use Rattle.rules.proofs.Samples.{solid, alpha}
+use Rattle.rules.specs.cases.Samples.{solid, alpha}
 use Rattle.rules.proofs.Computing.{computing}
 
 -- boxes

@@ -12,7 +12,7 @@ use Rattle.rules.specs.Lists.{every}
 use Rattle.rules.specs.Boxes.{box, buckets-of}
 use Rattle.rules.specs.Spans.{span}
 use Rattle.rules.specs.Split.{regular, buckets, split}
-use Rattle.rules.specs.Rows.{Row, fresh-row, put-depth-fill}
+use Rattle.rules.specs.Rows.{fresh-row, put-depth-fill}
 use Rattle.rules.specs.Plans.{Frame, a-fill}
 use Rattle.rules.specs.Setups.{exact}
 use Rattle.rules.specs.Painting.{Piece, paint-row}
@@ -20,10 +20,10 @@ use Rattle.rules.specs.Recording.{Recording}
 use Rattle.rules.specs.Walk.{needed}
 use Rattle.rules.specs.Lines.{Line, header, row, D, P, refused, usual, rowlist-words, rowlist-screen, no-width}
 use Rattle.rules.specs.Calls.{Canvas, fresh-canvas, step_call, begin-call, paint-call, unset-call, visible-call}
-use Rattle.rules.proofs.Words.{file}
-use Rattle.rules.proofs.Samples.{solid, opaque-paint, draw, paint-piece}
+use Rattle.rules.specs.Words.{file}
+use Rattle.rules.specs.cases.Samples.{solid, opaque-paint, draw, paint-piece}
 use Rattle.rules.proofs.Picture.{same-picture}
-use Rattle.rules.proofs.WorkedExample.{worked-bytes}
+use Rattle.rules.specs.cases.WorkedExample.{worked-bytes}
 use Rattle.rules.proofs.Cases.{last-bucket, pictured}
 use Rattle.rules.proofs.Computing.{computing}
 

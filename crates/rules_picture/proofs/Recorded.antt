@@ -14,7 +14,7 @@ use Rattle.rules.specs.Plans.{bucket}
 use Rattle.rules.specs.Steps.{Screen, reset, call}
 use Rattle.rules.specs.Recording.{Recording, shape, sections, recording}
 use Rattle.rules.specs.Walk.{Place, frame-of, judge-records, play-records, play, walk-all}
-use Rattle.rules.proofs.Logged.{walk-logged}
+use Rattle.rules.specs.Logged.{walk-logged}
 use Rattle.rules.specs.Painting.{received}
 use Rattle.rules.specs.Plain.{plain}
 use Rattle.rules.specs.Calls.{Canvas, begin-call}

@@ -4,8 +4,8 @@ use native.Mathlib.Nat.{zero-add, suc-add, add-zero, add-suc, le_refl, sub-zero}
 use native.Mathlib.Numerals.{add-one}
 use native.Mathlib.Omega.{arith}
 use mathlib.Core.Path.{◌≡◌, refl, sym, ◌∙◌, ap}
-use mathlib.Core.Bool.{Bool, true, false, ◌&&◌, ◌||◌, not, cond}
-use Rattle.std.specs.Prelude.{Option, None, Some}
+use mathlib.Core.Bool.{Bool, true, false, ◌&&◌, not}
+use Rattle.std.specs.Prelude.{Option, None}
 use mathlib.Core.List.{List, [], ◌∷◌, ◌++◌, map, append_assoc, append-nil, map-append}
 use lib.ListN.{length, get_or, drop, replicate, length-replicate, drop_of_length-le}
 use lib.Seq.{drop-cons}
@@ -21,7 +21,7 @@ use Rattle.rules.specs.Painting.{Piece, fill-piece, Painter, Painted, Entry, beg
 use Rattle.rules.specs.Plain.{Told}
 use Rattle.rules.proofs.All.{All, nil, cons, all_drop, never}
 use Rattle.rules_picture.proofs.Cases.{by}
-use Rattle.rules_picture.proofs.Newest.{newest, depth-after, after-length, holds-newest, write-zero, painter-after, Stands, stands, fill-at, next-is, painted-newest}
+use Rattle.rules_picture.proofs.Newest.{newest, after-length, holds-newest, write-zero, painter-after, stands, fill-at, next-is, painted-newest}
 use Rattle.rules_picture.proofs.Shown.{hides-of, newest-hide, hider}
 use Rattle.rules_picture.proofs.Pieces.{entry_in, received-append, fill-received, depth-received}
 

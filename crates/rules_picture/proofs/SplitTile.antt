@@ -1,7 +1,7 @@
 -- Rule 7 seen from one tile t of bucket k: if the span covers the whole bucket, the depth fill has it and no regular piece has t;
 -- otherwise the depth fill does not have it, and exactly one regular piece has t if the span has.
-use Prim.Native.Nat.{ℕ, zero, suc, ◌+◌, ◌-◌, ◌*◌, ◌/◌, ◌%◌, ◌≤◌, ◌<◌}
-use mathlib.Core.Path.{◌≡◌, refl, sym, ap, ◌∙◌}
+use Prim.Native.Nat.{ℕ, suc, ◌+◌, ◌-◌, ◌*◌, ◌/◌, ◌%◌, ◌≤◌, ◌<◌}
+use mathlib.Core.Path.{◌≡◌, refl}
 use mathlib.Core.Bool.{Bool, true, false, ◌&&◌, cond}
 use mathlib.Core.List.{List, [], ◌∷◌}
 use native.Mathlib.Nat.{suc-mul, mod-lt, div-add-mod', mul-div_cancel, mul-le-mul_right, lt_of_mul-lt-mul_right, lt_of_not-le, le_of_suc-le-suc}

@@ -18,7 +18,7 @@ use Rattle.rules.specs.Plans.{Layer, State, Step, a-fill, a-push, a-pop, a-filte
 use Rattle.rules.specs.Steps.{Screen, done, passes, refusal, perform, touched, call}
 use Rattle.rules.specs.Recording.{Recording, LayerRec, Node, layer-rec}
 use Rattle.rules.specs.Walk.{◌then◌, when, each, props-of, walk-filter, walk-node, walk-nodes, walk-layer, walk-all}
-use Rattle.rules.proofs.Logged.{Logged, logged-call}
+use Rattle.rules.specs.Logged.{Logged, logged-call}
 use Rattle.rules.proofs.All.{All, nil, cons, never}
 use Rattle.rules_picture.specs.Built.{Built, no_step, then as then_step}
 use Rattle.rules_picture.proofs.Cases.{by}

@@ -9,7 +9,7 @@ use Rattle.sizes.specs.Widths.{bucket-tiles}
 use Rattle.rules.specs.Recording.{Recording}
 use Rattle.rules.proofs.Picture.{walked}
 use Rattle.rules.proofs.Computing.{computing}
-use Rattle.rules.proofs.Cases.{panel, parent-cut, unreached, destructive-push, last-bucket, shifted, left_cut, nan-filter, no-picture, away, clipped-filter}
+use Rattle.rules.proofs.Cases.{panel, parent-cut, unreached, destructive-push, last-bucket, shifted, left_cut, nan-filter, no-picture}
 use Rattle.rules_reason.specs.Reasons.{Reason, unknown-attribute, no-segment, cut-away, row-untouched, hidden-by, shown-at, Asked, account-step, accounts, account-of, place_of, newest-hider, because, reason}
 
 -- all that has to unfold to compute a reason

@@ -21,7 +21,7 @@ use Rattle.rules.specs.Walk.{Place, frame-of, good-arenas, judge-records, walk-a
 use Rattle.rules.specs.Lines.{nothing, rowlist-place, rowlist-screen}
 use Rattle.rules.specs.Plain.{untold, tell-steps}
 use Rattle.rules.proofs.All.{never}
-use Rattle.rules.proofs.Logged.{walk-logged}
+use Rattle.rules.specs.Logged.{walk-logged}
 use Rattle.rules_picture.proofs.Walked.{all-walks}
 use Rattle.rules_reason.specs.Reasons.{Asked, reason}
 use Rattle.rules_reason.specs.Answers.{Question, answer-lines, history, off-screen, tile-answer, refused-bytes, recording-answer, answer-in, why-words}

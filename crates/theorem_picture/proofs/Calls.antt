@@ -11,7 +11,7 @@ use borrow.Author.Tests.{eqb-true, eqb-false}
 use Rattle.sizes.specs.Sizes.{paint-attr-table, layer-attr-table, open-layer-table, opacity-count}
 use Rattle.rules.specs.Lists.{join}
 use Rattle.rules.specs.Answers.{first_of, Done, BadRecord}
-use Rattle.rules.proofs.Words.{paint-words, segment-words}
+use Rattle.rules.specs.Words.{paint-words, segment-words}
 use Rattle.rules.specs.Inputs.{Props}
 use Rattle.rules.specs.Plans.{Plan, a-fill, a-push}
 use Rattle.rules.specs.Steps.{Screen, refusal, done}

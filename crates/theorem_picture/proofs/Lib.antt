@@ -14,5 +14,3 @@ pub mod RowEnds
 pub mod Canvases
 pub mod Answered
 pub mod Refined
-pub mod Snapped
-pub mod Cases

@@ -14,7 +14,7 @@ use Rattle.rules.specs.Boxes.{rows_of}
 use Rattle.rules.specs.Rows.{Row, fresh-row, row-ops}
 use Rattle.rules.specs.Plans.{Frame, buckets-across, Step, a-fill, a-push, a-pop, a-filter}
 use Rattle.rules.specs.Steps.{Screen, reset, call}
-use Rattle.rules.proofs.Words as words_of
+use Rattle.rules.specs.Words as words_of
 use Rattle.rules.specs.Walk.{good-room}
 use Rattle.rules.specs.Calls.{Canvas, fresh-canvas, step_call, begin-call, paint-call, write-call, blank}
 use Rattle.rules.proofs.All.{both}

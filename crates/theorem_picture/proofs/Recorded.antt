@@ -16,7 +16,7 @@ use Rattle.rules.specs.Steps.{Screen, reset}
 use Rattle.rules.specs.Recording.{Recording, shape, sections, good-records, good-order}
 use Rattle.rules.specs.Setups.{Setup}
 use Rattle.rules.specs.Walk.{Place, frame-of, go_on, ◌then◌, walk-all}
-use Rattle.rules.proofs.Logged.{Logged, logged-call, walk-logged}
+use Rattle.rules.specs.Logged.{Logged, logged-call, walk-logged}
 use Rattle.rules.specs.Calls.{begin-call}
 use Rattle.screen.specs.Judging.{judged_reset}
 use Rattle.screen.specs.Tables.{lengths, ScreenLent, reset_to}

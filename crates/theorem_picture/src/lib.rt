@@ -1,4 +1,4 @@
-// Theorems about the calls on a screen's words: they are the rules' calls, the picture, `can_skip`, recordings, snapping. What a function here
+// Theorems about the calls on a screen's words: they are the rules' calls, the picture, `can_skip`, recordings. What a function here
 // promises is a theorem, and it does nothing else.
 #![tactic(auto)]
 
@@ -7,22 +7,16 @@ ghost use Rattle.rules.specs.Plans.{Frame, Step};
 ghost use Rattle.screen.specs.Tables.{ScreenLent};
 ghost use Rattle.rules_picture.specs.Turns as rules;
 ghost use Rattle.rules_picture.specs.Skip.{Skipped-visible};
-ghost use Rattle.rules_picture.specs.Panels.{Answered-alike, Built-alike, Panel-blind, Painted-alike, Told-alike};
 ghost use Rattle.theorem_picture.specs.Reached.{Reached};
 ghost use Rattle.theorem_picture.specs.Picture.{Picture};
 ghost use Rattle.theorem_picture.specs.Rows.{PictureByRows};
 ghost use Rattle.theorem_picture.specs.Skip.{Clear, FinishedFills, SkippedBuckets, SkippedRuns};
 ghost use Rattle.theorem_picture.specs.Alone.{AllShown, FinishedAlone, RowPicture, SaidFinished};
-ghost use Rattle.theorem_picture.specs.Cases.{KnownPoints, WorkedExample};
-ghost use Rattle.theorem_picture.specs.Refusals.{AnswersDue, LeftAlone};
-ghost use Rattle.theorem_picture.specs.Edges.{EdgesHold};
-ghost use Rattle.theorem_picture.specs.TwoPanels.{TwoPanels};
 ghost use Rattle.theorem_picture.specs.Answered.{CanvasAnswered, ReachedStands, StandsAnswered};
 ghost use Rattle.theorem_picture.specs.Said.{CallsSaid, PropertiesGood, PushReached, RefusedKept, StepReached};
 ghost use Rattle.theorem_picture.specs.Refined.{FilePlays, ResetRefined, RowsRefined, StepRefined, StepsAgree, TouchedOwn, WalksAgree, WholeKept};
 ghost use Rattle.theorem_picture.specs.Ends.{RowReached, RowsAreSteps, RowsFinish, RulesFinish, StepsEnough, WordsFinish};
 ghost use Rattle.theorem_picture.specs.Recorded.{RecordingAccepted, RecordingEarly, RecordingRefused, RecordingRules, RulesPicture, RulesPlayed};
-ghost use Rattle.theorem_picture.specs.Snapped.{ExactSnapped, FarRefused, ModesSame, SnappedSmallest};
 
 // Whatever calls were made, the words are those of a screen that the rules have built by the same steps, and every call there answers as the
 // rules do.
@@ -87,31 +81,4 @@ pub fn recordings_leave_their_steps()
     ensures accepted { RecordingAccepted }
     ensures refused { RecordingRefused }
     ensures early { RecordingEarly }
-{}
-
-// Who draws decides nothing.
-pub fn panels_decide_nothing()
-    ensures answered { Answered-alike }
-    ensures built { Built-alike }
-    ensures left { Panel-blind }
-    ensures painted { Painted-alike }
-    ensures told { Told-alike }
-    ensures two { TwoPanels }
-{}
-
-// What the snapping mode makes of a box: the smallest box of tile edges around it.
-pub fn snapping_takes_the_smallest_box()
-    ensures smallest { SnappedSmallest }
-    ensures same { ModesSame }
-    ensures exact { ExactSnapped }
-    ensures far { FarRefused }
-{}
-
-// The rules at known points, their worked example, each answer and each bound on both sides of its edge.
-pub fn rules_hold_at_known_points()
-    ensures points { KnownPoints }
-    ensures worked { WorkedExample }
-    ensures answers { AnswersDue }
-    ensures left { LeftAlone }
-    ensures edges { EdgesHold }
 {}

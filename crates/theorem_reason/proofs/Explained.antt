@@ -17,7 +17,7 @@ use Rattle.rules.specs.Painting.{Entry}
 use Rattle.rules.specs.Recording.{Recording, recording}
 use Rattle.rules.specs.Setups.{Setup, frame}
 use Rattle.rules.specs.Walk.{Place, frame-of, walk-all}
-use Rattle.rules.proofs.Logged.{walk-logged}
+use Rattle.rules.specs.Logged.{walk-logged}
 use Rattle.rules_picture.specs.Built.{Built}
 use Rattle.rules_picture.specs.Recorded.{history, Readable, said}
 use Rattle.rules_picture.proofs.Walked.{all-walks}

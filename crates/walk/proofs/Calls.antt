@@ -8,7 +8,7 @@ use Rattle.rules.specs.Answers.{answer}
 use Rattle.rules.specs.Inputs as rule
 use Rattle.rules.specs.Segments.{Segment}
 use Rattle.rules.specs.Recording.{Recording}
-use Rattle.rules.proofs.Words.{paint-words, segment-words}
+use Rattle.rules.specs.Words.{paint-words, segment-words}
 use Rattle.rules.specs.Plans.{a-push, a-pop, a-filter}
 use Rattle.segments.specs.Segs.{segs-of}
 use Rattle.screen.specs.declared.Screen.{Screen}

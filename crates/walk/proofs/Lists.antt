@@ -9,7 +9,7 @@ use lib.Seq.{get_or-drop}
 use Rattle.rules.specs.Lists.{join}
 use Rattle.rules.specs.Inputs.{Paint, Draw}
 use Rattle.rules.specs.Segments.{Segment}
-use Rattle.rules.proofs.Words.{paint-words, segment-words}
+use Rattle.rules.specs.Words.{paint-words, segment-words}
 use Rattle.segments.specs.Segs.{seg-at, segs, segs-of}
 use Rattle.file.specs.declared.form.Layout.{Layout}
 use Rattle.file.specs.Each.{each}

@@ -1,13 +1,10 @@
--- Words from records, the other way than a file is read: for the tests, and for what is proved of the words of lists.
-use Prim.Native.Nat.{ℕ, suc}
-use mathlib.Core.List.{List, [], ◌∷◌, ◌++◌}
-use Rattle.std.specs.Prelude.{Option, None, Some}
-use lib.ListN.{length}
+-- Words from records, the other way than a file is read.
+use Rattle.std.specs.Prelude.{ℕ, suc, ◌≡◌, List, [], ◌∷◌, ◌++◌, length, Option, None, Some}
 use Rattle.rules.specs.Lists.{join}
 use Rattle.rules.specs.Boxes.{Box}
 use Rattle.rules.specs.Segments.{Segment}
 use Rattle.rules.specs.Inputs.{Paint, Draw}
-use Rattle.rules.specs.Recording.{Recording, LayerRec, Node}
+use Rattle.rules.specs.Recording.{Recording, LayerRec, Node, pixmap-of}
 
 abbrev pub box-words : Box → List ℕ
 box-words b = b.x0 ∷ b.y0 ∷ b.x1 ∷ b.y1 ∷ []
@@ -25,6 +22,13 @@ draw-words d = d.thread ∷ d.start ∷ d.end ∷ d.paint ∷ d.blend.mix ∷ d.
 abbrev pub pixmap-word : Option ℕ → ℕ
 pixmap-word None = 0
 pixmap-word (Some h) = suc h
+
+-- a filter layer's picture and its word are the same both ways
+abbrev pub PixmapsReadBack : Type 0
+PixmapsReadBack = (p : Option ℕ) → pixmap-of (pixmap-word p) ≡ p
+
+abbrev pub PixmapsWrittenBack : Type 0
+PixmapsWrittenBack = (n : ℕ) → pixmap-word (pixmap-of n) ≡ n
 
 abbrev pub layer-words : LayerRec → List ℕ
 layer-words l =

@@ -1,9 +1,5 @@
--- Tests: each bound of the rules on both sides of its edge, and each leaf rule that says yes or no: one table with one computed test.
-use Prim.Native.Nat.{ℕ}
-use mathlib.Core.Path.{◌≡◌, refl}
-use mathlib.Core.Bool.{Bool, true, false, beq}
-use mathlib.Core.List.{List, [], ◌∷◌}
-use Rattle.std.specs.Prelude.{Option, None, Some}
+-- Each bound of the rules on both sides of its edge, and each leaf rule that says yes or no.
+use Rattle.std.specs.Prelude.{ℕ, ◌≡◌, Bool, true, false, not, cond, List, [], ◌∷◌, Option, None, Some}
 use Rattle.rules.specs.Lists.{every}
 use Rattle.rules.specs.Boxes.{box, good-box, good-dest, good_viewport, empty-box}
 use Rattle.rules.specs.Spans.{span, covers, bad-range, good-range}
@@ -14,31 +10,38 @@ use Rattle.rules.specs.Depth.{Summary, no-depth, included, can_skip, is-visible}
 use Rattle.rules.specs.Recording.{good-count, pixmap-of}
 use Rattle.rules.specs.Walk.{good-room}
 use Rattle.rules.specs.Lines.{too_long}
-use Rattle.rules.proofs.Samples.{solid, alpha, opaque-paint, any-draw, any-props, full, filter, pictureless, blend, clip}
-use Rattle.rules.proofs.Computing.{computing}
+use Rattle.rules.specs.cases.Samples.{solid, alpha, opaque-paint, any-draw, any-props, full, filter, pictureless, blend, clip}
 
 -- a draw with paint 0 and everything in bounds, changed in one field
-abbrev drawn-for : ℕ → ℕ → ℕ → ℕ → ℕ → Blend → ℕ → Bool
+abbrev pub drawn-for : ℕ → ℕ → ℕ → ℕ → ℕ → Blend → ℕ → Bool
 drawn-for q th a b p bl m =
     good-draw (opaque-paint ∷ record { opaque = 2; handle = 0 } ∷ []) (solid 0 0 1 ∷ solid 0 1 2 ∷ [])
     (any-draw th a b p bl m q)
 
-abbrev drawn : ℕ → ℕ → ℕ → ℕ → Blend → ℕ → Bool
+abbrev pub drawn : ℕ → ℕ → ℕ → ℕ → Blend → ℕ → Bool
 drawn = drawn-for 0
 
 -- a layer's properties
-abbrev props : Blend → ℕ → ℕ → Option Clip → Props
+abbrev pub props : Blend → ℕ → ℕ → Option Clip → Props
 props b o m c = any-props b o m c 0
 
 -- two depth fills, the newer one with the smaller id
-abbrev two-fills : Summary
+abbrev pub two-fills : Summary
 two-fills = included (included no-depth (span 64 96) 9) (span 128 160) 5
 
-infixl 70 ◌is◌
-abbrev ◌is◌ : Bool → Bool → Bool
-◌is◌ a b = beq a b
+-- a test, and what it has to say
+pub record Tested : Type 0 where
+  pub got : Bool
+  pub due : Bool
 
-abbrev pub edges : List Bool
+infixl 70 ◌is◌
+abbrev pub ◌is◌ : Bool → Bool → Tested
+◌is◌ a b = record { got = a; due = b }
+
+abbrev pub right : Tested → Bool
+right t = cond t.due t.got (not t.got)
+
+abbrev pub edges : List Tested
 edges =
     -- the viewport
     good_viewport (box 0 0 4096 2048) is true
@@ -198,6 +201,5 @@ edges =
     ∷ is-visible 7 8 is false
     ∷ []
 
-pub at-the-edges : every (λ (b : Bool). b) edges ≡ true
-unfolding computing
-at-the-edges = refl
+abbrev pub EdgesHold : Type 0
+EdgesHold = every right edges ≡ true

@@ -1,6 +1,7 @@
+use mathlib.Core.Path.{refl}
+use Rattle.rules.proofs.Computing.{computing}
 use Rattle.rules_picture.proofs.Panels.{answered-alike, built_alike, panel-blind, painted-alike, told-alike}
-use Rattle.theorem_picture.proofs.Cases.{two-panels}
-use Rattle.theorem_picture.proofs.panels_decide_nothing.Goals as goal
+use Rattle.rules_picture.proofs.panels_decide_nothing.Goals as goal
 
 pub returns-clause-answered : goal.returns-clause-answered
 returns-clause-answered c = answered-alike
@@ -18,4 +19,16 @@ pub returns-clause-told : goal.returns-clause-told
 returns-clause-told c = told-alike
 
 pub returns-clause-two : goal.returns-clause-two
-returns-clause-two c = two-panels
+unfolding computing
+returns-clause-two c =
+    record {
+      panels-alone = refl;
+      all_done = refl;
+      past-255 = refl;
+      same_rows = refl;
+      same-screen = refl;
+      paint-panels = refl;
+      layer-panels = refl;
+      piece-panels = refl;
+      same-pieces = refl;
+    }

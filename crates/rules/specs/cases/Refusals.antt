@@ -1,5 +1,5 @@
 -- Each answer number of the rules, from calls at their own rows, on both sides of its edge, and what a refused call gives.
-use Rattle.std.specs.Prelude.{ℕ, ◌+◌, ◌≡◌, true, false, List, [], ◌∷◌, ◌++◌, replicate, eqb, pos, None, Some}
+use Rattle.std.specs.Prelude.{ℕ, ◌+◌, ◌≡◌, true, false, List, [], ◌∷◌, ◌++◌, replicate, eqb, None, Some}
 use Rattle.sizes.specs.declared.width.Width.TheVariants.{W128}
 use Rattle.rules.specs.Lists.{every}
 use Rattle.rules.specs.Answers.{Answer, answer, Done, BadArena, BadViewport, BadForm, BadRecord, BadOrder, Deep, NoLayer, Ids, FullAttrs, FullRow, FullDepth, BadRun, Open, NoRoom}
@@ -17,7 +17,9 @@ use Rattle.rules.specs.Setups.{Mode, exact, snapping, Setup}
 use Rattle.rules.specs.Painting.{begin}
 use Rattle.rules.specs.Walk.{needed}
 use Rattle.rules.specs.Calls.{Canvas, given, fresh-canvas, reset-call, step_call, record-call, begin-call, paint-call, unset-call, visible-call, write-call, can-skip-call}
-use Rattle.theorem_picture.specs.Samples.{solid, alpha, opaque-paint, draw, draw-for, any-props, blend, clip, full, filter, pictureless}
+use Rattle.rules.specs.Words.{file}
+use Rattle.rules.specs.cases.Samples as sample
+use Rattle.rules.specs.cases.Samples.{solid, alpha, opaque-paint, draw, draw-for, any-props, blend, clip, full, filter, pictureless, node, rec, minus, paint-attr}
 
 -- a screen of one row and two buckets, with room for one command and one depth fill
 abbrev pub frame : Frame
@@ -74,13 +76,13 @@ abbrev pub open-layer : Layer
 open-layer = record { props = plain-props; bounds = box 0 0 256 4 }
 
 abbrev pub attr : PaintAttr
-attr = record { paint = 0; blend = default-blend; mask = 0; id = 1; thread = 0; origin-x = 0; origin-y = 0; panel = 0 }
+attr = paint-attr 0 0 3 0 1 0 0 0
 
 abbrev pub layer-attr : LayerAttr
-layer-attr = record { blend = default-blend; opacity = full; mask = 0; id = 1; thread = 0; panel = 0 }
+layer-attr = sample.layer-attr 0 3 full 0 1 0
 
 abbrev pub filter-one : FilterPaint
-filter-one = record { pixmap = 1; shift-x = pos 0; shift-y = pos 0 }
+filter-one = record { pixmap = 1; shift-x = minus 0; shift-y = minus 0 }
 
 abbrev pub attrs : ℕ → ℕ → ℕ → Attrs
 attrs a b c = record { paints = replicate a attr; layers = replicate b layer-attr; filters = replicate c filter-one }
@@ -107,17 +109,8 @@ one_each = record { c = 1; d = 1; mode = exact; width = W128 }
 abbrev pub recorded : List ℕ → Canvas → Answer Canvas
 recorded ws k = record-call one_each (record { render = 4; fills = 2; depth = 2 }) ws k
 
--- a file with a viewport, an opaque paint, the sections of segments, draws and nodes, no layers, and a root of nodes a to b
-abbrev pub file-of : Box → List ℕ → List ℕ → List ℕ → ℕ → ℕ → List ℕ
-file-of v ss ds ns a b = (1 ∷ v.x0 ∷ v.y0 ∷ v.x1 ∷ v.y1 ∷ 1 ∷ 1 ∷ 7 ∷ 0 ∷ 0 ∷ []) ++ (ss ++ (ds ++ (0 ∷ (ns ++ (1 ∷ a ∷ b ∷ [])))))
-
--- .. with nothing in it
-abbrev pub empty-file : Box → ℕ → ℕ → List ℕ
-empty-file v a b = file-of v (0 ∷ []) (0 ∷ []) (0 ∷ []) a b
-
--- .. with one draw of one solid segment, in one node
 abbrev pub a-file : List ℕ
-a-file = file-of (box 0 0 256 4) (1 ∷ 0 ∷ 0 ∷ 0 ∷ 64 ∷ 0 ∷ []) (1 ∷ 0 ∷ 0 ∷ 1 ∷ 0 ∷ 0 ∷ 3 ∷ 0 ∷ []) (1 ∷ 0 ∷ 1 ∷ 0 ∷ []) 0 1
+a-file = file (rec (box 0 0 256 4) (solid 0 0 64 ∷ []) (draw 0 1 ∷ []) [] (node 0 1 0 ∷ []) 0 1)
 
 -- what a call answered, and what it has to answer
 pub record Answered : Type 0 where
@@ -134,9 +127,9 @@ answers =
     (recorded a-file start).number is Done
     ∷ (recorded (a-file ++ (0 ∷ [])) start).number is BadForm
     ∷ (recorded [] start).number is BadForm
-    ∷ (record-call one_each (record { render = 2048; fills = 1024; depth = 0 }) (empty-file (box 0 0 0 2048) 0 0) start).number is Done
-    ∷ (recorded (empty-file (box 2 0 256 4) 1 0 ++ (0 ∷ [])) start).number is BadForm
-    ∷ (recorded (empty-file (box 2 0 256 4) 1 0) start).number is BadViewport
+    ∷ (record-call one_each (record { render = 2048; fills = 1024; depth = 0 }) (file (rec (box 0 0 0 2048) [] [] [] [] 0 0)) start).number is Done
+    ∷ (recorded (file (rec (box 2 0 256 4) [] [] [] [] 1 0) ++ (0 ∷ [])) start).number is BadForm
+    ∷ (recorded (file (rec (box 2 0 256 4) [] [] [] [] 1 0)) start).number is BadViewport
     -- 2, then 1
     ∷ resets (box 0 0 4096 2048) 1 1024 0 is Done
     ∷ resets (box 0 0 4100 2048) 1 1 0 is BadViewport
@@ -226,7 +219,7 @@ answers =
     ∷ (paint-call 0 9 (write-call 1 0 9 (span 0 1) painting).value.canvas).number is Open
     -- .. a done recording and one refused for its records end painting, one refused for its form does not
     ∷ (paint-call 0 9 (recorded a-file painting).value).number is Open
-    ∷ (paint-call 0 9 (recorded (empty-file (box 0 0 256 4) 1 0) painting).value).number is Open
+    ∷ (paint-call 0 9 (recorded (file (rec (box 0 0 256 4) [] [] [] [] 1 0)) painting).value).number is Open
     ∷ (paint-call 0 9 (recorded [] painting).value).number is Done
     -- 12, then 14
     ∷ (paint-call 1 0 start).number is BadRun

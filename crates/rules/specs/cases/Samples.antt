@@ -1,9 +1,5 @@
--- For the tests: short names for the records of a recording, for attributes and pieces.
-use Prim.Native.Nat.{ℕ}
-use mathlib.Core.Bool.{true, false}
-use mathlib.Core.List.{List, [], ◌∷◌, map}
-use Rattle.std.specs.Prelude.{Option, None, Some}
-use lib.IntN.{ℤ, pos, neg_ℤ}
+-- Short names for the records of a recording, for attributes and pieces: for the cases.
+use Rattle.std.specs.Prelude.{ℕ, ℤ, pos, neg_ℤ, true, false, List, [], ◌∷◌, map, Option, None, Some}
 use Rattle.sizes.specs.declared.width.Width.TheVariants.{W128}
 use Rattle.rules.specs.Spans.{span}
 use Rattle.rules.specs.Boxes.{Box, box, buckets-of}
@@ -15,7 +11,7 @@ use Rattle.rules.specs.Rows.{Row}
 use Rattle.rules.specs.Steps.{Screen}
 use Rattle.rules.specs.Painting.{Piece, paint-row}
 use Rattle.rules.specs.Recording.{LayerRec, Node, Recording}
-use Rattle.rules.proofs.Words.{file}
+use Rattle.rules.specs.Words.{file}
 use Rattle.rules.specs.Setups.{exact, snapping}
 use Rattle.rules.specs.Lines.{Line, usual, rowlist-screen, rowlist-words}
 

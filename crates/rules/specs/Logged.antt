@@ -1,5 +1,5 @@
--- Walks with their logs, for the tests and for what is proved of walks: no rule reads a log.
-use mathlib.Core.List.{List, [], ◌∷◌, ◌++◌}
+-- Walks with their logs, for what is said of a recording's history: no rule reads a log.
+use Rattle.std.specs.Prelude.{List, [], ◌∷◌, ◌++◌}
 use Rattle.rules.specs.Answers.{Answer, answer}
 use Rattle.rules.specs.Rows.{RowOps}
 use Rattle.rules.specs.Plans.{Frame, Step}

@@ -9,7 +9,7 @@ use Rattle.rules.specs.Plans.{Frame, Step, a-fill, a-push, a-pop, a-filter}
 use Rattle.rules.specs.Steps.{Screen, reset, call}
 use Rattle.rules.specs.Painting.{Piece, paint-row}
 use Rattle.rules_picture.specs.Panels.{panelless-step, panelless-screen, panelless-piece}
-use Rattle.theorem_picture.specs.Samples.{solid, opaque-paint, draw-for, any-props, full, filter}
+use Rattle.rules.specs.cases.Samples.{solid, opaque-paint, draw-for, any-props, full, filter}
 
 -- an eligible fill of panel a; in a layer of panel b a fill of panel c and a filter fill of panel d
 abbrev pub drawn : ℕ → ℕ → ℕ → ℕ → List Step

@@ -3,7 +3,7 @@ use Prim.Native.Nat.{ℕ, zero, suc, ◌+◌, ◌-◌, ◌≤◌, ◌<◌}
 use native.Mathlib.Nat.{sub-zero}
 use native.Mathlib.Omega.{arith}
 use mathlib.Core.Path.{◌≡◌, refl, sym, ◌∙◌, ap}
-use mathlib.Core.Bool.{Bool, true, false, ◌&&◌, ◌||◌, not, cond}
+use mathlib.Core.Bool.{Bool, true, false, ◌&&◌, not, cond}
 use mathlib.Core.List.{List, [], ◌∷◌, ◌++◌}
 use lib.ListN.{length, get_or, length-set, length-replicate, get_or-replicate}
 use lib.Seq.{get_or-set_same, get_or-set_other}
@@ -38,12 +38,6 @@ module _ (w : ℕ) (attrs : Attrs) where
     when-counts true b e = refl
     when-counts false true e = (command-counts (get_or r.commands (p.steps - length r.fills) pop-buf) p).1
     when-counts false false e = never e
-
-    when-left : (a b : Bool) → (paint-when w attrs a b r p).finished ≡ false → (a || b) ≡ true
-    unfolding paint-when
-    when-left true b e = refl
-    when-left false true e = refl
-    when-left false false e = never e
 
     when-ended : (a b : Bool) → (paint-when w attrs a b r p).finished ≡ true → (a ≡ false) × (b ≡ false)
     unfolding paint-when paint-depth
@@ -190,11 +184,6 @@ pub turns-paints : (ts : List Turn) (k : Canvas) → paints-on (turns ts k).canv
 unfolding turns
 turns-paints [] k = refl
 turns-paints (t ∷ ts) k = turns-paints ts (paint-call t.row t.room k).value.canvas ∙ call-paints t.row t.room k
-
-pub turns-begun : (ts : List Turn) (k : Canvas) → (turns ts k).canvas.begun ≡ k.begun
-unfolding turns
-turns-begun [] k = refl
-turns-begun (t ∷ ts) k = turns-begun ts (paint-call t.row t.room k).value.canvas ∙ call-begun t.row t.room k
 
 pub turns-count : (ts : List Turn) (k : Canvas) → length (turns ts k).canvas.painters ≡ length k.painters
 unfolding turns

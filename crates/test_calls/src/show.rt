@@ -37,7 +37,7 @@ fn show_row(answers: &mut Answers<'_>, i: u32, shape: Shape, lent: &Lent<'_>) {
 }
 
 // The bits of an opacity, or the NaN pattern that is kept beside it.
-fn bits_of(opacity: f32, nan: u32) -> u32 {
+pub fn bits_of(opacity: f32, nan: u32) -> u32 {
     if opacity.is_nan() {
         nan
     } else {

@@ -60,20 +60,6 @@ pub same-words : (v w : CmdWords) → words_of v ≡ words_of w → v ≡ w
 unfolding un-words
 same-words v w h = ap un-words h
 
--- a good command's numbers fit its words
-narrow : (n : ℕ) (s : Span) → n < 65536 → GoodSpan n s → Narrow s
-narrow n s h g = (omega arith, omega arith)
-
-narrow-push : (r : Option TileSpan) → GoodPush (option_map tiles r) → NarrowPush r
-narrow-push None g = tt
-narrow-push (Some s) g = narrow 8192 _ (omega arith) g
-
-pub narrow-cmd : (k : RenderCmd) → GoodCommand (command k) → NarrowCmd k
-narrow-cmd (PaintFill f) g = narrow 8192 _ (omega arith) g.0
-narrow-cmd (LayerFill f) g = narrow 8192 _ (omega arith) g.0
-narrow-cmd (PushBuf r) g = narrow-push r g
-narrow-cmd PopBuf g = tt
-
 was_read : (r : Option RenderCmd) (k : RenderCmd) → option_map command r ≡ Some (command k) → r ≡ Some k
 was_read None k h = let z : ◌≡◌ {A = ℕ} 0 1 = cc in absurd (omega arith)
 was_read (Some l) k h =

@@ -59,9 +59,6 @@ module _ (k r : ℕ) (xs ys : List ℕ) (h : Within k r xs) (e : length ys ≡ k
   pub put-long : length (with_part k r xs ys) ≡ length xs
   put-long = put-length (r * k) k xs ys h.ends e
 
-pub cut-length : (k r : ℕ) (xs : List ℕ) → Within k r xs → length (take (r * k + k - r * k) (drop (r * k) xs)) ≡ k
-cut-length k r xs h = rw (part-is k r xs) (part_length k r xs h)
-
 pub part-of-length : (k r : ℕ) (xs : List ℕ) → Within k r xs → length (part k r xs) ≡ k
 part-of-length k r xs h = length-take-le k (drop (r * k) xs) (rw length-drop (omega (arith, h.ends)))
 

@@ -13,7 +13,10 @@ ghost use Rattle.theorem_picture.specs.Rows.{PictureByRows};
 ghost use Rattle.theorem_picture.specs.Skip.{Clear, FinishedFills, SkippedBuckets, SkippedRuns};
 ghost use Rattle.theorem_picture.specs.Alone.{AllShown, FinishedAlone, RowPicture, SaidFinished};
 ghost use Rattle.theorem_picture.specs.Answered.{CanvasAnswered, ReachedStands, StandsAnswered};
-ghost use Rattle.theorem_picture.specs.Said.{CallsSaid, PropertiesGood, PushReached, RefusedKept, StepReached};
+ghost use Rattle.theorem_picture.specs.Said.{CallsSaid, PropertiesGood, PushReached, RefusedKept, ShiftsFree, StepReached};
+ghost use Rattle.theorem_picture.specs.Kept.{BeginKept, ResetKept, RowKept, StepKept, UnsetKept, VisibleKept, WriteKept};
+ghost use Rattle.theorem_picture.specs.Apart.{RowApart, StepApart};
+ghost use Rattle.theorem_picture.specs.Bounded.{FrameKept, RowsFew};
 ghost use Rattle.theorem_picture.specs.Refined.{FilePlays, ResetRefined, RowsRefined, StepRefined, StepsAgree, TouchedOwn, WalksAgree, WholeKept};
 ghost use Rattle.theorem_picture.specs.Ends.{RowReached, RowsAreSteps, RowsFinish, RulesFinish, StepsEnough, WordsFinish};
 ghost use Rattle.theorem_picture.specs.Recorded.{RecordingAccepted, RecordingEarly, RecordingRefused, RecordingRules, RulesPicture, RulesPlayed};
@@ -28,6 +31,30 @@ pub fn reached_words_are_the_rules_screen()
     ensures steps { StepReached }
     ensures pushes { PushReached }
     ensures properties { PropertiesGood }
+    ensures shifts { ShiftsFree }
+{}
+
+// What is refused alters nothing that it was lent: a reset and the calls of painting. Of the building calls the theorem above says so.
+pub fn refused_calls_change_nothing()
+    ensures resets { ResetKept }
+    ensures begins { BeginKept }
+    ensures steps { StepKept }
+    ensures rows { RowKept }
+    ensures unset_runs { UnsetKept }
+    ensures visible_runs { VisibleKept }
+    ensures writes { WriteKept }
+{}
+
+// Painting a row leaves every other row as it was.
+pub fn rows_are_apart()
+    ensures steps { StepApart }
+    ensures rows { RowApart }
+{}
+
+// Whatever its steps, a screen keeps its frame, and no row of it gives more than 65,536 pieces.
+pub fn built_screens_are_bounded()
+    ensures frame { FrameKept }
+    ensures pieces { RowsFew }
 {}
 
 // Below the calls: rows, steps, walks and files at the words of the rules' screens, and every call at the words of a canvas.

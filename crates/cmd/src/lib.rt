@@ -9,7 +9,7 @@ pub mod blend;
 pub mod command;
 pub mod depth_fill;
 
-// A command is read back from its words, and its words are written back; so are a depth fill's. It does nothing: what it promises is a theorem.
+/// A command is read back from its words, and its words are written back; so are a depth fill's. It does nothing: what it promises is a theorem.
 pub fn words_keep_commands()
     ensures commands_read { CommandsReadBack }
     ensures commands_written { CommandsWrittenBack }

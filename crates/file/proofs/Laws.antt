@@ -85,24 +85,8 @@ module _ (r : Recording) (g : good-records r ≡ true) where
       × (((get_or r.nodes i d).end ≤ length r.draws) × ((get_or r.nodes i d).layer ≤ length r.layers))
   node-range-at i d h = node-range (get_or r.nodes i d) (good-node-at i d h)
 
--- a draw's list and a present clip's are in order
-module _ (r : Recording) (o : good-order r ≡ true) where
-  pub draw-order-at : (i : ℕ) (d : Draw) → i < length r.draws → ordered (draw-segments r.segments (get_or r.draws i d)) ≡ true
-  unfolding good-order
-  draw-order-at i d h =
-      every-getD (λ (x : Draw). ordered (draw-segments r.segments x)) r.draws i d h
-      (both (every (λ (x : Draw). ordered (draw-segments r.segments x)) r.draws) (every (good-clip-order r) r.layers) o).0
-
-  pub clip-order-at : (i : ℕ) (d : LayerRec) → i < length r.layers → good-clip-order r (get_or r.layers i d) ≡ true
-  unfolding good-order
-  clip-order-at i d h =
-      every-getD (good-clip-order r) r.layers i d h
-      (both (every (λ (x : Draw). ordered (draw-segments r.segments x)) r.draws) (every (good-clip-order r) r.layers) o).1
-
 -- the segment section, lent as a part of the words, is the recording's segment list
 module _ (l : Layout) (ws : List ℕ) (f : Fits ws l) where
-  pub segments-count : length (lent ws l.segments.at l.segments.count) / 5 ≡ l.segments.count
-  segments-count = lent-count ws l.segments.at l.segments.count f.segments.ends
 
   pub segments-part : segs-of (lent ws l.segments.at l.segments.count) ≡ (recording (sections_at l ws)).segments
   segments-part = lent-segments ws l.segments.at l.segments.count f.segments.ends ∙ sym (segments-are l ws f)

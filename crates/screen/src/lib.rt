@@ -277,7 +277,7 @@ pub fn reset(viewport: Rect, setup: Setup, lent: &mut Lent<'_>) -> Result<Screen
     Ok(screen)
 }
 
-// An open layer is read back from the words that are stored of it. It does nothing: what it promises is a theorem.
+/// An open layer is read back from the words that are stored of it. It does nothing: what it promises is a theorem.
 pub fn open_layers_keep()
     ensures read { LayerReadBack }
     ensures pattern { PatternReadBack }

@@ -12,22 +12,22 @@ ghost use Rattle.theorem_border.specs.Words.{ScreenReadBack, SizesFit, WordsWrit
 ghost use Rattle.theorem_border.specs.Held.{HostedReached};
 ghost use Rattle.theorem_border.specs.Panel.{CallsDone, EachTile, MixedFinish, PaintsTaken, StepsFinish, Tile10, Tile25, Tile40};
 
-// What each tile receives, whatever a host calls in between.
+/// What each tile receives, whatever a host calls in between.
 pub fn picture_at_border()
     ensures { Picture }
 {}
 
-// Where `coarse_can_skip` says yes, nothing of the span is hidden.
+/// Where `coarse_can_skip` says yes, nothing of the span is hidden.
 pub fn skip_at_border()
     ensures { (f : Frame) (xs : List Step) (h : Host) → Hosted f xs h → Clear h }
 {}
 
-// Painting ends.
+/// Painting ends.
 pub fn painting_ends_at_border()
     ensures { Finishes }
 {}
 
-// What `coarse_bucket_recording` leaves, accepted or refused, and that a done reset was asked for a setup.
+/// What `coarse_bucket_recording` leaves, accepted or refused, and that a done reset was asked for a setup.
 pub fn recordings_at_border()
     ensures accepted { RecordingAccepted }
     ensures refused { RecordingRefused }
@@ -35,7 +35,7 @@ pub fn recordings_at_border()
     ensures asks { ResetAsks }
 {}
 
-// A refused call leaves everything that it was lent as it was: one clause a `coarse_` call.
+/// A refused call leaves everything that it was lent as it was: one clause a `coarse_` call.
 pub fn refusals_at_border()
     ensures reset { ResetRefused }
     ensures fill { FillRefused }
@@ -54,7 +54,7 @@ pub fn refusals_at_border()
     ensures sizes { SizesRefused }
 {}
 
-// A call answers its own 1, 2 and 3 also where the border refuses what the host gives.
+/// A call answers its own 1, 2 and 3 also where the border refuses what the host gives.
 pub fn numbers_at_border()
     ensures reset { ResetKeeps }
     ensures bucket_recording { RecordingKeeps }
@@ -73,8 +73,8 @@ pub fn numbers_at_border()
     ensures can_skip { SkipKeeps }
 {}
 
-// The state's words are a screen's, there and back; a host's are those of a screen that calls have reached; and tables of the lengths that
-// `coarse_sizes` answers are what a reset takes.
+/// The state's words are a screen's, there and back; a host's are those of a screen that calls have reached; and tables of the lengths that
+/// `coarse_sizes` answers are what a reset takes.
 pub fn words_at_border()
     ensures screen_read { ScreenReadBack }
     ensures words_written { WordsWrittenBack }
@@ -82,7 +82,7 @@ pub fn words_at_border()
     ensures sizes { SizesFit }
 {}
 
-// The calls of examples/panel.c, and what its tiles receive.
+/// The calls of examples/panel.c, and what its tiles receive.
 pub fn panel_example_at_border()
     ensures calls { CallsDone }
     ensures paints { PaintsTaken }

@@ -21,8 +21,8 @@ ghost use Rattle.theorem_picture.specs.Refined.{FilePlays, ResetRefined, RowsRef
 ghost use Rattle.theorem_picture.specs.Ends.{RowReached, RowsAreSteps, RowsFinish, RulesFinish, StepsEnough, WordsFinish};
 ghost use Rattle.theorem_picture.specs.Recorded.{RecordingAccepted, RecordingEarly, RecordingRefused, RecordingRules, RulesPicture, RulesPlayed};
 
-// Whatever calls were made, the words are those of a screen that the rules have built by the same steps, and every call there answers as the
-// rules do.
+/// Whatever calls were made, the words are those of a screen that the rules have built by the same steps, and every call there answers as the
+/// rules do.
 pub fn reached_words_are_the_rules_screen()
     ensures stands { ReachedStands }
     ensures answered { StandsAnswered }
@@ -34,7 +34,7 @@ pub fn reached_words_are_the_rules_screen()
     ensures shifts { ShiftsFree }
 {}
 
-// What is refused alters nothing that it was lent: a reset and the calls of painting. Of the building calls the theorem above says so.
+/// What is refused alters nothing that it was lent: a reset and the calls of painting. Of the building calls the theorem above says so.
 pub fn refused_calls_change_nothing()
     ensures resets { ResetKept }
     ensures begins { BeginKept }
@@ -45,19 +45,19 @@ pub fn refused_calls_change_nothing()
     ensures writes { WriteKept }
 {}
 
-// Painting a row leaves every other row as it was.
+/// Painting a row leaves every other row as it was.
 pub fn rows_are_apart()
     ensures steps { StepApart }
     ensures rows { RowApart }
 {}
 
-// Whatever its steps, a screen keeps its frame, and no row of it gives more than 65,536 pieces.
+/// Whatever its steps, a screen keeps its frame, and no row of it gives more than 65,536 pieces.
 pub fn built_screens_are_bounded()
     ensures frame { FrameKept }
     ensures pieces { RowsFew }
 {}
 
-// Below the calls: rows, steps, walks and files at the words of the rules' screens, and every call at the words of a canvas.
+/// Below the calls: rows, steps, walks and files at the words of the rules' screens, and every call at the words of a canvas.
 pub fn words_follow_the_rules()
     ensures rows { RowsRefined }
     ensures touched { TouchedOwn }
@@ -71,7 +71,7 @@ pub fn words_follow_the_rules()
     ensures whole { WholeKept }
 {}
 
-// What each tile receives: by the rules, by painting steps on the words, and with rows that are painted by one call among them.
+/// What each tile receives: by the rules, by painting steps on the words, and with rows that are painted by one call among them.
 pub fn each_tile_receives_draw_order()
     ensures by_rules { rules.Picture }
     ensures by_words { Picture }
@@ -82,7 +82,7 @@ pub fn each_tile_receives_draw_order()
     ensures unhidden { AllShown }
 {}
 
-// Every row can be painted to its end, and a row's call is painting steps.
+/// Every row can be painted to its end, and a row's call is painting steps.
 pub fn painting_ends()
     ensures by_rules { RulesFinish }
     ensures by_steps { StepsEnough }
@@ -92,7 +92,7 @@ pub fn painting_ends()
     ensures reached { RowReached }
 {}
 
-// Where `can_skip` says yes, nothing of the span is hidden.
+/// Where `can_skip` says yes, nothing of the span is hidden.
 pub fn skip_hides_nothing()
     ensures by_rules { Skipped-visible }
     ensures by_words { (f : Frame) (xs : List Step) (l : ScreenLent) → Reached f xs l → Clear l }
@@ -101,7 +101,7 @@ pub fn skip_hides_nothing()
     ensures fills { FinishedFills }
 {}
 
-// What a recording leaves, accepted or refused.
+/// What a recording leaves, accepted or refused.
 pub fn recordings_leave_their_steps()
     ensures by_rules { RulesPlayed }
     ensures picture { RulesPicture }

@@ -16,9 +16,9 @@ use Rattle.cmd.specs.declared.command.RenderCmd.TheVariants.{PaintFill, LayerFil
 use Rattle.cmd.specs.declared.command.CmdWords.{CmdWords}
 use Rattle.cmd.specs.declared.depth_fill.DepthFill.{DepthFill}
 use Rattle.cmd.specs.declared.depth_fill.DepthWords.{DepthWords}
-use Rattle.cmd.specs.Commands.{command, words_of, read-words, Narrow, NarrowPush, NarrowCmd}
+use Rattle.cmd.specs.Commands.{command, words_of, read-words}
 use Rattle.cmd.specs.DepthFills.{depth-fill, depth-words-of, read-depth-words}
-use Rattle.cmd.specs.Good.{GoodSpan, GoodPush, GoodCommand, GoodDepthFill}
+use Rattle.cmd.specs.Good.{GoodCommand, GoodDepthFill}
 use Rattle.cmd.proofs.BothWays.{read-list, reads-back, writes-back, read-depth-list, depth-reads-back, depth-writes-back}
 
 -- the rules' commands as the code's again

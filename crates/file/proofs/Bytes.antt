@@ -13,7 +13,7 @@ use lib.Dec.{eqb}
 use borrow.Author.Tests.{eq-eqb, ne_eqb}
 use Rattle.rules.specs.Lines.{word_of, words_of}
 use Rattle.file.specs.Each.{each}
-use Rattle.file.specs.Words.{word_from, words-in, filled, filled-with}
+use Rattle.file.specs.Words.{word_from, words-in}
 use Rattle.file.proofs.Eaches.{each-length, each_more}
 
 -- the words put so far, and what stood after them

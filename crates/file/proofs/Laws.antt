@@ -1,5 +1,5 @@
 -- Laws for callers: what answer 0 says of every record, and the segment section as a list of its own.
-use Prim.Native.Nat.{ℕ, ◌/◌, ◌≤◌, ◌<◌}
+use Prim.Native.Nat.{ℕ, ◌≤◌, ◌<◌}
 use native.Mathlib.Omega.{arith}
 use mathlib.Core.Path.{◌≡◌, refl, sym, ◌∙◌}
 use mathlib.Core.Bool.{Bool, true, false, ◌&&◌, not, cond}
@@ -8,10 +8,10 @@ use lib.ListN.{length, get_or}
 use lib.Dec.{leb}
 use borrow.Author.Tests.{leb-true}
 use Rattle.rules.specs.Lists.{every}
-use Rattle.rules.specs.Segments.{good-segment, ordered}
+use Rattle.rules.specs.Segments.{good-segment}
 use Rattle.rules.specs.Spans.{good-range}
-use Rattle.rules.specs.Inputs.{good-paint, Draw, good-draw, draw-segments}
-use Rattle.rules.specs.Recording.{Recording, LayerRec, Node, recording, good-records, good-order, good-layer-rec, good-node, good-clip-order}
+use Rattle.rules.specs.Inputs.{good-paint, Draw, good-draw}
+use Rattle.rules.specs.Recording.{Recording, LayerRec, Node, recording, good-records, good-order, good-layer-rec, good-node}
 use Rattle.segments.specs.Segs.{segs-of}
 use Rattle.file.specs.declared.form.Layout.{Layout}
 use Rattle.file.specs.Layouts.{Fits, sections_at}
@@ -19,7 +19,7 @@ use Rattle.rules.proofs.All.{both}
 use Rattle.file.proofs.Reading.{segments-are}
 use Rattle.file.specs.Judging.{judged}
 use Rattle.file.proofs.Counted.{every-getD}
-use Rattle.file.proofs.Listed.{lent, lent-count, lent-segments}
+use Rattle.file.proofs.Listed.{lent, lent-segments}
 
 -- answer 0: every record is good, and every list is in order
 pub record Sound (r : Recording) : Type 0 where
@@ -87,6 +87,5 @@ module _ (r : Recording) (g : good-records r ≡ true) where
 
 -- the segment section, lent as a part of the words, is the recording's segment list
 module _ (l : Layout) (ws : List ℕ) (f : Fits ws l) where
-
   pub segments-part : segs-of (lent ws l.segments.at l.segments.count) ≡ (recording (sections_at l ws)).segments
   segments-part = lent-segments ws l.segments.at l.segments.count f.segments.ends ∙ sym (segments-are l ws f)

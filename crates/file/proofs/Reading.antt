@@ -1,23 +1,21 @@
 -- The recording of a layout's sections, read off the words place by place.
-use Prim.Native.Nat.{ℕ, zero, suc, ◌+◌, ◌-◌, ◌*◌, ◌≤◌, ◌<◌}
-use native.Mathlib.Nat.{add-zero, add_assoc, mul-zero, mul-suc}
+use Prim.Native.Nat.{ℕ, ◌+◌, ◌-◌, ◌*◌, ◌≤◌}
+use native.Mathlib.Nat.{add-zero, add_assoc}
 use native.Mathlib.Omega.{arith}
 use mathlib.Core.Path.{◌≡◌, sym, ap, ◌∙◌}
 use mathlib.Core.Bool.{true}
 use mathlib.Core.List.{List, []}
 use lib.ListN.{length, get_or, take, drop, length-take, length-drop}
-use lib.Seq.{get_or-take, get_or-drop, drop-drop}
+use lib.Seq.{get_or-take, get_or-drop}
 use lib.Dec.{ltb}
 use borrow.Author.Tests.{ltb-true}
-use Rattle.rules.specs.Recording.{records, recording, Recording, paint-rec, segment-rec, draw-rec, layer-rec, node-rec, LayerRec, Node}
+use Rattle.rules.specs.Recording.{records, recording, Recording, paint-rec, segment-rec, draw-rec, layer-rec, node-rec}
 use Rattle.rules.specs.Boxes.{box}
-use Rattle.rules.specs.Inputs.{Paint, Draw}
-use Rattle.file.specs.declared.form.Section.{Section}
 use Rattle.file.specs.declared.form.Layout.{Layout}
 use Rattle.file.specs.Each.{each}
-use Rattle.file.specs.Layouts.{Fits, cut, sections_at}
+use Rattle.file.specs.Layouts.{Fits, sections_at}
 use Rattle.file.specs.Places.{paint_from, segment_from, draw_from, clip_from, filter_from, layer_from, node_from, recorded}
-use Rattle.file.proofs.Eaches.{each-length, each_at, each-record, each_part}
+use Rattle.file.proofs.Eaches.{each-record, each_part}
 
 -- word i of a record of k words that stands at place p
 cell : (k p : ℕ) (ws : List ℕ) (i : ℕ) → ltb i k ≡ true → get_or (take k (drop p ws)) i 0 ≡ get_or ws (p + i) 0

@@ -18,7 +18,7 @@ use Rattle.rules.specs.Depth.{listed, unset-runs, visible-runs, write-runs, unse
 use Rattle.rules.proofs.All.{and_left}
 use Rattle.rules.proofs.laws.Answers.{settle-kept}
 use Rattle.screen.specs.declared.Screen.{Screen}
-use Rattle.depth.specs.Listing.{RunsOut, numbers, listing}
+use Rattle.depth.specs.Listing.{numbers, listing}
 use Rattle.paint.specs.Painting.{RowLent, StepOut, attrs-at, next-step, settled, painted-row, out, refused, left}
 use Rattle.paint.specs.Judging.{wide, runs_number}
 use Rattle.paint.specs.Stepping.{Attributes, part, own, in_place, number, row_step, stepped}

@@ -81,7 +81,6 @@ module _ (v : ℕ) (attrs : Attrs) (u : Summary) (D : List ℕ) (m : ℕ) where
         rw (e, n, le-ltb (length l / piece-size) (length rs) (omega arith), pieces-same layer a rs)
 
   module _ (t w x i : ℕ) where
-
     -- buffers
     said_push : (c : Option Span) → m < 16 → command_of t w x i ≡ Some (push-buf c) → Said v attrs u D m t w x i 3 0 0 0
     unfolding command-step command-shown paint-command

@@ -16,7 +16,7 @@ use Rattle.rules.specs.Attributes.{Attrs}
 use Rattle.rules.specs.Rows.{Row}
 use Rattle.rules.specs.Painting.{paint-step}
 use Rattle.depth.proofs.Once.{out_once}
-use Rattle.row.proofs.RowsLaws.{part-0, part-suc, less, head-0, tail-0, head-suc, tail-suc, part-long}
+use Rattle.row.proofs.RowsLaws.{part-0, part-suc, less, tail-0, head-suc, tail-suc, part-long}
 use Rattle.screen.specs.declared.Screen.{Screen}
 use Rattle.std.specs.Prelude.{Result}
 use Rattle.sizes.specs.declared.answers.Refusal.{Refusal}

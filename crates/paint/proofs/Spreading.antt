@@ -88,7 +88,6 @@ module _ (w : ℕ) (b : Brush) where
         }
 
   module _ (l₀ : List ℕ) (n k : ℕ) (l : List ℕ) (s : Spreading l₀ n k l) where
-
     pub spread-again : (l' : List ℕ) → 0 < k → l' ≡ words-at l (piece-size * (k - 1)) (piece-words (piece (run_at l (k - 1)))) → Spreading l₀ n (k - 1) l'
     unfolding next
     spread-again l' h e =

@@ -11,21 +11,20 @@ use lib.Dec.{ltb}
 use borrow.Author.Tests.{lt-ltb, le-ltb, ltb-false}
 use Rattle.sizes.specs.Sizes.{piece-size}
 use Rattle.rules.specs.Attributes.{Attrs, no-attrs}
-use Rattle.rules.specs.Spans.{Span}
 use Rattle.rules.specs.Commands as rule
 use Rattle.cmd.specs.Reading.{depth_fill_of}
 use Rattle.rules.specs.Depth.{Summary, write-runs, written}
 use Rattle.rules.specs.Painting as rules
 use Rattle.rules.specs.Painting.{gives, depth-piece, paint-depth, paint-command}
 use Rattle.span.specs.declared.TileSpan.{TileSpan}
-use Rattle.span.specs.Spans.{tiles, buckets, Moves}
+use Rattle.span.specs.Spans.{tiles, buckets}
 use Rattle.cmd.specs.declared.command.Fill.{Fill}
 use Rattle.cmd.specs.declared.command.RenderCmd.{RenderCmd}
 use Rattle.cmd.specs.declared.command.RenderCmd.TheVariants.{PaintFill, LayerFill, PushBuf, PopBuf}
 use Rattle.cmd.specs.declared.depth_fill.DepthFill.{DepthFill}
 use Rattle.cmd.specs.Commands.{command}
 use Rattle.cmd.specs.DepthFills.{depth-fill}
-use Rattle.cmd.specs.Good.{GoodAlpha, GoodCommand}
+use Rattle.cmd.specs.Good.{GoodCommand}
 use Rattle.cmd.proofs.BothWays.{depth-reads-good, reads-good}
 use Rattle.paint.specs.Answers.{Painted, Advanced, advanced}
 use Rattle.paint.specs.Painting.{word, RowLent, lent, StepOut, out, painter-at, good-paint, good-layer, fill-shown, command-shown, depth-step, command-step, depth-fill-at, command-at, bad-row, next-step, refused, listed, settled, painted-row}
@@ -179,7 +178,6 @@ module _ (wide : ℕ) (attrs : Attrs) (D P l : List ℕ) where
 
 -- the counts of a row that is not forged
 module _ (s r f P : List ℕ) where
-
   pub record Counts : Type 0 where
     pub renders : 4 * word s 0 ≤ length r
     pub depths : 2 * word s 1 ≤ length f

@@ -25,7 +25,7 @@ use Rattle.paint.specs.Painting.{attrs-at, RowLent, lent, StepOut, out, refused,
 use Rattle.paint.proofs.CommandLaws.{same-lengths}
 use Rattle.paint.specs.Judging.{wide}
 use Rattle.paint.specs.Stepping.{part, with_part, Within, Attributes, own-parts, put-parts, own, in_place, number, row_step, stepped}
-use Rattle.paint.proofs.ScreenParts.{part-is, put_is, part_length, ready}
+use Rattle.paint.proofs.ScreenParts.{part-is, put_is, ready}
 use Rattle.paint.specs.Running.{goes_on, ended, one_more, run, most, standing, own-step, own-run, row-run, call_step, row-painted}
 use Rattle.paint.proofs.WholeRuns.{stops, more}
 

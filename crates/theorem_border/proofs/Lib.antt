@@ -4,5 +4,6 @@ pub mod Border
 pub mod Finishes
 pub mod Recorded
 pub mod Numbers
+pub mod Why
 pub mod Sized
 pub mod Panel

@@ -15,6 +15,7 @@ use Rattle.paint.specs.Stepping.{Attributes}
 use Rattle.theorem_picture.specs.Kept.{Refused}
 use Rattle.host.specs.declared.state.SetupWords.{SetupWords}
 use Rattle.host.specs.Sizes.{size_call}
+use Rattle.host.specs.Reasons.{why_call}
 use Rattle.host.specs.Building.{reset_call, fill_call, push_call, pop_call, filter_call}
 use Rattle.host.specs.Painting.{begin_call, step_call, row_call, unset_call, visible_call, write_call, skip_call, split_call}
 use Rattle.host.specs.Spans.{spans_call}
@@ -86,3 +87,9 @@ SplitRefused = (pixels : ℕ) (s : Span) (old : List ℕ) → Refused (split_cal
 
 abbrev pub SizesRefused : Type 0
 SizesRefused = (v : Rect) (w : SetupWords) (old : List ℕ) → Refused (size_call v w old) → (size_call v w old).value ≡ old
+
+-- `coarse_why`: its result words. The rest is what `coarse_bucket_recording` leaves.
+abbrev pub WhyRefused : Type 0
+WhyRefused =
+    (file : List ℕ) (w : SetupWords) (row tile layer attribute : ℕ) (st : List ℕ) (t : Tables) (old : List ℕ)
+    → Refused (why_call file w row tile layer attribute st t old) → (why_call file w row tile layer attribute st t old).value.2 ≡ old

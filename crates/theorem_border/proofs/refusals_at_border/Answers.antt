@@ -1,6 +1,7 @@
 use Rattle.host.proofs.Refused.{reset-refused, fill-refused, push-refused, pop-refused, filter-refused, begin-refused}
 use Rattle.host.proofs.Kept.{step-refused, row-refused, unset-refused, visible-refused, spans-refused, write-refused, skip-refused, split-refused}
 use Rattle.host.proofs.Sized.{size-refused}
+use Rattle.theorem_border.proofs.Why.{why-refused}
 use Rattle.theorem_border.proofs.refusals_at_border.Goals as goal
 
 pub returns-clause-reset : goal.returns-clause-reset
@@ -47,3 +48,6 @@ returns-clause-split_opaque_span c = split-refused
 
 pub returns-clause-sizes : goal.returns-clause-sizes
 returns-clause-sizes c = size-refused
+
+pub returns-clause-why : goal.returns-clause-why
+returns-clause-why c = why-refused

@@ -1,5 +1,5 @@
 -- The rules' runs, found from left to right. Assumes nothing.
-use mathlib.Core.Path.{◌≡◌, refl, sym, ap, ◌∙◌, fun_ext}
+use mathlib.Core.Path.{◌≡◌, refl, sym, ◌∙◌, fun_ext}
 use mathlib.Core.Bool.{Bool, true, false, cond}
 use mathlib.Core.List.{List, [], ◌∷◌}
 use Prim.Native.Nat.{ℕ, zero, suc, ◌≤◌, ◌<◌, ◌+◌, ◌-◌, ◌*◌, min}
@@ -70,10 +70,6 @@ none_left n i h = omega arith
 -- v is what bucket i holds, if that is before hi: what a search carries from bucket to bucket
 abbrev pub Carried : List ℕ → ℕ → ℕ → ℕ → Type 0
 Carried bs hi i v = i < hi → v ≡ get_or bs i 0
-
--- a test of what is carried is a test of the bucket
-pub carried-test : (p : ℕ → Bool) (bs : List ℕ) (hi i v : ℕ) {t : Bool} → Carried bs hi i v → i < hi → p v ≡ t → p (get_or bs i 0) ≡ t
-carried-test p bs hi i v k h e = sym (ap p (k h)) ∙ e
 
 module _ (p : ℕ → Bool) (bs : List ℕ) (hi : ℕ) where
   pub runs-end : (i : ℕ) → hi ≤ i → runs-in p bs (span i hi) ≡ []

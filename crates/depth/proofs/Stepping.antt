@@ -1,5 +1,5 @@
 -- One search for the next run. Assumes nothing.
-use mathlib.Core.Path.{◌≡◌, refl, sym, ◌∙◌}
+use mathlib.Core.Path.{◌≡◌, sym, ◌∙◌}
 use mathlib.Core.List.{List}
 use Prim.Native.Nat.{ℕ, ◌≤◌, ◌<◌, ◌+◌}
 use native.Mathlib.Omega.{arith}
@@ -23,9 +23,6 @@ module _ (bs : List ℕ) (hi ceiling from : ℕ) where
     pub before : Before first
     pub reached : Reached (is-visible ceiling) bs hi first next
     pub shown : (k : ℕ) → first ≤ k → k < next → get_or bs k 0 ≤ ceiling
-
-  pub before-first : Before from
-  before-first = record { after = omega arith; passed = λ k h g. omega arith; rest = refl }
 
   module _ (fits : hi ≤ length bs) (first : ℕ) (b : Before first) (h : first < hi) where
     pub before-more : ceiling < get_or bs first 0 → Before (first + 1)

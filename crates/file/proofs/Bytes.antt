@@ -13,7 +13,7 @@ use lib.Dec.{eqb}
 use borrow.Author.Tests.{eq-eqb, ne_eqb}
 use Rattle.rules.specs.Lines.{word_of, words_of}
 use Rattle.file.specs.Each.{each}
-use Rattle.file.specs.Words.{word_from, words-in, filled, filled-with}
+use Rattle.file.specs.Words.{word_from, words-in}
 use Rattle.file.proofs.Eaches.{each-length, each_more}
 
 -- the words put so far, and what stood after them
@@ -28,9 +28,6 @@ module _ (bs old : List ℕ) (i : ℕ) (now : List ℕ) (p : Put bs old i now) w
   put_next x h e =
       rw (p, drop-cons old i 0 h, set_at (each word_from 4 bs 0 i) (get_or old i 0) (drop (suc i) old) x i (each-length word_from 4 bs 0 i))
       (rw (each_more word_from 4 bs 0 i, zero-add (4 * i), append_assoc, ← e, add-one i))
-
-  pub put_all : i ≡ length bs / 4 → filled (length bs / 4) now ≡ filled-with bs old
-  put_all e = rw (p, e)
 
 -- the words so put are the first of them
 pub first-words : (bs old : List ℕ) → take (length bs / 4) (words-in bs ++ drop (length bs / 4) old) ≡ words-in bs

@@ -118,9 +118,6 @@ module _ (ws : List ℕ) (a b : ℕ) (g : good-range a b (length ws / 5) ≡ tru
   range-end : b ≤ length ws / 5
   range-end = leb-true b (length ws / 5) (both (leb a b) (leb b (length ws / 5)) g).1
 
-  pub range-fits : (a ≤ b) × (5 * b ≤ length ws)
-  range-fits = let h = range-end in (range-order, omega arith)
-
   pub range-judged : every good-segment (segs-of ws) ≡ true
       → eqb (judge-segments false (segs ws a (b - a))) 0 ≡ ordered (slice a b (segs-of ws))
   range-judged q =

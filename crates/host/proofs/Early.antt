@@ -61,7 +61,7 @@ use Rattle.depth.specs.Listing.{listing, writing}
 use Rattle.paint.specs.Summaries.{good-summary}
 use Rattle.host.specs.State.{before_4}
 use Rattle.host.specs.Border.{arenas_number, in-sections, file_number}
-use Rattle.host.proofs.Kept.{on-done, gone-on}
+use Rattle.paint.proofs.Kept.{on-done, gone-on}
 
 -- a number that is 0 or past 3 gives way to the border's 4
 late-4 : (n : ℕ) → Late n → before_4 n ≡ BadRecord

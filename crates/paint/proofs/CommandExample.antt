@@ -1,4 +1,4 @@
--- Steps of rows, by computation: what the definition says of small words. Assumes nothing.
+-- Tests: steps of rows, by computation: what the definition says of small words. Assumes nothing.
 use mathlib.Core.Path.{◌≡◌, refl}
 use mathlib.Core.Bool.{true, false}
 use mathlib.Core.List.{List, [], ◌∷◌}

@@ -23,3 +23,4 @@ pub mod Saying
 pub mod Along
 pub mod WholeLaws
 pub mod Putting
+pub mod Kept

@@ -81,16 +81,6 @@ module _ (v : ℕ) (attrs : Attrs) (u : Summary) (D : List ℕ) (m : ℕ) where
         rw (e, n, le-ltb (length l / piece-size) (length rs) (omega arith), pieces-same layer a rs)
 
   module _ (t w x i : ℕ) where
-    pub said-none : Said v attrs u D m t w x i 0 0 0 0
-    said-none =
-        record {
-          whole = λ h. absurd (omega arith);
-          hidden = λ h. absurd (omega arith);
-          pushed = λ h. absurd (omega arith);
-          popped = λ h. absurd (omega arith);
-          partly = λ h. absurd (omega arith);
-        }
-
     -- buffers
     said_push : (c : Option Span) → m < 16 → command_of t w x i ≡ Some (push-buf c) → Said v attrs u D m t w x i 3 0 0 0
     unfolding command-step command-shown paint-command

@@ -1,4 +1,4 @@
--- The rules' worked example painted to its end, its two rows by turns, by computation. Assumes nothing.
+-- Tests: the rules' worked example painted to its end, its two rows by turns, by computation. Assumes nothing.
 use mathlib.Core.Path.{◌≡◌, refl}
 use mathlib.Core.Bool.{Bool, true, false}
 use mathlib.Core.List.{List, [], ◌∷◌, ◌++◌}

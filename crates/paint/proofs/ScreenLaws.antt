@@ -16,7 +16,7 @@ use Rattle.rules.specs.Attributes.{Attrs}
 use Rattle.rules.specs.Rows.{Row}
 use Rattle.rules.specs.Painting.{paint-step}
 use Rattle.depth.proofs.Once.{out_once}
-use Rattle.row.proofs.RowsLaws.{part-0, part-suc, less, head-0, tail-0, head-suc, tail-suc, part-long}
+use Rattle.row.proofs.RowsLaws.{part-0, part-suc, less, tail-0, head-suc, tail-suc, part-long}
 use Rattle.screen.specs.declared.Screen.{Screen}
 use Rattle.std.specs.Prelude.{Result}
 use Rattle.sizes.specs.declared.answers.Refusal.{Refusal}
@@ -60,14 +60,7 @@ write-once r q s t l m d e h =
     let o = out_once r q l m (ap (λ (x : Wrote). x.listed) h) in
     (o.0, ap (λ (x : Wrote). x.screen) h, o.1, ap (λ (x : Wrote). x.depth) h)
 
--- A part that is put in its place stands there, ..
-pub part-own : (k n r : ℕ) (xs ys : List ℕ) → r < n → length xs ≡ n * k → length ys ≡ k → part k r (with_part k r xs ys) ≡ ys
-part-own k zero r xs ys h l m = absurd (omega arith)
-part-own k (suc n) zero xs ys h l m = part-0 k 0 _ ∙ head-0 k 0 xs ys n l m
-part-own k (suc n) (suc r) xs ys h l m =
-    sym (part-suc k r _) ∙ rw (tail-suc k r xs ys n l m) (part-own k n r (drop k xs) ys (omega arith) (less n k xs l) m)
-
--- .. and every other row's part is as it was
+-- a part that is put in its place leaves every other row's as it was
 pub part-other : (k n r q : ℕ) (xs ys : List ℕ) → r < n → q < n → (q ≡ r → ⊥) → length xs ≡ n * k → length ys ≡ k
     → part k q (with_part k r xs ys) ≡ part k q xs
 part-other k zero r q xs ys h g d l m = absurd (omega arith)

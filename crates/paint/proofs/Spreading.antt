@@ -53,9 +53,6 @@ module _ (w : ℕ) (b : Brush) where
     pub fits : (j : ℕ) → j < k → Fits w b (run_at l j)
     pub rest : words k l ≡ words n l₀
 
-  pub spread-first : (l : List ℕ) (n : ℕ) → piece-size * n ≤ length l → ((j : ℕ) → j < n → Fits w b (run_at l j)) → Spreading l n n l
-  spread-first l n h g = record { kept = refl; room = h; fits = g; rest = refl }
-
   module _ (l : List ℕ) (k : ℕ) (h : piece-size * suc k ≤ length l) where
     next : List ℕ
     next = words-at l (piece-size * k) (piece-words (piece (run_at l k)))
@@ -91,9 +88,6 @@ module _ (w : ℕ) (b : Brush) where
         }
 
   module _ (l₀ : List ℕ) (n k : ℕ) (l : List ℕ) (s : Spreading l₀ n k l) where
-    pub spread-fits : 0 < k → Fits w b (run_at l (k - 1))
-    spread-fits h = s.fits (k - 1) (omega arith)
-
     pub spread-again : (l' : List ℕ) → 0 < k → l' ≡ words-at l (piece-size * (k - 1)) (piece-words (piece (run_at l (k - 1)))) → Spreading l₀ n (k - 1) l'
     unfolding next
     spread-again l' h e =

@@ -25,7 +25,7 @@ use Rattle.paint.specs.Painting.{attrs-at, RowLent, lent, StepOut, out, refused,
 use Rattle.paint.proofs.CommandLaws.{same-lengths}
 use Rattle.paint.specs.Judging.{wide}
 use Rattle.paint.specs.Stepping.{part, with_part, Within, Attributes, own-parts, put-parts, own, in_place, number, row_step, stepped}
-use Rattle.paint.proofs.ScreenParts.{part-is, put_is, part_length, ready}
+use Rattle.paint.proofs.ScreenParts.{part-is, put_is, ready}
 use Rattle.paint.specs.Running.{goes_on, ended, one_more, run, most, standing, own-step, own-run, row-run, call_step, row-painted}
 use Rattle.paint.proofs.WholeRuns.{stops, more}
 
@@ -58,9 +58,6 @@ module _ (k r : ℕ) (xs ys : List ℕ) (h : Within k r xs) (e : length ys ≡ k
 
   pub put-long : length (with_part k r xs ys) ≡ length xs
   put-long = put-length (r * k) k xs ys h.ends e
-
-pub cut-length : (k r : ℕ) (xs : List ℕ) → Within k r xs → length (take (r * k + k - r * k) (drop (r * k) xs)) ≡ k
-cut-length k r xs h = rw (part-is k r xs) (part_length k r xs h)
 
 pub part-of-length : (k r : ℕ) (xs : List ℕ) → Within k r xs → length (part k r xs) ≡ k
 part-of-length k r xs h = length-take-le k (drop (r * k) xs) (rw length-drop (omega (arith, h.ends)))

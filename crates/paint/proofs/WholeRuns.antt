@@ -84,9 +84,6 @@ module _ (step : List ℕ → List ℕ → List ℕ → StepOut) where
       pub few : k ≤ limit
       pub whole : run step (limit - k) k now ≡ run step limit 0 start
 
-    pub rest_all : (g : StepOut) → Rest g g 0
-    rest_all g = let e : limit - 0 ≡ limit = omega arith in record { few = omega arith; whole = rw e }
-
     -- steps that are done together
     pub rest-far : {start now next : StepOut} {k n : ℕ} → Rest start now k → n ≤ limit - k → Onward step n now next → Rest start next (k + n)
     rest-far {k = k} {n = n} z h g =

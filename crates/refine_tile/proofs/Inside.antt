@@ -110,11 +110,6 @@ module _ (w : ℕ) (v : Box) (row tile : ℕ) where
     no_step : {o : Story} → Fitting [] o
     and_then : {x : Step} {xs : List Step} {o : Story} → Fits x o → Fitting xs (tell-step w v row tile x o) → Fitting (x ∷ xs) o
 
-  pub steps-inside : Even v → {xs : List Step} {o : Story} → Fitting xs o → Inside v row o.open-layers → Inside v row (tell-steps w v row tile xs o).open-layers
-  unfolding tell-steps
-  steps-inside ev no_step i = i
-  steps-inside ev (and_then {x = x} {o = o} f fs) i = steps-inside ev fs (step-inside ev x o f i)
-
   -- one step more
   pub one_more : (x : Step) {xs : List Step} {o : Story} → Fitting xs o → Fits x (tell-steps w v row tile xs o) → Fitting (xs ++ (x ∷ [])) o
   unfolding tell-steps

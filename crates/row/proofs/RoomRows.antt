@@ -25,9 +25,6 @@ pub record Going (good full : ℕ → Bool) (a b n r : ℕ) : Type 0 where
   pub found : Found n
   pub rest : rows_told good full n (range r b) ≡ rows_told good full 0 (range a b)
 
-pub going_start : (good full : ℕ → Bool) (a b : ℕ) → Going good full a b 0 a
-going_start good full a b = record { found = record { yet = false; is = refl }; rest = refl }
-
 module _ {good full : ℕ → Bool} {a b n r : ℕ} (v : Going good full a b n r) where
   pub going_end : b ≤ r → n ≡ rows_told good full 0 (range a b)
   unfolding rows_told

@@ -14,6 +14,7 @@ ghost use Rattle.screen.specs.Screens.{in-tiles, good_clip, good_screen, frame, 
 ghost use Rattle.screen.specs.Judging.{good-rooms, judged, good-fixed, judged_reset};
 ghost use Rattle.screen.specs.Tables.{lengths, zeroed, answer_of, reset_to};
 ghost use Rattle.screen.specs.Lent.{tables_in, whole, SameLent};
+ghost use Rattle.screen.specs.ReadBack.{LayerReadBack, OthersStay, PatternReadBack};
 
 use rect::{Mode, Rect};
 use sizes::answers::Refusal;
@@ -275,3 +276,10 @@ pub fn reset(viewport: Rect, setup: Setup, lent: &mut Lent<'_>) -> Result<Screen
     lent.clear();
     Ok(screen)
 }
+
+/// An open layer is read back from the words that are stored of it. It does nothing: what it promises is a theorem.
+pub fn open_layers_keep()
+    ensures read { LayerReadBack }
+    ensures pattern { PatternReadBack }
+    ensures others { OthersStay }
+{}

@@ -30,7 +30,8 @@ use Rattle.theorem_picture.proofs.Skip as picture
 use Rattle.theorem_picture.specs.Skip as lent
 use Rattle.theorem_border.specs.Hosted.{Host, Hosted, Call, one-step, whole_row, turn_in, begin-at, paint-out}
 use Rattle.theorem_border.specs.Border.{gave-words, painted, log, finished-at, finished, Picture, Clear}
-use Rattle.theorem_border.proofs.Words.{host-of, hosted, begin-on, call-of, paint-on, paint-done, paint-kept, skip-on}
+use Rattle.theorem_border.specs.Held.{host-of}
+use Rattle.theorem_border.proofs.Words.{hosted, begin-on, call-of, paint-on, paint-done, paint-kept, skip-on}
 use Rattle.theorem_border.proofs.Holds.{holds}
 
 -- a done call is read as it gave

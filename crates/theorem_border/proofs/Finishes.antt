@@ -23,7 +23,8 @@ use Rattle.theorem_picture.specs.Reached as reached
 use Rattle.theorem_picture.proofs.Finishes.{finishes}
 use Rattle.theorem_border.specs.Hosted.{Host, host, with-painting, Call, one-step, begin-at, paint-out, paint-at}
 use Rattle.theorem_border.specs.Border.{gave-words, painted, log, finished-at, finished, Finishes}
-use Rattle.theorem_border.proofs.Words.{host-of, hosted, begin-on, paint-lent}
+use Rattle.theorem_border.specs.Held.{host-of}
+use Rattle.theorem_border.proofs.Words.{hosted, begin-on, paint-lent}
 use Rattle.theorem_border.proofs.Holds.{holds}
 use Rattle.theorem_border.proofs.Border.{left-read}
 

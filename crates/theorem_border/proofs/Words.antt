@@ -53,11 +53,8 @@ use Rattle.host.proofs.Kept.{step-refused, row-refused, write-refused}
 use Rattle.theorem_picture.specs.Calls as calls
 use Rattle.theorem_picture.specs.Reached as reached
 use Rattle.theorem_picture.specs.Rows as rows
+use Rattle.theorem_border.specs.Held.{host-of}
 use Rattle.theorem_border.specs.Hosted.{Host, host, Asks, with_rows, with-painting, reset-at, recording-at, fill-at, push_at, pop-at, filter-at, begin-at, Turn, Call, one-step, whole_row, turn_in, paint-out, paint-at, write-at}
-
--- the words of a screen and its tables
-abbrev pub host-of : ScreenLent → Host
-host-of l = host (screen-words l.screen) l.tables
 
 abbrev pub hosted : Answer ScreenLent → Answer Host
 hosted a = answer a.number (host-of a.value)
@@ -273,4 +270,4 @@ module _ (i id : ℕ) (b : Span) (list count : List ℕ) (l : ScreenLent) where
 
   pub write_kept : (a.number ≡ Done → ⊥) → write-at i id b list count (host-of l) ≡ host-of l
   unfolding write-at
-  write_kept q = ap (λ (o : Painted). put (answer 0 o)) (write-refused i b id (screen-words l.screen) l.tables.depth list count q)
+  write_kept q = ap (λ (o : Painted). put (answer 0 o)) (write-refused i b (screen-words l.screen) l.tables.depth list count id q)

@@ -11,3 +11,6 @@ pub mod Recorded
 pub mod Rows
 pub mod Ends
 pub mod Alone
+pub mod Kept
+pub mod Apart
+pub mod Bounded

@@ -45,15 +45,6 @@ layer-small v c (Some x) s g =
       bottom = omega (arith, s.bottom);
     }
 
-pub meet-small : (v c d : Box) → Small c → Small d → Small (meet (to-local v d) c)
-meet-small v c d s g =
-    record {
-      left = omega (arith, g.left, s.left);
-      top = omega (arith, g.top, s.top);
-      right = omega (arith, s.right);
-      bottom = omega (arith, s.bottom);
-    }
-
 -- whether ids are left, as the code asks
 pub out-of-ids : {r : Bool} {i : ℕ} → r ≡ ltb 1048576 i → r ≡ true → 1048576 < i
 out-of-ids {r} {i} e q = ltb-true 1048576 i (sym e ∙ q)

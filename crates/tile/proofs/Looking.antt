@@ -35,9 +35,6 @@ pub record Looking (w : ℕ) (v c : Box) (row tile : ℕ) (ws : List ℕ) (a n :
   pub good : every good-segment (segs ws i (n - i)) ≡ true
   pub rest : look w v row tile c k (segs ws i (n - i)) ≡ look w v row tile c no-look (segs ws a (n - a))
 
-pub begun : (w : ℕ) (v c : Box) (row tile : ℕ) (ws : List ℕ) (a n : ℕ) → a ≤ n → every good-segment (segs ws a (n - a)) ≡ true → Looking w v c row tile ws a n no-look a
-begun w v c row tile ws a n h g = record { before = h; good = g; rest = refl }
-
 module _ {w : ℕ} {v c : Box} {row tile : ℕ} {ws : List ℕ} {a n : ℕ} {k : Look} {i : ℕ} (l : Looking w v c row tile ws a n k i) where
   pub ended : n ≤ i → k ≡ look w v row tile c no-look (segs ws a (n - a))
   unfolding look

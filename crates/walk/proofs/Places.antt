@@ -79,9 +79,6 @@ module _ (l : Layout) (ws : List ℕ) where
       unfolding node_from
       node-range = in-range
 
-      pub node-room : l.nodes.at + 3 * i + 3 ≤ length ws
-      node-room = let e = g.fits.nodes.ends in omega arith
-
     module _ (i : ℕ) (h : i < l.layers.count) where
       fit : Walkable (recorded l ws) (layer_from ws (l.layers.at + 22 * i))
       fit = rw (layer-there i h) at (walkable (recorded l ws) (get_or (recorded l ws).layers i (layer-rec [])) (good-layer-at (recorded l ws) g.good i (layer-rec []) (rw layer-count h)))

@@ -89,10 +89,6 @@ module _ (c d n : ℕ) (w : Words) (g : good_row c d n w.state ≡ true) (e : wo
   pub tag_at : eqb (get_or w.render (4 * p) 0) 5 ≡ good-pop c d n w
   tag_at = rw at_place (pop-tag c d n w e g)
 
-or-none : (b : Bool) → b ≡ (b || false)
-or-none true = refl
-or-none false = refl
-
 -- one row, touched or not
 module _ (n : ℕ) (rs : List Words) (r : ℕ) where
   one-touched : touched-in n rs (r ∷ []) ≡ keep (eqb (word 5 (row_of rs r)) n) r []

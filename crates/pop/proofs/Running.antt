@@ -5,6 +5,7 @@ use mathlib.Core.List.{List, [], ◌∷◌, ◌++◌}
 use Rattle.std.specs.Prelude.{Option, None, Some}
 use Prim.Native.Nat.{ℕ, ◌+◌, ◌-◌, ◌/◌, ◌≤◌, ◌<◌}
 use native.Mathlib.Omega.{arith}
+use Rattle.std.proofs.lemmas.Bool.Decides.{nat_tests}
 use lib.Dec.{leb, ltb, eqb}
 use borrow.Author.Tests.{eq-eqb, ne_eqb, eqb-true, eqb-false, le-ltb, ltb-false, ltb-true}
 use Rattle.rules.specs.Lists.{some_of, join}
@@ -29,11 +30,7 @@ pub data Sorted : List Cut → Type 0 where
 
 -- an ordered list's cut segments are sorted
 follows-row : (s t : Segment) → follows s t ≡ true → s.row ≤ t.row
-follows-row s t h = go (ltb s.row t.row) refl h
-  where
-    go : (b : Bool) → ltb s.row t.row ≡ b → (b || eqb s.row t.row && leb s.end t.first) ≡ true → s.row ≤ t.row
-    go true e g = omega (arith, ltb-true s.row t.row e)
-    go false e g = omega (arith, eqb-true s.row t.row (both (eqb s.row t.row) (leb s.end t.first) g).0)
+follows-row s t h = grind (arith, nat_tests)
 
 after-rows : (s : Segment) (ss : List Segment) → ordered-after s ss ≡ true → All (λ (t : Segment). s.row ≤ t.row) ss
 after-rows s [] h = nil

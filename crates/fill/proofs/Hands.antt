@@ -5,6 +5,7 @@ use mathlib.Core.List.{List, [], ◌∷◌, ◌++◌}
 use Rattle.std.specs.Prelude.{Option, None, Some}
 use Prim.Native.Nat.{ℕ, zero, suc, ◌+◌, ◌-◌, ◌*◌, ◌≤◌, ◌<◌}
 use native.Mathlib.Omega.{arith}
+use Rattle.std.proofs.lemmas.Bool.Decides.{nat_tests}
 use lib.Dec.{leb, ltb, eqb}
 use lib.ListN.{length}
 use borrow.Author.Tests.{eqb-true, eqb-false, eq-eqb, ne_eqb, lt-ltb, le-leb}
@@ -19,7 +20,7 @@ use Rattle.segments.proofs.Judging.{AtPlace, judging}
 use Rattle.fill.specs.declared.rows.Job.{Job}
 use Rattle.fill.proofs.Runs.{at_most_one}
 use Rattle.row.specs.declared.room.Limits.{Limits}
-use Rattle.row.specs.Room.{record-at, Counted, hand_of, loaded, noted, added_to, Low}
+use Rattle.row.specs.Room.{record-at, Counted, hand_of, loaded, noted, added_to}
 use Rattle.row.proofs.RoomLaws.{good-small}
 use Rattle.fill.specs.Tallies.{Tally, job-adds, known, tallied, tally_cuts, verdict, cuts-of, none_yet, Rowed, list-number, marked_by, limits_of, stretched, counted_cut, hand_cuts}
 use Rattle.fill.proofs.JudgeLaws.{turned, Fits, took-none, took-bad, took-good, tally-more, tally-stop, fits_after, lands}
@@ -206,12 +207,7 @@ bad-either a = go (eqb a 4)
     go false = refl
 
 all_told : (ok full deep : Bool) → code_of ok full deep ≡ list-number (cond ok 0 5) (cond full 10 (cond deep 11 0))
-all_told true true deep = refl
-all_told true false true = refl
-all_told true false false = refl
-all_told false true deep = refl
-all_told false false true = refl
-all_told false false false = refl
+all_told ok full deep = grind (arith, nat_tests)
 
 -- the number of the segments from a to b
 abbrev whole : Job → List ℕ → List ℕ → ℕ → ℕ → ℕ
@@ -274,11 +270,6 @@ module _ {j : Job} {n : ℕ} {rows ws : List ℕ} {a b : ℕ} {s : Segment} {h :
         v.holds.code ∙ all_told v.ok v.tally.full v.tally.deep
         ∙ ap (λ (x : ℕ). list-number x (cond v.tally.full 10 (cond v.tally.deep 11 0))) (order-told v.ok refl)
         ∙ ap (λ (y : ℕ). list-number (judge-segments false (segs ws a (b - a))) y) rows_told
-
-  pub low-marked : (f : Bool) → 2 * i ≤ 8000000000000000000 → Low (marked_by h f)
-  low-marked f l =
-      let m = marks j rows h v.ok v.tally v.holds f in
-      record { renders = omega (arith, m.renders, v.fits.renders); depths = omega (arith, m.depths, v.fits.depths) }
 
   module _ {g : Segment} (l : i < b) (e : g ≡ seg-at ws i) where
     pub bad-here : good-segment g ≡ false → 4 ≡ whole j rows ws a b

@@ -6,6 +6,7 @@ use Rattle.std.specs.Prelude.{Option, None, Some}
 use Prim.Native.Nat.{ℕ, zero, suc, ◌+◌, ◌-◌, ◌*◌, ◌/◌, ◌%◌, ◌≤◌, ◌<◌}
 use native.Mathlib.Nat.{mul-le-mul_right, mul-lt-mul_of_pos_right}
 use native.Mathlib.Omega.{arith}
+use Rattle.std.proofs.lemmas.Bool.Decides.{nat_tests}
 use lib.Dec.{leb, ltb, eqb}
 use lib.ListN.{length}
 use borrow.Author.Tests.{le-leb, lt-leb, leb-true, leb-false}
@@ -147,11 +148,7 @@ module _ (w : Width) (s : Span) (e : Bool) (a : Option ℕ) where
     found-pieces h = sym (found-more w s x y p q h) ∙ is-split t
 
 pub edge-small : (a b : ℕ) → edge_count a b ≤ 1
-edge-small a b = go (ltb a b)
-  where
-    go : (t : Bool) → cond t 1 0 ≤ 1
-    go true = omega arith
-    go false = omega arith
+edge-small a b = grind (arith, nat_tests)
 
 -- .. which is little
 few-added : (v : ℕ) (e : Bool) (s : Span) (a : Option ℕ) → ((added v e s a).renders ≤ 2) × ((added v e s a).depths ≤ 1)

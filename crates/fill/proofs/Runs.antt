@@ -21,7 +21,7 @@ use Rattle.rules.proofs.laws.Changes.{change-same}
 use Rattle.sizes.specs.Widths.{bucket-tiles}
 use Rattle.row.specs.Words.{Words, words, word, put_buf, put_command, Room, Grown}
 use Rattle.row.specs.Cmds.{Short}
-use Rattle.row.proofs.WordsLaws.{cmd-levels, buf-levels, buf-grown, grown-trans}
+use Rattle.row.proofs.WordsLaws.{cmd-levels, buf-levels, buf-grown}
 use Rattle.row.specs.Acts.{ensured}
 use Rattle.row.proofs.ActsLaws.{Sound, sound-trans, same-sound, room_after, ensured-sound, first_room, drawn-sound, drawn-alpha}
 use Rattle.row.specs.declared.rows.Place.{Place}
@@ -346,9 +346,6 @@ module _ {j : Job} {ws : List ℕ} {row a b : ℕ} {w₀ : Words} {i : ℕ} {w :
 pub run-done : {j : Job} {ws : List ℕ} {row a b : ℕ} {w u : Words} {i : ℕ} {x : Words} → RunReady j ws row a b w → u ≡ ensured j.layers w → Running j ws row a b u i x → a < i
     → (a < i) × (i ≤ b) × OnRow ws row a i × (x ≡ run_of j ws a i w)
 run-done {j} {ws} {row} {a} {b} {w} {u} {i} {x} v e r h = (h, r.stop, r.same, r.is ∙ ap (run_of j ws a i) e ∙ same-run v i h)
-
-pub whole-grown : {j : Job} {ws : List ℕ} {row a b : ℕ} {w u : Words} {i : ℕ} {x : Words} → RunReady j ws row a b w → u ≡ ensured j.layers w → Running j ws row a b u i x → Grown w x
-whole-grown v e r = grown-trans (rw e (layered v).grown) (run-grown r)
 
 -- on the whole screen
 module _ {j : Job} {n : ℕ} {ws : List ℕ} {a b : ℕ} {w : Words} (v : FillReady j n ws a b w) (h : a < b) where

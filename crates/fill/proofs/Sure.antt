@@ -22,7 +22,7 @@ use Rattle.segments.proofs.Judging.{AtPlace}
 use Rattle.fill.specs.declared.rows.Job.{Job}
 use Rattle.fill.proofs.Runs.{piece, at_most_one}
 use Rattle.fill.specs.Tallies.{Tally, added, job-adds, known, stored, tallied, tally_cuts, verdict, cuts-of, none_yet, Rowed}
-use Rattle.fill.specs.Sure.{Few, Roomed, RoomAt, number_in}
+use Rattle.fill.specs.Sure.{Roomed, RoomAt, number_in}
 use Rattle.fill.proofs.JudgeLaws.{few-commands, few-depths, added-alpha, added-plain, turned, took-none, took-good, tally-more}
 use Rattle.fill.proofs.Hands.{nowhere, first-follows, none_before}
 
@@ -288,10 +288,6 @@ set_out r o h l =
     record { rowed = o; within = l; before = omega arith; few = omega arith; walk = λ z. record { next = 0; sure = sure-so-far o (omega arith); rises = omega arith; ran = not_yet } }
 
 module _ {j : Job} {n : ℕ} {rows ws : List ℕ} {a b r f e m i : ℕ} (v : Walking j n rows ws a b r f e m i) where
-  -- as many as a usize counts
-  pub few-here : i ≤ 4611686018427387904 → Few (i - f) m
-  few-here h = record { among = omega (arith, v.few); small = omega arith }
-
   -- the run has room, and the next row begins
   pub turns-over : (q : ℕ) → r < q → RoomAt j rows r (i - f) m → Walking j n rows ws a b q i 0 0 i
   turns-over q h o =

@@ -38,13 +38,14 @@ decide a b f = by (eqb a b) refl
     by true e = eqb-true a b e
     by false e = absurd (f (eqb-false a b e))
 
-pub surely : (b : Bool) → (b ≡ false → ⊥) → b ≡ true
-surely true f = refl
-surely false f = absurd (f refl)
-
 pub below : (a b : ℕ) → (b ≤ a → ⊥) → a < b
 below a b f = by (leb b a) refl
   where
     by : (t : Bool) → leb b a ≡ t → a < b
     by true e = absurd (f (leb-true b a e))
     by false e = leb-false b a e
+
+-- a Boolean is one or the other
+pub either : {P : Type 0} (b : Bool) → (b ≡ true → P) → (b ≡ false → P) → P
+either true f g = f refl
+either false f g = g refl

@@ -2,7 +2,6 @@
 use mathlib.Core.Path.{◌≡◌, refl, sym, ap, ◌∙◌}
 use mathlib.Core.Bool.{Bool, true, false, ◌||◌, cond}
 use mathlib.Core.List.{List, [], ◌∷◌, ◌++◌}
-use Rattle.std.specs.Prelude.{Option}
 use Prim.Native.Nat.{ℕ, ◌+◌, ◌-◌, ◌≤◌, ◌<◌}
 use native.Mathlib.Omega.{arith}
 use lib.Dec.{ltb, eqb}
@@ -20,8 +19,7 @@ use Rattle.row.specs.Cmds.{Short}
 use Rattle.row.specs.Arena.{nowhere}
 use Rattle.row.specs.Building.{rows_at, Whole}
 use Rattle.segments.specs.declared.Scene.{Scene}
-use Rattle.segments.specs.declared.Placed.{Placed}
-use Rattle.segments.specs.Segs.{seg-at, segs, origin, bounds, placed_of, Starts}
+use Rattle.segments.specs.Segs.{seg-at, segs, origin, bounds, Starts}
 use Rattle.segments.proofs.Laws.{segs-end, segs-first, good-first, good-rest, landed}
 use Rattle.row.specs.Room.{Counted as Hand, hand_of, limits, loaded, added_to}
 use Rattle.pop.specs.Closing.{row_of, touched-in, so_far, runs-full, runs_on, done-puts, Roomy, Fillable, clip-puts, Clips, Clean, Counted}
@@ -29,10 +27,6 @@ use Rattle.pop.proofs.Touched.{touched-same}
 use Rattle.pop.proofs.Closed.{closing, Close, closes-row}
 use Rattle.pop.proofs.Running.{at-found}
 use Rattle.pop.proofs.Rooms.{records, touched-inside, room-one, room-more}
-
--- a segment as the code has placed it
-pub placed_at : (s : Scene) {p q : Option Placed} {g h : Segment} → p ≡ q → placed_of p ≡ cut_in (origin s) (bounds s) g → g ≡ h → placed_of q ≡ cut_in (origin s) (bounds s) h
-placed_at s e a b = rw (← e, ← b) a
 
 -- .. has tiles that fit a command
 pub placed-short : (s : Scene) (g : Segment) (k : Cut) → good-segment g ≡ true → Starts (origin s) (bounds s) → k ∷ [] ≡ cut_in (origin s) (bounds s) g → Short k.stretch.tiles

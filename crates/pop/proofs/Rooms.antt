@@ -4,7 +4,6 @@ use mathlib.Core.Bool.{Bool, true, false, ◌&&◌}
 use mathlib.Core.List.{List, [], ◌∷◌, ◌++◌}
 use Prim.Native.Nat.{ℕ, ◌+◌, ◌-◌, ◌*◌, ◌≤◌, ◌<◌}
 use native.Mathlib.Omega.{arith}
-use native.Mathlib.Nat.{mul-le-mul_right}
 use lib.Dec.{leb, ltb, eqb}
 use lib.ListN.{length, get_or, take, drop}
 use lib.Seq.{get_or-take, get_or-drop}
@@ -42,9 +41,6 @@ module _ {cs ds rows : ℕ} {w : Words} (o : Arenas cs ds rows w) where
   -- word i of row r's record
   pub row_word : (r i : ℕ) → r < rows → i < 54 → get_or w.state (r * 54 + i) 0 ≡ word i (row_of (cut (sizes cs ds) rows w) r)
   row_word r i h g = sym (ap (word i) (row_is r h) ∙ part-word w.state (r * 54) i g)
-
-  pub rows_long : (b : ℕ) → b ≤ rows → b * 54 ≤ length w.state
-  rows_long b h = rw o.long.state (mul-le-mul_right 54 h)
 
   -- a test of words is the rules' test
   pub touched-is : (a b n r : ℕ) → b ≤ rows → touched-word a b n w.state r ≡ some_of (eqb r) (touched-in n (cut (sizes cs ds) rows w) (range a b))

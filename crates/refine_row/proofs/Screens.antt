@@ -56,15 +56,3 @@ reset-words c d f = rw (alike (rows_of f.viewport), fresh-words c d)
     alike : (n : ℕ) → map (encode c d) (replicate n fresh-row) ≡ replicate n (encode c d fresh-row)
     alike zero = refl
     alike (suc n) = ap (λ t. encode c d fresh-row ∷ t) (alike n)
-
--- a row with a level can be popped
-pub fine-ends : (c d : ℕ) (r : Row) → Fine r → 0 < length r.levels → Ends (encode c d r)
-unfolding encode
-fine-ends c d r o h = go r.levels refl
-  where
-    go : (ls : List Level) → r.levels ≡ ls → Ends (encode c d r)
-    go [] e = absurd (omega (arith, ap length e))
-    go (l ∷ ls) e =
-        let p : placed r.commands (length r.commands) (l ∷ ls) = rw e at o.places in
-        let f : length (l ∷ ls) ≤ 16 = rw e at o.few in
-        record { levels = h; place = rw (place-word c d r l ls e (omega arith)) p.0 }

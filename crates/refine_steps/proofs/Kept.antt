@@ -1,4 +1,5 @@
 -- Steps keep a screen sound. Assumes nothing.
+use Rattle.std.proofs.lemmas.Bool.Decides.{nat_tests}
 use mathlib.Core.Path.{◌≡◌, refl, sym, ◌∙◌}
 use mathlib.Core.Bool.{Bool, true, false, ◌&&◌, not, cond}
 use mathlib.Core.List.{List, [], ◌∷◌}
@@ -166,24 +167,17 @@ pub record Passing (p : Plan) (t : Screen Row) : Type 0 where
   pub renders : passes Row row-ops (λ (r : Row). length r.commands) t.state.frame.c p.puts t.rows ≡ false
   pub depths : passes Row row-ops (λ (r : Row). length r.fills) t.state.frame.d p.puts t.rows ≡ false
 
-none-says : (a b c d e : Bool) → first_of ((a, Deep) ∷ (b, Ids) ∷ (c, FullAttrs) ∷ (d, FullRow) ∷ (e, FullDepth) ∷ []) ≡ Done
-    → (a ≡ false) × (b ≡ false) × (c ≡ false) × (d ≡ false) × (e ≡ false)
-none-says true b c d e h = absurd (omega arith)
-none-says false true c d e h = absurd (omega arith)
-none-says false false true d e h = absurd (omega arith)
-none-says false false false true e h = absurd (omega arith)
-none-says false false false false true h = absurd (omega arith)
-none-says false false false false false h = (refl, refl, refl, refl, refl)
-
 pub passing : (p : Plan) (t : Screen Row) → refusal Row row-ops p t ≡ Done → Passing p t
 unfolding refusal
-passing p t e = go (eqb p.refused Done) refl
-  where
-    go : (b : Bool) → eqb p.refused Done ≡ b → Passing p t
-    go true q =
-        let n = none-says _ _ _ _ _ (rw q at e) in
-        record { own = eqb-true p.refused Done q; deep = ltb-false 16 (length p.layers) n.0; ids = ltb-false 1048577 p.next n.1; attrs = n.2; renders = n.3; depths = n.4 }
-    go false q = absurd (eqb-false p.refused Done q (rw q at e))
+passing p t e =
+    record {
+      own = grind (arith, nat_tests);
+      deep = grind (arith, nat_tests);
+      ids = grind (arith, nat_tests);
+      attrs = grind (arith, nat_tests);
+      renders = grind (arith, nat_tests);
+      depths = grind (arith, nat_tests);
+    }
 
 -- counts stay within their limit
 module _ (count : Row → ℕ) (n : ℕ) (z : count fresh-row ≤ n) where
@@ -213,20 +207,11 @@ module _ (count : Row → ℕ) (n : ℕ) (z : count fresh-row ≤ n) where
 
 -- the layers that a plan leaves open
 boxes-4 : (v : Box) → good-box v ≡ true → (v.x0 % 4 ≡ 0) × (v.x1 % 4 ≡ 0) × (v.y0 % 4 ≡ 0) × (v.y1 % 4 ≡ 0)
-boxes-4 v g =
-    let a = by_4 v.x0 in
-    let b = by_4 v.x1 in
-    let c = by_4 v.y0 in
-    let d = by_4 v.y1 in
-    let h4 = both (a && b && c && d) (bounded v) g in
-    let h3 = both (a && b && c) d h4.0 in
-    let h2 = both (a && b) c h3.0 in
-    let h1 = both a b h2.0 in
-    (eqb-true _ _ h1.0, eqb-true _ _ h1.1, eqb-true _ _ h2.1, eqb-true _ _ h3.1)
+boxes-4 v g = (grind (arith, nat_tests), grind (arith, nat_tests), grind (arith, nat_tests), grind (arith, nat_tests))
 
 view-box : (v : Box) → good_viewport v ≡ true → good-box v ≡ true
 unfolding good_viewport
-view-box v g = (both (good-box v) (leb (width v) 4096) (both (good-box v && leb (width v) 4096) (leb (height v) 2048) g).0).0
+view-box v g = grind (arith, nat_tests)
 
 module _ (v : Box) (g : good_viewport v ≡ true) where
   whole-good : screens.Clip v (clip-box v [])

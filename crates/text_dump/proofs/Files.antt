@@ -26,12 +26,10 @@ use Rattle.text.proofs.Lengths.{plus, digits-few}
 use Rattle.text.specs.Details.{detail-lines, rowdump-words}
 use Rattle.text.specs.Bytes.{details-text}
 use Rattle.text.specs.Pieces.{piece-list}
-use Rattle.std.specs.Prelude.{Result, Ok, Err}
-use Rattle.std.specs.Result.{is_err}
-use Rattle.rules.proofs.All.{never}
+use Rattle.std.specs.Prelude.{Ok, Err}
 use Rattle.sizes.specs.declared.answers.Refusal.{Refusal}
 use Rattle.sizes.specs.declared.answers.Refusal.TheVariants as refusal
-use Rattle.sizes.specs.Refusals.{number_of, answer_number}
+use Rattle.sizes.specs.Refusals.{number_of}
 use Rattle.sizes.proofs.Refusals.{not_done}
 use Rattle.text.specs.declared.recording.Size.{Size}
 use Rattle.text.specs.Files.{Text as FileText, nothing, FileOut, file-out, shows-as, refusing, Usual, Exact, size_of, good-bytes, file-size, recording-text, bytes-text}
@@ -145,15 +143,6 @@ module _ (q : Setup) (usual : Usual q) (fs : List ℕ) where
       go : (b : Bool) → rowdump-lines q fs ≡ cond b (rowdump-words q (words-in fs)) [] → Ok z ≡ cond b (size_of (words-in fs) q) (Err refusal.BadForm) → Accepted z
       go true e i = record { lines = e; size = i }
       go false e i = cc
-
--- whether a file's call is refused, by its answer's number
-pub was_refused : {T : Type 0} (r : Result T Refusal) → is_err r ≡ true → answer_number r ≡ 0 → ⊥
-was_refused (Ok x) e z = never (sym e)
-was_refused (Err r) e z = not_done r z
-
-pub was_done : {T : Type 0} (r : Result T Refusal) → is_err r ≡ false → answer_number r ≡ 0
-was_done (Ok x) e = refl
-was_done (Err r) e = never e
 
 -- The whole text of a file: where it has no size, where its recording is refused, and where the details stand after its lines.
 module _ (v : Bool) (q : Setup) (usual : Usual q) (fs : List ℕ) (bs : List ℕ) (room : lines-room ≤ length bs) where

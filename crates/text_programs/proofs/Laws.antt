@@ -8,10 +8,14 @@ use native.Mathlib.Omega.{arith}
 use lib.ListN.{length, take, drop, length-append}
 use lib.Seq.{take_at}
 use borrow.Author.Tests.{le-ltb}
+use Rattle.std.specs.Result.{is_err}
 use Rattle.sizes.specs.declared.width.Width.{Width}
 use Rattle.sizes.specs.declared.answers.Refusal.{Refusal}
 use Rattle.sizes.specs.declared.answers.Refusal.TheVariants as refusal
+use Rattle.sizes.specs.Refusals.{answer_number}
+use Rattle.sizes.proofs.Refusals.{not_done}
 use Rattle.rules.specs.Answers.{BadForm}
+use Rattle.rules.proofs.All.{never}
 use Rattle.rules.specs.Setups.{Mode, Setup}
 use Rattle.rules.specs.Lines.{rowlist-screen, refused, no-width, line-bytes}
 use Rattle.file.specs.Words.{words-in}
@@ -67,3 +71,12 @@ first_taken ts bs n cs h e = rw (e, h) (take_at ts _ (length ts) (omega arith))
 -- .. and there are as many of them
 pub first_fits : (ts bs : List ℕ) (n : ℕ) (cs : List ℕ) → n ≡ length ts → cs ≡ first ts bs → n ≤ length cs
 first_fits ts bs n cs h e = rw (e, length-append ts (drop (length ts) bs)) (omega (arith, h))
+
+-- whether an answer is a refusal, by its number
+pub is-refused : {T : Type 0} (x : Result T Refusal) → is_err x ≡ true → answer_number x ≡ 0 → ⊥
+is-refused (Ok y) e z = never (sym e)
+is-refused (Err r) e z = not_done r z
+
+pub is-done : {T : Type 0} (x : Result T Refusal) → is_err x ≡ false → answer_number x ≡ 0
+is-done (Ok y) e = refl
+is-done (Err r) e = never e

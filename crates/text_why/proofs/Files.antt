@@ -2,12 +2,7 @@
 use mathlib.Core.Path.{◌≡◌, refl, sym, ap, ◌∙◌}
 use mathlib.Core.Bool.{Bool, true, false, cond}
 use mathlib.Core.List.{List, [], ◌∷◌, append-nil}
-use Rattle.std.specs.Prelude.{Result, Ok, Err}
-use Rattle.std.specs.Result.{is_err}
-use Rattle.sizes.specs.declared.answers.Refusal.{Refusal}
-use Rattle.sizes.specs.Refusals.{answer_number}
-use Rattle.sizes.proofs.Refusals.{not_done}
-use Rattle.rules.proofs.All.{never, and_left}
+use Rattle.rules.proofs.All.{and_left}
 use Prim.Native.Nat.{ℕ, ◌%◌, ◌≤◌}
 use lib.Dec.{leb, eqb}
 use lib.ListN.{length, take}
@@ -68,12 +63,3 @@ module _ (u : Setup) (fs : List ℕ) (row tile : ℕ) (q : Question) where
           → why-text u fs row tile q ≡ cond b (why-words u (words-in fs) row tile q) (refused-bytes BadForm) → Accepted
       go true g i t = record { few = leb-true _ _ (and_left (leb (length fs) 65536) (eqb (length fs % 4) 0) g); done = i; text = t }
       go false g i t = cc
-
--- whether an answer is a refusal, by its number
-pub is-refused : {T : Type 0} (x : Result T Refusal) → is_err x ≡ true → answer_number x ≡ 0 → ⊥
-is-refused (Ok y) e z = never (sym e)
-is-refused (Err r) e z = not_done r z
-
-pub is-done : {T : Type 0} (x : Result T Refusal) → is_err x ≡ false → answer_number x ≡ 0
-is-done (Ok y) e = refl
-is-done (Err r) e = never e

@@ -5,15 +5,12 @@
 ghost use Rattle.std.specs.Prelude.{◌≡◌, ◌≢◌, ◌≤◌, ◌↔◌, ◌⊎◌, false, [], length, map, string_bytes, IfSome, IfErr, OnOk, IsErrOf};
 ghost use Rattle.std.specs.Io.KnownBytes.{Appends};
 ghost use Rattle.screen.specs.Screens.{setup-of};
-ghost use Rattle.screen.specs.Lent.{tables_in};
 ghost use Rattle.text.specs.Files.{Usual};
 ghost use Rattle.text_programs.specs.Programs.{rowlist-text, by_width, first};
 ghost use Rattle.text_programs.specs.Arguments.{read_arguments};
-ghost use Rattle.text_programs.specs.Tables.{Long};
 ghost use Rattle.text_programs.specs.Failures.{IsOfWriting, Begins};
 ghost use Rattle.rowlist.specs.Printed.{printed};
 
-use screen::Lent;
 use std::alloc::Global;
 use std::io;
 use std::io::{Input, Print, Read, Write};
@@ -25,15 +22,15 @@ use text_programs::tables::{Tables, file_buffer, text_buffer};
 use text_programs::{no_width_text, read_all, rowlist_text, write_text};
 
 // What is wanted, put first; how long it is.
-fn wanted_text(file: &[u8], want: Want, lent: &mut Lent<'_>, out: &mut [u8]) -> usize
-    requires { Usual (setup-of want.setup) × Long (tables_in lent.old) × (264256 ≤ length out.old) }
+fn wanted_text(file: &[u8], want: Want, tables: &mut Tables, out: &mut [u8]) -> usize
+    requires { Usual (setup-of want.setup) × (264256 ≤ length out.old) }
     ensures value { result ≡ length (by_width want.no_width file.now (rowlist-text (setup-of want.setup) file.now)) }
     ensures out_after { out.new ≡ first (by_width want.no_width file.now (rowlist-text (setup-of want.setup) file.now)) out.old }
 {
     if want.no_width {
         return no_width_text(file, out);
     }
-    rowlist_text(file, want.setup, lent, out)
+    rowlist_text(file, want.setup, tables, out)
 }
 
 // Lists the recording on the input, in tables and buffers that are lent. Nothing is written before the input is read; where writing fails, a beginning
@@ -42,11 +39,11 @@ fn list_in<R: Read, W: Write>(
     input: &mut R,
     output: &mut W,
     want: Want,
-    lent: &mut Lent<'_>,
+    tables: &mut Tables,
     buffer: &mut [u8],
     text: &mut [u8],
 ) -> Result<(), Failure>
-    requires { Usual (setup-of want.setup) × Long (tables_in lent.old) × (65537 ≡ length buffer.old) × (264256 ≤ length text.old) }
+    requires { Usual (setup-of want.setup) × (65537 ≡ length buffer.old) × (264256 ≤ length text.old) }
     ensures ok { OnOk result (IfSome (R.remaining input.old) (λ file. Appends (W.contents output.old) (W.contents output.new)
         (by_width want.no_width file (rowlist-text (setup-of want.setup) file)))) }
     ensures begun { IfSome (R.remaining input.old) (λ file. Begins (W.contents output.old) (W.contents output.new)
@@ -55,7 +52,7 @@ fn list_in<R: Read, W: Write>(
     ensures err { IfErr result (λ e. e ≢ Failure.Usage) }
 {
     let n = read_all(input, buffer)?;
-    let k = wanted_text(&buffer[..n], want, lent, text);
+    let k = wanted_text(&buffer[..n], want, tables, text);
     write_text(output, &text[..k])
 }
 
@@ -77,12 +74,11 @@ fn list_input<R: Read, W: Write>(
     let mut tables = Tables::new(alloc)?;
     let mut buffer = file_buffer(alloc)?;
     let mut text = text_buffer(alloc)?;
-    let mut lent = tables.lend();
     list_in(
         input,
         output,
         want,
-        &mut lent,
+        &mut tables,
         buffer.as_mut_slice(),
         text.as_mut_slice(),
     )

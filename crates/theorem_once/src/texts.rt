@@ -11,9 +11,11 @@ use row::Rows;
 use screen::{Lent, Screen, Setup};
 use sizes::answers::Refusal;
 use text::{
-    FileText, Size, Tables, attrs_text, file_text, list_screen, no_width_refusal, recording_text,
-    refusal_line, row_text, size_of,
+    FileText, Size, Tables, attrs_text, list_screen, no_width_refusal, recording_text, refusal_line,
+    row_text, size_of,
 };
+use text_programs::file_text;
+use text_programs::tables::Tables as FileTables;
 
 /// Two calls of `list_screen`.
 pub fn list_twice(
@@ -120,21 +122,21 @@ pub fn no_width_twice(a: &[u8], b: &[u8]) -> Twice<Refusal>
     (no_width_refusal(a), no_width_refusal(b))
 }
 
-/// Two calls of `file_text`.
+/// Two calls of `file_text`, each over tables of its own, which may hold anything.
 pub fn file_text_twice(
     a: &[u8],
-    a_lent: &mut Lent<'_>,
+    a_tables: &mut FileTables,
     a_bytes: &mut [u8],
     b: &[u8],
-    b_lent: &mut Lent<'_>,
+    b_tables: &mut FileTables,
     b_bytes: &mut [u8],
     setup: Setup,
 ) -> Twice<FileText>
-    ensures { (a.now ≡ b.now) × (tables_in a_lent.old ≡ tables_in b_lent.old) × (a_bytes.old ≡ b_bytes.old)
-        → (result.0 ≡ result.1) × (tables_in a_lent.new ≡ tables_in b_lent.new) × (a_bytes.new ≡ b_bytes.new) }
+    ensures { (a.now ≡ b.now) × (a_bytes.old ≡ b_bytes.old)
+        → (result.0 ≡ result.1) × (a_bytes.new ≡ b_bytes.new) }
 {
     (
-        file_text(a, setup, a_lent, a_bytes),
-        file_text(b, setup, b_lent, b_bytes),
+        file_text(a, setup, a_tables, a_bytes),
+        file_text(b, setup, b_tables, b_bytes),
     )
 }

@@ -6,9 +6,7 @@ ghost use Rattle.std.specs.Prelude.{◌≡◌, ◌≢◌, ◌≤◌, ◌<◌, �
 ghost use Rattle.std.specs.Io.KnownBytes.{Appends};
 ghost use Rattle.rules_reason.specs.Answers.{question-line};
 ghost use Rattle.screen.specs.Screens.{setup-of};
-ghost use Rattle.screen.specs.Lent.{tables_in};
 ghost use Rattle.text.specs.Files.{Usual};
-ghost use Rattle.text_programs.specs.Tables.{Long};
 ghost use Rattle.text_programs.specs.Failures.{IsOfWriting, Begins};
 ghost use Rattle.text_programs.specs.Arguments.{read_arguments, wanted_of};
 ghost use Rattle.text_programs.specs.Streams.{first_item, after_item};
@@ -16,7 +14,6 @@ ghost use Rattle.why.specs.Requests.{question_of, query_of, request_of, IsOfFile
 ghost use Rattle.why.specs.Desks.{Ready};
 ghost use Rattle.why.specs.Printed.{answer, item_answer, stream_answers, reply, printed};
 
-use screen::Lent;
 use std::alloc::Global;
 use std::io;
 use std::io::{Input, Print, Read, Write};
@@ -92,14 +89,19 @@ fn read_request(others: &[String]) -> Option<Request>
 // What an answer is made in: the tables that take a file's screen, the text.
 #[derive(Drop)]
 struct Desk<'a> {
-    lent: Lent<'a>,
+    tables: &'a mut Tables,
     text: &'a mut [u8],
 }
 
 // What is wanted, put first; how long it is.
-fn wanted_text(file: &[u8], want: Want, query: Query, lent: &mut Lent<'_>, out: &mut [u8]) -> usize
-    requires { Usual (setup-of want.setup) × Long (tables_in lent.old) × (264256 ≤ length out.old) }
-    ensures long { Long (tables_in lent.new) }
+fn wanted_text(
+    file: &[u8],
+    want: Want,
+    query: Query,
+    tables: &mut Tables,
+    out: &mut [u8],
+) -> usize
+    requires { Usual (setup-of want.setup) × (264256 ≤ length out.old) }
     ensures value { result ≡ length (answer (wanted_of want) query file.now) }
     ensures out_after { take result out.new ≡ answer (wanted_of want) query file.now }
 {
@@ -112,7 +114,7 @@ fn wanted_text(file: &[u8], want: Want, query: Query, lent: &mut Lent<'_>, out: 
         query.row,
         query.tile,
         query.question,
-        lent,
+        tables,
         out,
     )
 }
@@ -130,7 +132,7 @@ fn print_answer<W: Write>(
     ensures begun { Begins (W.contents output.old) (W.contents output.new) (answer (wanted_of want) query file.now) }
     ensures err { IfErr result IsOfWriting }
 {
-    let n = wanted_text(file, want, query, &mut desk.lent, desk.text);
+    let n = wanted_text(file, want, query, desk.tables, desk.text);
     write_text(output, &desk.text[..n])
 }
 
@@ -282,7 +284,7 @@ fn answer_input<R: Read, W: Write>(
     let mut text = text_buffer(alloc)?;
     let mut buffer = file_buffer(alloc)?;
     let mut desk = Desk {
-        lent: tables.lend(),
+        tables: &mut tables,
         text: text.as_mut_slice(),
     };
     answer_request(

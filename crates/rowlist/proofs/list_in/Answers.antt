@@ -9,9 +9,9 @@ returns-in_err-n-clause-begun g c = nothing_begun _ _ _
 pub returns-clause-ok : goal.returns-clause-ok
 returns-clause-ok g c =
     let text = first_taken _ _ _ _ c.wanted_text-k.ensures.value c.wanted_text-k.ensures.out_after in
-    whole c.write_text.result _ _ _ _ _ _ _ _ c.requires.2 c.in_ok-n.ensures.bytes (rw text at c.write_text.ensures.ok)
+    whole c.write_text.result _ _ _ _ _ _ _ _ c.requires.1 c.in_ok-n.ensures.bytes (rw text at c.write_text.ensures.ok)
 
 pub returns-clause-begun : goal.returns-clause-begun
 returns-clause-begun g c =
     let text = first_taken _ _ _ _ c.wanted_text-k.ensures.value c.wanted_text-k.ensures.out_after in
-    whole_begun _ _ _ _ _ _ _ _ c.requires.2 c.in_ok-n.ensures.bytes (rw text at c.write_text.ensures.begun)
+    whole_begun _ _ _ _ _ _ _ _ c.requires.1 c.in_ok-n.ensures.bytes (rw text at c.write_text.ensures.begun)

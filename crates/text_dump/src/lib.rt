@@ -16,6 +16,7 @@ ghost use Rattle.text.specs.Dumped.{attrs-dumped};
 ghost use Rattle.text_programs.specs.Programs.{first};
 ghost use Rattle.text_dump.specs.Rowdump.{recording-line, file-lines-text, rowdump-text, no-width-dump, Printed};
 ghost use Rattle.text_dump.specs.Dumped.{lines-room, dump-room, part, PartWritten, rows-dumped, begun-dumped, details-dumped, heads, given, Ready};
+ghost use Rattle.paint.specs.Named.{row_attrs, row_lent};
 
 use paint::{Stored, begin_painting};
 use screen::{Lent, Screen, Setup};
@@ -109,7 +110,7 @@ fn rows_text(
     out: &mut [u8],
 ) -> usize
     ensures out_after { part result depth.new painting.new list.new out.new
-        ≡ rows-dumped panels (n - r) r screen (attributes stored.now.paint_attrs.now stored.now.layer_attrs.now) (lent stored.now.rows.now stored.now.render.now stored.now.fills.now depth.old painting.old list.old) out.old }
+        ≡ rows-dumped panels (n - r) r screen (row_attrs stored.now) (row_lent stored.now depth.old painting.old list.old) out.old }
     ensures upper_bound { result ≤ length out.old }
 {
     if n <= r {
@@ -141,8 +142,8 @@ fn begun_text(
     out: &mut [u8],
 ) -> usize
     ensures out_after { part result depth.new painting.new list.new out.new
-        ≡ begun-dumped panels screen (rows_of (box_of screen.viewport)) (attributes stored.now.paint_attrs.now stored.now.layer_attrs.now)
-        (lent stored.now.rows.now stored.now.render.now stored.now.fills.now depth.old painting.old list.old) out.old }
+        ≡ begun-dumped panels screen (rows_of (box_of screen.viewport)) (row_attrs stored.now)
+        (row_lent stored.now depth.old painting.old list.old) out.old }
     ensures upper_bound { result ≤ length out.old }
 {
     let mut begun = screen;

@@ -37,7 +37,7 @@ roomed n ws t a k q = by (eqb (length ws) n) q
     by false q = refl
 
 -- a call at the screen that the words stand for
-at-screen : {T : Type 0} (good : Bool) (st : List ℕ) (t : T) (f : Screen → Answer T) → ((s : Screen) → Some s ≡ screen_of good st → Refused (f s) → (f s).value ≡ t)
+pub at-screen : {T : Type 0} (good : Bool) (st : List ℕ) (t : T) (f : Screen → Answer T) → ((s : Screen) → Some s ≡ screen_of good st → Refused (f s) → (f s).value ≡ t)
     → Refused (on good st t f) → (on good st t f).value ≡ t
 at-screen good st t f k q = by (screen_of good st) refl q
   where

@@ -1,11 +1,11 @@
 -- Refused painting calls: the lent words and the result words are as they were.
 use mathlib.Core.Path.{◌≡◌, refl}
 use mathlib.Core.Bool.{Bool, true, false, cond}
-use mathlib.Core.List.{List, ◌++◌, map}
+use mathlib.Core.List.{List}
 use Rattle.std.specs.Prelude.{Option, None, Some, Result, Ok, Err}
 use Rattle.sizes.specs.declared.answers.Refusal.{Refusal}
 use Prim.Native.Nat.{ℕ}
-use lib.ListN.{length, drop}
+use lib.ListN.{length}
 use lib.Dec.{eqb}
 use borrow.Author.Tests.{ne_eqb}
 use Rattle.sizes.specs.declared.width.Width.{Width}
@@ -15,7 +15,6 @@ use Rattle.rules.specs.Spans.{Span}
 use Rattle.rules.specs.Split.{split_answer}
 use Rattle.span.specs.declared.TileSpan.{TileSpan}
 use Rattle.depth.specs.Listing.{RunsOut}
-use Rattle.depth.specs.Spans.{as-span}
 use Rattle.depth.specs.SpanLists as spans
 use Rattle.screen.specs.declared.Screen.{Screen}
 use Rattle.paint.specs.Painting as paint
@@ -38,7 +37,7 @@ roomed n ws t a k q = by (eqb (length ws) n) q
     by false q = refl
 
 -- a call at the screen that the words stand for
-at-screen : {T : Type 0} (good : Bool) (st : List ℕ) (t : T) (f : Screen → Answer T) → ((s : Screen) → Some s ≡ screen_of good st → Refused (f s) → (f s).value ≡ t)
+pub at-screen : {T : Type 0} (good : Bool) (st : List ℕ) (t : T) (f : Screen → Answer T) → ((s : Screen) → Some s ≡ screen_of good st → Refused (f s) → (f s).value ≡ t)
     → Refused (on good st t f) → (on good st t f).value ≡ t
 at-screen good st t f k q = by (screen_of good st) refl q
   where

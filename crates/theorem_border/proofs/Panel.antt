@@ -1,6 +1,5 @@
 -- The panel over the banner is an instance of `border-picture`: each of its hypotheses is computed on the words that the host lends, by the
 -- definitions that the calls' contracts cite, and the tiles' lists are read off. Assumes nothing.
-use Prim.Native.Nat.{ℕ}
 use native.Mathlib.Omega.{arith}
 use mathlib.Core.Path.{◌≡◌, refl, ◌∙◌}
 use mathlib.Core.List.{[], ◌∷◌}

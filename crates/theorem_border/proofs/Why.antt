@@ -12,7 +12,6 @@ use Rattle.screen.specs.declared.Screen.{Screen}
 use Rattle.screen.specs.Tables.{Tables, lent}
 use Rattle.tile.specs.Explained.{explained}
 use Rattle.paint.proofs.Kept.{Refused, unsettled}
-use Rattle.host.specs.declared.state.SetupWords.{SetupWords}
 use Rattle.host.specs.State.{screen_of, at_held}
 use Rattle.host.specs.Asked.{asked_setup, in-setup}
 use Rattle.host.specs.Border.{unasked_number}

@@ -1,15 +1,13 @@
 -- A screen that the rules have built keeps its frame, and its rows give few pieces: at most 64 by their depth fills, and 32 by each of at most
 -- 1,024 commands. Assumes nothing.
-use Prim.Native.Nat.{ℕ, ◌≤◌}
+use Prim.Native.Nat.{◌≤◌}
 use native.Mathlib.Omega.{arith}
-use mathlib.Core.Path.{◌≡◌, refl, sym, ap, ◌∙◌}
-use mathlib.Core.Bool.{true}
+use mathlib.Core.Path.{◌≡◌, ap}
 use mathlib.Core.List.{List}
-use lib.ListN.{length, get_or}
+use lib.ListN.{get_or}
 use Rattle.rules.specs.Rows.{Row, fresh-row}
 use Rattle.rules.specs.Plans.{Frame, bucket, buckets-across, Step}
 use Rattle.rules.specs.Steps.{Screen, reset}
-use Rattle.rules.specs.Painting.{paint-row}
 use Rattle.screen.proofs.ScreenLaws.{room, few-buckets}
 use Rattle.refine_steps.specs.Sound.{Sound}
 use Rattle.refine_steps.proofs.Kept.{call-sound, reset-sound}

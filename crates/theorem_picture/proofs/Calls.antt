@@ -13,7 +13,7 @@ use Rattle.rules.specs.Lists.{join}
 use Rattle.rules.specs.Answers.{first_of, Done, BadRecord}
 use Rattle.rules.specs.Words.{paint-words, segment-words}
 use Rattle.rules.specs.Inputs.{Props}
-use Rattle.rules.specs.Plans.{Plan, a-fill, a-push}
+use Rattle.rules.specs.Plans.{Plan, a-push}
 use Rattle.rules.specs.Steps.{Screen, refusal, done}
 use Rattle.rules.proofs.All.{both, never}
 use Rattle.row.specs.Words.{Words, word-ops}

@@ -27,7 +27,7 @@ use Rattle.screen.specs.Screens.{frame-of, state-of}
 use Rattle.screen.specs.Judging.{judged}
 use Rattle.screen.proofs.ScreenLaws.{Bounds, bounds, paint-count, layer-attr-count, filter-count}
 use Rattle.screen.proofs.Passed.{passed}
-use Rattle.layers.proofs.Passing.{passed-whole, decide, below}
+use Rattle.layers.proofs.Passing.{passed-whole}
 use Rattle.segments.specs.declared.Scene.{Scene}
 use Rattle.segments.specs.Segs.{segs, segs-of, origin, bounds as scene-bounds, SceneOf}
 use Rattle.segments.proofs.Laws.{segs-slice, segs-count, cut-in-scene, judged as judged-list}
@@ -307,7 +307,9 @@ module _ (s : code.Screen) (l : PopLent) (ws : List ℕ) (low : 1 ≤ s.layers) 
 
 -- a number 0, taken apart
 pub zero-first : (s : code.Screen) (l : PopLent) (ws : List ℕ) → number s l ws ≡ 0 → first s l ws ≡ 0
-zero-first s l ws e = decide (first s l ws) 0 (λ h. h (by_first s l ws refl h ∙ e))
+zero-first s l ws e =
+    let f : (first s l ws ≡ 0 → ⊥) → first s l ws ≡ number s l ws = by_first s l ws refl in
+    grind (arith, nat_tests)
 
 module _ (s : code.Screen) (l : PopLent) (ws : List ℕ) (e : first s l ws ≡ 0) where
   pub zero-tests : (judged s (length l.words.state) (length l.words.render) (length l.words.fills) ≡ 0)
@@ -350,10 +352,11 @@ module _ (s : code.Screen) (l : PopLent) (ws : List ℕ) where
   zero-judged e =
       let f = zero-first s l ws e in
       let t = zero-tests s l ws f in
+      let z : s.layers ≡ 0 → ⊥ = λ h. omega (arith, by-none s l ws t.0 t.1 h, e) in
       record {
         screen = t.0;
         table = (lengths-facts (length l.layers) (length l.opacities) (length l.attrs) (length ws) t.1).0;
-        some = below 0 s.layers (λ h. omega (arith, by-none s l ws t.0 t.1 (omega arith), e));
+        some = omega (arith, z);
         layer = t.2;
         rows = less-lent ∙ ap (number-after s l ws) (sym f) ∙ e;
       }

@@ -2,7 +2,6 @@ use mathlib.Core.Path.{sym, ◌∙◌}
 use Rattle.std.proofs.lemmas.Result.{err_from_is_err_and}
 use Rattle.sizes.proofs.Refusals.{not_done}
 use Rattle.pop.proofs.Numbers.{by-screen, by_lengths, by-none, by-opened, lengths-facts}
-use Rattle.layers.proofs.Passing.{below}
 use native.Mathlib.Omega.{arith}
 use Rattle.pop.proofs.judge_pop.Goals as goal
 
@@ -24,7 +23,7 @@ pub judge_open-requires : goal.judge_open-requires
 judge_open-requires c = (
   sym c.in_ok-judge_screen.ensures,
   (lengths-facts _ _ _ _ (sym c.is_good_lengths.ensures ∙ c.if-not-is_good_lengths.false)).0,
-  below 0 _ (λ h. c.if-screen-eq0.false (omega arith)),
+  omega (arith, c.if-screen-eq0.false),
 )
 
 pub returns : goal.returns

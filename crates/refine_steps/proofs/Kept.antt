@@ -28,7 +28,7 @@ use Rattle.rules.proofs.laws.Bounds.{Framed, Inside, judged-facts, good-facts, b
 use Rattle.screen.proofs.ScreenLaws as screens
 use Rattle.refine_row.proofs.Refines.{Built, called, reset-built}
 use Rattle.refine_layers.specs.Touched.{Reaching}
-use Rattle.refine_layers.proofs.Laws.{call-reaching, reset-reaching}
+use Rattle.refine_layers.proofs.Laws.{call-reaching, reset-reaching, filter-plans}
 use Rattle.refine_steps.specs.Sound.{Ordered, Good, Sound}
 use Rattle.refine_steps.proofs.Acts.{PutFine, puts-sane}
 
@@ -142,14 +142,9 @@ module _ (s : State) (f : Framed s) where
   filter-in-fine b count q j i = all-mapped (on (paint (span_of b) None (length s.attrs.paints))) (λ x. record { act = paints (inside-fine b i); id = omega arith }) (rows_in b)
 
   filter-fine : (count : ℕ) (q : Filter) (j : ℕ) → All PutFine (plan-filter count q j s).puts
-  unfolding plan-filter
-  filter-fine count q j = go (good-filter-fill count q j) (draws-nothing q (filter-box s.frame.viewport (box_of s) q)) refl
-    where
-      go : (t u : Bool) → good-filter-fill count q j ≡ t
-          → All PutFine (cond (not t) (still BadRecord s) (cond u (still Done s) (plan-filter-in (filter-box s.frame.viewport (box_of s) q) count q j s))).puts
-      go false u e = nil
-      go true true e = nil
-      go true false e = filter-in-fine (filter-box s.frame.viewport (box_of s) q) count q j (filter-inside q (and_left (good-filter q) (few-paints count) (and_left (good-filter q && few-paints count) (good-panel j) e)))
+  filter-fine count q j =
+      filter-plans (λ p. All PutFine p.puts) count q j s nil nil
+      (λ e. filter-in-fine (filter-box s.frame.viewport (box_of s) q) count q j (filter-inside q (and_left (good-filter q) (few-paints count) (and_left (good-filter q && few-paints count) (good-panel j) e))))
 
   plan-fine : (x : Step) (ts : List ℕ) → (plan x ts s).refused ≡ Done → (plan x ts s).next ≤ 1048577 → All PutFine (plan x ts s).puts
   unfolding plan
@@ -270,12 +265,7 @@ module _ (s : State) (g : good_viewport s.frame.viewport ≡ true) (a : All (Goo
 
   filter-layers : (count : ℕ) (q : Filter) (j : ℕ) → All (Good s.frame.viewport) (plan-filter count q j s).layers
   unfolding plan-filter plan-filter-in
-  filter-layers count q j = go (not (good-filter-fill count q j)) (draws-nothing q (filter-box s.frame.viewport (box_of s) q))
-    where
-      go : (t u : Bool) → All (Good s.frame.viewport) (cond t (still BadRecord s) (cond u (still Done s) (plan-filter-in (filter-box s.frame.viewport (box_of s) q) count q j s))).layers
-      go true u = a
-      go false true = a
-      go false false = a
+  filter-layers count q j = filter-plans (λ p. All (Good s.frame.viewport) p.layers) count q j s a a (λ e. a)
 
   plan-layers : (x : Step) (ts : List ℕ) → (plan x ts s).refused ≡ Done → All (Good s.frame.viewport) (plan x ts s).layers
   unfolding plan plan-fill
@@ -292,12 +282,7 @@ module _ (s : State) (g : good_viewport s.frame.viewport ≡ true) (a : All (Goo
 
   filter-next : (count : ℕ) (q : Filter) (j : ℕ) → s.next ≤ (plan-filter count q j s).next
   unfolding plan-filter plan-filter-in
-  filter-next count q j = go (not (good-filter-fill count q j)) (draws-nothing q (filter-box s.frame.viewport (box_of s) q))
-    where
-      go : (t u : Bool) → s.next ≤ (cond t (still BadRecord s) (cond u (still Done s) (plan-filter-in (filter-box s.frame.viewport (box_of s) q) count q j s))).next
-      go true u = omega arith
-      go false true = omega arith
-      go false false = omega arith
+  filter-next count q j = filter-plans (λ p. s.next ≤ p.next) count q j s (omega arith) (omega arith) (λ e. omega arith)
 
   plan-next : (x : Step) (ts : List ℕ) → s.next ≤ (plan x ts s).next
   unfolding plan plan-fill plan-push

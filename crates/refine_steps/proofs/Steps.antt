@@ -2,6 +2,7 @@
 use mathlib.Core.Path.{◌≡◌, refl, ap, ◌∙◌}
 use mathlib.Core.Bool.{Bool, true, false, ◌||◌, not, cond}
 use mathlib.Core.List.{List, [], ◌∷◌, ◌++◌, map, append-nil}
+use Rattle.refine_layers.proofs.Laws.{filter-plans}
 use Rattle.std.specs.Prelude.{Option, None, Some}
 use Prim.Native.Nat.{ℕ, suc, ◌*◌, ◌%◌, ◌≤◌, ◌<◌}
 use native.Mathlib.Omega.{arith}
@@ -118,14 +119,7 @@ module _ (s : rule.Screen Row) (h : Sound s) (b : Bool) (de pa : List ℕ) where
 
     filter-keeps : ((plan-filter count f q st).layers ≡ st.layers) × ((plan-filter count f q st).attrs.layers ≡ st.attrs.layers)
     unfolding plan-filter plan-filter-in
-    filter-keeps = go (not (good-filter-fill count f q)) (draws-nothing f (filter-box st.frame.viewport (box_of st) f))
-      where
-        go : (t u : Bool)
-            → ((cond t (still BadRecord st) (cond u (still Done st) (plan-filter-in (filter-box st.frame.viewport (box_of st) f) count f q st))).layers ≡ st.layers)
-            × ((cond t (still BadRecord st) (cond u (still Done st) (plan-filter-in (filter-box st.frame.viewport (box_of st) f) count f q st))).attrs.layers ≡ st.attrs.layers)
-        go true u = (refl, refl)
-        go false true = (refl, refl)
-        go false false = (refl, refl)
+    filter-keeps = filter-plans (λ p. (p.layers ≡ st.layers) × (p.attrs.layers ≡ st.attrs.layers)) count f q st (refl, refl) (refl, refl) (λ e. (refl, refl))
 
     filter-first : filter.first-number (filter-part (lent_of s b de pa)) ≡ 0
     unfolding lent_of

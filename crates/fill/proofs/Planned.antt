@@ -1,6 +1,6 @@
 -- The plan of a fill, by the code's own numbers. Assumes nothing.
 use mathlib.Core.Path.{◌≡◌, refl, sym, ap, ◌∙◌}
-use mathlib.Core.Bool.{Bool, true, false, not, cond}
+use mathlib.Core.Bool.{true, false}
 use mathlib.Core.List.{List, [], ◌∷◌}
 use Prim.Native.Nat.{ℕ, ◌+◌, ◌-◌, ◌≤◌, ◌<◌}
 use native.Mathlib.Omega.{arith}
@@ -9,8 +9,7 @@ use lib.Dec.{ltb}
 use lib.ListN.{length, length-append}
 use borrow.Author.Tests.{lt-ltb, le-ltb}
 use Rattle.rules.specs.Lists.{join, every, is-empty}
-use Rattle.rules.specs.Answers.{Done, BadRecord, BadOrder}
-use Rattle.rules.specs.Segments.{Segment, good-segment, ordered, judge-segments, cut_in, cuts}
+use Rattle.rules.specs.Segments.{Segment, good-segment, judge-segments, cut_in, cuts}
 use Rattle.rules.specs.Inputs.{good-fill, draw-segments}
 use Rattle.rules.specs.Attributes.{Attrs, attrs-full}
 use Rattle.rules.specs.Plans.{with-paint, draw-puts, plan-fill}

@@ -7,7 +7,7 @@ use Prim.Native.Nat.{ℕ, zero, suc, ◌+◌, ◌-◌, ◌/◌, ◌≤◌, ◌<�
 use native.Mathlib.Omega.{arith}
 use lib.Dec.{leb, ltb, eqb}
 use lib.ListN.{length, length-append}
-use borrow.Author.Tests.{ne_eqb, eqb-true, le-ltb, le-leb, lt-leb}
+use borrow.Author.Tests.{eqb-true, le-ltb, le-leb, lt-leb}
 use Rattle.sizes.specs.Widths.{bucket-tiles}
 use Rattle.rules.specs.Lists.{some_of, join, slice}
 use Rattle.rules.specs.Answers.{first_of}

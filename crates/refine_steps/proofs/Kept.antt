@@ -8,17 +8,17 @@ use Prim.Native.Nat.{ℕ, zero, suc, ◌-◌, ◌/◌, ◌%◌, ◌≤◌, ◌<�
 use native.Mathlib.Omega.{arith}
 use lib.Dec.{leb, ltb, eqb}
 use lib.ListN.{length, get_or, replicate, length-replicate}
-use borrow.Author.Tests.{leb-false, ltb-true, ltb-false, eqb-true, eqb-false}
+use borrow.Author.Tests.{leb-false, ltb-true, ltb-false, eqb-true}
 use Rattle.rules.specs.Lists.{some_of}
-use Rattle.rules.specs.Answers.{answer, first_of, Done, Deep, Ids, FullAttrs, FullRow, FullDepth, BadRecord}
-use Rattle.rules.specs.Boxes.{Box, width, height, by_4, good-box, bounded, good_viewport, empty-box, rows_of, rows_in, span_of, scene-tiles}
+use Rattle.rules.specs.Answers.{answer, Done, BadRecord}
+use Rattle.rules.specs.Boxes.{Box, by_4, good-box, bounded, good_viewport, empty-box, rows_of, rows_in, span_of, scene-tiles}
 use Rattle.rules.specs.Spans.{Span, span, Stretch, common, meeting, cut_at, cut-when, cut_to}
 use Rattle.rules.specs.Segments.{Segment, good-segment, stretch-of, Cut, localised, cut_in, cuts}
 use Rattle.rules.specs.Blends.{good-blend}
-use Rattle.rules.specs.Inputs.{Paint, Draw, Clip, Props, good-handle, good-panel, few-paints, all-good, good-props, Filter, good-filter, good-filter-fill, draw-segments, good-fill}
+use Rattle.rules.specs.Inputs.{Paint, Draw, Clip, Props, good-handle, good-panel, few-paints, all-good, good-props, Filter, good-filter, draw-segments, good-fill}
 use Rattle.rules.specs.Attributes.{attrs-full}
 use Rattle.rules.specs.Rows.{Row, fresh-row, row-ops}
-use Rattle.rules.specs.Plans.{Frame, bucket, Layer, State, Step, a-fill, a-push, a-pop, a-filter, paint, touch, close, pop, on, Put, Plan, still, clip-box, box_of, draw-act, draw-puts, plan-fill, layer-box, touches-all, plan-push, clip-segments, clip-fits, close-puts, closing, plan-pop, filter-box, draws-nothing, filter-puts, plan-filter-in, plan-filter, plan}
+use Rattle.rules.specs.Plans.{Frame, bucket, Layer, State, Step, a-fill, a-push, a-pop, a-filter, paint, touch, close, pop, on, Put, Plan, clip-box, box_of, draw-act, draw-puts, plan-fill, layer-box, touches-all, plan-push, clip-segments, clip-fits, close-puts, closing, plan-pop, filter-box, filter-puts, plan-filter-in, plan-filter, plan}
 use Rattle.rules.specs.Steps.{Screen, reset, do-puts, done, row-passes, passes, refusal, perform, touched, call}
 use Rattle.rules.specs.Walk.{good-room}
 use Rattle.rules.proofs.All.{All, nil, cons, head, tail, both, and_left, and_right, neither, never, all-if, all_append, all-mapped, all_join}

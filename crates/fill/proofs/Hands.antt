@@ -30,32 +30,16 @@ abbrev code_of : Bool → Bool → Bool → ℕ
 code_of ok full deep = cond ok (cond full 10 (cond deep 11 0)) 5
 
 never-four : (ok full deep : Bool) → code_of ok full deep ≡ 4 → ⊥
-never-four false full deep e = omega arith
-never-four true true deep e = omega arith
-never-four true false true e = omega arith
-never-four true false false e = omega arith
+never-four ok full deep e = grind (arith, nat_tests)
 
 code-kept : (ok full deep : Bool) → code_of ok full deep ≡ code_of (ok && true) full deep
-code-kept true full deep = refl
-code-kept false full deep = refl
+code-kept ok full deep = grind (arith, nat_tests)
 
 code-broken : (ok full deep : Bool) → 5 ≡ code_of (ok && false) full deep
-code-broken true full deep = refl
-code-broken false full deep = refl
+code-broken ok full deep = grind (arith, nat_tests)
 
 noted-is : (ok full deep f g : Bool) → noted (code_of ok full deep) f g ≡ code_of ok (full || f) (deep || g)
-noted-is false full deep true g = refl
-noted-is false full deep false true = refl
-noted-is false full deep false false = refl
-noted-is true true deep true g = refl
-noted-is true true deep false true = refl
-noted-is true true deep false false = refl
-noted-is true false true true g = refl
-noted-is true false true false true = refl
-noted-is true false true false false = refl
-noted-is true false false true g = refl
-noted-is true false false false true = refl
-noted-is true false false false false = refl
+noted-is ok full deep f g = grind (arith, nat_tests)
 
 -- the hand h has the tally t, and an order that is kept if ok
 pub record Holds (j : Job) (rows : List ℕ) (h : Counted) (ok : Bool) (t : Tally) : Type 0 where

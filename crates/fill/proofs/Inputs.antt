@@ -5,15 +5,14 @@ use mathlib.Core.List.{List}
 use Prim.Native.Nat.{ℕ, zero, suc, ◌+◌, ◌*◌, ◌/◌, ◌≤◌, ◌<◌}
 use native.Mathlib.Omega.{arith}
 use Rattle.std.proofs.lemmas.Bool.Decides.{nat_tests}
-use lib.Dec.{leb, ltb, eqb}
+use lib.Dec.{ltb, eqb}
 use lib.ListN.{length, get_or}
-use borrow.Author.Tests.{leb-true, ltb-true}
+use borrow.Author.Tests.{ltb-true}
 use Rattle.rules.specs.Boxes.{Box, scene-tiles}
 use Rattle.rules.specs.Spans.{good-range}
 use Rattle.rules.specs.Blends.{good-blend, is-default}
 use Rattle.rules.specs.Plans.{eligible}
-use Rattle.rules.specs.Inputs.{Paint, good-paint, good-handle, good-thread, good-panel, few-paints, good-draw, good-fill, draw-paint}
-use Rattle.rules.proofs.All.{both}
+use Rattle.rules.specs.Inputs.{Paint, good-paint, good-handle, good-thread, good-panel, few-paints, good-fill, draw-paint}
 use Rattle.rect.specs.Rects.{box_of, Small}
 use Rattle.rect.proofs.Boxes.{small-viewport, view}
 use Rattle.screen.specs.declared.Screen.{Screen}

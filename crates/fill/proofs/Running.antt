@@ -4,6 +4,7 @@ use mathlib.Core.Bool.{Bool, true, false, ◌||◌}
 use mathlib.Core.List.{List, [], ◌∷◌}
 use Prim.Native.Nat.{ℕ, zero, suc, ◌≤◌}
 use native.Mathlib.Omega.{arith}
+use Rattle.std.proofs.lemmas.Bool.Decides.{nat_tests}
 use lib.Dec.{ltb, eqb}
 use lib.ListN.{get_or}
 use borrow.Author.Tests.{ltb-false, le-ltb, eqb-true}
@@ -36,12 +37,7 @@ abbrev pub SaneAt : List Words → Put → Type 0
 SaneAt rs p = Sane (get_or rs p.row nowhere)
 
 same_or : (a b y : Bool) → (y ≡ false → a ≡ b) → (a || y) ≡ (b || y)
-same_or true true y h = refl
-same_or false false y h = refl
-same_or true false true h = refl
-same_or false true true h = refl
-same_or true false false h = h refl
-same_or false true false h = h refl
+same_or a b y h = grind (arith, nat_tests)
 
 -- a put anywhere leaves a record that can be counted so
 pub sane-after : (j : Job) (p : Put) (rs : List Words) (x : ℕ) → j.layers ≤ 16 → Sane (get_or rs x nowhere) → Sane (get_or (change (acted (bucket-tiles j.width) j.layers p.act) p.row rs) x nowhere)

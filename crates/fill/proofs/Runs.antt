@@ -5,6 +5,7 @@ use mathlib.Core.List.{List, [], ◌∷◌, ◌++◌, append_assoc}
 use Rattle.std.specs.Prelude.{Option, None, Some}
 use Prim.Native.Nat.{ℕ, zero, suc, ◌+◌, ◌-◌, ◌*◌, ◌/◌, ◌≤◌, ◌<◌}
 use native.Mathlib.Omega.{arith}
+use Rattle.std.proofs.lemmas.Bool.Decides.{nat_tests}
 use lib.Dec.{leb, ltb, eqb}
 use lib.ListN.{length, get_or, take, drop}
 use borrow.Rule.Slice.PartMut.{put_mid}
@@ -290,18 +291,10 @@ module _ {j : Job} {ws : List ℕ} {row a b : ℕ} {w₀ : Words} {i : ℕ} {w :
 
   -- where the run ends, it has begun
   pub row-left : ((seg-at ws i).row ≡ row → ⊥) → a < i
-  row-left n = go (eqb a i) refl
-    where
-      go : (t : Bool) → eqb a i ≡ t → a < i
-      go true e = absurd (n (rw (eqb-true a i e) at v.ready.here))
-      go false e = let z = eqb-false a i e in omega (arith, v.start, z)
+  row-left n = let f : a ≡ i → ⊥ = λ e. n (rw e at v.ready.here) in omega (arith, v.start)
 
   pub solid-met : (seg-at ws i).kind ≡ 0 → a < i
-  solid-met n = go (eqb a i) refl
-    where
-      go : (t : Bool) → eqb a i ≡ t → a < i
-      go true e = absurd ((rw (eqb-true a i e) at v.ready.index) n)
-      go false e = let z = eqb-false a i e in omega (arith, v.start, z)
+  solid-met n = let f : a ≡ i → ⊥ = λ e. (rw e at v.ready.index) n in omega (arith, v.start)
 
   module _ (h : i < b) where
     pub good-next : good-segment (seg-at ws i) ≡ true
@@ -309,11 +302,10 @@ module _ {j : Job} {ws : List ℕ} {row a b : ℕ} {w₀ : Words} {i : ℕ} {w :
 
     module _ (p : (seg-at ws i).row ≡ row) where
       on-to : OnRow ws row a (i + 1)
-      on-to x q r = go (eqb x i) refl
-        where
-          go : (t : Bool) → eqb x i ≡ t → (seg-at ws x).row ≡ row
-          go true e = rw (eqb-true x i e) p
-          go false e = let z = eqb-false x i e in v.same x q (omega (arith, z))
+      on-to x q r =
+          let last : x ≡ i → (seg-at ws x).row ≡ row = λ e. rw e p in
+          let before = v.same x q in
+          grind (arith, nat_tests)
 
       pub runs_past : [] ≡ cut_in (origin j.scene) (bounds j.scene) (seg-at ws i) → Running j ws row a b w₀ (i + 1) w
       runs_past e =

@@ -5,6 +5,7 @@ use mathlib.Core.List.{List, [], ◌∷◌, map}
 use Rattle.std.specs.Prelude.{None}
 use Prim.Native.Nat.{ℕ, zero, suc, ◌+◌, ◌-◌, ◌*◌, ◌≤◌, ◌<◌}
 use native.Mathlib.Omega.{arith}
+use Rattle.std.proofs.lemmas.Bool.Decides.{nat_tests}
 use lib.Dec.{ltb, eqb}
 use lib.ListN.{length, get_or}
 use borrow.Author.Tests.{ltb-false, le-ltb, eqb-true, eqb-false}
@@ -265,10 +266,4 @@ paint-adds v n t i h w l k =
 -- a run's number is 4, 10 or 0
 pub run-told : (c d n : ℕ) (ws rs : List ℕ) → (band_number c d n ws rs ≡ 4 → ⊥) → cond (eqb (band_number c d n ws rs) 10) 10 0 ≡ band_number c d n ws rs
 unfolding band_number rows_told
-run-told c d n ws rs h =
-    by (every (λ (r : ℕ). good_row c d n (record-at ws r)) rs) (some_of (λ (r : ℕ). is-full c n (record-at ws r)) rs) h
-  where
-    by : (g f : Bool) → (told g f ≡ 4 → ⊥) → cond (eqb (told g f) 10) 10 0 ≡ told g f
-    by true true h = refl
-    by true false h = refl
-    by false f h = absurd (h refl)
+run-told c d n ws rs h = grind (arith, nat_tests)

@@ -4,6 +4,7 @@ use mathlib.Core.Bool.{Bool, true, false, ◌||◌, cond}
 use mathlib.Core.List.{List, [], ◌∷◌, ◌++◌}
 use Prim.Native.Nat.{ℕ, ◌+◌, ◌-◌, ◌≤◌, ◌<◌}
 use native.Mathlib.Omega.{arith}
+use Rattle.std.proofs.lemmas.Bool.Decides.{nat_tests}
 use lib.Dec.{ltb, eqb}
 use lib.ListN.{length, get_or}
 use borrow.Author.Tests.{eq-eqb, ne_eqb, le-ltb, ltb-false}
@@ -195,11 +196,7 @@ module _ (c d n : ℕ) (xs : List ℕ) (rs : List Words) (h : Hand) (o : Clean d
 
       else-so : (h.row ≡ k.row → ⊥) → word 0 (row_of rs k.row) ≡ so
       unfolding so
-      else-so r = go (eqb h.row 8192)
-        where
-          go : (x : Bool) → word 0 (row_of rs k.row) ≡ so_far rs (cond x 0 (h.row + 1)) (h.renders - 1) k.row
-          go true = rw (ne_eqb (k.row + 1) 0 (λ (z : k.row + 1 ≡ 0). omega arith))
-          go false = rw (ne_eqb (k.row + 1) (h.row + 1) (λ (z : k.row + 1 ≡ h.row + 1). r (omega arith)))
+      else-so r = grind (arith, nat_tests)
 
       -- .. or on another, whose record is s
       pub counted-else : {u w : Hand} (s : List ℕ) → (h.row ≡ k.row → ⊥) → u ≡ loaded (limits c d n 1) s h.code k.row
@@ -231,13 +228,10 @@ module _ {c d : ℕ} {xs : List ℕ} {rs : List Words} {ws : List ℕ} {start j 
       here = sym (o.runs (join (cut_in (origin e) (bounds e)) (segs ws (i + 1) (j - (i + 1))))) ∙ (rw (segs-first ws i j h) at v.rest)
 
       pub counting-full : (u.code ≡ 0 → ⊥) → true ≡ runs-full c xs rs 0 0 (join (cut_in (origin e) (bounds e)) (segs ws start (j - start)))
-      counting-full p = go (eqb u.code 10) refl here
-        where
-          go : (x : Bool) → eqb u.code 10 ≡ x → (x || runs_on c xs rs u (join (cut_in (origin e) (bounds e)) (segs ws (i + 1) (j - (i + 1)))))
-              ≡ runs-full c xs rs 0 0 (join (cut_in (origin e) (bounds e)) (segs ws start (j - start)))
-              → true ≡ runs-full c xs rs 0 0 (join (cut_in (origin e) (bounds e)) (segs ws start (j - start)))
-          go true q t = t
-          go false q t = absurd (p (o.clean q).code)
+      counting-full p =
+          let clean : eqb u.code 10 ≡ false → u.code ≡ 0 = λ q. (o.clean q).code in
+          let t = here in
+          grind (arith, nat_tests)
 
       pub counting-on : u.code ≡ 0 → Counting c d xs rs ws start j e (i + 1) u
       counting-on p =

@@ -1,21 +1,20 @@
 -- What a number 0 gives the doing half, and what it leaves. Assumes nothing.
 use mathlib.Core.Path.{◌≡◌, refl, sym, ap, ◌∙◌, subst}
-use mathlib.Core.Bool.{Bool, true, false, ◌&&◌, ◌||◌}
+use mathlib.Core.Bool.{Bool, true, false, ◌||◌}
 use mathlib.Core.List.{List, [], ◌++◌, map}
 use Rattle.std.specs.Prelude.{None, Some}
-use Prim.Native.Nat.{ℕ, zero, suc, ◌+◌, ◌-◌, ◌/◌, ◌≤◌, ◌<◌}
+use Prim.Native.Nat.{ℕ, ◌+◌, ◌-◌, ◌/◌, ◌≤◌, ◌<◌}
 use native.Mathlib.Omega.{arith}
 use Rattle.std.proofs.lemmas.Bool.Decides.{nat_tests}
-use lib.Dec.{ltb, eqb}
+use lib.Dec.{eqb}
 use lib.ListN.{length}
-use borrow.Author.Tests.{eqb-true, eqb-false, ltb-true, ltb-false}
+use borrow.Author.Tests.{eqb-true, eqb-false}
 use Rattle.sizes.specs.Widths.{bucket-tiles}
 use Rattle.rules.specs.Lists.{join, range}
 use Rattle.rules.specs.Boxes.{Box, rows_of, rows_in, span_of, scene-tiles}
 use Rattle.rules.specs.Segments.{judge-segments, Cut, cut_in}
 use Rattle.rules.specs.Plans.{Layer, Put, on, close, pop, clip-box, closing, close-puts}
 use Rattle.rules.specs.Steps.{done}
-use Rattle.rules.proofs.All.{both}
 use Rattle.row.specs.Words.{Words, word-ops}
 use Rattle.row.specs.Cmds.{Short}
 use Rattle.row.specs.Arena.{lay}

@@ -10,9 +10,9 @@ use Rattle.sizes.proofs.Refusals.{not_done}
 use Prim.Native.Nat.{ℕ, ◌+◌, ◌-◌, ◌*◌, ◌≤◌, ◌<◌}
 use native.Mathlib.Omega.{arith}
 use Rattle.std.proofs.lemmas.Bool.Decides.{nat_tests}
-use lib.Dec.{leb, ltb, eqb}
+use lib.Dec.{ltb, eqb}
 use lib.ListN.{length, get_or}
-use borrow.Author.Tests.{eq-eqb, ne_eqb, leb-true, ltb-true}
+use borrow.Author.Tests.{eq-eqb, ne_eqb}
 use Rattle.rules.specs.Lists.{some_of, keep, change, range}
 use Rattle.rules.specs.Spans.{Span}
 use Rattle.rules.specs.Commands.{layer-fill}
@@ -24,7 +24,7 @@ use Rattle.row.specs.Words.{Words, word, put_command, end_buf}
 use Rattle.row.specs.Cmds.{Short}
 use Rattle.row.specs.Arena.{sizes, cut, Arenas}
 use Rattle.row.proofs.RowsLaws.{within}
-use Rattle.row.specs.Building.{good-union, good-level, good-top, good-summary, good_row}
+use Rattle.row.specs.Building.{good-level, good-top, good_row}
 use Rattle.row.specs.declared.room.Limits.{Limits}
 use Rattle.row.specs.Room.{Counted as Hand, record-at, limits, loaded, added_to, rows_told, Found}
 use Rattle.row.proofs.RoomLaws.{good-small, commands-told}

@@ -7,7 +7,7 @@ use Prim.Native.Nat.{ℕ, zero, suc, ◌+◌, ◌-◌, ◌/◌, ◌≤◌, ◌<�
 use native.Mathlib.Omega.{arith}
 use lib.Dec.{leb, ltb, eqb}
 use lib.ListN.{length, length-append}
-use borrow.Author.Tests.{ne_eqb, eqb-true, le-ltb, le-leb, lt-leb}
+use borrow.Author.Tests.{eqb-true, le-ltb, le-leb, lt-leb}
 use Rattle.sizes.specs.Widths.{bucket-tiles}
 use Rattle.rules.specs.Lists.{some_of, join, slice}
 use Rattle.rules.specs.Answers.{first_of}
@@ -27,7 +27,7 @@ use Rattle.screen.specs.Screens.{frame-of, state-of}
 use Rattle.screen.specs.Judging.{judged}
 use Rattle.screen.proofs.ScreenLaws.{Bounds, bounds, paint-count, layer-attr-count, filter-count}
 use Rattle.screen.proofs.Passed.{passed}
-use Rattle.layers.proofs.Passing.{passed-whole, decide, below}
+use Rattle.layers.proofs.Passing.{passed-whole}
 use Rattle.segments.specs.declared.Scene.{Scene}
 use Rattle.segments.specs.Segs.{segs, segs-of, origin, bounds as scene-bounds, SceneOf}
 use Rattle.segments.proofs.Laws.{segs-slice, segs-count, cut-in-scene, judged as judged-list}
@@ -75,7 +75,15 @@ module _ (t : List ℕ) where
   open-first v zero h = absurd (omega arith)
   open-first v (suc n) h = let e : suc n - 1 ≡ n = omega arith in rw e
 
--- the tests before the rows
+-- the tests before the rows, first to last
+in_order : (n : ℕ) (a b g : Bool) (r : ℕ) → let f : ℕ = first_of ((not (eqb n 0), n) ∷ (not a, 4) ∷ (not b, 4) ∷ []) in
+    cond (eqb f 0) (cond g r 4) f ≡ cond (eqb n 0) (cond a (cond b (cond g r 4) 4) 4) n
+in_order n a b g r = grind (arith, nat_tests)
+
+all-right : (n : ℕ) (a b : Bool) (r : ℕ) → cond (eqb n 0) (cond a (cond b r 4) 4) n ≡ 0 → (n ≡ 0) × (a ≡ true) × (b ≡ true) × (r ≡ 0)
+all-right n a b r e = (grind (arith, nat_tests), grind (arith, nat_tests), grind (arith, nat_tests), grind (arith, nat_tests))
+
+-- opacities and attributes are not read after them
 module _ (s : code.Screen) (l : PopLent) (ws : List ℕ) where
   abbrev lens : Bool
   lens = good_lengths (length l.layers) (length l.opacities) (length l.attrs) (length ws)
@@ -86,33 +94,15 @@ module _ (s : code.Screen) (l : PopLent) (ws : List ℕ) where
   abbrev numbered : ℕ
   numbered = judged s (length l.words.state) (length l.words.render) (length l.words.fills)
 
-  by_first : {k : ℕ} → first s l ws ≡ k → (k ≡ 0 → ⊥) → k ≡ number s l ws
-  unfolding number-after step_number
-  by_first {k} e h = rw (e, ne_eqb k 0 h)
+  pub tests : number s l ws ≡ cond (eqb numbered 0) (cond lens (cond opened (number-after s (lent l.words l.layers [] []) ws 0) 4) 4) numbered
+  unfolding number-after step_number first
+  tests =
+      in_order numbered lens opened (good-pops s.c s.d s.layers (rows_at (frame-of s) l.words) (own-rows (layers-in l.layers s.layers)))
+      (refusal Words word-ops (pop-plan s l ws) (done Words word-ops (pop-plan s l ws) (screen-at (state-in s l.layers) l.words)))
 
-  pub by-screen : {k : ℕ} → k ≡ numbered → (k ≡ 0 → ⊥) → k ≡ number s l ws
-  unfolding first
-  by-screen {k} e h = let p : first s l ws ≡ k = rw (← e, ne_eqb k 0 h) in by_first p h
-
-  pub by_lengths : numbered ≡ 0 → lens ≡ false → 4 ≡ number s l ws
-  unfolding first
-  by_lengths e h = let p : first s l ws ≡ 4 = rw (e, h) in by_first p (λ (z : 4 ≡ 0). omega arith)
-
-  pub by-open : numbered ≡ 0 → lens ≡ true → opened ≡ false → 4 ≡ number s l ws
-  unfolding first
-  by-open e g h = let p : first s l ws ≡ 4 = rw (e, g, h) in by_first p (λ (z : 4 ≡ 0). omega arith)
-
-  pub all_first : numbered ≡ 0 → lens ≡ true → opened ≡ true → first s l ws ≡ 0
-  unfolding first
-  all_first e g h = rw (e, g, h)
-
-  open_none : s.layers ≡ 0 → opened ≡ true
-  unfolding good-open
-  open_none h = rw h
-
-  pub by-none : numbered ≡ 0 → lens ≡ true → s.layers ≡ 0 → 7 ≡ number s l ws
-  unfolding number-after step_number own-rows layers-in plan-pop refusal good-pops
-  by-none e g h = rw (all_first e g (open_none h), h)
+  pub none-left : s.layers ≡ 0 → (opened ≡ true) × (number-after s (lent l.words l.layers [] []) ws 0 ≡ 7)
+  unfolding good-open number-after step_number own-rows layers-in plan-pop refusal good-pops
+  none-left h = (rw h, rw h)
 
 -- the tests after it
 shift : (m : ℕ) → ltb 1048577 (m + 1) ≡ ltb 1048576 m
@@ -305,16 +295,6 @@ module _ (s : code.Screen) (l : PopLent) (ws : List ℕ) (low : 1 ≤ s.layers) 
               (λ y z. let v = clip-closeable y s.layer_attrs ks in
               rw puts-scene (deep_is v (length (layers-in l.layers (s.layers - 1)))))
 
--- a number 0, taken apart
-pub zero-first : (s : code.Screen) (l : PopLent) (ws : List ℕ) → number s l ws ≡ 0 → first s l ws ≡ 0
-zero-first s l ws e = decide (first s l ws) 0 (λ h. h (by_first s l ws refl h ∙ e))
-
-module _ (s : code.Screen) (l : PopLent) (ws : List ℕ) (e : first s l ws ≡ 0) where
-  pub zero-tests : (judged s (length l.words.state) (length l.words.render) (length l.words.fills) ≡ 0)
-      × (good_lengths (length l.layers) (length l.opacities) (length l.attrs) (length ws) ≡ true) × (good-open (box_of s.viewport) l.layers s.layers ≡ true)
-  unfolding first
-  zero-tests = (grind (arith, nat_tests), grind (arith, nat_tests), grind (arith, nat_tests))
-
 pub record Passed (g : Bool) (r n a : ℕ) (f : Bool) : Type 0 where
   pub good : g ≡ true
   pub listed : r ≡ 0
@@ -330,34 +310,15 @@ pub lengths-facts : (t o a w : ℕ) → good_lengths t o a w ≡ true → (t ≡
 unfolding good_lengths
 lengths-facts t o a w g = (grind (arith, nat_tests), grind (arith, nat_tests), grind (arith, nat_tests))
 
-module _ (s : code.Screen) (l : PopLent) (ws : List ℕ) where
-  -- opacities and attributes are not read after the first tests
-  less-lent : number-after s (lent l.words l.layers [] []) ws 0 ≡ number-after s l ws 0
-  unfolding number-after
-  less-lent = refl
+module _ (s : code.Screen) (l : PopLent) (ws : List ℕ) (e : number s l ws ≡ 0) where
+  all-zero : (numbered s l ws ≡ 0) × (lens s l ws ≡ true) × (opened s l ws ≡ true) × (number-after s (lent l.words l.layers [] []) ws 0 ≡ 0)
+  all-zero = all-right (numbered s l ws) (lens s l ws) (opened s l ws) _ (sym (tests s l ws) ∙ e)
 
-  pub by-opened : judged s (length l.words.state) (length l.words.render) (length l.words.fills) ≡ 0
-      → good_lengths (length l.layers) (length l.opacities) (length l.attrs) (length ws) ≡ true
-      → cond (good-open (box_of s.viewport) l.layers s.layers) (number-after s (lent l.words l.layers [] []) ws 0) 4 ≡ number s l ws
-  by-opened e h = go (good-open (box_of s.viewport) l.layers s.layers) refl
-    where
-      go : (b : Bool) → good-open (box_of s.viewport) l.layers s.layers ≡ b → cond b (number-after s (lent l.words l.layers [] []) ws 0) 4 ≡ number s l ws
-      go true p = less-lent ∙ ap (number-after s l ws) (sym (all_first s l ws e h p))
-      go false p = by-open s l ws e h p
+  pub zero-lengths : (length l.layers ≡ open-layer-table) × (length l.opacities ≡ opacity-count) × (length l.attrs ≡ layer-attr-table)
+  zero-lengths = lengths-facts (length l.layers) (length l.opacities) (length l.attrs) (length ws) all-zero.1
 
   -- a number 0 is what the doing half requires
-  pub zero-judged : number s l ws ≡ 0 → Judged s l.layers ws l.words
-  zero-judged e =
-      let f = zero-first s l ws e in
-      let t = zero-tests s l ws f in
-      record {
-        screen = t.0;
-        table = (lengths-facts (length l.layers) (length l.opacities) (length l.attrs) (length ws) t.1).0;
-        some = below 0 s.layers (λ h. omega (arith, by-none s l ws t.0 t.1 (omega arith), e));
-        layer = t.2;
-        rows = less-lent ∙ ap (number-after s l ws) (sym f) ∙ e;
-      }
-
-  pub zero-lengths : number s l ws ≡ 0 → (length l.layers ≡ open-layer-table) × (length l.opacities ≡ opacity-count) × (length l.attrs ≡ layer-attr-table)
-  zero-lengths e =
-      lengths-facts (length l.layers) (length l.opacities) (length l.attrs) (length ws) (zero-tests s l ws (zero-first s l ws e)).1
+  pub zero-judged : Judged s l.layers ws l.words
+  zero-judged =
+      let z : s.layers ≡ 0 → ⊥ = λ h. omega (arith, (none-left s l ws h).1, all-zero.3) in
+      record { screen = all-zero.0; table = zero-lengths.0; some = omega (arith, z); layer = all-zero.2; rows = all-zero.3 }

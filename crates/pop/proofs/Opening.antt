@@ -1,27 +1,21 @@
 -- The innermost layer as the code reads it: its box, its parent's, its clip. Assumes nothing.
-use mathlib.Core.Path.{◌≡◌, refl, sym, ap, ◌∙◌}
+use mathlib.Core.Path.{◌≡◌, sym, ap, ◌∙◌}
 use mathlib.Core.Bool.{Bool, true, false, ◌&&◌, ◌||◌, not, cond}
 use mathlib.Core.List.{List, []}
-use Prim.Native.Nat.{ℕ, zero, suc, ◌+◌, ◌-◌, ◌/◌, ◌%◌, ◌≤◌, ◌<◌}
+use Prim.Native.Nat.{ℕ, ◌+◌, ◌-◌, ◌/◌, ◌%◌, ◌≤◌, ◌<◌}
 use native.Mathlib.Omega.{arith}
 use Rattle.std.proofs.lemmas.Bool.Decides.{nat_tests}
-use lib.Dec.{leb, eqb}
 use lib.ListN.{length}
-use borrow.Author.Tests.{eqb-true, leb-true, leb-false}
 use Rattle.rules.specs.Lists.{join, range}
-use Rattle.rules.specs.Boxes.{Box, width, height, by_4, empty-box, rows_of, span_of, whole}
-use Rattle.rules.specs.Blends.{good-blend}
-use Rattle.rules.specs.Inputs.{good-handle, good-thread, good-panel}
+use Rattle.rules.specs.Boxes.{Box, width, height, empty-box, rows_of, span_of, whole}
 use Rattle.rules.specs.Segments.{judge-segments, cut_in}
 use Rattle.rules.specs.Plans.{clip-box}
-use Rattle.rules.proofs.All.{both}
 use Rattle.row.specs.Words.{Words}
 use Rattle.row.specs.Cmds.{Short}
 use Rattle.rect.specs.declared.Rect.{Rect}
 use Rattle.rect.specs.Rects.{box_of, Small}
 use Rattle.rect.proofs.Boxes as boxes
 use Rattle.rect.proofs.Boxes.{small-viewport}
-use Rattle.cmd.specs.Blends.{blend_of}
 use Rattle.screen.specs.declared.Screen as code
 use Rattle.screen.specs.Screens.{frame-of}
 use Rattle.segments.specs.declared.Scene.{Scene}

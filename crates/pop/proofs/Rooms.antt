@@ -1,13 +1,12 @@
 -- A screen's rows as its words have them, and room for a run of puts. Assumes nothing.
-use mathlib.Core.Path.{◌≡◌, refl, sym, ap, ◌∙◌}
-use mathlib.Core.Bool.{Bool, true, false, ◌&&◌}
+use mathlib.Core.Path.{◌≡◌, sym, ap, ◌∙◌}
 use mathlib.Core.List.{List, [], ◌∷◌, ◌++◌}
 use Prim.Native.Nat.{ℕ, ◌+◌, ◌-◌, ◌*◌, ◌≤◌, ◌<◌}
 use native.Mathlib.Omega.{arith}
-use lib.Dec.{leb, ltb, eqb}
+use Rattle.std.proofs.lemmas.Bool.Decides.{nat_tests}
+use lib.Dec.{eqb}
 use lib.ListN.{length, get_or, take, drop}
 use lib.Seq.{get_or-take, get_or-drop}
-use borrow.Author.Tests.{leb-true, leb-false, ltb-true, ltb-false}
 use Rattle.rules.specs.Lists.{some_of, change, range}
 use Rattle.rules.specs.Plans.{Put}
 use Rattle.rules.specs.Steps.{do-puts}
@@ -44,14 +43,13 @@ module _ {cs ds rows : ℕ} {w : Words} (o : Arenas cs ds rows w) where
 
   -- a test of words is the rules' test
   pub touched-is : (a b n r : ℕ) → b ≤ rows → touched-word a b n w.state r ≡ some_of (eqb r) (touched-in n (cut (sizes cs ds) rows w) (range a b))
-  touched-is a b n r h = go (leb a r) refl (ltb r b) refl
-    where
-      go : (x : Bool) → leb a r ≡ x → (y : Bool) → ltb r b ≡ y → (x && y && eqb (get_or w.state (r * 54 + 5) 0) n) ≡ some_of (eqb r) (touched-in n (cut (sizes cs ds) rows w) (range a b))
-      go false p y q = sym (below n (cut (sizes cs ds) rows w) (b - a) a r (leb-false a r p))
-      go true p false q = sym (above n (cut (sizes cs ds) rows w) a b r (ltb-false r b q) (leb-true a r p))
-      go true p true q =
-          let g : r < b = ltb-true r b q in
-          ap (λ (k : ℕ). eqb k n) (row_word r 5 (omega arith) (omega arith)) ∙ sym (inside n (cut (sizes cs ds) rows w) a b r (leb-true a r p) g)
+  touched-is a b n r h =
+      let rs = cut (sizes cs ds) rows w in
+      let low = below n rs (b - a) a r in
+      let high = above n rs a b r in
+      let here = inside n rs a b r in
+      let read = row_word r 5 in
+      grind (arith, nat_tests)
 
   pub touched-inside : (a b n : ℕ) → b ≤ rows → All (λ (x : ℕ). x < length (cut (sizes cs ds) rows w)) (touched-in n (cut (sizes cs ds) rows w) (range a b))
   touched-inside a b n h =

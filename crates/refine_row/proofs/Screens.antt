@@ -1,23 +1,21 @@
 -- A whole screen's words: the words of its rows, one after the other. Assumes nothing.
 use mathlib.Core.Path.{◌≡◌, refl, ap}
 use mathlib.Core.List.{List, [], ◌∷◌, map}
-use Prim.Native.Nat.{ℕ, zero, suc, ◌*◌, ◌≤◌, ◌<◌}
-use native.Mathlib.Omega.{arith}
+use Prim.Native.Nat.{ℕ, zero, suc, ◌*◌}
 use lib.ListN.{length, replicate}
 use Rattle.rules.specs.Boxes.{rows_of}
-use Rattle.rules.specs.Rows.{Row, Level, fresh-row}
+use Rattle.rules.specs.Rows.{Row, fresh-row}
 use Rattle.rules.specs.Plans.{Frame}
 use Rattle.rules.specs.Steps.{reset}
 use Rattle.rules.specs.Commands.{command_words, depth-words}
 use Rattle.rules.specs.Lists.{join}
 use Rattle.rules.proofs.All.{All, all-mapped}
 use Rattle.rules.proofs.laws.Maps.{screen-by}
-use Rattle.row.specs.Words.{Words, words, Ends}
+use Rattle.row.specs.Words.{Words, words}
 use Rattle.row.specs.Arena.{sizes, Sized, Long, cut, lay}
 use Rattle.row.proofs.RowsLaws.{cut-lay, lay-long}
-use Rattle.refine_row.specs.Encode.{stack, placed, encode, Fine}
+use Rattle.refine_row.specs.Encode.{stack, encode}
 use Rattle.refine_row.proofs.Pads.{padded-length}
-use Rattle.refine_row.proofs.Laws.{place-word}
 use Rattle.refine_row.proofs.Refines.{fresh-words}
 
 -- each row has its own words

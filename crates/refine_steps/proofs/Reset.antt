@@ -1,15 +1,13 @@
 -- A reset's words are those of the rules' reset (rule 1). Assumes nothing.
 use mathlib.Core.Path.{◌≡◌, refl, sym, ap, ◌∙◌}
-use mathlib.Core.Bool.{true, false, ◌&&◌}
+use mathlib.Core.Bool.{true, false}
 use mathlib.Core.List.{List, [], ◌++◌, map}
 use Prim.Native.Nat.{ℕ, zero, suc, ◌+◌, ◌-◌, ◌*◌}
 use native.Mathlib.Nat.{suc-mul}
 use native.Mathlib.Omega.{arith}
 use Rattle.std.proofs.lemmas.Bool.Decides.{nat_tests}
-use lib.Dec.{eqb}
 use lib.IntN.{pos}
 use lib.ListN.{length, replicate}
-use borrow.Author.Tests.{eqb-true}
 use Rattle.rules.specs.Answers.{answer}
 use Rattle.rules.specs.Boxes.{good_viewport, rows_of}
 use Rattle.sizes.specs.Sizes.{open-layer-table, opacity-count, paint-attr-table, layer-attr-table, filter-paint-table}
@@ -18,14 +16,13 @@ use Rattle.screen.specs.Attributes.{paint-attr-words}
 use Rattle.rules.specs.Rows.{Row, fresh-row}
 use Rattle.rules.specs.Steps.{Screen, reset}
 use Rattle.rules.specs.Walk.{good-room, good-arenas}
-use Rattle.rules.proofs.All.{both}
 use Rattle.row.specs.Words.{Words, words}
 use Rattle.row.specs.Arena.{lay}
 use Rattle.refine_row.proofs.Screens.{blank-row, reset-words}
 use Rattle.rules.specs.Plans.{Frame}
 use Rattle.screen.specs.Screens.{fresh-screen}
 use Rattle.screen.specs.declared.Lengths.{Lengths}
-use Rattle.screen.specs.Judging.{good-fixed, good-tables, arenas, judged_reset}
+use Rattle.screen.specs.Judging.{good-tables, arenas, judged_reset}
 use Rattle.screen.specs.Tables.{zeros, lengths, ScreenLent, float-0, reset_to}
 use Rattle.screen.proofs.Passed.{reset-says}
 use Rattle.layers.specs.Filter.{filter-paint-words}

@@ -1,5 +1,5 @@
-// The doing half of a fill (rules 3 to 7; bucketer.rs, generate and push_fill), over a whole screen's words. Parts: each has a `requires`, which `fill` has
-// judged.
+//! The doing half of a fill (rules 3 to 7; bucketer.rs, generate and push_fill), over a whole screen's words. Parts: each has a `requires`, which `fill` has
+//! judged.
 ghost use Rattle.std.specs.Prelude.{◌≡◌, true, ◌+◌, ◌*◌, ◌-◌, ◌≤◌, ◌<◌, length, get_or};
 ghost use Rattle.sizes.specs.Sizes.{most-layers};
 ghost use Rattle.rules.specs.Lists.{change};
@@ -20,8 +20,8 @@ use sizes::LEVELS;
 use sizes::width::Width;
 use span::Stretch;
 
-// What stays the same over all the segments of a fill: the scene, room for c commands and d depth fills in a row, how many layers are open, whether solid
-// segments are eligible (rule 6), the place of the attribute, the draw's id, and the width of a depth bucket.
+/// What stays the same over all the segments of a fill: the scene, room for c commands and d depth fills in a row, how many layers are open, whether solid
+/// segments are eligible (rule 6), the place of the attribute, the draw's id, and the width of a depth bucket.
 #[derive(Clone, Copy)]
 pub struct Job {
     pub scene: Scene,
@@ -34,7 +34,7 @@ pub struct Job {
     pub width: Width,
 }
 
-// Segments of a list from start to end at most, that stand on one row, numbered as in the scene.
+/// Segments of a list from start to end at most, that stand on one row, numbered as in the scene.
 #[derive(Clone, Copy)]
 pub struct Run {
     pub start: usize,
@@ -168,7 +168,7 @@ fn fill_run(
     )
 }
 
-// The segments from start to end of a list that is judged: solid ones one by one, those with alpha in runs.
+/// The segments from start to end of a list that is judged: solid ones one by one, those with alpha in runs.
 pub fn fill_rows(rows: &mut Rows<'_>, segs: &[u32], start: usize, end: usize, job: Job)
     requires { FillReady job (count-rows rows.old.state.now) segs.now start «end» (all-held rows.old) }
     ensures same { SameRows rows.old rows.new }

@@ -1,5 +1,5 @@
-// A pop (rules 9 and 10; bucketer.rs, pop_layer): judged, then done, or refused with nothing changed. `pop_layer` is a public call; the others are parts of it:
-// where one asks something, its callers have judged it.
+//! A pop (rules 9 and 10; bucketer.rs, pop_layer): judged, then done, or refused with nothing changed. `pop_layer` is a public call; the others are parts of it:
+//! where one asks something, its callers have judged it.
 #![tactic(auto)]
 
 ghost use Rattle.std.specs.Prelude.{◌≡◌, false, ◌&&◌, cond, ◌+◌, ◌-◌, ◌*◌, ◌/◌, ◌≤◌, ◌<◌, length, eqb};
@@ -265,8 +265,8 @@ fn close(screen: &mut Screen, parent: Rect)
     screen.painting = false;
 }
 
-// Rules 9 and 10: the innermost layer closes. The list has the segments of its clip, five words each. BadViewport, BadArena, BadRecord, BadOrder, NoLayer, Ids,
-// FullAttrs or FullRow: refused, the screen and every lent word stay.
+/// Rules 9 and 10: the innermost layer closes. The list has the segments of its clip, five words each. BadViewport, BadArena, BadRecord, BadOrder, NoLayer, Ids,
+/// FullAttrs or FullRow: refused, the screen and every lent word stay.
 pub fn pop_layer(
     screen: &mut Screen,
     rows: &mut Rows<'_>,

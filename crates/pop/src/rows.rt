@@ -1,5 +1,5 @@
-// The rows of a closing layer (rules 9 and 10; bucketer.rs, pop_layer): judging them, the closing LayerFills, the PopBufs. Parts: each has a `requires`, which
-// its callers have judged. The layer that closes is the innermost of `screen.layers`. A row is touched if it has that layer's PushBuf.
+//! The rows of a closing layer (rules 9 and 10; bucketer.rs, pop_layer): judging them, the closing LayerFills, the PopBufs. Parts: each has a `requires`, which
+//! its callers have judged. The layer that closes is the innermost of `screen.layers`. A row is touched if it has that layer's PushBuf.
 ghost use Rattle.std.specs.Prelude.{◌≡◌, true, cond, map, ◌+◌, ◌-◌, ◌*◌, ◌≤◌, ◌<◌, length, None};
 ghost use Rattle.sizes.specs.Sizes.{most-layers, most-rows, row-size};
 ghost use Rattle.rules.specs.Lists.{change, range, every};
@@ -29,14 +29,14 @@ use sizes::answers::Refusal;
 use sizes::{LEVEL, LEVEL_BASE, LEVELS, ROW};
 use span::TileSpan;
 
-// The rows of the layer's box, from a to b, which is not among them.
+/// The rows of the layer's box, from a to b, which is not among them.
 #[derive(Clone, Copy)]
 pub struct Band {
     pub a: usize,
     pub b: usize,
 }
 
-// The segments of the layer's clip, from start to end of a list, and the scene that they are cut to: the parent's box.
+/// The segments of the layer's clip, from start to end of a list, and the scene that they are cut to: the parent's box.
 #[derive(Clone, Copy)]
 pub struct ClipPath {
     pub start: usize,
@@ -103,7 +103,7 @@ fn count_pop_row(screen: Screen, rows: &[u32], found: Fault, r: usize, more: usi
         .found
 }
 
-// The rows of the band: 4 for one of them, then 10 for a touched one, its PopBuf and `more` commands.
+/// The rows of the band: 4 for one of them, then 10 for a touched one, its PopBuf and `more` commands.
 #[inline(always)]
 pub fn judge_pop_rows(
     screen: Screen,
@@ -161,7 +161,7 @@ fn count_segment(
     load(part(rows.state, ROW, r), limits, hand.found, placed.row).add(limits, ONE_COMMAND)
 }
 
-// With a clip: whether a touched row would get more than C commands (answer 10), the LayerFills of the clip's segments and each row's PopBuf after them.
+/// With a clip: whether a touched row would get more than C commands (answer 10), the LayerFills of the clip's segments and each row's PopBuf after them.
 pub fn is_full_clip(
     screen: Screen,
     rows: &Rows<'_>,
@@ -267,7 +267,7 @@ fn close_span(screen: Screen, rows: &mut Rows<'_>, r: usize, span: TileSpan)
     close_at(screen, rows.state, rows.render, rows.fills, r, fill);
 }
 
-// Rule 9 without a clip: a LayerFill of the layer's span of tiles on each touched row of the band.
+/// Rule 9 without a clip: a LayerFill of the layer's span of tiles on each touched row of the band.
 pub fn close_spans(screen: Screen, rows: &mut Rows<'_>, band: Band, span: TileSpan)
     requires { WholeRows screen rows.old × InScreen screen band × Short (tiles span)
         × FillableAt screen span rows.old (touched screen band rows.old) }
@@ -294,7 +294,7 @@ fn pop_row(screen: Screen, rows: &mut Rows<'_>, r: usize)
     pop_at(screen, rows.state, rows.render, rows.fills, r);
 }
 
-// Rule 10: a PopBuf on each touched row of the band.
+/// Rule 10: a PopBuf on each touched row of the band.
 pub fn pop_rows(screen: Screen, rows: &mut Rows<'_>, band: Band)
     requires { WholeRows screen rows.old × InScreen screen band
         × Each Poppable (screen_rows screen rows.old) (touched screen band rows.old) }
@@ -337,7 +337,7 @@ fn close_segment(
     close_at(screen, rows.state, rows.render, rows.fills, r, fill);
 }
 
-// Rule 9 with a clip: the LayerFills of the clip's segments, cut to the parent's box, in touched rows of the band.
+/// Rule 9 with a clip: the LayerFills of the clip's segments, cut to the parent's box, in touched rows of the band.
 pub fn close_segments(screen: Screen, rows: &mut Rows<'_>, list: &[u32], clip: ClipPath, band: Band)
     requires { Clips (frame-of screen) screen.layers screen.layer_attrs list.now clip.start clip.«end» clip.scene band.a band.b (all-held rows.old) }
     ensures same { SameRows rows.old rows.new }

@@ -152,8 +152,15 @@ module _ (bs : List ℕ) (room : 264256 ≤ length bs) where
               few = rw q short;
             };
             left = λ i. record {
-              viewport = v; width = x; size = refl; few = few; kept = done.kept; words = w.value; refines = done.refines;
-              screen = ap (λ (y : ℕ × declared.Screen). y.1) t; tables = refl;
+              viewport = v;
+              width = x;
+              size = refl;
+              few = few;
+              kept = done.kept;
+              words = w.value;
+              refines = done.refines;
+              screen = ap (λ (y : ℕ × declared.Screen). y.1) t;
+              tables = refl;
             };
           })
       go false q =

@@ -1,4 +1,4 @@
-// The rules (docs/RULES.md) as definitions that compute. A function here does nothing: what it promises are cases and laws of the rules.
+//! The rules (docs/RULES.md) as definitions that compute. A function here does nothing: what it promises are cases and laws of the rules.
 #![tactic(auto)]
 
 ghost use Rattle.rules.specs.Words.{PixmapsReadBack, PixmapsWrittenBack};

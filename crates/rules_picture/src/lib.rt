@@ -1,5 +1,5 @@
-// The picture as definitions: what a tile receives in plain draw order, and what a newer solid segment takes away. What a function here promises is a
-// theorem about the rules, and it does nothing else.
+//! The picture as definitions: what a tile receives in plain draw order, and what a newer solid segment takes away. What a function here promises is a
+//! theorem about the rules, and it does nothing else.
 #![tactic(auto)]
 
 ghost use Rattle.rules_picture.specs.Panels.{Answered-alike, Built-alike, Panel-blind, Painted-alike, Told-alike};

@@ -150,8 +150,28 @@ module _ (ws : List ℕ) (q : Setup) (t u : Tables) (e : lengths t ≡ lengths u
 pub exact-same : {z : Size} (t u : Tables) → Exact z t → Exact z u → (ws : List ℕ) (q : Setup) (bs : List ℕ) → (recording-text ws q t bs).showed ≡ (recording-text ws q u bs).showed
 exact-same t u h g ws q bs =
     same_text ws q t u
-    (rw (h.render, h.fills, h.depth, h.rows, h.painting, h.layers, h.opacities, h.paint-attrs, h.layer-attrs, h.filter-paints,
-      g.render, g.fills, g.depth, g.rows, g.painting, g.layers, g.opacities, g.paint-attrs, g.layer-attrs, g.filter-paints) refl)
+    (rw (
+      h.render,
+      h.fills,
+      h.depth,
+      h.rows,
+      h.painting,
+      h.layers,
+      h.opacities,
+      h.paint-attrs,
+      h.layer-attrs,
+      h.filter-paints,
+      g.render,
+      g.fills,
+      g.depth,
+      g.rows,
+      g.painting,
+      g.layers,
+      g.opacities,
+      g.paint-attrs,
+      g.layer-attrs,
+      g.filter-paints,
+    ) refl)
     bs
 
 -- blank tables are

@@ -1,5 +1,5 @@
-// What `rowdump` prints of a recording, from its number and its file's bytes to the text. Parts: where a function asks something, its callers
-// have seen to it. `panels`: whether a line with a panel shows it.
+//! What `rowdump` prints of a recording, from its number and its file's bytes to the text. Parts: where a function asks something, its callers
+//! have seen to it. `panels`: whether a line with a panel shows it.
 #![tactic(auto)]
 
 ghost use Rattle.std.specs.Prelude.{◌≡◌, [], ◌∷◌, ◌-◌, ◌≤◌, length, vec_len, IfOk};
@@ -23,12 +23,11 @@ use screen::{Lent, Screen, Setup};
 use sizes::answers::Refusal;
 use sizes::{MOST_ATTRS, MOST_FILTERS, PROGRAM_ROOM, PROGRAM_ROWS};
 use std::alloc::{AllocError, Global};
-use text::Tables as AttrTables;
 use text::details::{DETAIL, PIECE_LINE};
 use text::painted::{PIECE_LIST, PIECES};
 use text::{
-    FILE_WORDS, Out, Print, attrs_text, no_screen, print_first, read_file, recording_text, refuse,
-    row_text,
+    FILE_WORDS, Out, Print, Tables as AttrTables, attrs_text, no_screen, print_first, read_file,
+    recording_text, refuse, row_text,
 };
 use text_programs::no_width_text;
 use text_programs::tables::Tables;
@@ -201,7 +200,15 @@ fn screen_text(
         paint_attrs,
         layer_attrs,
     };
-    let more = begun_text(screen, panels, &stored, depth, painting, list, &mut out[k..]);
+    let more = begun_text(
+        screen,
+        panels,
+        &stored,
+        depth,
+        painting,
+        list,
+        &mut out[k..],
+    );
     k + more
 }
 
@@ -243,7 +250,14 @@ pub fn rowdump_text(i: u64, file: &[u8], setup: Setup, panels: bool, desk: &mut 
     ensures out_after { desk.new.text.now ≡ first (rowdump-text panels (setup-of setup) i file.now) desk.old.text.now }
 {
     let k = put_recording(desk.text, i);
-    let more = lines_text(file, setup, panels, desk.tables, desk.list, &mut desk.text[k..]);
+    let more = lines_text(
+        file,
+        setup,
+        panels,
+        desk.tables,
+        desk.list,
+        &mut desk.text[k..],
+    );
     k + more
 }
 

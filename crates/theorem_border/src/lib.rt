@@ -1,5 +1,5 @@
-// Theorems about the calls that a host links: the picture, `can_skip`, recordings, refusals, an example, over the state's words and the tables alone. What a
-// function here promises is a theorem, and it does nothing else.
+//! Theorems about the calls that a host links: the picture, `can_skip`, recordings, refusals, an example, over the state's words and the tables alone. What a
+//! function here promises is a theorem, and it does nothing else.
 #![tactic(auto)]
 
 ghost use Rattle.std.specs.Prelude.{List};

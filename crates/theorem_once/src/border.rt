@@ -1,4 +1,4 @@
-// Each call that a host links.
+//! Each call that a host links.
 ghost use Rattle.std.specs.Prelude.{◌≡◌};
 ghost use Rattle.row.specs.Rows.{all-held};
 ghost use Rattle.screen.specs.Lent.{tables_in};

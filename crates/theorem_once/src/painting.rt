@@ -1,4 +1,4 @@
-// Each painting call, and the direct runs.
+//! Each painting call, and the direct runs.
 ghost use Rattle.std.specs.Prelude.{◌≡◌};
 ghost use Rattle.theorem_once.specs.Words.{stored-words};
 

@@ -1,4 +1,4 @@
-// A recording, and `why`.
+//! A recording, and `why`.
 ghost use Rattle.std.specs.Prelude.{◌≡◌};
 ghost use Rattle.screen.specs.Lent.{tables_in};
 

@@ -1,4 +1,4 @@
-// Each call of `depth`, its `forms` among them.
+//! Each call of `depth`, its `forms` among them.
 ghost use Rattle.std.specs.Prelude.{◌≡◌};
 
 use crate::Twice;

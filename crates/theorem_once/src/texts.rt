@@ -1,4 +1,4 @@
-// Each text.
+//! Each text.
 ghost use Rattle.std.specs.Prelude.{◌≡◌};
 ghost use Rattle.row.specs.Rows.{all-held};
 ghost use Rattle.screen.specs.Lent.{tables_in};
@@ -11,8 +11,8 @@ use row::Rows;
 use screen::{Lent, Screen, Setup};
 use sizes::answers::Refusal;
 use text::{
-    FileText, Size, Tables, attrs_text, list_screen, no_width_refusal, recording_text, refusal_line,
-    row_text, size_of,
+    FileText, Size, Tables, attrs_text, list_screen, no_width_refusal, recording_text,
+    refusal_line, row_text, size_of,
 };
 use text_programs::file_text;
 use text_programs::tables::Tables as FileTables;

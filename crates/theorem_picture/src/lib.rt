@@ -1,5 +1,5 @@
-// Theorems about the calls on a screen's words: they are the rules' calls, the picture, `can_skip`, recordings. What a function here
-// promises is a theorem, and it does nothing else.
+//! Theorems about the calls on a screen's words: they are the rules' calls, the picture, `can_skip`, recordings. What a function here
+//! promises is a theorem, and it does nothing else.
 #![tactic(auto)]
 
 ghost use Rattle.std.specs.Prelude.{List};

@@ -1,5 +1,5 @@
-// Theorems: the reason why a tile shows what it shows is the first that holds, and the only one. What a function here promises is a theorem, and
-// it does nothing else.
+//! Theorems: the reason why a tile shows what it shows is the first that holds, and the only one. What a function here promises is a theorem, and
+//! it does nothing else.
 #![tactic(auto)]
 
 ghost use Rattle.theorem_reason.specs.Reasons.{Told-exact, Reason-true, Unknown-exact, Shown-exact, Hidden-exact, Panel-true, Reason-painted};

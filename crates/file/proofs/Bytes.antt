@@ -21,8 +21,6 @@ abbrev pub Put : List ℕ → List ℕ → ℕ → List ℕ → Type 0
 Put bs old i now = now ≡ each word_from 4 bs 0 i ++ drop i old
 
 module _ (bs old : List ℕ) (i : ℕ) (now : List ℕ) (p : Put bs old i now) where
-  pub put-length : i ≤ length old → length now ≡ length old
-  put-length h = rw p (simp (length-append, length-drop, each-length) (omega arith))
 
   pub put_next : (x : ℕ) → i < length old → x ≡ word_from bs (4 * i) → Put bs old (i + 1) (set now i x)
   put_next x h e =

@@ -1,4 +1,4 @@
--- The contract is met by a real case: the first draw of the rules' worked example, by computation. Assumes nothing.
+-- Tests: the contract is met by a real case: the first draw of the rules' worked example, by computation. Assumes nothing.
 use mathlib.Core.Path.{◌≡◌, refl}
 use mathlib.Core.List.{List, [], ◌∷◌}
 use Prim.Native.Nat.{ℕ, ◌-◌}

@@ -286,9 +286,6 @@ module _ {j : Job} {ws : List ℕ} {row a b : ℕ} {w₀ : Words} {i : ℕ} {w :
   run_sound : Sound w₀ w
   run_sound = let o = own_room v.ready in rw v.is (draw-sound j v.ready.layers (cuts-in j ws a i) w₀ o.state o.levels)
 
-  run-grown : Grown w₀ w
-  run-grown = run_sound.grown
-
   -- where the run ends, it has begun
   pub row-left : ((seg-at ws i).row ≡ row → ⊥) → a < i
   row-left n = let f : a ≡ i → ⊥ = λ e. n (rw e at v.ready.here) in omega (arith, v.start)

@@ -20,7 +20,7 @@ use Rattle.rules.specs.Lines as rules
 use Rattle.file.specs.declared.form.Layout.{Layout}
 use Rattle.file.specs.Layouts.{form_of}
 use Rattle.file.specs.Words.{Filled, filled, filled-with, words-in}
-use Rattle.file.proofs.Bytes.{put-length, first-words, rules-words}
+use Rattle.file.proofs.Bytes.{first-words, rules-words}
 use Rattle.file.proofs.Laid.{good-form, bad-form}
 use Rattle.text.specs.declared.recording.Size.{Size}
 use Rattle.text.specs.Files.{size_of, file-size, good-bytes, no-width-of, no-width-number}

@@ -1,9 +1,5 @@
 -- Reading a command's words, tag by tag.
-use mathlib.Core.Path.{◌≡◌}
-use mathlib.Core.Bool.{Bool, ◌&&◌}
-use Rattle.std.specs.Prelude.{None, Some}
-use Prim.Native.Nat.{ℕ}
-use lib.Dec.{eqb}
+use Rattle.std.proofs.Common.{◌≡◌, Bool, ◌&&◌, None, Some, ℕ, eqb}
 use Rattle.rules.specs.Commands.{paint-fill, layer-fill, push-buf, pop-buf}
 use Rattle.cmd.specs.Reading.{word-span, good-span-word, good-alpha, only_if, command_of}
 

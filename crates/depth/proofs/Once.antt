@@ -1,7 +1,5 @@
 -- Each contract's equation allows one result. Assumes nothing.
-use mathlib.Core.Path.{◌≡◌, refl, sym, ap, ◌∙◌}
-use mathlib.Core.Bool.{Bool, false}
-use Rattle.std.specs.Prelude.{Result, Ok, Err}
+use Rattle.std.proofs.Common.{◌≡◌, refl, sym, ap, ◌∙◌, Bool, false, Result, Ok, Err}
 use Rattle.depth.specs.Answers.{answered, skip_of}
 use Rattle.sizes.specs.declared.answers.Refusal.{Refusal}
 use Rattle.sizes.proofs.Refusals.{result_of, refusal_there}

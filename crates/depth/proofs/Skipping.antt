@@ -1,6 +1,5 @@
 -- What the summary's definitions say of each way through the code. Assumes nothing.
-use mathlib.Core.Path.{◌≡◌, refl}
-use mathlib.Core.Bool.{Bool, true, false, ◌||◌}
+use Rattle.std.proofs.Common.{◌≡◌, refl, Bool, true, false, ◌||◌}
 
 pub or-true : (a : Bool) → (a || true) ≡ true
 or-true true = refl

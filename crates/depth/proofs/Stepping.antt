@@ -1,11 +1,6 @@
 -- One search for the next run. Assumes nothing.
-use mathlib.Core.Path.{◌≡◌, sym, ◌∙◌}
-use mathlib.Core.List.{List}
-use Prim.Native.Nat.{ℕ, ◌≤◌, ◌<◌, ◌+◌}
-use native.Mathlib.Omega.{arith}
-use lib.ListN.{length, get_or}
-use borrow.Author.Tests.{le-leb, lt-leb}
-use Rattle.std.proofs.Common.{below_more}
+use Rattle.std.proofs.Common.{◌≡◌, sym, ◌∙◌, List, ℕ, ◌≤◌, ◌<◌, ◌+◌, arith, length, get_or, le-leb, below_more}
+use borrow.Author.Tests.{lt-leb}
 use Rattle.rules.specs.Spans.{span}
 use Rattle.rules.specs.Depth.{is-visible, runs-in}
 use Rattle.depth.specs.Searching.{NoRun, NextRun}

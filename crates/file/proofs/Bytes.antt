@@ -1,16 +1,7 @@
 -- The words of a file's bytes: how the loop puts them, and that they are the rules'.
-use Prim.Native.Nat.{ℕ, zero, suc, ◌+◌, ◌*◌, ◌/◌, ◌%◌, ◌≤◌, ◌<◌}
-use native.Mathlib.Nat.{zero-add, add_assoc}
-use native.Mathlib.Numerals.{add-one}
-use native.Mathlib.Omega.{arith}
-use mathlib.Core.Path.{◌≡◌, refl, sym, ap}
-use mathlib.Core.Bool.{Bool, true, false, cond}
-use mathlib.Core.List.{List, [], ◌∷◌, ◌++◌, append_assoc}
-use Rattle.std.specs.Prelude.{None, Some, option_map}
-use lib.ListN.{length, get_or, take, drop, set, length-append, length-drop}
-use lib.Seq.{drop-cons, get_or-drop, set_at, take_at}
-use lib.Dec.{eqb}
-use borrow.Author.Tests.{eq-eqb, ne_eqb}
+use Rattle.std.proofs.Common.{ℕ, zero, suc, ◌+◌, ◌*◌, ◌/◌, ◌%◌, ◌≤◌, ◌<◌, zero-add, add_assoc, add-one, arith, ◌≡◌, refl, sym, ap, Bool, true, false, cond, List, [], ◌∷◌, ◌++◌, append_assoc, None}
+use Rattle.std.proofs.Common.{Some, option_map, length, get_or, take, drop, set, length-append, length-drop, drop-cons, get_or-drop, take_at, eqb, eq-eqb, ne_eqb}
+use lib.Seq.{set_at}
 use Rattle.rules.specs.Lines.{word_of, words_of}
 use Rattle.file.specs.Each.{each}
 use Rattle.file.specs.Words.{word_from, words-in}

@@ -1,12 +1,5 @@
 -- Laws for callers: what answer 0 says of every record, and the segment section as a list of its own.
-use Prim.Native.Nat.{ℕ, ◌≤◌, ◌<◌}
-use native.Mathlib.Omega.{arith}
-use mathlib.Core.Path.{◌≡◌, refl, sym, ◌∙◌}
-use mathlib.Core.Bool.{Bool, true, false, ◌&&◌, not, cond}
-use mathlib.Core.List.{List}
-use lib.ListN.{length, get_or}
-use lib.Dec.{leb}
-use borrow.Author.Tests.{leb-true}
+use Rattle.std.proofs.Common.{ℕ, ◌≤◌, ◌<◌, arith, ◌≡◌, refl, sym, ◌∙◌, Bool, true, false, ◌&&◌, not, cond, List, length, get_or, leb, leb-true}
 use Rattle.rules.specs.Lists.{every}
 use Rattle.rules.specs.Segments.{good-segment}
 use Rattle.rules.specs.Spans.{good-range}

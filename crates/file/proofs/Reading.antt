@@ -1,14 +1,5 @@
 -- The recording of a layout's sections, read off the words place by place.
-use Prim.Native.Nat.{ℕ, ◌+◌, ◌-◌, ◌*◌, ◌≤◌}
-use native.Mathlib.Nat.{add-zero, add_assoc}
-use native.Mathlib.Omega.{arith}
-use mathlib.Core.Path.{◌≡◌, sym, ap, ◌∙◌}
-use mathlib.Core.Bool.{true}
-use mathlib.Core.List.{List, []}
-use lib.ListN.{length, get_or, take, drop, length-take, length-drop}
-use lib.Seq.{get_or-take, get_or-drop}
-use lib.Dec.{ltb}
-use borrow.Author.Tests.{ltb-true}
+use Rattle.std.proofs.Common.{ℕ, ◌+◌, ◌-◌, ◌*◌, ◌≤◌, add-zero, add_assoc, arith, ◌≡◌, sym, ap, ◌∙◌, true, List, [], length, get_or, take, drop, length-take, length-drop, get_or-take, get_or-drop, ltb, ltb-true}
 use Rattle.rules.specs.Recording.{records, recording, Recording, paint-rec, segment-rec, draw-rec, layer-rec, node-rec}
 use Rattle.rules.specs.Boxes.{box}
 use Rattle.file.specs.declared.form.Layout.{Layout}

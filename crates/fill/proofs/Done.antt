@@ -1,14 +1,7 @@
 -- What a fill's number 0 gives, and what a done fill leaves. Assumes nothing.
-use mathlib.Core.Path.{◌≡◌, refl, sym, ap, ◌∙◌}
-use mathlib.Core.Bool.{Bool, true, false, cond}
-use mathlib.Core.List.{List, [], append-nil}
-use Prim.Native.Nat.{ℕ, ◌+◌, ◌-◌, ◌*◌, ◌≤◌, ◌<◌}
-use native.Mathlib.Omega.{arith}
+use Rattle.std.proofs.Common.{◌≡◌, refl, sym, ap, ◌∙◌, Bool, true, false, cond, List, [], append-nil, ℕ, ◌+◌, ◌-◌, ◌*◌, ◌≤◌, ◌<◌, arith, ltb, eqb, length, drop, take-append-drop, drop_at, ne_eqb, ltb-true, ltb-false}
 use Rattle.std.proofs.lemmas.Bool.Decides.{nat_tests}
-use lib.Dec.{ltb, eqb}
-use lib.ListN.{length, drop, take-append-drop}
-use lib.Seq.{drop_at, drop-length}
-use borrow.Author.Tests.{ne_eqb, ltb-true, ltb-false}
+use lib.Seq.{drop-length}
 use Rattle.sizes.specs.Sizes.{paint-attr-size}
 use Rattle.rules.specs.Lists.{join}
 use Rattle.rules.specs.Answers.{answer, Done, BadRecord}

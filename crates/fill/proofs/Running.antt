@@ -1,13 +1,6 @@
 -- A judge may look at each count as the puts run, and need not look back: counts never fall. Assumes nothing.
-use mathlib.Core.Path.{◌≡◌, refl, sym, ap, ◌∙◌}
-use mathlib.Core.Bool.{Bool, true, false, ◌||◌}
-use mathlib.Core.List.{List, [], ◌∷◌}
-use Prim.Native.Nat.{ℕ, zero, suc, ◌≤◌}
-use native.Mathlib.Omega.{arith}
+use Rattle.std.proofs.Common.{◌≡◌, refl, sym, ap, ◌∙◌, Bool, true, false, ◌||◌, List, [], ◌∷◌, ℕ, zero, suc, ◌≤◌, arith, ltb, eqb, get_or, ltb-false, le-ltb, eqb-true}
 use Rattle.std.proofs.lemmas.Bool.Decides.{nat_tests}
-use lib.Dec.{ltb, eqb}
-use lib.ListN.{get_or}
-use borrow.Author.Tests.{ltb-false, le-ltb, eqb-true}
 use Rattle.rules.specs.Lists.{some_of, change}
 use Rattle.rules.specs.Plans.{Put}
 use Rattle.rules.specs.Steps.{do-puts, row-passes, passes}

@@ -1,13 +1,6 @@
 -- Refused painting calls: the lent words and the result words are as they were.
-use mathlib.Core.Path.{◌≡◌, refl}
-use mathlib.Core.Bool.{Bool, true, false, cond}
-use mathlib.Core.List.{List}
-use Rattle.std.specs.Prelude.{Option, None, Some, Result, Ok, Err}
+use Rattle.std.proofs.Common.{◌≡◌, refl, Bool, true, false, cond, List, Option, None, Some, Result, Ok, Err, ℕ, length, eqb, ne_eqb}
 use Rattle.sizes.specs.declared.answers.Refusal.{Refusal}
-use Prim.Native.Nat.{ℕ}
-use lib.ListN.{length}
-use lib.Dec.{eqb}
-use borrow.Author.Tests.{ne_eqb}
 use Rattle.sizes.specs.declared.width.Width.{Width}
 use Rattle.sizes.specs.Widths.{bucket-tiles, width_of}
 use Rattle.rules.specs.Answers.{Answer, answer}

@@ -1,14 +1,7 @@
 -- A refused call leaves the state's words, and everything else that it was lent, as they were.
-use mathlib.Core.Path.{◌≡◌, refl}
-use mathlib.Core.Bool.{Bool, true, false}
-use mathlib.Core.List.{List}
-use Rattle.std.specs.Prelude.{Some, Result, Ok, Err}
+use Rattle.std.proofs.Common.{◌≡◌, refl, Bool, true, false, List, Some, Result, Ok, Err, ℕ, length, leb, eqb, ℤ}
 use Rattle.sizes.specs.declared.answers.Refusal.{Refusal}
-use Prim.Native.Nat.{ℕ}
-use lib.ListN.{length}
-use lib.Dec.{leb, eqb}
 use lib.Ieee.{Float}
-use lib.IntN.{ℤ}
 use Rattle.rules.specs.Answers.{Answer, Done}
 use Rattle.rules.specs.Setups.{Setup, frame}
 use Rattle.rect.specs.declared.Rect.{Rect}

@@ -1,16 +1,10 @@
 -- A filter fill's number and what it leaves, way by way through the code. Assumes nothing.
-use mathlib.Core.Path.{◌≡◌, refl, sym, ap, ◌∙◌}
-use mathlib.Core.Bool.{Bool, true, false, ◌&&◌, ◌||◌, cond}
-use mathlib.Core.List.{List, [], ◌∷◌, map, append-nil}
-use Rattle.std.specs.Prelude.{Option, None, Some, unwrap_or}
-use Prim.Native.Nat.{ℕ, ◌+◌, ◌-◌, ◌*◌, ◌/◌, ◌≤◌, ◌<◌}
+use Rattle.std.proofs.Common.{◌≡◌, refl, sym, ap, ◌∙◌, Bool, true, false, ◌&&◌, ◌||◌, cond, List, [], ◌∷◌, map, append-nil, Option, None, Some, ℕ, ◌+◌, ◌-◌, ◌*◌, ◌/◌, ◌≤◌, ◌<◌, arith, eqb, ltb, leb, ℤ}
+use Rattle.std.proofs.Common.{pos, length, drop, length-append, take-append-drop, drop_at, eqb-true, ne_eqb, le-ltb, leb-true, leb-false, ltb-true}
+use Rattle.std.specs.Prelude.{unwrap_or}
 use native.Mathlib.Nat.{min-le_right}
-use native.Mathlib.Omega.{arith}
-use lib.Dec.{eqb, ltb, leb}
-use lib.IntN.{ℤ, pos, sub_ℕ}
-use lib.ListN.{length, drop, length-append, take-append-drop}
-use lib.Seq.{drop_at, drop-length}
-use borrow.Author.Tests.{eqb-true, ne_eqb, le-ltb, leb-true, leb-false, ltb-true}
+use lib.IntN.{sub_ℕ}
+use lib.Seq.{drop-length}
 use Rattle.sizes.specs.Sizes.{paint-attr-size, paint-attr-table, filter-paint-size, filter-paint-table}
 use Rattle.rules.specs.Lists.{range, join, is_none}
 use Rattle.rules.specs.Inputs.{good-pixmap, good-filter, few-paints, good-panel}

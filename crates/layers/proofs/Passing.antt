@@ -1,9 +1,5 @@
 -- A screen that was judged good is whole, and a box on it lies within its rows. Assumes nothing.
-use mathlib.Core.Path.{◌≡◌, refl}
-use mathlib.Core.Bool.{Bool, true, false}
-use Prim.Native.Nat.{ℕ, ◌+◌, ◌/◌, ◌≤◌}
-use native.Mathlib.Omega.{arith}
-use lib.ListN.{length}
+use Rattle.std.proofs.Common.{◌≡◌, refl, Bool, true, false, ℕ, ◌+◌, ◌/◌, ◌≤◌, arith, length}
 use Rattle.row.specs.Building.{Whole}
 use Rattle.screen.specs.Screens.{frame-of}
 use Rattle.rules.specs.Boxes.{Box, height, rows_of, good_viewport}

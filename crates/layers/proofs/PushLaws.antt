@@ -1,15 +1,7 @@
 -- A push's number and what it leaves, way by way through the code. Assumes nothing.
-use mathlib.Core.Path.{◌≡◌, refl, sym, ap, ◌∙◌}
-use mathlib.Core.Bool.{Bool, true, false, ◌&&◌, not, cond}
-use mathlib.Core.List.{List, [], ◌∷◌, map}
-use Rattle.std.specs.Prelude.{Option, None, Some}
-use Prim.Native.Nat.{ℕ, ◌+◌, ◌-◌, ◌*◌, ◌≤◌, ◌<◌}
+use Rattle.std.proofs.Common.{◌≡◌, refl, sym, ap, ◌∙◌, Bool, true, false, ◌&&◌, not, cond, List, [], ◌∷◌, map, Option, None, Some, ℕ, ◌+◌, ◌-◌, ◌*◌, ◌≤◌, ◌<◌, arith, eqb, ltb, length, set, eqb-true, ne_eqb, le-ltb}
 use native.Mathlib.Nat.{min-le_right}
-use native.Mathlib.Omega.{arith}
-use lib.Dec.{eqb, ltb}
-use lib.ListN.{length, set}
 use lib.Ieee.{Float}
-use borrow.Author.Tests.{eqb-true, ne_eqb, le-ltb}
 use Rattle.sizes.specs.Sizes.{open-layer-size, open-layer-table, opacity-count}
 use Rattle.rules.specs.Lists.{range}
 use Rattle.rules.specs.Answers.{answer}

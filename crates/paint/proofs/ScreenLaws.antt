@@ -1,13 +1,5 @@
 -- What callers may use of a painting step: it leaves the other rows as they were, and where nothing is forged it is the rules' step. Assumes nothing.
-use mathlib.Core.Path.{◌≡◌, refl, sym, ap, ◌∙◌}
-use mathlib.Core.Bool.{Bool, true, false, ◌&&◌, cond}
-use Rattle.std.specs.Prelude.{Some}
-use mathlib.Core.List.{List}
-use Prim.Native.Nat.{ℕ, zero, suc, ◌<◌, ◌*◌}
-use native.Mathlib.Omega.{arith}
-use lib.ListN.{length, drop}
-use lib.Dec.{eqb}
-use borrow.Author.Tests.{eq-eqb, eqb-true}
+use Rattle.std.proofs.Common.{◌≡◌, refl, sym, ap, ◌∙◌, Bool, true, false, ◌&&◌, cond, Some, List, ℕ, zero, suc, ◌<◌, ◌*◌, arith, length, drop, eqb, eq-eqb, eqb-true}
 use Rattle.sizes.specs.Sizes.{paint-attr-table, layer-attr-table}
 use Rattle.sizes.specs.Widths.{bucket-tiles}
 use Rattle.rules.specs.Attributes.{Attrs}

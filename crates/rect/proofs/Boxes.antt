@@ -1,7 +1,5 @@
 -- What a good viewport is, as facts. Assumes nothing.
-use mathlib.Core.Path.{◌≡◌}
-use mathlib.Core.Bool.{true}
-use native.Mathlib.Omega.{arith}
+use Rattle.std.proofs.Common.{◌≡◌, true, arith}
 use Rattle.rules.specs.Boxes.{Box, good_viewport}
 use Rattle.rect.specs.Rects.{Small}
 pub use Rattle.rules.proofs.laws.Viewports.{View, view}

@@ -1,14 +1,8 @@
 -- Steps keep a screen sound. Assumes nothing.
 use Rattle.std.proofs.lemmas.Bool.Decides.{nat_tests}
-use mathlib.Core.Path.{◌≡◌, refl, sym, ◌∙◌}
-use mathlib.Core.Bool.{Bool, true, false, ◌&&◌, not, cond}
-use mathlib.Core.List.{List, [], ◌∷◌}
-use Rattle.std.specs.Prelude.{Option, None, Some}
-use Prim.Native.Nat.{ℕ, zero, suc, ◌-◌, ◌/◌, ◌%◌, ◌≤◌, ◌<◌, min, max}
-use native.Mathlib.Omega.{arith}
-use lib.Dec.{leb, ltb, eqb}
-use lib.ListN.{length, get_or, replicate, length-replicate}
-use borrow.Author.Tests.{leb-false, ltb-true, ltb-false, eqb-true}
+use Rattle.std.proofs.Common.{◌≡◌, refl, sym, ◌∙◌, Bool, true, false, ◌&&◌, not, cond, List, [], ◌∷◌, Option, None, Some, ℕ, zero, suc, ◌-◌, ◌/◌, ◌%◌, ◌≤◌, ◌<◌, min, max, arith, leb, ltb, eqb, length}
+use Rattle.std.proofs.Common.{get_or, replicate, leb-false, ltb-true, ltb-false, eqb-true}
+use lib.ListN.{length-replicate}
 use Rattle.rules.specs.Lists.{some_of}
 use Rattle.rules.specs.Answers.{answer, Done, BadRecord}
 use Rattle.rules.specs.Boxes.{Box, by_4, good-box, bounded, good_viewport, empty-box, rows_of, rows_in, span_of, scene-tiles}

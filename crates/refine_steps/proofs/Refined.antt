@@ -1,10 +1,6 @@
 -- The refinement: a done reset leaves the words of the rules' screen, and each step there has the rules' answer and leaves the words of theirs. Assumes
 -- nothing.
-use mathlib.Core.Path.{◌≡◌, ap, ◌∙◌}
-use mathlib.Core.Bool.{Bool, false, cond}
-use mathlib.Core.List.{List}
-use Prim.Native.Nat.{ℕ}
-use lib.Dec.{eqb}
+use Rattle.std.proofs.Common.{◌≡◌, ap, ◌∙◌, Bool, false, cond, List, ℕ, eqb}
 use Rattle.rules.specs.Answers.{Answer, answer, Done}
 use Rattle.rules.specs.Rows.{Row, fresh-row, row-ops}
 use Rattle.rules.specs.Plans.{Frame, Step, a-fill, a-push, a-pop, a-filter}

@@ -1,17 +1,9 @@
 -- Fills, filter fills and pushes on a sound screen's words. Assumes nothing.
-use mathlib.Core.Path.{◌≡◌, refl, ap, ◌∙◌}
-use mathlib.Core.Bool.{Bool, true, false, ◌||◌, cond}
-use mathlib.Core.List.{List, [], ◌∷◌, ◌++◌, map, append-nil}
+use Rattle.std.proofs.Common.{◌≡◌, refl, ap, ◌∙◌, Bool, true, false, ◌||◌, cond, List, [], ◌∷◌, ◌++◌, map, append-nil, Option, None, Some, ℕ, suc, ◌*◌, ◌%◌, ◌≤◌, ◌<◌, arith, ltb, eqb, pos, length}
+use Rattle.std.proofs.Common.{drop, set, length-append, eqb-true, eq-eqb, ltb-false}
 use Rattle.refine_layers.proofs.Laws.{filter-plans}
-use Rattle.std.specs.Prelude.{Option, None, Some}
-use Prim.Native.Nat.{ℕ, suc, ◌*◌, ◌%◌, ◌≤◌, ◌<◌}
-use native.Mathlib.Omega.{arith}
-use lib.Dec.{ltb, eqb}
-use lib.IntN.{pos}
-use lib.ListN.{length, drop, set, length-append}
 use lib.Seq.{set-append_left}
 use lib.Ieee.{Float, binary32, of_bits}
-use borrow.Author.Tests.{eqb-true, eq-eqb, ltb-false}
 use Rattle.sizes.specs.Sizes.{open-layer-size, open-layer-table, opacity-count, paint-attr-size, paint-attr-table, filter-paint-size, filter-paint-table}
 use Rattle.rules.specs.Lists.{join, is-empty}
 use Rattle.rules.specs.Answers.{answer, settle, Done}

@@ -1,10 +1,5 @@
 -- The open layers of a tile's story: each box lies within the one around it, and a row that is touched for a layer is a row of its box.
-use Prim.Native.Nat.{ℕ}
-use native.Mathlib.Nat.{le_refl}
-use mathlib.Core.Path.{◌≡◌, refl, sym, ◌∙◌}
-use mathlib.Core.Bool.{Bool, true, false, ◌&&◌, not}
-use Rattle.std.specs.Prelude.{Option, None, Some}
-use mathlib.Core.List.{List, [], ◌∷◌, ◌++◌}
+use Rattle.std.proofs.Common.{ℕ, le_refl, ◌≡◌, refl, sym, ◌∙◌, Bool, true, false, ◌&&◌, not, Option, None, Some, List, [], ◌∷◌, ◌++◌}
 use Rattle.rules.specs.Answers.{Done}
 use Rattle.rules.specs.Boxes.{Box, to-local}
 use Rattle.rules.specs.Segments.{Segment, judge-segments}

@@ -1,9 +1,5 @@
 -- The reason that is read off the told lines is the rules' reason.
-use Prim.Native.Nat.{ℕ, ◌+◌, ◌*◌}
-use mathlib.Core.Path.{◌≡◌, sym, ◌∙◌}
-use mathlib.Core.Bool.{true}
-use mathlib.Core.List.{List}
-use lib.ListN.{length, drop}
+use Rattle.std.proofs.Common.{ℕ, ◌+◌, ◌*◌, ◌≡◌, sym, ◌∙◌, true, List, length, drop}
 use Rattle.rules.specs.Answers.{Done}
 use Rattle.rules.specs.Boxes.{Box, good_viewport}
 use Rattle.rules.specs.Rows.{Row, row-ops, fresh-row}

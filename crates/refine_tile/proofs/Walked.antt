@@ -1,12 +1,5 @@
 -- A recording that the rules walk to its end is told to its end by the engine of one tile, into lines that are the rules' accounts.
-use Prim.Native.Nat.{ℕ, ◌+◌, ◌%◌}
-use native.Mathlib.Omega.{arith}
-use mathlib.Core.Path.{◌≡◌, refl, sym, ◌∙◌, ap}
-use mathlib.Core.Bool.{true, false, ◌&&◌, ◌||◌}
-use mathlib.Core.List.{List, [], ◌∷◌, ◌++◌}
-use lib.ListN.{length}
-use lib.Dec.{ltb}
-use borrow.Author.Tests.{eqb-true, ltb-false}
+use Rattle.std.proofs.Common.{ℕ, ◌+◌, ◌%◌, arith, ◌≡◌, refl, sym, ◌∙◌, ap, true, false, ◌&&◌, ◌||◌, List, [], ◌∷◌, ◌++◌, length, ltb, eqb-true, ltb-false}
 use Rattle.sizes.specs.Sizes.{most-attrs, most-filters}
 use Rattle.rules.specs.Answers.{answer, Done}
 use Rattle.rules.specs.Boxes.{Box, by_4, bounded, good_viewport}

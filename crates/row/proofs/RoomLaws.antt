@@ -1,13 +1,5 @@
 -- What a good record says of its counts, and what the row at hand comes to. Assumes nothing.
-use mathlib.Core.Path.{◌≡◌, refl}
-use mathlib.Core.Bool.{Bool, true, false, ◌&&◌, cond}
-use mathlib.Core.List.{List}
-use Prim.Native.Nat.{ℕ, ◌+◌, ◌-◌, ◌*◌, ◌≤◌}
-use native.Mathlib.Omega.{arith}
-use lib.Dec.{leb, ltb}
-use lib.ListN.{length, get_or, drop, length-drop}
-use lib.Seq.{length-take-le}
-use borrow.Author.Tests.{leb-true, le-ltb}
+use Rattle.std.proofs.Common.{◌≡◌, refl, Bool, true, false, ◌&&◌, cond, List, ℕ, ◌+◌, ◌-◌, ◌*◌, ◌≤◌, arith, leb, ltb, length, get_or, drop, length-drop, length-take-le, leb-true, le-ltb}
 use Rattle.rules.proofs.All.{both}
 use Rattle.row.specs.Building.{good_row, good-summary, good-top}
 use Rattle.row.specs.declared.room.Limits.{Limits}

@@ -1,11 +1,6 @@
 -- A screen's words and its rows. Assumes nothing.
-use mathlib.Core.Path.{◌≡◌, refl, sym, ap, ◌∙◌}
-use mathlib.Core.List.{List, [], ◌∷◌, ◌++◌, append_assoc}
-use Prim.Native.Nat.{ℕ, zero, suc, ◌+◌, ◌-◌, ◌*◌, ◌≤◌, ◌<◌}
-use native.Mathlib.Nat.{zero-mul, suc-mul, add_comm, mul-le-mul, mul-le-mul_right}
-use native.Mathlib.Omega.{arith}
-use lib.ListN.{length, take, drop, get_or, set, length-drop, length-append, take-append-drop}
-use lib.Seq.{length-take-le, drop-drop, take-add, take_at, drop_at}
+use Rattle.std.proofs.Common.{◌≡◌, refl, sym, ap, ◌∙◌, List, [], ◌∷◌, ◌++◌, append_assoc, ℕ, zero, suc, ◌+◌, ◌-◌, ◌*◌, ◌≤◌, ◌<◌, zero-mul, suc-mul, add_comm, mul-le-mul, mul-le-mul_right, arith}
+use Rattle.std.proofs.Common.{length, take, drop, get_or, set, length-drop, length-append, take-append-drop, length-take-le, drop-drop, take-add, take_at, drop_at}
 use borrow.Rule.Slice.PartMut.{put_mid, same_len_mid}
 use Rattle.rules.specs.Lists.{change}
 use Rattle.rules.proofs.All.{All, nil, cons}

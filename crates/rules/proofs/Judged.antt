@@ -1,11 +1,5 @@
 -- Tests: a recording's file judged. Each answer from 1 to 5, on both sides of its edge and in its order, and what a refused recording leaves.
-use Prim.Native.Nat.{ℕ, ◌+◌, ◌-◌}
-use mathlib.Core.Path.{◌≡◌, refl}
-use mathlib.Core.Bool.{true}
-use mathlib.Core.List.{List, [], ◌∷◌, ◌++◌, map}
-use Rattle.std.specs.Prelude.{None, Some}
-use lib.ListN.{length, take, replicate}
-use lib.Dec.{eqb}
+use Rattle.std.proofs.Common.{ℕ, ◌+◌, ◌-◌, ◌≡◌, refl, true, List, [], ◌∷◌, ◌++◌, map, None, Some, length, take, replicate, eqb}
 use Rattle.sizes.specs.declared.width.Width.TheVariants.{W128}
 use Rattle.rules.specs.Lists.{every, join, range}
 use Rattle.rules.specs.Answers.{Answer, answer, Done, BadArena, BadViewport, BadForm, BadRecord, BadOrder, Deep}

@@ -1,8 +1,5 @@
 -- Tests: whose panel stands in each attribute, each piece and each entry of a tile. The other tests are at panel 0.
-use Prim.Native.Nat.{ℕ}
-use mathlib.Core.Path.{◌≡◌, refl}
-use mathlib.Core.List.{List, [], ◌∷◌, map}
-use Rattle.std.specs.Prelude.{None}
+use Rattle.std.proofs.Common.{ℕ, ◌≡◌, refl, List, [], ◌∷◌, map, None}
 use Rattle.sizes.specs.declared.width.Width.TheVariants.{W128}
 use Rattle.rules.specs.Boxes.{box}
 use Rattle.rules.specs.Blends.{default-blend}

@@ -1,9 +1,5 @@
 -- Tests: what the width of a bucket changes, at 64 and 256 pixels. The other tests are at 128.
-use Prim.Native.Nat.{ℕ}
-use mathlib.Core.Path.{◌≡◌, refl}
-use mathlib.Core.Bool.{true}
-use mathlib.Core.List.{List, [], ◌∷◌, map}
-use Rattle.std.specs.Prelude.{None, Some, Ok, Err}
+use Rattle.std.proofs.Common.{ℕ, ◌≡◌, refl, true, List, [], ◌∷◌, map, None, Some, Ok, Err}
 use Rattle.sizes.specs.declared.answers.Refusal.TheVariants.{BadViewport}
 use Rattle.sizes.specs.declared.width.Width.{Width}
 use Rattle.sizes.specs.declared.width.Width.TheVariants.{W64, W128, W256}

@@ -1,16 +1,9 @@
 -- What one act of a step adds to what a row holds for the tile t.
-use Prim.Native.Nat.{ℕ, zero, suc, ◌+◌, ◌-◌, ◌/◌, ◌≤◌, ◌<◌}
-use native.Mathlib.Nat.{zero-add}
-use native.Mathlib.Numerals.{add-one}
-use native.Mathlib.Omega.{arith}
-use mathlib.Core.Path.{◌≡◌, refl, sym, ◌∙◌, ap}
-use mathlib.Core.Bool.{Bool, true, false}
-use Rattle.std.specs.Prelude.{Option, None, Some}
-use mathlib.Core.List.{List, [], ◌∷◌, ◌++◌, append_assoc, append-nil}
-use lib.ListN.{length, get_or, set, length-append, length-set, get_or-append}
-use lib.Seq.{get_or-append_seam, get_or-set_same, get_or-set_other}
-use lib.Dec.{eqb}
-use borrow.Author.Tests.{eqb-true, eqb-false}
+use Rattle.std.proofs.Common.{ℕ, zero, suc, ◌+◌, ◌-◌, ◌/◌, ◌≤◌, ◌<◌, zero-add, add-one, arith, ◌≡◌, refl, sym, ◌∙◌, ap, Bool, true, false, Option, None, Some, List, [], ◌∷◌, ◌++◌, append_assoc}
+use Rattle.std.proofs.Common.{append-nil, length, get_or, set, length-append, length-set, get_or-set_same, get_or-set_other, eqb, eqb-true}
+use lib.ListN.{get_or-append}
+use lib.Seq.{get_or-append_seam}
+use borrow.Author.Tests.{eqb-false}
 use Rattle.rules.specs.Lists.{keep, times}
 use Rattle.rules.specs.Spans.{Span, covers}
 use Rattle.rules.specs.Commands.{Command, paint-fill, layer-fill, push-buf, pop-buf, DepthFill}

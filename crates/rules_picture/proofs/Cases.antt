@@ -1,9 +1,5 @@
 -- Proofs by the two values of a test, and the laws of `covers`.
-use Prim.Native.Nat.{ℕ, ◌≤◌, ◌<◌}
-use mathlib.Core.Path.{◌≡◌, refl, sym}
-use mathlib.Core.Bool.{Bool, true, false, ◌&&◌}
-use lib.Dec.{leb}
-use borrow.Author.Tests.{leb-true, ltb-true, le-leb, lt-ltb}
+use Rattle.std.proofs.Common.{ℕ, ◌≤◌, ◌<◌, ◌≡◌, refl, sym, Bool, true, false, ◌&&◌, leb, leb-true, ltb-true, le-leb, lt-ltb}
 use Rattle.rules.specs.Spans.{Span, covers}
 use Rattle.rules.proofs.All.{and_left, and_right}
 

@@ -1,14 +1,6 @@
 -- What the cuts of one draw add to what a row holds for the tile t: what plain draw order tells of them.
-use Prim.Native.Nat.{ℕ, suc, ◌+◌, ◌*◌, ◌/◌, ◌≤◌, ◌<◌}
-use native.Mathlib.Nat.{le_refl, suc-mul}
-use native.Mathlib.Omega.{arith}
-use mathlib.Core.Path.{◌≡◌, refl}
-use mathlib.Core.Bool.{Bool, true, false, cond}
-use Rattle.std.specs.Prelude.{Option, None, Some}
-use mathlib.Core.List.{List, [], ◌∷◌, ◌++◌, foldl}
-use lib.ListN.{length, replicate}
-use lib.Dec.{leb}
-use borrow.Author.Tests.{leb-true}
+use Rattle.std.proofs.Common.{ℕ, suc, ◌+◌, ◌*◌, ◌/◌, ◌≤◌, ◌<◌, le_refl, suc-mul, arith, ◌≡◌, refl, Bool, true, false, cond, Option, None, Some, List, [], ◌∷◌, ◌++◌, length, replicate, leb, leb-true}
+use mathlib.Core.List.{foldl}
 use Rattle.rules.specs.Lists.{such, keep}
 use Rattle.rules.specs.Boxes.{Box}
 use Rattle.rules.specs.Spans.{Span, span, covers}

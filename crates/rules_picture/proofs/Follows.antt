@@ -1,10 +1,6 @@
 -- A screen and the story of one tile of one row, step by step: after each done step the row holds what has been told.
-use Prim.Native.Nat.{ℕ, ◌+◌, ◌<◌}
-use native.Mathlib.Omega.{arith}
-use mathlib.Core.Path.{◌≡◌, refl, sym, ◌∙◌, ap}
-use mathlib.Core.Bool.{Bool, true, not, cond}
-use mathlib.Core.List.{List, [], ◌∷◌, ◌++◌, map, append-nil, append_assoc}
-use lib.ListN.{length, get_or, length-map, length-append}
+use Rattle.std.proofs.Common.{ℕ, ◌+◌, ◌<◌, arith, ◌≡◌, refl, sym, ◌∙◌, ap, Bool, true, not, cond, List, [], ◌∷◌, ◌++◌, map, append-nil, append_assoc, length, get_or, length-append}
+use lib.ListN.{length-map}
 use lib.Seq.{get_or-append_seam}
 use Rattle.rules.specs.Lists.{is-empty}
 use Rattle.rules.specs.Answers.{Done}

@@ -1,10 +1,5 @@
 -- What each kind of step does to one row: the row holds afterwards what plain draw order has told the tile t then.
-use Prim.Native.Nat.{ℕ, suc, ◌+◌, ◌<◌}
-use native.Mathlib.Omega.{arith}
-use mathlib.Core.Path.{◌≡◌, refl}
-use mathlib.Core.Bool.{Bool, true, false, not, cond}
-use mathlib.Core.List.{List, [], ◌∷◌, ◌++◌, map}
-use lib.ListN.{length}
+use Rattle.std.proofs.Common.{ℕ, suc, ◌+◌, ◌<◌, arith, ◌≡◌, refl, Bool, true, false, not, cond, List, [], ◌∷◌, ◌++◌, map, length}
 use Rattle.rules.specs.Lists.{such, keep, is-empty}
 use Rattle.rules.specs.Boxes.{Box}
 use Rattle.rules.specs.Spans.{covers}

@@ -1,15 +1,7 @@
 -- A done pop follows the story of a tile.
-use Prim.Native.Nat.{ℕ, zero, suc, ◌+◌, ◌≤◌, ◌<◌}
-use native.Mathlib.Nat.{zero-add, add-zero, le_refl}
-use native.Mathlib.Omega.{arith}
-use mathlib.Core.Path.{◌≡◌, refl, sym, ◌∙◌, ap}
-use mathlib.Core.Bool.{Bool, true, false, not, cond}
-use Rattle.std.specs.Prelude.{Option, None, Some}
-use mathlib.Core.List.{List, [], ◌∷◌, ◌++◌, map, append-nil, append_assoc}
-use lib.ListN.{length, get_or, length-append}
+use Rattle.std.proofs.Common.{ℕ, zero, suc, ◌+◌, ◌≤◌, ◌<◌, zero-add, add-zero, le_refl, arith, ◌≡◌, refl, sym, ◌∙◌, ap, Bool, true, false, not, cond, Option, None, Some, List, [], ◌∷◌, ◌++◌, map}
+use Rattle.std.proofs.Common.{append-nil, append_assoc, length, get_or, length-append, eqb, eq-eqb, ne_eqb, eqb-true}
 use lib.Seq.{get_or-append_seam}
-use lib.Dec.{eqb}
-use borrow.Author.Tests.{eq-eqb, ne_eqb, eqb-true}
 use Rattle.rules.specs.Lists.{such, keep, some_of}
 use Rattle.rules.specs.Boxes.{Box, span_of}
 use Rattle.rules.specs.Spans.{covers}

@@ -1,11 +1,6 @@
 -- A done push and a done filter fill follow the story of a tile.
-use Prim.Native.Nat.{ℕ, suc, ◌+◌, ◌-◌, ◌/◌, ◌<◌}
-use native.Mathlib.Omega.{arith}
-use mathlib.Core.Path.{◌≡◌, refl, sym, ◌∙◌, ap}
-use mathlib.Core.Bool.{Bool, true, false, ◌&&◌, not, cond}
-use Rattle.std.specs.Prelude.{None}
-use mathlib.Core.List.{List, [], ◌∷◌, ◌++◌, map}
-use lib.ListN.{length, get_or, length-map, length-append}
+use Rattle.std.proofs.Common.{ℕ, suc, ◌+◌, ◌-◌, ◌/◌, ◌<◌, arith, ◌≡◌, refl, sym, ◌∙◌, ap, Bool, true, false, ◌&&◌, not, cond, None, List, [], ◌∷◌, ◌++◌, map, length, get_or, length-append}
+use lib.ListN.{length-map}
 use Rattle.rules.specs.Lists.{such, keep, is-empty}
 use Rattle.rules.specs.Boxes.{Box, rows_in, span_of}
 use Rattle.rules.specs.Spans.{covers, solid-tiles}

@@ -1,14 +1,9 @@
 -- Rows painted by turns: each gives what it gives alone, and one that has finished gives nothing more.
-use Prim.Native.Nat.{ℕ, zero, suc, ◌+◌, ◌-◌, ◌≤◌, ◌<◌}
+use Rattle.std.proofs.Common.{ℕ, zero, suc, ◌+◌, ◌-◌, ◌≤◌, ◌<◌, arith, ◌≡◌, refl, sym, ◌∙◌, ap, Bool, true, false, ◌&&◌, not, cond, List, [], ◌∷◌, ◌++◌, length, get_or, length-set, get_or-set_same}
+use Rattle.std.proofs.Common.{get_or-set_other, ltb, eqb, ltb-true, ltb-false, le-ltb, eqb-true}
 use native.Mathlib.Nat.{sub-zero}
-use native.Mathlib.Omega.{arith}
-use mathlib.Core.Path.{◌≡◌, refl, sym, ◌∙◌, ap}
-use mathlib.Core.Bool.{Bool, true, false, ◌&&◌, not, cond}
-use mathlib.Core.List.{List, [], ◌∷◌, ◌++◌}
-use lib.ListN.{length, get_or, length-set, length-replicate, get_or-replicate}
-use lib.Seq.{get_or-set_same, get_or-set_other}
-use lib.Dec.{ltb, eqb}
-use borrow.Author.Tests.{ltb-true, ltb-false, le-ltb, eqb-true, eqb-false}
+use lib.ListN.{length-replicate, get_or-replicate}
+use borrow.Author.Tests.{eqb-false}
 use Rattle.rules.specs.Lists.{is-empty}
 use Rattle.rules.specs.Answers.{first_of, Done, BadRun, Open, NoRoom}
 use Rattle.rules.specs.Commands.{Command, paint-fill, layer-fill, push-buf, pop-buf}

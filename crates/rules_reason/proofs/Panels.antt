@@ -1,8 +1,5 @@
 -- Tests: whose panels stand in a reason, by computation. The other tests are at panel 0.
-use Prim.Native.Nat.{ℕ}
-use mathlib.Core.Path.{◌≡◌, refl}
-use mathlib.Core.List.{List, [], ◌∷◌, map}
-use Rattle.std.specs.Prelude.{Some}
+use Rattle.std.proofs.Common.{ℕ, ◌≡◌, refl, List, [], ◌∷◌, map, Some}
 use Rattle.rules.specs.Boxes.{Box, box}
 use Rattle.rules.specs.Blends.{default-blend}
 use Rattle.rules.specs.Segments.{Segment}

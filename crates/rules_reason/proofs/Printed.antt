@@ -1,7 +1,5 @@
 -- Tests: what `why` prints, by computation, each text as the program's description has it.
-use mathlib.Core.Path.{◌≡◌, refl}
-use Rattle.std.specs.Prelude.{codes}
-use mathlib.Core.List.{[], ◌∷◌}
+use Rattle.std.proofs.Common.{◌≡◌, refl, codes, [], ◌∷◌}
 use Rattle.sizes.specs.declared.width.Width.TheVariants.{W64, W128, W256}
 use Rattle.rules.specs.Boxes.{box}
 use Rattle.rules.specs.Setups.{exact, snapping}

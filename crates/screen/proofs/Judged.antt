@@ -1,6 +1,5 @@
 -- What the judging definitions say of each way through the code.
-use mathlib.Core.Path.{◌≡◌}
-use mathlib.Core.Bool.{false}
+use Rattle.std.proofs.Common.{◌≡◌, false}
 use Rattle.rules.specs.Boxes.{good_viewport}
 use Rattle.rules.specs.Plans.{Frame}
 use Rattle.screen.specs.declared.Lengths.{Lengths}

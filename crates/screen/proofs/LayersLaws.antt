@@ -1,18 +1,10 @@
 -- Laws of the table of open layers, for this crate and its callers. Assumes nothing.
-use mathlib.Core.Path.{◌≡◌, refl, sym, ap, ◌∙◌}
-use mathlib.Core.Bool.{Bool, true, false}
-use mathlib.Core.List.{List, ◌++◌}
-use Rattle.std.specs.Prelude.{Option, None, Some}
-use Prim.Native.Nat.{ℕ, ◌≤◌, ◌<◌, ◌+◌, ◌-◌, ◌*◌, ◌%◌}
-use native.Mathlib.Omega.{arith}
-use lib.Dec.{leb, ltb, eqb}
-use lib.ListN.{length, get_or, replicate, take, drop}
+use Rattle.std.proofs.Common.{◌≡◌, refl, sym, ap, ◌∙◌, Bool, true, false, List, ◌++◌, Option, None, Some, ℕ, ◌≤◌, ◌<◌, ◌+◌, ◌-◌, ◌*◌, ◌%◌, arith, leb, ltb, eqb, length, get_or, replicate, take, drop}
+use Rattle.std.proofs.Common.{append_assoc, length-drop, length-take-le, eq-eqb, leb-true, leb-false}
 use borrow.Rule.Slice.PartMut.{put_mid}
 use Rattle.std.proofs.lemmas.List.{drop-drop}
-use Rattle.std.proofs.Common.{append_assoc, length-drop, length-take-le}
 use lib.Ieee.{Float, binary32, is_nan}
 use lib.Ieee.Bits.{nan_bits_above}
-use borrow.Author.Tests.{eq-eqb, leb-true, leb-false}
 use Rattle.sizes.specs.Sizes.{most-layers, open-layer-size, open-layer-table}
 use Rattle.rules.specs.Inputs.{Clip}
 use Rattle.rules.specs.Plans.{Layer}

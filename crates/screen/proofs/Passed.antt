@@ -1,11 +1,6 @@
 -- What it says that a screen, or a reset, is judged 0.
-use mathlib.Core.Path.{◌≡◌, refl}
-use mathlib.Core.Bool.{Bool, true, false, ◌&&◌, not}
-use mathlib.Core.List.{[], ◌∷◌}
-use Prim.Native.Nat.{ℕ, ◌*◌}
-use native.Mathlib.Omega.{arith}
-use lib.Dec.{eqb}
-use borrow.Author.Tests.{eqb-true, not-false}
+use Rattle.std.proofs.Common.{◌≡◌, refl, Bool, true, false, ◌&&◌, not, [], ◌∷◌, ℕ, ◌*◌, arith, eqb, eqb-true}
+use borrow.Author.Tests.{not-false}
 use Rattle.rules.specs.Answers.{first_of}
 use Rattle.rules.specs.Boxes.{good_viewport, rows_of}
 use Rattle.rules.specs.Plans.{Frame}

@@ -1,12 +1,8 @@
 -- A reset that is refused, and one that is done.
-use mathlib.Core.Path.{◌≡◌, ap, ◌∙◌}
-use mathlib.Core.Bool.{true}
-use Prim.Native.Nat.{ℕ}
-use borrow.Author.Tests.{ne_eqb}
+use Rattle.std.proofs.Common.{◌≡◌, ap, ◌∙◌, true, ℕ, ne_eqb, Ok, Err}
 use Rattle.rules.specs.Answers.{answer}
 use Rattle.rules.specs.Boxes.{good_viewport}
 use Rattle.rect.specs.declared.Rect.{Rect}
-use Rattle.std.specs.Prelude.{Ok, Err}
 use Rattle.sizes.specs.declared.answers.Refusal.{Refusal}
 use Rattle.sizes.specs.Refusals.{number_of}
 use Rattle.sizes.proofs.Refusals.{not_done}

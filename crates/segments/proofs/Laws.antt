@@ -1,13 +1,5 @@
 -- Laws for callers: the segments of a list's words, their bounds as facts, and where a cut segment lies.
-use mathlib.Core.Path.{◌≡◌, refl, sym, ap, ◌∙◌}
-use mathlib.Core.Bool.{Bool, true, false, ◌&&◌, ◌||◌, not, cond}
-use mathlib.Core.List.{List, [], ◌∷◌}
-use Rattle.std.specs.Prelude.{Option, None, Some}
-use Prim.Native.Nat.{ℕ, zero, suc, ◌+◌, ◌-◌, ◌*◌, ◌/◌, ◌≤◌, ◌<◌}
-use native.Mathlib.Omega.{arith}
-use lib.Dec.{leb, ltb, eqb}
-use lib.ListN.{length, take, drop}
-use borrow.Author.Tests.{leb-true, ltb-true}
+use Rattle.std.proofs.Common.{◌≡◌, refl, sym, ap, ◌∙◌, Bool, true, false, ◌&&◌, ◌||◌, not, cond, List, [], ◌∷◌, Option, None, Some, ℕ, zero, suc, ◌+◌, ◌-◌, ◌*◌, ◌/◌, ◌≤◌, ◌<◌, arith, leb, ltb, eqb, length, take, drop, leb-true, ltb-true}
 use Rattle.rules.specs.Lists.{every, slice}
 use Rattle.rules.specs.Answers.{Done, BadRecord, BadOrder}
 use Rattle.rules.specs.Boxes.{Box, box, width, rows_of, scene-tiles}
@@ -203,8 +195,3 @@ module _ (v b : Box) (s : Segment) (k : Cut) (g : Good s) (o : Starts v b) where
 
 pub landed : (v b : Box) (s : Segment) (k : Cut) → good-segment s ≡ true → Starts v b → k ∷ [] ≡ cut_in v b s → Landed v b k
 landed v b s k g o e = by-cut v b s k (good-facts s g) o e
-
--- a cut segment on the screen of the viewport v
-pub record OnScreen (v : Box) (k : Cut) : Type 0 where
-  pub row : k.row < rows_of v
-  pub right : k.stretch.tiles.end ≤ width v / 4

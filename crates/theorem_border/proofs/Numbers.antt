@@ -1,12 +1,5 @@
 -- The border's number is the call's own, or that with a 4 for what is not 1, 2 or 3. Assumes nothing.
-use Prim.Native.Nat.{ℕ}
-use mathlib.Core.Path.{◌≡◌, refl, ap, ◌∙◌}
-use mathlib.Core.Bool.{Bool, true, false, ◌&&◌, cond}
-use mathlib.Core.List.{List}
-use Rattle.std.specs.Prelude.{None, Some, Result, Ok}
-use lib.Dec.{ltb}
-use lib.ListN.{length}
-use borrow.Author.Tests.{eq-eqb}
+use Rattle.std.proofs.Common.{ℕ, ◌≡◌, refl, ap, ◌∙◌, Bool, true, false, ◌&&◌, cond, List, None, Some, Result, Ok, ltb, length, eq-eqb}
 use Rattle.sizes.specs.Sizes.{state-size}
 use Rattle.sizes.specs.declared.answers.Refusal.{Refusal}
 use Rattle.rules.specs.Answers.{Answer, BadRecord}

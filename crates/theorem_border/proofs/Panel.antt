@@ -1,8 +1,6 @@
 -- The panel over the banner is an instance of `border-picture`: each of its hypotheses is computed on the words that the host lends, by the
 -- definitions that the calls' contracts cite, and the tiles' lists are read off. Assumes nothing.
-use native.Mathlib.Omega.{arith}
-use mathlib.Core.Path.{◌≡◌, refl, ◌∙◌}
-use mathlib.Core.List.{[], ◌∷◌}
+use Rattle.std.proofs.Common.{arith, ◌≡◌, refl, ◌∙◌, [], ◌∷◌}
 use Rattle.rules.specs.Plans.{bucket}
 use Rattle.rules.specs.Plain.{plain}
 use Rattle.rules.proofs.Computing.{computing}

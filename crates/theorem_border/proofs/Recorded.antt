@@ -1,8 +1,5 @@
 -- What `coarse_bucket_recording` leaves, and what a done `coarse_reset` was asked for, from the same about the call at the words. Assumes nothing.
-use Prim.Native.Nat.{ℕ, ◌≤◌, ◌<◌}
-use native.Mathlib.Omega.{arith}
-use mathlib.Core.Path.{◌≡◌, sym, ap, ◌∙◌}
-use mathlib.Core.List.{List}
+use Rattle.std.proofs.Common.{ℕ, ◌≤◌, ◌<◌, arith, ◌≡◌, sym, ap, ◌∙◌, List}
 use Rattle.rules.specs.Answers.{Answer, Done}
 use Rattle.rules.specs.Setups.{Setup}
 use Rattle.rect.specs.declared.Rect.{Rect}

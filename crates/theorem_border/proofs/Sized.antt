@@ -1,10 +1,5 @@
 -- A reset is done on tables of the lengths that `coarse_sizes` answers. Assumes nothing.
-use Prim.Native.Nat.{ℕ}
-use mathlib.Core.Path.{◌≡◌, refl, sym, ap, ◌∙◌}
-use mathlib.Core.Bool.{Bool, true, false}
-use mathlib.Core.List.{List, [], ◌∷◌}
-use Rattle.std.specs.Prelude.{Some, Ok}
-use lib.ListN.{length}
+use Rattle.std.proofs.Common.{ℕ, ◌≡◌, refl, sym, ap, ◌∙◌, Bool, true, false, List, [], ◌∷◌, Some, Ok, length}
 use Rattle.sizes.proofs.Refusals.{not_done}
 use Rattle.rules.specs.Answers.{Answer, first_of, Done, BadViewport, BadArena, BadRecord}
 use Rattle.rules.specs.Plans.{Frame}

@@ -1,11 +1,5 @@
 -- A refused `coarse_why` leaves its result words. Assumes nothing.
-use Prim.Native.Nat.{ℕ}
-use mathlib.Core.Path.{◌≡◌, refl}
-use mathlib.Core.Bool.{◌&&◌}
-use mathlib.Core.List.{List}
-use Rattle.std.specs.Prelude.{Option, None, Some, Result, Ok, Err}
-use lib.Dec.{leb, eqb}
-use lib.ListN.{length}
+use Rattle.std.proofs.Common.{ℕ, ◌≡◌, refl, ◌&&◌, List, Option, None, Some, Result, Ok, Err, leb, eqb, length}
 use Rattle.sizes.specs.declared.answers.Refusal.{Refusal}
 use Rattle.rules.specs.Setups.{Setup}
 use Rattle.screen.specs.declared.Screen.{Screen}

@@ -1,10 +1,6 @@
 -- A screen that the rules have built keeps its frame, and its rows give few pieces: at most 64 by their depth fills, and 32 by each of at most
 -- 1,024 commands. Assumes nothing.
-use Prim.Native.Nat.{◌≤◌}
-use native.Mathlib.Omega.{arith}
-use mathlib.Core.Path.{◌≡◌, ap}
-use mathlib.Core.List.{List}
-use lib.ListN.{get_or}
+use Rattle.std.proofs.Common.{◌≤◌, arith, ◌≡◌, ap, List, get_or}
 use Rattle.rules.specs.Rows.{Row, fresh-row}
 use Rattle.rules.specs.Plans.{Frame, bucket, buckets-across, Step}
 use Rattle.rules.specs.Steps.{Screen, reset}

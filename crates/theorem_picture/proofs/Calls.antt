@@ -1,13 +1,7 @@
 -- A done building call, whatever words it was lent, is the step that these words say; and every step of the rules is such a call. A list that
 -- is no number of whole records is refused, and the calls read no more of a list than what it says. Assumes nothing.
-use Prim.Native.Nat.{ℕ, zero, suc, ◌+◌, ◌*◌, ◌/◌, ◌%◌}
-use native.Mathlib.Omega.{arith}
-use mathlib.Core.Path.{◌≡◌, refl, sym, ap, ◌∙◌}
-use mathlib.Core.Bool.{Bool, true, false, ◌&&◌, not, cond}
-use mathlib.Core.List.{List, [], ◌∷◌}
-use lib.Dec.{eqb}
-use lib.ListN.{length, get_or}
-use borrow.Author.Tests.{eqb-true, eqb-false}
+use Rattle.std.proofs.Common.{ℕ, zero, suc, ◌+◌, ◌*◌, ◌/◌, ◌%◌, arith, ◌≡◌, refl, sym, ap, ◌∙◌, Bool, true, false, ◌&&◌, not, cond, List, [], ◌∷◌, eqb, length, get_or, eqb-true}
+use borrow.Author.Tests.{eqb-false}
 use Rattle.sizes.specs.Sizes.{paint-attr-table, layer-attr-table, open-layer-table, opacity-count}
 use Rattle.rules.specs.Lists.{join}
 use Rattle.rules.specs.Answers.{first_of, Done, BadRecord}

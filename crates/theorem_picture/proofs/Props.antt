@@ -1,12 +1,6 @@
 -- Every done push is a step of the rules: what it accepts are a layer's properties. The opacity is an f32, as every argument of the call is.
 -- Assumes nothing.
-use native.Mathlib.Omega.{arith}
-use mathlib.Core.Path.{◌≡◌, sym, ◌∙◌}
-use mathlib.Core.Bool.{Bool, true, ◌&&◌, cond}
-use mathlib.Core.List.{List, [], ◌∷◌, ◌++◌}
-use Prim.Native.Nat.{ℕ}
-use lib.Dec.{T, eqb}
-use lib.ListN.{length}
+use Rattle.std.proofs.Common.{arith, ◌≡◌, sym, ◌∙◌, Bool, true, ◌&&◌, cond, List, [], ◌∷◌, ◌++◌, ℕ, T, eqb, length}
 use Rattle.std.proofs.lemmas.Bool.Decides.{nat_tests}
 use lib.Ieee.{binary32, fits}
 use Rattle.sizes.specs.Sizes.{open-layer-table, opacity-count}

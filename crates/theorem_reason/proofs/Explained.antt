@@ -1,11 +1,7 @@
 -- The call `why` at the words: an accepted recording is walked to its end by the rules, so that its story is told to its end, and the reason read
 -- off it is the rules' reason of the file's history. Assumes nothing.
-use Prim.Native.Nat.{ℕ, ◌/◌, ◌<◌}
-use mathlib.Core.Path.{◌≡◌, refl, sym, ap, ◌∙◌, subst}
-use mathlib.Core.Bool.{true, false}
-use mathlib.Core.List.{List, []}
-use Rattle.std.specs.Prelude.{Option, unwrap_or}
-use lib.ListN.{replicate}
+use Rattle.std.proofs.Common.{ℕ, ◌/◌, ◌<◌, ◌≡◌, refl, sym, ap, ◌∙◌, subst, true, false, List, [], Option, replicate}
+use Rattle.std.specs.Prelude.{unwrap_or}
 use borrow.Author.Tests.{lt-leb}
 use Rattle.sizes.specs.Sizes.{line-table}
 use Rattle.rules.specs.Answers.{Done}

@@ -1,12 +1,5 @@
 -- A judged file's nodes and layers, at their places.
-use Prim.Native.Nat.{ℕ, ◌+◌, ◌*◌, ◌≤◌, ◌<◌}
-use native.Mathlib.Omega.{arith}
-use mathlib.Core.Path.{◌≡◌}
-use mathlib.Core.Bool.{true, ◌&&◌, cond}
-use mathlib.Core.List.{List, []}
-use lib.ListN.{length, get_or}
-use lib.Dec.{leb, eqb}
-use borrow.Author.Tests.{leb-true}
+use Rattle.std.proofs.Common.{ℕ, ◌+◌, ◌*◌, ◌≤◌, ◌<◌, arith, ◌≡◌, true, ◌&&◌, cond, List, [], length, get_or, leb, eqb, leb-true}
 use Rattle.rules.specs.Spans.{good-range}
 use Rattle.rules.specs.Inputs.{good-handle, good-filter, good-panel}
 use Rattle.rules.specs.Blends.{good-blend}

@@ -1,5 +1,5 @@
 -- The rows' number is 4, 10 or 0; 8 and 9 come between.
-use native.Mathlib.Omega.{arith}
+use Rattle.std.proofs.Common.{arith}
 use Rattle.std.proofs.lemmas.Bool.Decides.{nat_tests}
 use Rattle.pop.specs.Closing.{pops-number}
 use Rattle.pop.specs.Pop.{late}

@@ -1,8 +1,5 @@
 -- What snapping makes of a box (`specs/Snapping`). Assumes nothing.
-use mathlib.Core.Path.{◌≡◌, refl}
-use mathlib.Core.Bool.{Bool, true, false}
-use Prim.Native.Nat.{ℕ, ◌%◌, ◌≤◌}
-use native.Mathlib.Omega.{arith}
+use Rattle.std.proofs.Common.{◌≡◌, refl, Bool, true, false, ℕ, ◌%◌, ◌≤◌, arith}
 use Rattle.rules.specs.Setups.{lowered, raised, snapped}
 use Rattle.rules.specs.Snapping.{SnappedSmallest, ModesSame, ExactSnapped, FarRefused}
 use Rattle.rules.proofs.laws.Viewports.{view}

@@ -1,4 +1,4 @@
-use mathlib.Core.Path.{refl}
+use Rattle.std.proofs.Common.{refl}
 use Rattle.rules.proofs.Computing.{computing}
 use Rattle.rules.proofs.rules_hold_at_known_points.Goals as goal
 

@@ -1,4 +1,4 @@
-use mathlib.Core.Path.{refl}
+use Rattle.std.proofs.Common.{refl}
 use Rattle.rules.proofs.Computing.{computing}
 use Rattle.rules_picture.proofs.Panels.{answered-alike, built_alike, panel-blind, painted-alike, told-alike}
 use Rattle.rules_picture.proofs.panels_decide_nothing.Goals as goal

@@ -1,7 +1,4 @@
-use mathlib.Core.Path.{sym, ap, ◌∙◌}
-use mathlib.Core.Bool.{true, ◌&&◌}
-use lib.Dec.{leb, eqb}
-use lib.ListN.{length}
+use Rattle.std.proofs.Common.{sym, ap, ◌∙◌, true, ◌&&◌, leb, eqb, length}
 use Rattle.sizes.specs.Refusals.{number_of}
 use Rattle.rules.specs.Setups.{Setup, frame}
 use Rattle.rules.proofs.laws.Answers.{settle-number}

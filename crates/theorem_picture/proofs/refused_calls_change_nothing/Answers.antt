@@ -1,5 +1,4 @@
-use mathlib.Core.Bool.{true}
-use lib.ListN.{length}
+use Rattle.std.proofs.Common.{true, length}
 use Rattle.screen.specs.Judging.{judged_reset}
 use Rattle.screen.specs.Screens.{fresh-screen}
 use Rattle.screen.specs.Tables.{lengths, zeros, zeroed, lent, reset_to}

@@ -1,8 +1,6 @@
 -- The tests in the rules' order: what is lent, then ids and attributes, then the rows of the box.
-use mathlib.Core.Path.{sym, ◌∙◌}
-use borrow.Author.Tests.{eq-eqb, ne_eqb}
+use Rattle.std.proofs.Common.{sym, ◌∙◌, eq-eqb, ne_eqb, arith}
 use Rattle.std.proofs.lemmas.Bool.Decides.{nat_tests}
-use native.Mathlib.Omega.{arith}
 use Rattle.std.proofs.lemmas.Result.{err_from_is_err_and}
 use Rattle.row.specs.Building.{step_number}
 use Rattle.sizes.proofs.Refusals.{not_done}

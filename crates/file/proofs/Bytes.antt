@@ -12,7 +12,6 @@ abbrev pub Put : List ℕ → List ℕ → ℕ → List ℕ → Type 0
 Put bs old i now = now ≡ each word_from 4 bs 0 i ++ drop i old
 
 module _ (bs old : List ℕ) (i : ℕ) (now : List ℕ) (p : Put bs old i now) where
-
   pub put_next : (x : ℕ) → i < length old → x ≡ word_from bs (4 * i) → Put bs old (i + 1) (set now i x)
   put_next x h e =
       rw (p, drop-cons old i 0 h, set_at (each word_from 4 bs 0 i) (get_or old i 0) (drop (suc i) old) x i (each-length word_from 4 bs 0 i))

@@ -94,13 +94,7 @@ struct Desk<'a> {
 }
 
 // What is wanted, put first; how long it is.
-fn wanted_text(
-    file: &[u8],
-    want: Want,
-    query: Query,
-    tables: &mut Tables,
-    out: &mut [u8],
-) -> usize
+fn wanted_text(file: &[u8], want: Want, query: Query, tables: &mut Tables, out: &mut [u8]) -> usize
     requires { Usual (setup-of want.setup) × (264256 ≤ length out.old) }
     ensures value { result ≡ length (answer (wanted_of want) query file.now) }
     ensures out_after { take result out.new ≡ answer (wanted_of want) query file.now }

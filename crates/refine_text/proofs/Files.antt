@@ -34,7 +34,7 @@ use Rattle.file.proofs.Reading.{viewport-is}
 use Rattle.file.specs.Judging.{box_from}
 use Rattle.text.specs.Listed.{listed, written, text_of}
 use Rattle.text.specs.declared.recording.Size.{Size}
-use Rattle.text.specs.Files.{Showed, nothing, refusing, shown-as, showing, FileOut, file-out, answered, recording-text, frame_at, size, sized-if, sized, size_of, good-bytes, file-size, Usual, Exact, blank, sized-text, bytes-text}
+use Rattle.text.specs.Files.{Showed, file-text, shows-as, nothing, refusing, shown-as, showing, FileOut, file-out, answered, recording-text, frame_at, size, sized-if, sized, size_of, good-bytes, file-size, Usual, Exact, blank, sized-text, bytes-text}
 use Rattle.text.proofs.FileTexts.{blank_exact}
 use Rattle.text.proofs.Bytes.{by-file}
 use Rattle.refine_text.proofs.Lengths.{line-few, lines-few, rows_few}
@@ -85,9 +85,6 @@ pub record Leaves (a : Answer (Screen Row)) (z : Size) (bs : List ℕ) (o : File
   pub prints : Prints a bs o.showed
   pub left : a.number ≡ 0 → Left a.value z o
 
-abbrev told : Showed → ℕ × declared.Screen
-told x = (x.text.number, x.text.screen)
-
 -- what a screen in a file's frame prints has at most 264,256 bytes
 screen-few : (v : Box) (x : Width) (s : Screen Row) → rows_of v ≤ 32 → Kept (usual-frame v x) s → length (text_of (rules.screen-lines s)) ≤ 264256
 screen-few v x s few h =
@@ -99,30 +96,18 @@ refused-few : (n : ℕ) → length (text_of (refused n ∷ [])) ≤ 264256
 refused-few n = omega (arith, lines-few (refused n ∷ []))
 
 module _ (bs : List ℕ) (room : 264256 ≤ length bs) where
-  -- a text that fits
-  fits : (ts : List ℕ) → length ts ≤ 264256 → (s : declared.Screen) → shows (shown-as s (written ts bs)) ≡ text-first ts bs
+  -- a text that fits, and a refusal's
+  fits : (ts : List ℕ) → length ts ≤ 264256 → (s : declared.Screen) → shown-as s (written ts bs) ≡ shows-as (file-text 0 (length ts) s) (ts ++ drop (length ts) bs)
   unfolding written
   fits ts h s = rw (le-ltb (length bs) (length ts) (omega (arith, h, room)))
 
-  refusing-shows : (n : ℕ) (s : declared.Screen) → shows (refusing n s bs) ≡ text-first (text_of (refused n ∷ [])) bs
+  refusing-is : (n : ℕ) (s : declared.Screen) → let ts = text_of (refused n ∷ []) in refusing n s bs ≡ shows-as (file-text n (length ts) s) (ts ++ drop (length ts) bs)
   unfolding refusing written text_of
-  refusing-shows n s = rw (le-ltb (length bs) (length (line-bytes (refused n))) (omega (arith, line-few (refused n), room)), append-nil (line-bytes (refused n)))
-
-  fits_told : (ts : List ℕ) → length ts ≤ 264256 → (s : declared.Screen) → told (shown-as s (written ts bs)) ≡ (0, s)
-  unfolding written
-  fits_told ts h s = rw (le-ltb (length bs) (length ts) (omega (arith, h, room)))
-
-  refusing-number : (n : ℕ) (s : declared.Screen) → (refusing n s bs).text.number ≡ n
-  unfolding refusing
-  refusing-number n s = refl
+  refusing-is n s = rw (append-nil (line-bytes (refused n)), le-ltb (length bs) (length (line-bytes (refused n))) (omega (arith, line-few (refused n), room)))
 
   refused-prints : (a : Answer (Screen Row)) (n : ℕ) (s : declared.Screen) → a.number ≡ n → answer-lines a ≡ refused n ∷ [] → Prints a bs (refusing n s bs)
   refused-prints a n s e h =
-      record {
-        number = refusing-number n s ∙ sym e;
-        shows = rw h (refusing-shows n s);
-        few = rw h (refused-few n);
-      }
+      rw (refusing-is n s) (record { number = sym e; shows = rw h refl; few = rw h (refused-few n) })
 
   answer-leaves : (a : Answer (Screen Row)) (w : Answer ScreenLent) (v : Box) (x : Width) → rows_of v ≤ 32 → w.number ≡ a.number → (a.number ≡ 0 → Done-with a w v x)
       → Leaves a (usual-size v x) bs (answered w bs)
@@ -135,14 +120,9 @@ module _ (bs : List ℕ) (room : 264256 ≤ length bs) where
           let done = h (eqb-true _ _ q) in
           let text : List ℕ = text_of (rules.screen-lines a.value) in
           let short : length text ≤ 264256 = screen-few v x a.value few done.kept in
-          let t = fits_told text short w.value.screen in
-          rw (listed-held done.refines done.kept.fair bs)
+          rw (listed-held done.refines done.kept.fair bs, fits text short w.value.screen)
           (record {
-            prints = record {
-              number = ap (λ (y : ℕ × declared.Screen). y.0) t ∙ sym (eqb-true _ _ q);
-              shows = rw q (fits text short w.value.screen);
-              few = rw q short;
-            };
+            prints = record { number = sym (eqb-true _ _ q); shows = rw q refl; few = rw q short };
             left = λ i. record {
               viewport = v;
               width = x;
@@ -151,7 +131,7 @@ module _ (bs : List ℕ) (room : 264256 ≤ length bs) where
               kept = done.kept;
               words = w.value;
               refines = done.refines;
-              screen = ap (λ (y : ℕ × declared.Screen). y.1) t;
+              screen = refl;
               tables = refl;
             };
           })
@@ -391,7 +371,7 @@ module _ (q : Setup) (u : Usual q) (fs : List ℕ) (bs : List ℕ) (room : 26425
     where
       go : (b : Bool) → shows (sized-text (cond b (size_of (words-in fs) q) (Err refusal.BadForm)) (words-in fs) q bs) ≡ text-first (text_of (cond b (rowlist-words q (words-in fs)) (refused BadForm ∷ []))) bs
       go true = (words-print q u (words-in fs) bs room).shows
-      go false = refusing-shows bs room 3 nothing
+      go false = ap shows (refusing-is bs room 3 nothing)
 
   pub file-few : length (text_of (rowlist q fs)) ≤ 264256
   unfolding rowlist rowlist-words

@@ -201,11 +201,7 @@ module _ (w n : ℕ) where
 
   pub pops-levels : (i k : ℕ) (is : List ℕ) (rs : List Row) → Due i k is rs → Falls i k is rs
   unfolding do-puts
-  pops-levels i k [] rs h = (omega arith, go (eqb (levels-at rs i) (suc k)) refl)
-    where
-      go : (t : Bool) → eqb (levels-at rs i) (suc k) ≡ t → levels-at rs i ≤ k
-      go true e = never (sym (h.1 (eqb-true (levels-at rs i) (suc k) e)))
-      go false e = omega (arith, eqb-false (levels-at rs i) (suc k) e, h.0)
+  pops-levels i k [] rs h = let f : levels-at rs i ≡ suc k → ⊥ = λ e. never (sym (h.1 e)) in (omega arith, omega (arith, h.0))
   pops-levels i k (j ∷ js) rs h = go (eqb i j) refl (pops-levels i k js (change (do-act Row row-ops w n pop) j rs))
     where
       go : (t : Bool) → eqb i j ≡ t → (Due i k js (change (do-act Row row-ops w n pop) j rs) → Falls i k js (change (do-act Row row-ops w n pop) j rs))
@@ -270,14 +266,10 @@ lowered w n l ls rs cs c ts i h g =
     (record { few = d.1; boxed = boxed-less ls i (levels-at rs i) m (omega (arith, d.0, e)) h.boxed.1 })
 
 has_all : (n i : ℕ) (rs : List Row) → levels-at rs i ≡ suc n → some_of (eqb i) (touched Row row-ops (suc n) 0 rs) ≡ true
-has_all n i rs e = go (ltb i (length rs)) refl
-  where
-    whole : 0 + i ≡ i
-    whole = omega arith
-
-    go : (t : Bool) → ltb i (length rs) ≡ t → some_of (eqb i) (touched Row row-ops (suc n) 0 rs) ≡ true
-    go true q = rw whole at (touched-has (suc n) 0 i rs (ltb-true i (length rs) q) e)
-    go false q = absurd (omega (arith, past-levels rs i (ltb-false i (length rs) q)))
+has_all n i rs e =
+    let whole : 0 + i ≡ i = omega arith in
+    let f : length rs ≤ i → ⊥ = λ l. omega (arith, past-levels rs i l) in
+    rw whole at (touched-has (suc n) 0 i rs (omega arith) e)
 
 popped-row : (s : Screen Row) (l : Layer) (ls : List Layer) (ss : List Segment) → ((i : ℕ) → Reached (l ∷ ls) i (levels-at s.rows i))
     → (i : ℕ) → Reached ls i (levels-at (do-puts Row row-ops (bucket s.state.frame) (length ls) (pop-of s (l ∷ ls) ss).puts s.rows) i)

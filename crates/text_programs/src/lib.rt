@@ -1,5 +1,5 @@
-// What the programs have in common: their options, their tables, the text of a file's bytes, reading to the end, streams, how they fail. Parts: where
-// a function asks something, the programs have seen to it.
+// What the programs have in common: their options and usages, their tables, the text of a file's bytes, reading to the end, streams, how they fail. Parts:
+// where a function asks something, the programs have seen to it.
 #![tactic(auto)]
 
 ghost use Rattle.std.specs.Prelude.{◌≡◌, ◌≢◌, ◌≤◌, true, false, length, take, Ok, IfOk, IfErr, IsOk, OnOk};
@@ -17,6 +17,7 @@ ghost use Rattle.text_programs.specs.Failures.{IsOfReading, IsOfWriting, Begins,
 use crate::failure::Failure;
 use screen::{Lent, Setup};
 use sizes::answers::Refusal;
+use sizes::{FILE_BYTES, PROGRAM_ROOM, PROGRAM_ROWS};
 use std::io;
 use std::io::{ErrorKind, Read, Write};
 use text::{file_text, no_width_refusal, refusal_line};
@@ -25,6 +26,13 @@ pub mod failure;
 pub mod options;
 pub mod stream;
 pub mod tables;
+pub mod usage;
+
+// Bytes of the buffer that a file is read to: the longest file, and one byte more, by which a longer one is known.
+pub const FILE_ROOM: usize = FILE_BYTES + 1;
+
+// Bytes of the longest text of a screen's rows, or of a tile's reasons.
+pub const TEXT_ROOM: usize = 64 + PROGRAM_ROWS * (64 * (1 + 2 * PROGRAM_ROOM as usize));
 
 // answer: whether the recording is refused. bytes: how many are written, at the start of the lent ones.
 #[derive(Clone, Copy)]

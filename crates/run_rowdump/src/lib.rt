@@ -91,7 +91,7 @@ fn print_stream<R: Read, W: Write>(
     let mut text = dump_buffer(alloc)?;
     let mut buffer = file_buffer(alloc)?;
     let desk = Desk {
-        lent: tables.lend(),
+        tables: &mut tables,
         list: pieces.as_mut_slice(),
         text: text.as_mut_slice(),
     };

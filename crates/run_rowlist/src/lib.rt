@@ -4,17 +4,13 @@
 ghost use Rattle.std.specs.Prelude.{◌≡◌, ◌≢◌, ◌≤◌, ◌↔◌, ◌⊎◌, true, false, [], length, map, string_bytes, IfSome, IfErr, OnOk, IsErrAnd};
 ghost use Rattle.std.specs.Io.KnownBytes.{Appends};
 ghost use Rattle.screen.specs.Screens.{setup-of};
-ghost use Rattle.screen.specs.Lent.{tables_in};
 ghost use Rattle.text.specs.Files.{Usual};
-ghost use Rattle.text_programs.specs.declared.failure.Failure.TheVariants.{OutOfMemory};
 ghost use Rattle.text_programs.specs.Programs.{rowlist-text, by_width, first};
 ghost use Rattle.text_programs.specs.Arguments.{asks_help, read_arguments, wanted_of};
 ghost use Rattle.text_programs.specs.Rooms.{file-room, text-room};
-ghost use Rattle.text_programs.specs.Tables.{Long};
 ghost use Rattle.text_programs.specs.Failures.{IsOfReading, IsOfWriting, IsUsage, IsUnwritten, Begins};
 ghost use Rattle.run_rowlist.specs.Printed.{usage, listed, printed};
 
-use screen::Lent;
 use std::alloc::Global;
 use std::io::{Read, Write};
 use text_programs::failure::{Failure, Stop};
@@ -31,15 +27,15 @@ pub const USAGE: Usage = Usage {
 };
 
 // What is wanted, put first; how long it is.
-fn wanted_text(file: &[u8], want: Want, lent: &mut Lent<'_>, out: &mut [u8]) -> usize
-    requires { Usual (setup-of want.setup) × Long (tables_in lent.old) × (text-room ≤ length out.old) }
+fn wanted_text(file: &[u8], want: Want, tables: &mut Tables, out: &mut [u8]) -> usize
+    requires { Usual (setup-of want.setup) × (text-room ≤ length out.old) }
     ensures value { result ≡ length (listed (wanted_of want) file.now) }
     ensures out_after { out.new ≡ first (listed (wanted_of want) file.now) out.old }
 {
     if want.no_width {
         return no_width_text(file, out);
     }
-    rowlist_text(file, want.setup, lent, out)
+    rowlist_text(file, want.setup, tables, out)
 }
 
 // Lists the recording on the input, in tables and buffers that are lent. Nothing is written before the input is read; where writing fails, a beginning
@@ -48,18 +44,18 @@ fn list_in<R: Read, W: Write>(
     input: &mut R,
     output: &mut W,
     want: Want,
-    lent: &mut Lent<'_>,
+    tables: &mut Tables,
     buffer: &mut [u8],
     text: &mut [u8],
 ) -> Result<(), Failure>
-    requires { Usual (setup-of want.setup) × Long (tables_in lent.old) × (length buffer.old ≡ file-room) × (text-room ≤ length text.old) }
+    requires { Usual (setup-of want.setup) × (length buffer.old ≡ file-room) × (text-room ≤ length text.old) }
     ensures ok { OnOk result (IfSome (R.remaining input.old) (λ file. Appends (W.contents output.old) (W.contents output.new) (listed (wanted_of want) file))) }
     ensures begun { IfSome (R.remaining input.old) (λ file. Begins (W.contents output.old) (W.contents output.new) (listed (wanted_of want) file)) }
     ensures unread { IfErr result (λ e. IsOfWriting e ⊎ (output.new ≡ output.old)) }
     ensures err { IfErr result (λ e. IsOfReading e ⊎ IsOfWriting e) }
 {
     let n = read_all(input, buffer)?;
-    let k = wanted_text(&buffer[..n], want, lent, text);
+    let k = wanted_text(&buffer[..n], want, tables, text);
     write_text(output, &text[..k])
 }
 
@@ -78,12 +74,11 @@ fn list_input<R: Read, W: Write>(
     let mut tables = Tables::new(alloc)?;
     let mut buffer = file_buffer(alloc)?;
     let mut text = text_buffer(alloc)?;
-    let mut lent = tables.lend();
     list_in(
         input,
         output,
         want,
-        &mut lent,
+        &mut tables,
         buffer.as_mut_slice(),
         text.as_mut_slice(),
     )

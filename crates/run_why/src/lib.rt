@@ -8,10 +8,8 @@ ghost use Rattle.std.specs.Result.{result_ok};
 ghost use Rattle.std.specs.Io.KnownBytes.{Appends};
 ghost use Rattle.rules_reason.specs.Answers.{question-line};
 ghost use Rattle.screen.specs.Screens.{setup-of};
-ghost use Rattle.screen.specs.Lent.{tables_in};
 ghost use Rattle.text.specs.Files.{Usual};
 ghost use Rattle.text_programs.specs.Rooms.{file-room, text-room};
-ghost use Rattle.text_programs.specs.Tables.{Long};
 ghost use Rattle.text_programs.specs.Failures.{IsOfReading, IsOfWriting, IsUsage, IsUnwritten, Begins};
 ghost use Rattle.text_programs.specs.Arguments.{number_of, asks_help, read_arguments, wanted_of};
 ghost use Rattle.text_programs.specs.Streams.{PrintsFirst};
@@ -19,7 +17,6 @@ ghost use Rattle.run_why.specs.Requests.{question_of, query_of, request_of, IsOf
 ghost use Rattle.run_why.specs.Desks.{Ready};
 ghost use Rattle.run_why.specs.Printed.{usage, answer, item_answer, stream_answers, reply, printed, item_of};
 
-use screen::Lent;
 use std::alloc::Global;
 use std::io::{Read, Write};
 use text_programs::failure::{Failure, Stop};
@@ -124,18 +121,17 @@ fn read_request(others: &[String]) -> Result<Request, Wrong<'_>>
     }
 }
 
-// What an answer is made in: the tables that take a file's screen, the text; and what is wanted.
+// What is wanted, and what an answer is made in: the tables that take a file's screen, the text.
 #[derive(Drop)]
 struct Desk<'a> {
     want: Want,
-    lent: Lent<'a>,
+    tables: &'a mut Tables,
     text: &'a mut [u8],
 }
 
 // What is wanted, put first; how long it is.
-fn wanted_text(file: &[u8], want: Want, query: Query, lent: &mut Lent<'_>, out: &mut [u8]) -> usize
-    requires { Usual (setup-of want.setup) × Long (tables_in lent.old) × (text-room ≤ length out.old) }
-    ensures long { Long (tables_in lent.new) }
+fn wanted_text(file: &[u8], want: Want, query: Query, tables: &mut Tables, out: &mut [u8]) -> usize
+    requires { Usual (setup-of want.setup) × (text-room ≤ length out.old) }
     ensures value { result ≡ length (answer (wanted_of want) query file.now) }
     ensures out_after { take result out.new ≡ answer (wanted_of want) query file.now }
 {
@@ -148,7 +144,7 @@ fn wanted_text(file: &[u8], want: Want, query: Query, lent: &mut Lent<'_>, out: 
         query.row,
         query.tile,
         query.question,
-        lent,
+        tables,
         out,
     )
 }
@@ -172,7 +168,7 @@ impl Desk<'_> {
         ensures begun { Begins (W.contents output.old) (W.contents output.new) (answer (wanted_of self.old.want) query file.now) }
         ensures err { IfErr result IsOfWriting }
     {
-        let n = wanted_text(file, self.want, query, &mut self.lent, self.text);
+        let n = wanted_text(file, self.want, query, self.tables, self.text);
         write_text(output, &self.text[..n])
     }
 }
@@ -267,7 +263,7 @@ fn answer_input<R: Read, W: Write>(
     let mut buffer = file_buffer(alloc)?;
     let mut desk = Desk {
         want,
-        lent: tables.lend(),
+        tables: &mut tables,
         text: text.as_mut_slice(),
     };
     answer_request(input, output, request, buffer.as_mut_slice(), &mut desk)

@@ -24,9 +24,10 @@ use sizes::{
     PROGRAM_BUCKETS, PROGRAM_ROOM,
 };
 
-// The most pieces of a row of the programs' screens, and the words of a list that holds them.
+/// The most pieces of a row of the programs' screens.
 pub const PIECES: usize = PROGRAM_BUCKETS + MOST_RUNS * PROGRAM_ROOM as usize;
 
+/// The words of a list that holds them.
 pub const PIECE_LIST: usize = PIECE * PIECES;
 
 fn tied() -> [usize; 2]
@@ -35,7 +36,7 @@ fn tied() -> [usize; 2]
     [PIECES, PIECE_LIST]
 }
 
-// What a host lends of a screen's attributes, to be read.
+/// What a host lends of a screen's attributes, to be read.
 #[derive(Clone, Copy)]
 pub struct Tables<'a> {
     pub paint_attrs: &'a [u32],
@@ -146,8 +147,8 @@ fn refused_at(
     Ok(0)
 }
 
-// The text of a row: painted to its end, its pieces in the list and as lines. The screen's painting has begun, and the row stands at its
-// first step, or the text is of the steps that are left.
+/// The text of a row, and how many bytes it has: it is painted to its end, its pieces in the list and as lines. The screen's painting has begun, and the row
+/// stands at its first step, or the text is of the steps that are left. Refused as its steps are, and by 14 for more than 65,536 pieces or too few bytes.
 pub fn row_text(
     screen: Screen,
     row: u32,
@@ -220,7 +221,8 @@ impl Print for AttrsText<'_> {
     }
 }
 
-// The text of a screen's attributes and filter paints, and how many bytes it has.
+/// The text of a screen's attributes and filter paints, and how many bytes it has; 4 for counts past their limits or tables of other lengths, 14 for too few
+/// bytes.
 pub fn attrs_text(
     screen: Screen,
     panels: bool,

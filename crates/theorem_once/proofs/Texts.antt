@@ -26,14 +26,14 @@ use Rattle.text.specs.Dumped as dumped
 use Rattle.text.specs.Dumped.{RowOut}
 use Rattle.text.specs.declared.recording.FileText.{FileText}
 use Rattle.text.specs.declared.recording.Size.{Size}
-use Rattle.text.specs.Files.{Text, text_of, FileOut}
+use Rattle.text.specs.Files.{Text, text_of, Showed, FileOut}
 use Rattle.text.specs.contracts.listing.list_screen as list-call
 use Rattle.text.specs.contracts.listing.refusal_line as refusal-call
 use Rattle.text.specs.contracts.painted.attrs_text as attrs-call
 use Rattle.text.specs.contracts.painted.row_text as row_call
 use Rattle.text.specs.contracts.recording.size_of as size_call
 use Rattle.text.specs.contracts.recording.recording_text as recording_call
-use Rattle.text.specs.contracts.recording.file_text as file-call
+use Rattle.text_programs.specs.contracts.file_text as file-call
 use Rattle.theorem_once.specs.Texts.{Lists, Refuses, Details, Paints, Sizes, Records, Prints, ListOnce, RefusalOnce, DetailsOnce, RowOnce, SizeOnce, RecordingOnce, FileOnce}
 
 -- a result is what its number and its count of bytes say
@@ -90,9 +90,9 @@ one-recording file setup lent bytes r q t u b c e f =
     (file-once r q (ap (λ (x : FileOut). x.showed.text) h), ap (λ (x : FileOut). x.tables) h, ap (λ (x : FileOut). x.showed.bytes) h)
 
 pub one-file : FileOnce
-one-file file setup lent bytes r q t u b c e f =
+one-file file setup bytes r q b c e f =
     let h = e ∙ sym f in
-    (file-once r q (ap (λ (x : FileOut). x.showed.text) h), ap (λ (x : FileOut). x.tables) h, ap (λ (x : FileOut). x.showed.bytes) h)
+    (file-once r q (ap (λ (x : Showed). x.text) h), ap (λ (x : Showed). x.bytes) h)
 
 -- No call asks anything, and the promises are the sources' clauses: at the arguments a, the result r and the arguments at exit e.
 module _ {M : Type 1} {𝓤 : Ura M} (𝓛 : Logic 𝓤) (mem : Memory → SProp 𝓤) (run : Routine → Fun 𝓤) where
@@ -130,7 +130,7 @@ module _ {M : Type 1} {𝓤 : Ura M} (𝓛 : Logic 𝓤) (mem : Memory → SProp
       ≡ sep 𝓤 (fact 𝓤 (Sizes a.0.now a.1.0 r)) (fact 𝓤 (IfOk r (λ size. (size.rows ≤ program-rows) × (size.buckets ≤ program-buckets)))))
   size-source κs a r e = (refl, refl)
 
-  -- the other sources also say that what is lent are the same slices afterwards
+  -- its source also says that what is lent are the same slices afterwards
   recording-source : (κs : Lfts (recording_call.signature).lifetimes) (a : Args recording_call.signature κs) (r : FileText) (e : AtExit recording_call.ended κs)
       → ((recording_call.clauses 𝓛 mem run κs a).requires tt ≡ emp 𝓤)
       × ((recording_call.clauses 𝓛 mem run κs a).ensures tt r e
@@ -141,6 +141,5 @@ module _ {M : Type 1} {𝓤 : Ura M} (𝓛 : Logic 𝓤) (mem : Memory → SProp
   file-source : (κs : Lfts (file-call.signature).lifetimes) (a : Args file-call.signature κs) (r : FileText) (e : AtExit file-call.ended κs)
       → ((file-call.clauses 𝓛 mem run κs a).requires tt ≡ emp 𝓤)
       × ((file-call.clauses 𝓛 mem run κs a).ensures tt r e
-      ≡ sep 𝓤 (fact 𝓤 (SameLent a.1.1.0.now e.1.1.0.now))
-      (fact 𝓤 (Prints a.0.now a.1.0 (tables_in a.1.1.0.now) a.1.1.1.0.now r (tables_in e.1.1.0.now) e.1.1.1.0.now)))
+      ≡ fact 𝓤 (Prints a.0.now a.1.0 a.1.1.1.0.now r e.1.1.1.0.now))
   file-source κs a r e = (refl, refl)

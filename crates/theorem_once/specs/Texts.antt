@@ -91,14 +91,14 @@ RecordingOnce =
     → Records file setup lent bytes q u c
     → (r ≡ q) × (t ≡ u) × (b ≡ c)
 
--- `file_text`: the ten tables and the bytes
-module _ (file : List ℕ) (setup : Setup) (lent : Tables) (bytes : List ℕ) where
-  abbrev pub Prints : FileText → Tables → List ℕ → Type 0
-  Prints r t b = file-out (showed r b) t ≡ bytes-text file (setup-of setup) lent bytes
+-- `file_text`: the bytes, whatever its own tables held
+module _ (file : List ℕ) (setup : Setup) (bytes : List ℕ) where
+  abbrev pub Prints : FileText → List ℕ → Type 0
+  Prints r b = showed r b ≡ bytes-text file (setup-of setup) bytes
 
 abbrev pub FileOnce : Type 0
 FileOnce =
-    (file : List ℕ) (setup : Setup) (lent : Tables) (bytes : List ℕ) (r q : FileText) (t u : Tables) (b c : List ℕ)
-    → Prints file setup lent bytes r t b
-    → Prints file setup lent bytes q u c
-    → (r ≡ q) × (t ≡ u) × (b ≡ c)
+    (file : List ℕ) (setup : Setup) (bytes : List ℕ) (r q : FileText) (b c : List ℕ)
+    → Prints file setup bytes r b
+    → Prints file setup bytes q c
+    → (r ≡ q) × (b ≡ c)

@@ -12,10 +12,10 @@ pub returns-clause-ok : goal.returns-clause-ok
 returns-clause-ok g c =
     let want = wanted_of c.args.want in
     let text = first_taken _ _ _ _ c.wanted_text-k.ensures.value c.wanted_text-k.ensures.out_after in
-    read_done (listed want) (by_width-cut _ (rowlist-cut want.setup) want.no-width) _ c.requires.2 _ _ _ c.write_text.result _ _ c.in_ok-n.ensures.bytes (rw text at c.write_text.ensures.ok)
+    read_done (listed want) (by_width-cut _ (rowlist-cut want.setup) want.no-width) _ c.requires.1 _ _ _ c.write_text.result _ _ c.in_ok-n.ensures.bytes (rw text at c.write_text.ensures.ok)
 
 pub returns-clause-begun : goal.returns-clause-begun
 returns-clause-begun g c =
     let want = wanted_of c.args.want in
     let text = first_taken _ _ _ _ c.wanted_text-k.ensures.value c.wanted_text-k.ensures.out_after in
-    read_begun (listed want) (by_width-cut _ (rowlist-cut want.setup) want.no-width) _ c.requires.2 _ _ _ _ _ c.in_ok-n.ensures.bytes (rw text at c.write_text.ensures.begun)
+    read_begun (listed want) (by_width-cut _ (rowlist-cut want.setup) want.no-width) _ c.requires.1 _ _ _ _ _ c.in_ok-n.ensures.bytes (rw text at c.write_text.ensures.begun)

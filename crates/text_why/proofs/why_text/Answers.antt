@@ -3,8 +3,8 @@ use mathlib.Core.Path.{sym, ◌∙◌}
 use native.Mathlib.Omega.{arith}
 use Rattle.screen.specs.Screens.{setup-of}
 use Rattle.text_why.specs.Questions.{question-of}
-use Rattle.text_programs.proofs.Laws.{first_taken}
-use Rattle.text_why.proofs.Files.{refused-text, accepted-file, is-refused, is-done}
+use Rattle.text_programs.proofs.Laws.{first_taken, is-refused, is-done}
+use Rattle.text_why.proofs.Files.{refused-text, accepted-file}
 use Rattle.text_why.proofs.why_text.Goals as goal
 
 pub returns-then-is_err-clause-value : goal.returns-then-is_err-clause-value

@@ -212,3 +212,8 @@ nothing_more k (Some bs) h p = (h, p)
 -- nothing was written where a call failed
 pub none_begun : {T E : Type 0} (r : Result T E) (known a : Option (List ℕ)) (f : List ℕ → List ℕ) → IfErr r (λ _. IfSome known (λ bs. Begins a a (f bs)))
 none_begun r known a f = if_err r (nothing_begun known a f)
+
+-- .. none of a stream's files is answered
+pub nothing_first : (one : ℕ → Item → List ℕ) (k : ℕ) (known a : Option (List ℕ)) → PrintsFirst one k known a a
+nothing_first one k None a = tt
+nothing_first one k (Some stream) a = ([], items k (2 ^ 64 - 1) stream, refl, Appends-nil a)

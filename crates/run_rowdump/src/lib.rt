@@ -72,6 +72,7 @@ impl Replies for Dump<'_> {
 }
 
 // Each recording of a stream, in tables and with room for the longest file, row and text, made once.
+#[tactic(auto, using(crate::proofs::Printing::none_printed))]
 fn print_stream<R: Read, W: Write>(
     alloc: Global,
     input: &mut R,
@@ -107,6 +108,7 @@ fn print_stream<R: Read, W: Write>(
 }
 
 /// Prints what the arguments ask for, over any input and output: the usage, or the recordings of the stream on the input.
+#[tactic(auto, using(crate::proofs::Printing::none_printed))]
 pub fn run<'a, R: Read, W: Write>(
     alloc: Global,
     args: &'a [String],

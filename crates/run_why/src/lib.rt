@@ -242,6 +242,7 @@ fn answer_request<R: Read, W: Write>(
 }
 
 // The same, in the program's own tables and buffers, made once.
+#[tactic(auto, using(crate::proofs::Answering::none_answered))]
 fn answer_input<R: Read, W: Write>(
     alloc: Global,
     input: &mut R,
@@ -270,6 +271,7 @@ fn answer_input<R: Read, W: Write>(
 }
 
 /// Prints what the arguments ask for, over any input and output: the usage, the answer about the file on the input, or the answers to its stream.
+#[tactic(auto, using(crate::proofs::Answering::none_answered))]
 pub fn run<'a, R: Read, W: Write>(
     alloc: Global,
     args: &'a [String],

@@ -102,6 +102,14 @@ fn wrong_count(others: &[String]) -> Wrong<'_> {
     }
 }
 
+// What is wrong with arguments that ask for nothing, given what was found first: a word that is meant as an option is told as one.
+fn wrong_first<'a>(others: &'a [String], found: Wrong<'a>) -> Wrong<'a> {
+    match others {
+        [first, extra, ..] if first.as_str() == "--stream" => Wrong::TooMany(extra.as_str()),
+        _ => wrong_option(others).unwrap_or(found),
+    }
+}
+
 // What the arguments after the options ask, or what is wrong with them.
 fn read_request(others: &[String]) -> Result<Request, Wrong<'_>>
     ensures { result_ok result ≡ request_of (map string_bytes others.now) }
@@ -117,7 +125,7 @@ fn read_request(others: &[String]) -> Result<Request, Wrong<'_>>
             let query = read_query(row.as_str(), tile.as_str(), question)?;
             Ok(Request::File(query))
         }
-        _ => Err(wrong_option(others).unwrap_or(wrong_count(others))),
+        _ => Err(wrong_count(others)),
     }
 }
 
@@ -306,6 +314,6 @@ pub fn run<'a, R: Read, W: Write>(
             answer_input(alloc, input, output, options.want, request)?;
             Ok(())
         }
-        Err(wrong) => Err(Stop::Usage(wrong)),
+        Err(wrong) => Err(Stop::Usage(wrong_first(options.others, wrong))),
     }
 }

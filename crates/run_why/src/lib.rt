@@ -57,11 +57,19 @@ enum Request {
     File(Query),
 }
 
+// What a word is that is no number.
+fn no_number(text: &str) -> Wrong<'_> {
+    if text.starts_with('-') {
+        return Wrong::NoOption(text);
+    }
+    Wrong::NoNumber(text)
+}
+
 // A number among the arguments.
 fn read_number(text: &str) -> Result<u32, Wrong<'_>>
     ensures { result_ok result ≡ number_of text.now }
 {
-    number(text).ok_or(Wrong::NoNumber(text))
+    number(text).ok_or(no_number(text))
 }
 
 // A question about one attribute.
@@ -102,11 +110,11 @@ fn wrong_count(others: &[String]) -> Wrong<'_> {
     }
 }
 
-// What is wrong with arguments that ask for nothing, given what was found first: a word that is meant as an option is told as one.
-fn wrong_first<'a>(others: &'a [String], found: Wrong<'a>) -> Wrong<'a> {
+// What is wrong with arguments that ask for nothing, given what was found first: nothing may stand after `--stream`.
+fn wrong_after_stream<'a>(others: &'a [String], found: Wrong<'a>) -> Wrong<'a> {
     match others {
         [first, extra, ..] if first.as_str() == "--stream" => Wrong::TooMany(extra.as_str()),
-        _ => wrong_option(others).unwrap_or(found),
+        _ => found,
     }
 }
 
@@ -125,7 +133,7 @@ fn read_request(others: &[String]) -> Result<Request, Wrong<'_>>
             let query = read_query(row.as_str(), tile.as_str(), question)?;
             Ok(Request::File(query))
         }
-        _ => Err(wrong_count(others)),
+        _ => Err(wrong_option(others).unwrap_or(wrong_count(others))),
     }
 }
 
@@ -314,6 +322,6 @@ pub fn run<'a, R: Read, W: Write>(
             answer_input(alloc, input, output, options.want, request)?;
             Ok(())
         }
-        Err(wrong) => Err(Stop::Usage(wrong_first(options.others, wrong))),
+        Err(wrong) => Err(Stop::Usage(wrong_after_stream(options.others, wrong))),
     }
 }

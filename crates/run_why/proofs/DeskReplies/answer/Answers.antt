@@ -13,7 +13,7 @@ pub returns-clause-cut : goal.returns-clause-cut
 returns-clause-cut g c = item-cut (wanted_of c.args.self.now.want)
 
 pub returns-clause-ok : goal.returns-clause-ok
-returns-clause-ok g c = both_done _ _ _ _ _ c.in_ok-print_question.ensures.ok c.print_answer.result c.print_answer.ensures.ok
+returns-clause-ok g c = both_done _ _ _ _ _ c.in_ok-print_question.ensures.ok c.print_answer.result (rw (c.word.ensures, c.word-2.ensures) at c.print_answer.ensures.ok)
 
 pub returns-clause-begun : goal.returns-clause-begun
-returns-clause-begun g c = both_begun _ _ _ _ _ c.in_ok-print_question.ensures.ok c.print_answer.ensures.begun
+returns-clause-begun g c = both_begun _ _ _ _ _ c.in_ok-print_question.ensures.ok (rw (c.word.ensures, c.word-2.ensures) at c.print_answer.ensures.begun)

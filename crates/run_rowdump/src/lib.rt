@@ -98,13 +98,7 @@ fn print_stream<R: Read, W: Write>(
     };
     let mut dump = Dump { want, desk };
     let mut head = [0u8; HEAD];
-    answer_all(
-        input,
-        output,
-        &mut head,
-        buffer.as_mut_slice(),
-        &mut dump,
-    )
+    answer_all(input, output, &mut head, buffer.as_mut_slice(), &mut dump)
 }
 
 /// Prints what the arguments ask for, over any input and output: the usage, or the recordings of the stream on the input.

@@ -176,7 +176,12 @@ fn print_question<W: Write>(output: &mut W, i: u64) -> Result<(), Failure>
 }
 
 impl Desk<'_> {
-    fn print_answer<W: Write>(&mut self, file: &[u8], query: Query, output: &mut W) -> Result<(), Failure>
+    fn print_answer<W: Write>(
+        &mut self,
+        file: &[u8],
+        query: Query,
+        output: &mut W,
+    ) -> Result<(), Failure>
         requires { Ready self.old }
         ensures ready { Ready self.new }
         ensures same { self.new.want ≡ self.old.want }

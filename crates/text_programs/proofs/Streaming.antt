@@ -1,5 +1,5 @@
 -- One file of a stream, and all of them: what is written, also where it ends early.
-use Rattle.std.proofs.Common.{◌≡◌, ℕ, suc, ◌+◌, ◌-◌, ◌^◌, ◌<◌, ◌≤◌, min, Bool, true, false, List, [], ◌++◌, length, take, drop, drop-drop, take_all, take-take, length-take, Option, None, Some, Result, Ok, Err, IfErr, IfSome, IsSomeAnd, MatchBool, if◌then◌else◌, nat_lt, refl, sym, ap, subst, ◌∙◌, arith, add-one, leb}
+use Rattle.std.proofs.Common.{◌≡◌, ℕ, suc, ◌+◌, ◌-◌, ◌^◌, ◌<◌, ◌≤◌, min, Bool, true, false, List, [], ◌++◌, length, take, drop, drop-drop, take_all, length-take, Option, None, Some, Result, Ok, Err, IfErr, IfSome, IsSomeAnd, MatchBool, if◌then◌else◌, nat_lt, refl, sym, ap, subst, ◌∙◌, arith, leb}
 use Rattle.std.proofs.lemmas.List.{take-append-drop}
 use mathlib.Core.List.{◌∷◌, append_assoc, append-nil}
 use lib.ListN.{length-append}
@@ -36,7 +36,7 @@ begins_after a b c done front tail p q =
     let n = q.0 in
     let x = take n front in
     let whole : (done ++ x) ++ (drop n front ++ tail) ≡ done ++ (front ++ tail) =
-        append_assoc done x (drop n front ++ tail) ∙ ap (λ t. done ++ t) (sym (append_assoc x (drop n front) tail) ∙ ap (λ t. t ++ tail) (take-append-drop n front)) in
+    append_assoc done x (drop n front ++ tail) ∙ ap (λ t. done ++ t) (sym (append_assoc x (drop n front) tail) ∙ ap (λ t. t ++ tail) (take-append-drop n front)) in
     subst (Begins a c) whole (begins_of a c (done ++ x) (drop n front ++ tail) (Appends-trans a b c done x p q.1))
 
 -- a whole head was read
@@ -50,7 +50,7 @@ front_there : (one : ℕ → Item → List ℕ) (k i : ℕ) (bs : List ℕ) → 
 front_there one k i bs h = rw (le-ltb (length bs) k h)
 
 module _ (one : ℕ → Item → List ℕ) (cut : (i : ℕ) (x : Item) → one i (short x) ≡ one i x) (k i m n : ℕ) (mid rest : Option (List ℕ)) (h ts : List ℕ)
-  (e : k ≡ length h) (f : n ≤ length h) (g : n < k → ⊥) (w : m ≡ min (word_at h 0) 65537) (read : Takes m mid rest ts) where
+    (e : k ≡ length h) (f : n ≤ length h) (g : n < k → ⊥) (w : m ≡ min (word_at h 0) 65537) (read : Takes m mid rest ts) where
   item_read : (bs : List ℕ) → h ≡ take k bs → ts ≡ take m (drop k bs) → one i (record { head = h; file = ts }) ≡ one i (first_item k bs)
   item_read bs p t =
       ap (one i) (ap (λ fs. record { head = h; file = fs }) (t ∙ read-cut m (word_at h 0) (drop k bs) w) ∙ ap (λ hs. record { head = hs; file = take 65537 (take (word_at hs 0) (drop k bs)) }) p)
@@ -99,7 +99,7 @@ as-done : (one : ℕ → Item → List ℕ) (k i : ℕ) (stream bs : List ℕ) (
     → ((xs : List Item) × Appends a b (printed_from one 0 xs) × (items k (2 ^ 64 - 1) stream ≡ xs ++ items k (2 ^ 64 - 1 - i) bs) × (length xs ≡ i)) → Done one k i stream bs a b
 as-done one k i stream bs a b p =
     let text : stream_printed one k stream ≡ printed_from one 0 p.0 ++ printed_from one i (items k (2 ^ 64 - 1 - i) bs) =
-        ap (printed_from one 0) p.2 ∙ printed_append one 0 i p.0 (items k (2 ^ 64 - 1 - i) bs) (omega (arith, p.3)) in
+    ap (printed_from one 0) p.2 ∙ printed_append one 0 i p.0 (items k (2 ^ 64 - 1 - i) bs) (omega (arith, p.3)) in
     (printed_from one 0 p.0, p.1, text)
 
 pub none_yet : (one : ℕ → Item → List ℕ) (k : ℕ) (known a : Option (List ℕ)) → Written one k 0 known known a a
@@ -132,9 +132,9 @@ module _ (one other : ℕ → Item → List ℕ) (same : (j : ℕ) (x : Item) �
       let n : M - i ≡ suc (M - (i + 1)) = omega arith in
       let rest : items k (M - i) bs ≡ x ∷ items k (M - (i + 1)) (after_item k bs) = ap (λ j. items k j bs) n ∙ items-more k (M - (i + 1)) bs q.0 in
       let all : items k M stream ≡ (p.0 ++ (x ∷ [])) ++ items k (M - (i + 1)) (after_item k bs) =
-          p.2 ∙ ap (λ ys. p.0 ++ ys) rest ∙ sym (append_assoc p.0 (x ∷ []) (items k (M - (i + 1)) (after_item k bs))) in
+      p.2 ∙ ap (λ ys. p.0 ++ ys) rest ∙ sym (append_assoc p.0 (x ∷ []) (items k (M - (i + 1)) (after_item k bs))) in
       let text : printed_from one 0 (p.0 ++ (x ∷ [])) ≡ printed_from one 0 p.0 ++ one i x =
-          printed_append one 0 i p.0 (x ∷ []) (omega (arith, p.3)) ∙ ap (λ t. printed_from one 0 p.0 ++ t) (append-nil (one i x)) in
+      printed_append one 0 i p.0 (x ∷ []) (omega (arith, p.3)) ∙ ap (λ t. printed_from one 0 p.0 ++ t) (append-nil (one i x)) in
       let wrote : Appends b c (one i x) = subst (Appends b c) (same i x) q.2 in
       let many : length (p.0 ++ (x ∷ [])) ≡ i + 1 = length-append p.0 (x ∷ []) ∙ ap (λ j. j + 1) p.3 in
       subst
@@ -158,8 +158,10 @@ module _ (one other : ℕ → Item → List ℕ) (same : (j : ℕ) (x : Item) �
     where
       done : Done one k i stream bs a b
       done = as-done one k i stream bs a b p
+
       begun : Begins b c (front_printed one k i bs)
       begun = subst (Begins b c) (front-same bs) q
+
       go : (t : Bool) → leb k (length bs) ≡ t → Begins a c (done.0 ++ printed_from one i (items k (2 ^ 64 - 1 - i) bs))
       go true e =
           let le = leb-true _ _ e in

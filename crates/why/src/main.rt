@@ -12,7 +12,12 @@ fn main(rt: HostRuntime) -> ExitCode {
         Ok(args) => args,
         Err(stop) => return stop.tell(&rt, &USAGE),
     };
-    match run(rt.alloc(), args.as_slice(), &mut rt.reader(), &mut io::writer(&rt)) {
+    match run(
+        rt.alloc(),
+        args.as_slice(),
+        &mut rt.reader(),
+        &mut io::writer(&rt),
+    ) {
         Ok(()) => ExitCode::SUCCESS,
         Err(stop) => stop.tell(&rt, &USAGE),
     }

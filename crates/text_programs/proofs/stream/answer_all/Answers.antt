@@ -1,4 +1,4 @@
-use Rattle.std.proofs.Common.{rules, ◌≡◌, ℕ, List, length, Option, IfSome, MatchBool, subst, sym, ◌∙◌}
+use Rattle.std.proofs.Common.{rules, ◌∙◌}
 use Rattle.text_programs.proofs.Streaming.{one_more, cut_off, at_end, all_counted, done_begun}
 use Rattle.text_programs.proofs.stream.answer_all.Goals as goal
 

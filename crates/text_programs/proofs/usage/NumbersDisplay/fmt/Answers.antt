@@ -1,4 +1,4 @@
-use Rattle.std.proofs.Common.{[], rules, ap, sym, ◌∙◌, flat_map, take_all, arith}
+use Rattle.std.proofs.Common.{[], rules, ap, sym, ◌∙◌, flat_map}
 use Rattle.std.proofs.lemmas.List.{take_more, flat_map_more}
 use Rattle.std.proofs.Output.{has_written_append, has_written_of_eq}
 use Rattle.sizes.specs.declared.answers.Refusal.TheVariants.{BadArena}

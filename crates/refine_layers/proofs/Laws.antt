@@ -1,13 +1,7 @@
 -- Every screen that a reset and steps make is `Reaching`. Assumes nothing.
-use mathlib.Core.Path.{◌≡◌, refl, sym, ap, ◌∙◌}
-use mathlib.Core.Bool.{Bool, true, false, ◌&&◌, ◌||◌, not, cond}
-use mathlib.Core.List.{List, [], ◌∷◌, ◌++◌, map}
-use Rattle.std.specs.Prelude.{Option, None, Some}
-use Prim.Native.Nat.{ℕ, zero, suc, ◌+◌, ◌-◌, ◌/◌, ◌≤◌, ◌<◌, max}
-use native.Mathlib.Omega.{arith}
-use lib.Dec.{leb, ltb, eqb}
-use lib.ListN.{length, replicate}
-use borrow.Author.Tests.{leb-true, ltb-true, ltb-false, eqb-true, eqb-false, eq-eqb}
+use Rattle.std.proofs.Common.{◌≡◌, refl, sym, ap, ◌∙◌, Bool, true, false, ◌&&◌, ◌||◌, not, cond, List, [], ◌∷◌, ◌++◌, map, Option, None, Some, ℕ, zero, suc, ◌+◌, ◌-◌, ◌/◌, ◌≤◌, ◌<◌, max, arith, leb}
+use Rattle.std.proofs.Common.{ltb, eqb, length, replicate, leb-true, ltb-true, ltb-false, eqb-true, eq-eqb}
+use borrow.Author.Tests.{eqb-false}
 use Rattle.rules.specs.Lists.{some_of, change, count-from}
 use Rattle.rules.specs.Answers.{answer, Done, BadRecord, NoLayer}
 use Rattle.rules.specs.Boxes.{Box, meet, to-local, rows_of, rows_in, span_of, scene-tiles}
@@ -122,6 +116,17 @@ pub layer-under : (v : Box) (ls : List Layer) (c : Option Clip) → Under (layer
 layer-under v ls None = clip-under v ls
 layer-under v ls (Some c) = meet-under v (to-local v c.bounds) ls
 
+-- a filter fill's plan is refused, draws nothing, or is the one of its box
+pub filter-plans : (P : Plan → Type 0) (count : ℕ) (f : Filter) (q : ℕ) (s : State) → P (still BadRecord s) → P (still Done s)
+    → (good-filter-fill count f q ≡ true → P (plan-filter-in (filter-box s.frame.viewport (box_of s) f) count f q s)) → P (plan-filter count f q s)
+unfolding plan-filter
+filter-plans P count f q s bad done drawn = go (good-filter-fill count f q) refl (draws-nothing f (filter-box s.frame.viewport (box_of s) f))
+  where
+    go : (t : Bool) → good-filter-fill count f q ≡ t → (u : Bool) → P (cond (not t) (still BadRecord s) (cond u (still Done s) (plan-filter-in (filter-box s.frame.viewport (box_of s) f) count f q s)))
+    go true e true = done
+    go true e false = drawn e
+    go false e u = bad
+
 module _ (s : State) (n : Nested s.layers) where
   draws-in : (e : Bool) (i id : ℕ) {ks : List Cut} → All (λ (k : Cut). In (box_of s) k.row) ks → All (PutIn s.layers) (draw-puts e i id ks)
   unfolding draw-puts
@@ -155,21 +160,12 @@ module _ (s : State) (n : Nested s.layers) where
 
   filter-layers : (count : ℕ) (f : Filter) (q : ℕ) → (plan-filter count f q s).layers ≡ s.layers
   unfolding plan-filter plan-filter-in
-  filter-layers count f q = go (not (good-filter-fill count f q)) (draws-nothing f (filter-box s.frame.viewport (box_of s) f))
-    where
-      go : (t u : Bool) → (cond t (still BadRecord s) (cond u (still Done s) (plan-filter-in (filter-box s.frame.viewport (box_of s) f) count f q s))).layers ≡ s.layers
-      go true u = refl
-      go false true = refl
-      go false false = refl
+  filter-layers count f q = filter-plans (λ p. p.layers ≡ s.layers) count f q s refl refl (λ g. refl)
 
   filter-in : (count : ℕ) (f : Filter) (q : ℕ) → All (PutIn s.layers) (plan-filter count f q s).puts
-  unfolding plan-filter
-  filter-in count f q = go (not (good-filter-fill count f q)) (draws-nothing f (filter-box s.frame.viewport (box_of s) f))
-    where
-      go : (t u : Bool) → All (PutIn s.layers) (cond t (still BadRecord s) (cond u (still Done s) (plan-filter-in (filter-box s.frame.viewport (box_of s) f) count f q s))).puts
-      go true u = nil
-      go false true = nil
-      go false false = filter-in-in (filter-box s.frame.viewport (box_of s) f) (meet-under s.frame.viewport (to-local s.frame.viewport f.dest) s.layers) count f q
+  filter-in count f q =
+      filter-plans (λ p. All (PutIn s.layers) p.puts) count f q s nil nil
+      (λ g. filter-in-in (filter-box s.frame.viewport (box_of s) f) (meet-under s.frame.viewport (to-local s.frame.viewport f.dest) s.layers) count f q)
 
 -- a pop: closing fills change no levels, and each touched row loses its innermost
 pub data Closes : Put → Type 0 where

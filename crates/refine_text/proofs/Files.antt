@@ -1,14 +1,6 @@
 -- What the program `rowlist` writes of a file's words is the text of the rules' `rowlist` of them. Assumes nothing.
-use mathlib.Core.Path.{◌≡◌, refl, sym, ap, ◌∙◌}
-use mathlib.Core.Bool.{Bool, true, false, not, ◌&&◌, ◌||◌, cond}
-use mathlib.Core.List.{List, [], ◌∷◌, ◌++◌, append-nil}
-use Rattle.std.specs.Prelude.{Option, None, Some, Result, Ok, Err}
-use Prim.Native.Nat.{ℕ, ◌*◌, ◌%◌, ◌≤◌}
-use native.Mathlib.Omega.{arith}
-use lib.Dec.{ltb, leb, eqb}
-use lib.ListN.{length, get_or, drop}
-use lib.Seq.{get_or-drop}
-use borrow.Author.Tests.{le-ltb, lt-ltb, leb-true, leb-false, eq-eqb, eqb-true}
+use Rattle.std.proofs.Common.{◌≡◌, refl, sym, ap, ◌∙◌, Bool, true, false, not, ◌&&◌, ◌||◌, cond, List, [], ◌∷◌, ◌++◌, append-nil, Option, None, Some, Result, Ok, Err, ℕ, ◌*◌, ◌%◌, ◌≤◌, arith, ltb, leb}
+use Rattle.std.proofs.Common.{eqb, length, get_or, drop, get_or-drop, le-ltb, lt-ltb, leb-true, leb-false, eq-eqb, eqb-true}
 use Rattle.sizes.specs.declared.answers.Refusal.{Refusal}
 use Rattle.sizes.specs.declared.answers.Refusal.TheVariants as refusal
 use Rattle.sizes.specs.declared.width.Width.{Width}
@@ -152,8 +144,15 @@ module _ (bs : List ℕ) (room : 264256 ≤ length bs) where
               few = rw q short;
             };
             left = λ i. record {
-              viewport = v; width = x; size = refl; few = few; kept = done.kept; words = w.value; refines = done.refines;
-              screen = ap (λ (y : ℕ × declared.Screen). y.1) t; tables = refl;
+              viewport = v;
+              width = x;
+              size = refl;
+              few = few;
+              kept = done.kept;
+              words = w.value;
+              refines = done.refines;
+              screen = ap (λ (y : ℕ × declared.Screen). y.1) t;
+              tables = refl;
             };
           })
       go false q =

@@ -1,12 +1,5 @@
 -- The lines of a built screen's words are the rules' lines of the screen, and listing it is never refused for a record. Assumes nothing.
-use mathlib.Core.Path.{◌≡◌, refl}
-use mathlib.Core.Bool.{Bool, true}
-use mathlib.Core.List.{List}
-use Rattle.std.specs.Prelude.{Option, Some}
-use Prim.Native.Nat.{ℕ, zero, suc, ◌≤◌, ◌<◌}
-use native.Mathlib.Omega.{arith}
-use lib.ListN.{length, get_or}
-use borrow.Author.Tests.{le-leb}
+use Rattle.std.proofs.Common.{◌≡◌, refl, Bool, true, List, Option, Some, ℕ, zero, suc, ◌≤◌, ◌<◌, arith, length, get_or, le-leb}
 use Rattle.rules.specs.Boxes as boxes
 use Rattle.rules.specs.Commands.{pop-buf}
 use Rattle.rules.specs.Rows.{Row, fresh-row}

@@ -1,11 +1,11 @@
-// The rules' answers: the refusals with their numbers (docs/RULES.md, Answers). Answer 0, done, is `Ok`.
+//! The rules' answers: the refusals with their numbers (docs/RULES.md, Answers). Answer 0, done, is `Ok`.
 ghost use Rattle.std.specs.Prelude.{◌≡◌, Some, map};
 ghost use Rattle.std.specs.List.{range_with_len};
 ghost use Rattle.sizes.specs.Refusals.{number_of, answer_number, refusal_text};
 
 use std::fmt;
 
-// Why a call refuses; the discriminant is the rules' number.
+/// Why a call refuses; the discriminant is the rules' number.
 #[derive(Clone, Copy, Debug, PartialEq, Eq)]
 pub enum Refusal {
     // The length of a lent arena (render commands, depth fills, depth words) is not the screen's, or C or D is not from 1 to 1,024.
@@ -105,7 +105,7 @@ impl fmt::Display for Refusal {
     }
 }
 
-// The number of a result: 0 where nothing is refused.
+/// The number of a result: 0 where nothing is refused.
 pub fn answer_number(judged: Result<(), Refusal>) -> u32
     ensures { result ≡ answer_number judged }
 {

@@ -1,13 +1,5 @@
 -- A file's bytes. Assumes nothing.
-use mathlib.Core.Path.{◌≡◌, refl, ap, ◌∙◌}
-use mathlib.Core.Bool.{Bool, true, false, ◌&&◌, ◌||◌, cond}
-use mathlib.Core.List.{List, ◌++◌}
-use Rattle.std.specs.Prelude.{None, Some, Result, Ok, Err}
-use Prim.Native.Nat.{ℕ, ◌/◌, ◌%◌, ◌≤◌}
-use native.Mathlib.Omega.{arith}
-use lib.ListN.{length, take, drop}
-use lib.Dec.{leb, ltb, eqb}
-use borrow.Author.Tests.{le-ltb, lt-ltb, leb-true, leb-false}
+use Rattle.std.proofs.Common.{◌≡◌, refl, ap, ◌∙◌, Bool, true, false, ◌&&◌, ◌||◌, cond, List, ◌++◌, None, Some, Result, Ok, Err, ℕ, ◌/◌, ◌%◌, ◌≤◌, arith, length, take, drop, leb, ltb, eqb, le-ltb, lt-ltb, leb-true, leb-false}
 use Rattle.sizes.specs.declared.answers.Refusal.{Refusal}
 use Rattle.sizes.specs.declared.answers.Refusal.TheVariants as refusal
 use Rattle.sizes.specs.Refusals.{number_of}
@@ -20,7 +12,7 @@ use Rattle.rules.specs.Lines as rules
 use Rattle.file.specs.declared.form.Layout.{Layout}
 use Rattle.file.specs.Layouts.{form_of}
 use Rattle.file.specs.Words.{Filled, filled, filled-with, words-in}
-use Rattle.file.proofs.Bytes.{put-length, first-words, rules-words}
+use Rattle.file.proofs.Bytes.{first-words, rules-words}
 use Rattle.file.proofs.Laid.{good-form, bad-form}
 use Rattle.text.specs.declared.recording.Size.{Size}
 use Rattle.text.specs.Files.{size_of, file-size, good-bytes, no-width-of, no-width-number}

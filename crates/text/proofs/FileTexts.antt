@@ -1,12 +1,7 @@
 -- What is shown of a screen, of a file, and of a refusal. Assumes nothing.
-use mathlib.Core.Path.{◌≡◌, refl, sym, ap, ◌∙◌}
-use Rattle.std.specs.Prelude.{Option, None, Some, Ok, Err, replicate, pos, ℤ, Float}
-use mathlib.Core.Bool.{Bool, true, false, cond}
-use mathlib.Core.List.{List}
-use Prim.Native.Nat.{ℕ, ◌≤◌, ◌<◌}
-use lib.Dec.{eqb}
+use Rattle.std.proofs.Common.{◌≡◌, refl, sym, ap, ◌∙◌, Option, None, Some, Ok, Err, replicate, pos, ℤ, Float, Bool, true, false, cond, List, ℕ, ◌≤◌, ◌<◌, eqb, le-leb, eq-eqb, ne_eqb}
 use lib.ListN.{length-replicate}
-use borrow.Author.Tests.{le-leb, lt-leb, eq-eqb, ne_eqb}
+use borrow.Author.Tests.{lt-leb}
 use Rattle.sizes.specs.declared.answers.Refusal.{Refusal}
 use Rattle.sizes.specs.declared.answers.Refusal.TheVariants as refusal
 use Rattle.sizes.specs.Refusals.{number_of}
@@ -150,8 +145,28 @@ module _ (ws : List ℕ) (q : Setup) (t u : Tables) (e : lengths t ≡ lengths u
 pub exact-same : {z : Size} (t u : Tables) → Exact z t → Exact z u → (ws : List ℕ) (q : Setup) (bs : List ℕ) → (recording-text ws q t bs).showed ≡ (recording-text ws q u bs).showed
 exact-same t u h g ws q bs =
     same_text ws q t u
-    (rw (h.render, h.fills, h.depth, h.rows, h.painting, h.layers, h.opacities, h.paint-attrs, h.layer-attrs, h.filter-paints,
-      g.render, g.fills, g.depth, g.rows, g.painting, g.layers, g.opacities, g.paint-attrs, g.layer-attrs, g.filter-paints) refl)
+    (rw (
+      h.render,
+      h.fills,
+      h.depth,
+      h.rows,
+      h.painting,
+      h.layers,
+      h.opacities,
+      h.paint-attrs,
+      h.layer-attrs,
+      h.filter-paints,
+      g.render,
+      g.fills,
+      g.depth,
+      g.rows,
+      g.painting,
+      g.layers,
+      g.opacities,
+      g.paint-attrs,
+      g.layer-attrs,
+      g.filter-paints,
+    ) refl)
     bs
 
 -- blank tables are

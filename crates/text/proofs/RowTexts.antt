@@ -1,10 +1,5 @@
 -- What the public calls leave. Assumes nothing.
-use mathlib.Core.Path.{◌≡◌, sym, ap, subst, ◌∙◌}
-use mathlib.Core.Bool.{Bool, true, false}
-use mathlib.Core.List.{List, []}
-use Prim.Native.Nat.{ℕ, ◌*◌, ◌≤◌, ◌<◌}
-use lib.ListN.{length}
-use borrow.Author.Tests.{lt-ltb, le-ltb, eq-eqb, ne_eqb, leb-true, eqb-true}
+use Rattle.std.proofs.Common.{◌≡◌, sym, ap, subst, ◌∙◌, Bool, true, false, List, [], ℕ, ◌*◌, ◌≤◌, ◌<◌, length, lt-ltb, le-ltb, eq-eqb, ne_eqb, leb-true, eqb-true}
 use Rattle.sizes.specs.Sizes.{most-attrs, most-filters, piece-size, paint-attr-table, layer-attr-table, opacity-count, filter-paint-table}
 use Rattle.rules.proofs.All.{both}
 use Rattle.screen.specs.declared.Screen.{Screen}

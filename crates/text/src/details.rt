@@ -1,4 +1,4 @@
-// What `rowdump` prints after the lines of `rowlist`: attributes and filter paints. `panels`: whether a line with a panel shows it.
+//! What `rowdump` prints after the lines of `rowlist`: attributes and filter paints. `panels`: whether a line with a panel shows it.
 ghost use Rattle.std.specs.Prelude.{◌≡◌, false, [], ◌∷◌, ◌++◌, ◌+◌, ◌*◌, ◌≤◌, length};
 ghost use Rattle.sizes.specs.Sizes.{most-layers, paint-attr-size, layer-attr-size, filter-paint-size};
 ghost use Rattle.rules.specs.Lines.{number};

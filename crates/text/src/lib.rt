@@ -1,4 +1,4 @@
-// Text into a lent list of bytes. An `Out` writes at its place, as far as the bytes go, and its place goes on past them: on no bytes it measures.
+//! Text into a lent list of bytes. An `Out` writes at its place, as far as the bytes go, and its place goes on past them: on no bytes it measures.
 #![tactic(auto)]
 
 ghost use Rattle.std.specs.Prelude.{List, ℕ, [], ◌∷◌, ⊤};
@@ -19,7 +19,8 @@ pub mod recording;
 pub use crate::listing::{list_screen, print_first, refusal_line, try_print_first};
 pub use crate::painted::{Tables, attrs_text, row_text};
 pub use crate::recording::{
-    FILE_WORDS, FileText, Size, no_screen, no_width_refusal, read_file, recording_text, refuse, size_of,
+    FILE_WORDS, FileText, Size, no_screen, no_width_refusal, read_file, recording_text, refuse,
+    size_of,
 };
 
 /// Where text goes: into the bytes from place `at` on.

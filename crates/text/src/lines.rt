@@ -1,4 +1,4 @@
-// The lines that `rowlist` prints, each with its line feed.
+//! The lines that `rowlist` prints, each with its line feed.
 ghost use Rattle.std.specs.Prelude.{option_map};
 ghost use Rattle.rules.specs.Lines.{header, row, refused, depth-line, command-line, fill-bytes, span-bytes, line-text, line-bytes};
 ghost use Rattle.span.specs.Spans.{tiles};

@@ -1,5 +1,5 @@
-// The lines of a screen's words, as text. `list_screen` and `refusal_line` are public calls; the others
-// are their parts.
+//! The lines of a screen's words, as text. `list_screen` and `refusal_line` are public calls; the others
+//! are their parts.
 ghost use Rattle.std.specs.Prelude.{◌≡◌, ℕ, ◌+◌, ◌*◌, ◌≤◌, ◌<◌, ◌^◌, ◌++◌, length, drop, option_map};
 ghost use Rattle.sizes.specs.Sizes.{most-room, most-rows, row-size};
 ghost use Rattle.sizes.specs.Refusals.{answer_number};

@@ -1,15 +1,15 @@
-// What `rowdump` prints of a screen after the lines of `rowlist`. `attrs_text` and `row_text` are public calls; the others are their parts.
-// `panels`: whether a line with a panel shows it.
+//! What `rowdump` prints of a screen after the lines of `rowlist`. `attrs_text` and `row_text` are public calls; the others are their parts.
+//! `panels`: whether a line with a panel shows it.
 ghost use Rattle.std.specs.Prelude.{◌≡◌, true, false, [], ◌∷◌, ◌+◌, ◌*◌, ◌≤◌, length};
 ghost use Rattle.sizes.specs.Sizes.{most-attrs, most-filters, piece-size};
 ghost use Rattle.text.specs.Details.{painted};
 ghost use Rattle.text.specs.Texts.{Writes};
 ghost use Rattle.text.specs.Bytes.{detail-bytes, details-text};
-ghost use Rattle.paint.specs.Painting.{lent};
 ghost use Rattle.paint.specs.Stepping.{attributes};
 ghost use Rattle.text.specs.Listed.{left, listing_of};
 ghost use Rattle.text.specs.Pieces.{most-pieces, piece-list, alpha-of, letter-of, piece-at, row-lines};
 ghost use Rattle.text.specs.Dumped.{pieces-written, stopped-out, stopped, row_out, row-dumped, tables_of, good-tables, attrs-room, attrs-text, attrs-dumped};
+ghost use Rattle.paint.specs.Named.{row_attrs, row_lent};
 
 use crate::details::{
     DETAIL, PIECE_LINE, print_filter_paints, print_layer_attrs, print_paint_attrs, print_panel,
@@ -141,7 +141,7 @@ fn refused_at(
     painting: &mut [u32],
 ) -> Result<usize, Refusal>
     ensures { stopped-out (listing_of result) depth.new painting.new
-        ≡ stopped screen row (attributes stored.now.paint_attrs.now stored.now.layer_attrs.now) (lent stored.now.rows.now stored.now.render.now stored.now.fills.now depth.old painting.old []) }
+        ≡ stopped screen row (row_attrs stored.now) (row_lent stored.now depth.old painting.old []) }
 {
     paint_step(screen, row, stored, depth, painting, &mut [])?;
     Ok(0)
@@ -160,7 +160,7 @@ pub fn row_text(
     out: &mut [u8],
 ) -> Result<usize, Refusal>
     ensures { row_out (listing_of result) depth.new painting.new list.new out.new
-        ≡ row-dumped panels screen row (attributes stored.now.paint_attrs.now stored.now.layer_attrs.now) (lent stored.now.rows.now stored.now.render.now stored.now.fills.now depth.old painting.old list.old) out.old }
+        ≡ row-dumped panels screen row (row_attrs stored.now) (row_lent stored.now depth.old painting.old list.old) out.old }
 {
     let done = paint_row(screen, row as usize, stored, depth, painting, list)?;
     if !done.finished {

@@ -1,4 +1,4 @@
-// The text that `rowlist` prints of a recording file.
+//! The text that `rowlist` prints of a recording file.
 ghost use Rattle.std.specs.Prelude.{◌≡◌, ◌≤◌, ◌/◌, length, take, IfOk, OnOk};
 ghost use Rattle.sizes.specs.Sizes.{file-bytes, program-rows, program-buckets};
 ghost use Rattle.sizes.specs.Refusals.{number_of};
@@ -136,11 +136,7 @@ pub fn no_width_refusal(file: &[u8]) -> Refusal
 }
 
 /// A file's words, put first in `words`, and the rows and buckets that its screen has: 3 for more than 65,536 bytes or no whole words, then as `size_of`.
-pub fn read_file(
-    file: &[u8],
-    setup: Setup,
-    words: &mut [u32; FILE_WORDS],
-) -> Result<Size, Refusal>
+pub fn read_file(file: &[u8], setup: Setup, words: &mut [u32; FILE_WORDS]) -> Result<Size, Refusal>
     ensures size { result ≡ file-size file.now (setup-of setup) }
     ensures words { OnOk result (take (length file.now / 4) words.new ≡ words-in file.now) }
     ensures short { OnOk result (length file.now ≤ file-bytes) }

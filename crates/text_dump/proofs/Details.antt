@@ -1,13 +1,6 @@
 -- At the words that hold the rules' screen of an accepted file the parts write the text of the rules' details: the attributes, then each row in its order. Assumes nothing.
-use mathlib.Core.Path.{◌≡◌, refl, ap, ◌∙◌}
-use mathlib.Core.Bool.{Bool, true, ◌||◌}
-use mathlib.Core.List.{List, [], ◌++◌}
-use Prim.Native.Nat.{ℕ, zero, suc, ◌+◌, ◌*◌, ◌≤◌, ◌<◌}
-use native.Mathlib.Omega.{arith}
-use lib.Dec.{ltb}
-use lib.ListN.{length, get_or, drop, length-append}
-use lib.Seq.{drop-length, drop-cons}
-use borrow.Author.Tests.{le-leb, le-ltb, eq-eqb, ltb-false}
+use Rattle.std.proofs.Common.{◌≡◌, refl, ap, ◌∙◌, Bool, true, ◌||◌, List, [], ◌++◌, ℕ, zero, suc, ◌+◌, ◌*◌, ◌≤◌, ◌<◌, arith, ltb, length, get_or, drop, length-append, drop-cons, le-leb, le-ltb, eq-eqb, ltb-false}
+use lib.Seq.{drop-length}
 use Rattle.sizes.specs.Sizes.{opacity-count, paint-attr-table, layer-attr-table, filter-paint-table}
 use Rattle.rules.specs.Boxes.{rows_of}
 use Rattle.rules.specs.Attributes.{no-layer}

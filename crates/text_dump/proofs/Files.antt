@@ -1,13 +1,6 @@
 -- A file's bytes: where its call refuses them there are no details, and where it does not the tables hold the rules' screen, so that the details are the rules'. Assumes nothing.
-use mathlib.Core.Path.{◌≡◌, refl, sym, ap, ◌∙◌}
-use mathlib.Core.Bool.{Bool, true, false, cond}
-use mathlib.Core.List.{List, [], ◌∷◌, ◌++◌, append-nil}
-use Prim.Native.Nat.{ℕ, ◌+◌, ◌-◌, ◌*◌, ◌≤◌, ◌<◌}
-use native.Mathlib.Omega.{arith}
-use lib.Dec.{eqb}
-use lib.ListN.{length, get_or, take, drop, length-append, length-drop}
+use Rattle.std.proofs.Common.{◌≡◌, refl, sym, ap, ◌∙◌, Bool, true, false, cond, List, [], ◌∷◌, ◌++◌, append-nil, ℕ, ◌+◌, ◌-◌, ◌*◌, ◌≤◌, ◌<◌, arith, eqb, length, get_or, take, drop, length-append, length-drop, eq-eqb, ne_eqb, Ok, Err}
 use borrow.Rule.Slice.PartMut.{put_mid}
-use borrow.Author.Tests.{eq-eqb, ne_eqb}
 use Rattle.rules.specs.Answers.{Answer, Done}
 use Rattle.rules.specs.Boxes.{Box, rows_of}
 use Rattle.rules.specs.Rows.{Row, fresh-row}
@@ -26,7 +19,6 @@ use Rattle.text.proofs.Lengths.{plus, digits-few}
 use Rattle.text.specs.Details.{detail-lines, rowdump-words}
 use Rattle.text.specs.Bytes.{details-text}
 use Rattle.text.specs.Pieces.{piece-list}
-use Rattle.std.specs.Prelude.{Ok, Err}
 use Rattle.sizes.specs.declared.answers.Refusal.{Refusal}
 use Rattle.sizes.specs.declared.answers.Refusal.TheVariants as refusal
 use Rattle.sizes.specs.Refusals.{number_of}

@@ -1,5 +1,5 @@
-// What `rowdump` prints of a recording, from its number and its file's bytes to the text. Parts: where a function asks something, its callers
-// have seen to it. `panels`: whether a line with a panel shows it.
+//! What `rowdump` prints of a recording, from its number and its file's bytes to the text. Parts: where a function asks something, its callers
+//! have seen to it. `panels`: whether a line with a panel shows it.
 #![tactic(auto)]
 
 ghost use Rattle.std.specs.Prelude.{◌≡◌, [], ◌∷◌, ◌-◌, ◌≤◌, length, vec_len, IfOk};
@@ -16,18 +16,18 @@ ghost use Rattle.text.specs.Dumped.{attrs-dumped};
 ghost use Rattle.text_programs.specs.Programs.{first};
 ghost use Rattle.text_dump.specs.Rowdump.{recording-line, file-lines-text, rowdump-text, no-width-dump, Printed};
 ghost use Rattle.text_dump.specs.Dumped.{lines-room, dump-room, part, PartWritten, rows-dumped, begun-dumped, details-dumped, heads, given, Ready};
+ghost use Rattle.paint.specs.Named.{row_attrs, row_lent};
 
 use paint::{Stored, begin_painting};
 use screen::{Lent, Screen, Setup};
 use sizes::answers::Refusal;
 use sizes::{MOST_ATTRS, MOST_FILTERS, PROGRAM_ROOM, PROGRAM_ROWS};
 use std::alloc::{AllocError, Global};
-use text::Tables as AttrTables;
 use text::details::{DETAIL, PIECE_LINE};
 use text::painted::{PIECE_LIST, PIECES};
 use text::{
-    FILE_WORDS, Out, Print, attrs_text, no_screen, print_first, read_file, recording_text, refuse,
-    row_text,
+    FILE_WORDS, Out, Print, Tables as AttrTables, attrs_text, no_screen, print_first, read_file,
+    recording_text, refuse, row_text,
 };
 use text_programs::no_width_text;
 use text_programs::tables::Tables;
@@ -109,7 +109,7 @@ fn rows_text(
     out: &mut [u8],
 ) -> usize
     ensures out_after { part result depth.new painting.new list.new out.new
-        ≡ rows-dumped panels (n - r) r screen (attributes stored.now.paint_attrs.now stored.now.layer_attrs.now) (lent stored.now.rows.now stored.now.render.now stored.now.fills.now depth.old painting.old list.old) out.old }
+        ≡ rows-dumped panels (n - r) r screen (row_attrs stored.now) (row_lent stored.now depth.old painting.old list.old) out.old }
     ensures upper_bound { result ≤ length out.old }
 {
     if n <= r {
@@ -141,8 +141,8 @@ fn begun_text(
     out: &mut [u8],
 ) -> usize
     ensures out_after { part result depth.new painting.new list.new out.new
-        ≡ begun-dumped panels screen (rows_of (box_of screen.viewport)) (attributes stored.now.paint_attrs.now stored.now.layer_attrs.now)
-        (lent stored.now.rows.now stored.now.render.now stored.now.fills.now depth.old painting.old list.old) out.old }
+        ≡ begun-dumped panels screen (rows_of (box_of screen.viewport)) (row_attrs stored.now)
+        (row_lent stored.now depth.old painting.old list.old) out.old }
     ensures upper_bound { result ≤ length out.old }
 {
     let mut begun = screen;
@@ -200,7 +200,15 @@ fn screen_text(
         paint_attrs,
         layer_attrs,
     };
-    let more = begun_text(screen, panels, &stored, depth, painting, list, &mut out[k..]);
+    let more = begun_text(
+        screen,
+        panels,
+        &stored,
+        depth,
+        painting,
+        list,
+        &mut out[k..],
+    );
     k + more
 }
 
@@ -242,7 +250,14 @@ pub fn rowdump_text(i: u64, file: &[u8], setup: Setup, panels: bool, desk: &mut 
     ensures out_after { desk.new.text.now ≡ first (rowdump-text panels (setup-of setup) i file.now) desk.old.text.now }
 {
     let k = put_recording(desk.text, i);
-    let more = lines_text(file, setup, panels, desk.tables, desk.list, &mut desk.text[k..]);
+    let more = lines_text(
+        file,
+        setup,
+        panels,
+        desk.tables,
+        desk.list,
+        &mut desk.text[k..],
+    );
     k + more
 }
 

@@ -1,12 +1,6 @@
 -- The bytes of a file: where its call refuses, the refusal is the rules' answer; where not, its words are accepted. Assumes nothing.
-use mathlib.Core.Path.{◌≡◌, refl, sym, ap, ◌∙◌}
-use mathlib.Core.Bool.{Bool, true, false, cond}
-use mathlib.Core.List.{List, [], ◌∷◌, append-nil}
+use Rattle.std.proofs.Common.{◌≡◌, refl, sym, ap, ◌∙◌, Bool, true, false, cond, List, [], ◌∷◌, append-nil, ℕ, ◌%◌, ◌≤◌, leb, eqb, length, take, leb-true, ne_eqb}
 use Rattle.rules.proofs.All.{and_left}
-use Prim.Native.Nat.{ℕ, ◌%◌, ◌≤◌}
-use lib.Dec.{leb, eqb}
-use lib.ListN.{length, take}
-use borrow.Author.Tests.{leb-true, ne_eqb}
 use Rattle.rules.specs.Answers.{BadForm}
 use Rattle.rules.specs.Setups.{Setup}
 use Rattle.rules.specs.Lines.{refused, rowlist-screen, rowlist-words, rowlist, line-bytes}

@@ -1,4 +1,4 @@
-// What `why` prints: the reasons of a tile's attributes, in words. Parts: where a function asks something, its callers have seen to it.
+//! What `why` prints: the reasons of a tile's attributes, in words. Parts: where a function asks something, its callers have seen to it.
 #![tactic(auto)]
 
 ghost use Rattle.std.specs.Prelude.{◌≡◌, ◌+◌, ◌*◌, ◌≤◌, length, take};

@@ -1,9 +1,5 @@
 -- The printed texts, as the statements say them. Assumes nothing.
-use mathlib.Core.Path.{ap}
-use mathlib.Core.List.{List, [], ◌∷◌}
-use Prim.Native.Nat.{ℕ, zero, suc, ◌<◌}
-use native.Mathlib.Omega.{arith}
-use lib.ListN.{get_or}
+use Rattle.std.proofs.Common.{ap, List, [], ◌∷◌, ℕ, zero, suc, ◌<◌, arith, get_or}
 use Rattle.rules.specs.Attributes.{LayerAttr, no-layer}
 use Rattle.rules.specs.Rows.{Row}
 use Rattle.rules.specs.Steps.{Screen}

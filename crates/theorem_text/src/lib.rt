@@ -1,5 +1,5 @@
-// Theorems about the programs' texts: the text of a recording's rows and of its painted rows is the rules' text of them. What a function here
-// promises is a theorem, and it does nothing else.
+//! Theorems about the programs' texts: the text of a recording's rows and of its painted rows is the rules' text of them. What a function here
+//! promises is a theorem, and it does nothing else.
 #![tactic(auto)]
 
 ghost use Rattle.theorem_text.specs.Printed.{AttrsPrinted, DetailsParts, FilePrinted, HeldBegun, HeldListed, OthersWait, PlayEnded, ReachedListed, ReachedWaits, RowWhole, RowsParts, TablesUntold, WaitingPrinted, WordsLeave, WordsPrinted, WordsSmall};

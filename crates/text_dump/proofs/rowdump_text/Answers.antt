@@ -1,5 +1,5 @@
 -- The first line stands first, the file's text after it.
-use native.Mathlib.Omega.{arith}
+use Rattle.std.proofs.Common.{arith}
 use Rattle.text_dump.proofs.Files.{whole-text}
 use Rattle.text_dump.proofs.rowdump_text.Goals as goal
 

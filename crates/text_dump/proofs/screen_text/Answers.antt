@@ -1,5 +1,5 @@
 -- The attributes' text stands first, the rows' after it.
-use native.Mathlib.Omega.{arith}
+use Rattle.std.proofs.Common.{arith}
 use Rattle.text_dump.proofs.Parts.{attrs-few, screen-more}
 use Rattle.text_dump.proofs.screen_text.Goals as goal
 

@@ -1,5 +1,5 @@
 -- 3 for the bytes; else what their words say.
-use mathlib.Core.Path.{sym, ◌∙◌}
+use Rattle.std.proofs.Common.{sym, ◌∙◌}
 use Rattle.text.proofs.Bytes.{no-width-bad, no-width-read}
 use Rattle.text.proofs.recording.no_width_refusal.Goals as goal
 

@@ -1,5 +1,5 @@
-// What the programs have in common: their options, their tables, the text of a file's bytes, reading to the end, streams, how they fail. Parts: where
-// a function asks something, the programs have seen to it.
+// What the programs have in common: their options and usages, their tables, the text of a file's bytes, reading to the end, streams, how they fail. Parts:
+// where a function asks something, the programs have seen to it.
 #![tactic(auto)]
 
 ghost use Rattle.std.specs.Prelude.{◌≡◌, ◌≢◌, ◌≤◌, true, false, length, take, Ok, IfOk, IfErr, IsOk, OnOk};
@@ -9,6 +9,7 @@ ghost use Rattle.sizes.specs.Refusals.{answer_number};
 ghost use Rattle.screen.specs.Screens.{setup-of};
 ghost use Rattle.text.specs.Files.{Usual, showed, bytes-text};
 ghost use Rattle.text_programs.specs.Programs.{rowlist-number, rowlist-text, no-width-text, first};
+ghost use Rattle.text_programs.specs.Rooms.{text-room};
 ghost use Rattle.text_programs.specs.Streams.{Takes};
 ghost use Rattle.text_programs.specs.Failures.{IsOfReading, IsOfWriting, Begins, Loses};
 
@@ -16,6 +17,7 @@ use crate::failure::Failure;
 use crate::tables::Tables;
 use screen::Setup;
 use sizes::answers::Refusal;
+use sizes::{FILE_BYTES, PROGRAM_ROOM, PROGRAM_ROWS};
 use std::io;
 use std::io::{ErrorKind, Read, Write};
 use text::{
@@ -27,6 +29,13 @@ pub mod failure;
 pub mod options;
 pub mod stream;
 pub mod tables;
+pub mod usage;
+
+/// Bytes of the buffer that a file is read to: the longest file, and one byte more, by which a longer one is known.
+pub const FILE_ROOM: usize = FILE_BYTES + 1;
+
+/// Bytes of the longest text of a screen's rows, or of a tile's reasons.
+pub const TEXT_ROOM: usize = 64 + PROGRAM_ROWS * (64 * (1 + 2 * PROGRAM_ROOM as usize));
 
 /// Whether the recording is refused, and how many bytes are written, at the start of the lent ones.
 #[derive(Clone, Copy)]
@@ -52,7 +61,7 @@ pub fn file_text(file: &[u8], setup: Setup, tables: &mut Tables, out: &mut [u8])
 
 /// The text that `rowlist` prints of a file's bytes, put first; how long it is, and the recording's answer. The room is that of the longest text.
 pub fn list_file(file: &[u8], setup: Setup, tables: &mut Tables, out: &mut [u8]) -> Listed
-    requires { Usual (setup-of setup) × (264256 ≤ length out.old) }
+    requires { Usual (setup-of setup) × (text-room ≤ length out.old) }
     ensures number_value { (answer_number result.answer ≡ rowlist-number (setup-of setup) file.now) × (result.bytes ≡ length (rowlist-text (setup-of setup) file.now)) }
     ensures out_after { out.new ≡ first (rowlist-text (setup-of setup) file.now) out.old }
 {
@@ -65,7 +74,7 @@ pub fn list_file(file: &[u8], setup: Setup, tables: &mut Tables, out: &mut [u8])
 
 /// The same; how long it is.
 pub fn rowlist_text(file: &[u8], setup: Setup, tables: &mut Tables, out: &mut [u8]) -> usize
-    requires { Usual (setup-of setup) × (264256 ≤ length out.old) }
+    requires { Usual (setup-of setup) × (text-room ≤ length out.old) }
     ensures value { result ≡ length (rowlist-text (setup-of setup) file.now) }
     ensures out_after { out.new ≡ first (rowlist-text (setup-of setup) file.now) out.old }
 {

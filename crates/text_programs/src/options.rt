@@ -1,15 +1,18 @@
 // The programs' arguments. Options stand before the others, in any order, and of a repeated one the last counts.
 ghost use Rattle.std.specs.Prelude.{◌≡◌, ◌<◌, ◌⊎◌, IfErr, length, map, string_bytes, MatchOption};
 ghost use Rattle.text_programs.specs.declared.failure.Failure.TheVariants as Failure;
+ghost use Rattle.text_programs.specs.declared.failure.Stop.TheVariants as Stop;
 ghost use Rattle.sizes.specs.Widths.{width_of};
 ghost use Rattle.rules.specs.Lines as rule;
 ghost use Rattle.rect.specs.Rects.{mode_of};
 ghost use Rattle.screen.specs.Screens.{setup-of};
 ghost use Rattle.text.specs.Files.{Usual};
 ghost use Rattle.text_programs.specs.Programs.{want-of};
+ghost use Rattle.text_programs.specs.Failures.{IsUsage};
 ghost use Rattle.text_programs.specs.Arguments.{number_of, arguments, arguments_after, choice, wanted_by, wanted_of, read_arguments};
 
-use crate::failure::Failure;
+use crate::failure::{Failure, Stop};
+use crate::usage::Wrong;
 use rect::Mode;
 use screen::Setup;
 use sizes::PROGRAM_ROOM;
@@ -143,16 +146,18 @@ pub fn read_options(args: &[String], panels_known: bool) -> Options<'_>
     }
 }
 
-// The arguments that the program was started with, without its name. One that is no text is no argument of a program.
-pub fn arguments<R: Env + AllocGlobal>(rt: &R) -> Result<Vec<String>, Failure>
-    ensures { IfErr result (λ failure. (failure ≡ Failure.OutOfMemory) ⊎ (failure ≡ Failure.Usage)) }
+/// The arguments that the program was started with, without its name. One that is no text is no argument of a program.
+pub fn arguments<R: Env + AllocGlobal>(rt: &R) -> Result<Vec<String>, Stop<'static>>
+    ensures { IfErr result (λ stop. (stop ≡ Stop.Failed Failure.OutOfMemory) ⊎ IsUsage stop) }
 {
     match env::args(rt) {
         Ok(mut args) => {
             args.next();
             Ok(args.collect(rt.alloc())?)
         }
-        Err(error) if error.kind() == ErrorKind::OutOfMemory => Err(Failure::OutOfMemory),
-        Err(_) => Err(Failure::Usage),
+        Err(error) if error.kind() == ErrorKind::OutOfMemory => {
+            Err(Stop::Failed(Failure::OutOfMemory))
+        }
+        Err(_) => Err(Stop::Usage(Wrong::NoText)),
     }
 }

@@ -3,8 +3,10 @@ ghost use Rattle.std.specs.Prelude.{◌≡◌, ◌≤◌, replicate, IfOk};
 ghost use Rattle.sizes.specs.Sizes.{program-rows, program-buckets};
 ghost use Rattle.screen.specs.Lent.{tables_in};
 ghost use Rattle.text.specs.Files.{size, Exact};
+ghost use Rattle.text_programs.specs.Rooms.{file-room, text-room};
 ghost use Rattle.text_programs.specs.Tables.{Zeros};
 
+use crate::{FILE_ROOM, TEXT_ROOM};
 use screen::Lent;
 use sizes::{
     FILTER_TABLE, LAYER_TABLE, OPACITIES, OPEN_TABLE, PAINT_TABLE, PROGRAM_DEPTH, PROGRAM_DEPTHS,
@@ -68,14 +70,14 @@ impl Tables {
 
 /// Room for the longest file, and one byte more.
 pub fn file_buffer(alloc: Global) -> Result<Vec<u8>, AllocError>
-    ensures { IfOk result (λ buffer. buffer.items ≡ replicate 65537 0) }
+    ensures { IfOk result (λ buffer. buffer.items ≡ replicate file-room 0) }
 {
-    Ok(vec![in alloc; 0; 65537]?)
+    Ok(vec![in alloc; 0; FILE_ROOM]?)
 }
 
 /// Room for the longest text of a screen, or of its attributes.
 pub fn text_buffer(alloc: Global) -> Result<Vec<u8>, AllocError>
-    ensures { IfOk result (λ buffer. buffer.items ≡ replicate 264256 0) }
+    ensures { IfOk result (λ buffer. buffer.items ≡ replicate text-room 0) }
 {
-    Ok(vec![in alloc; 0; 264256]?)
+    Ok(vec![in alloc; 0; TEXT_ROOM]?)
 }

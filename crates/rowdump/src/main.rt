@@ -1,5 +1,5 @@
-// Prints each recording of the stream on standard input: its rows, attributes and painted pieces, or the number of its refusal. What fails is told on
-// standard error, and so is what is wrong with the arguments; nothing else goes there.
+//! Prints each recording of the stream on standard input: its rows, attributes and painted pieces, or the number of its refusal. What fails is told on
+//! standard error, and so is what is wrong with the arguments; nothing else goes there.
 #![tactic(auto)]
 
 use run_rowdump::{USAGE, run};

@@ -1,5 +1,5 @@
-// Prints the rows of the recording on standard input, or the number of its refusal. What fails is told on standard error, and so is what is wrong with the
-// arguments; nothing else goes there.
+//! Prints the rows of the recording on standard input, or the number of its refusal. What fails is told on standard error, and so is what is wrong with the
+//! arguments; nothing else goes there.
 #![tactic(auto)]
 
 use run_rowlist::{USAGE, run};

@@ -1,7 +1,5 @@
 -- What is printed of a recording asks for no more of it than the programs read.
-use Rattle.std.proofs.Common.{◌≡◌, ℕ, ◌<◌, Bool, true, false, List, [], ◌++◌, Option, length, take, sym, ap, ◌∙◌}
-use borrow.Author.Tests.{lt-ltb}
-use Rattle.std.specs.Prelude.{None, Some}
+use Rattle.std.proofs.Common.{◌≡◌, ℕ, ◌<◌, Bool, true, false, List, [], ◌++◌, Option, length, take, sym, ap, ◌∙◌, lt-ltb, None, Some}
 use Rattle.rules.specs.Setups.{Setup}
 use Rattle.rules.specs.Lines.{words_of}
 use Rattle.text_programs.proofs.Cut.{cut, rowlist-cut, no-width-cut}

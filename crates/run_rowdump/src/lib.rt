@@ -1,6 +1,6 @@
-// What `rowdump` does with its arguments, from its input to its output: it prints what `rowlist` prints of each recording of a stream, and the attributes and
-// painted pieces of those that are not refused, with panels where they are asked for. Each recording stands after its length in bytes, a little-endian u32;
-// a length past the stream's end takes what is left.
+//! What `rowdump` does with its arguments, from its input to its output: it prints what `rowlist` prints of each recording of a stream, and the attributes and
+//! painted pieces of those that are not refused, with panels where they are asked for. Each recording stands after its length in bytes, a little-endian u32;
+//! a length past the stream's end takes what is left.
 #![tactic(auto)]
 
 ghost use Rattle.std.specs.Prelude.{◌≡◌, ◌≢◌, ◌↔◌, ◌⊎◌, true, false, [], length, map, string_bytes, IfSome, IfErr, OnOk, IsErrAnd};

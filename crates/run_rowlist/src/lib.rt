@@ -1,4 +1,4 @@
-// What `rowlist` does with its arguments, from its input to its output: it prints the rows of a recording, or the number of its refusal.
+//! What `rowlist` does with its arguments, from its input to its output: it prints the rows of a recording, or the number of its refusal.
 #![tactic(auto)]
 
 ghost use Rattle.std.specs.Prelude.{◌≡◌, ◌≢◌, ◌≤◌, ◌↔◌, ◌⊎◌, true, false, [], length, map, string_bytes, IfSome, IfErr, OnOk, IsErrAnd};

@@ -1,9 +1,7 @@
 -- What is answered about a file, and about one that stands in a stream.
-use Rattle.std.proofs.Common.{◌≡◌, ℕ, ◌<◌, Bool, true, false, List, [], ◌++◌, Option, length, take, None, Some, Result, Ok, Err, OnOk, sym, ap, subst, ◌∙◌}
-use mathlib.Core.List.{append-nil}
+use Rattle.std.proofs.Common.{◌≡◌, ℕ, ◌<◌, Bool, true, false, List, [], ◌++◌, Option, length, take, None, Some, Result, Ok, Err, OnOk, sym, ap, subst, ◌∙◌, append-nil, lt-ltb}
 use Rattle.std.proofs.KnownBytes.{Appends-trans}
 use Rattle.std.specs.Io.KnownBytes.{Appends}
-use borrow.Author.Tests.{lt-ltb}
 use Rattle.rules.specs.Answers.{BadForm}
 use Rattle.rules.specs.Setups.{Setup}
 use Rattle.rules.specs.Lines.{words_of}

@@ -1,6 +1,6 @@
-// What `why` does with its arguments, from its input to its output: it prints why a tile of a recording shows what it shows, for one attribute, for every
-// attribute, or for each question of a stream. A question of a stream is the file's length in bytes, the row and the tile, each a little-endian u32, then the
-// file; a length past the stream's end takes what is left.
+//! What `why` does with its arguments, from its input to its output: it prints why a tile of a recording shows what it shows, for one attribute, for every
+//! attribute, or for each question of a stream. A question of a stream is the file's length in bytes, the row and the tile, each a little-endian u32, then the
+//! file; a length past the stream's end takes what is left.
 #![tactic(auto)]
 
 ghost use Rattle.std.specs.Prelude.{◌≡◌, ◌≢◌, ◌≤◌, ◌↔◌, ◌⊎◌, true, false, length, map, take, string_bytes, Some, None, IfSome, IfErr, OnOk, IsErrAnd};

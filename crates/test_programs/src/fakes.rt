@@ -1,15 +1,15 @@
-// An input and an output that do at each call what the next of their turns says.
+//! An input and an output that do at each call what the next of their turns says.
 use std::io;
 use std::io::{ErrorKind, Read, Write};
 
-// At most so many bytes, or a failure.
+/// At most so many bytes, or a failure.
 #[derive(Clone, Copy)]
 pub enum Turn {
     Bytes(usize),
     Fails(ErrorKind),
 }
 
-// Gives its bytes from the first on; after the last turn, or the last byte, it has ended.
+/// Gives its bytes from the first on; after the last turn, or the last byte, it has ended.
 #[derive(Drop)]
 pub struct Input<'a> {
     pub turns: &'a [Turn],
@@ -34,7 +34,7 @@ impl Read for Input<'_> {
     }
 }
 
-// Keeps what is written; after the last turn it takes nothing.
+/// Keeps what is written; after the last turn it takes nothing.
 #[derive(Drop)]
 pub struct Output<'a> {
     pub turns: &'a [Turn],

@@ -1,6 +1,5 @@
 -- The programs read at most one byte more than the longest file has. A file that is cut there is refused as the whole file is.
-use Rattle.std.proofs.Common.{◌≡◌, ℕ, ◌<◌, true, List, length, take, take_all, take-take, min, arith, length-take, leb, refl, sym, ap, subst, ◌∙◌, Bool, false, [], ◌∷◌, Option, None, Some, IfSome, Result, Ok, Err, OnOk}
-use borrow.Author.Tests.{lt-ltb, leb-true, leb-false}
+use Rattle.std.proofs.Common.{◌≡◌, ℕ, ◌<◌, true, List, length, take, take_all, take-take, min, arith, length-take, leb, refl, sym, ap, subst, ◌∙◌, Bool, false, [], ◌∷◌, Option, None, Some, IfSome, Result, Ok, Err, OnOk, lt-ltb, leb-true, leb-false}
 use Rattle.std.specs.Io.KnownBytes.{Appends}
 use Rattle.rules.specs.Answers.{BadForm}
 use Rattle.rules.specs.Setups.{Setup}

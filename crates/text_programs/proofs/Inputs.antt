@@ -1,11 +1,9 @@
 -- What reads take of an input whose bytes are known.
-use Rattle.std.proofs.Common.{◌≡◌, ℕ, ◌+◌, ◌<◌, ◌≤◌, List, [], ◌++◌, length, take, drop, zero, suc, ◌∷◌, Option, Some, None, IfSome, drop_at, refl, sym, ap, ◌∙◌, subst, arith, length-take-le}
-use Rattle.std.proofs.Common.{length-take, length-drop, drop-drop, drop_of_length-le}
+use Rattle.std.proofs.Common.{◌≡◌, ℕ, ◌+◌, ◌<◌, ◌≤◌, List, [], ◌++◌, length, take, drop, zero, suc, ◌∷◌, Option, Some, None, IfSome, drop_at, refl, sym, ap, ◌∙◌, subst, arith, length-take-le, length-take, length-drop, drop-drop, drop_of_length-le, le-ltb, lt-ltb}
 use Rattle.std.proofs.Math.Seq.{take-append-add}
 use Rattle.std.proofs.lemmas.List.{take-append-le}
 use Rattle.std.proofs.KnownBytes.{Consumes-trans}
 use Rattle.std.specs.Io.KnownBytes.{Consumes, Keeps}
-use borrow.Author.Tests.{le-ltb, lt-ltb}
 use borrow.Rule.Slice.PartMut.{put_mid}
 use Rattle.text_programs.specs.Streams.{Takes, Skips, first_item, after_item, items}
 use Rattle.text_programs.specs.Failures.{Loses}

@@ -1,12 +1,8 @@
 -- One file of a stream, and all of them: what is written, also where it ends early.
-use Rattle.std.proofs.Common.{◌≡◌, ℕ, suc, ◌+◌, ◌-◌, ◌^◌, ◌<◌, ◌≤◌, min, Bool, true, false, List, [], ◌++◌, length, take, drop, drop-drop, take_all, length-take, Option, None, Some, Result, Ok, Err, IfErr, IfSome, IsSomeAnd, MatchBool, if◌then◌else◌, nat_lt, refl, sym, ap, subst, ◌∙◌, arith, leb}
+use Rattle.std.proofs.Common.{◌≡◌, ℕ, suc, ◌+◌, ◌-◌, ◌^◌, ◌<◌, ◌≤◌, min, Bool, true, false, List, [], ◌++◌, length, take, drop, drop-drop, take_all, length-take, Option, None, Some, Result, Ok, Err, IfErr, IfSome, IsSomeAnd, MatchBool, if◌then◌else◌, nat_lt, refl, sym, ap, subst, ◌∙◌, arith, leb, ◌∷◌, append_assoc, append-nil, length-append, take_at, le-ltb, lt-ltb, leb-true, leb-false}
 use Rattle.std.proofs.lemmas.List.{take-append-drop}
-use mathlib.Core.List.{◌∷◌, append_assoc, append-nil}
-use lib.ListN.{length-append}
-use lib.Seq.{take_at}
 use Rattle.std.proofs.KnownBytes.{Appends-trans, Appends-nil}
 use Rattle.std.specs.Io.KnownBytes.{Appends}
-use borrow.Author.Tests.{le-ltb, lt-ltb, leb-true, leb-false}
 use Rattle.text_programs.specs.Streams.{Takes, Skips, Item, short, word_at, first_item, after_item, front_printed, items, printed_from, stream_printed, PrintsFirst}
 use Rattle.text_programs.specs.Failures.{Begins}
 use Rattle.text_programs.proofs.Inputs.{items-end, items-none, items-more}

@@ -1,4 +1,4 @@
-// Why a program stops before its work is done, and how it says so.
+//! Why a program stops before its work is done, and how it says so.
 ghost use Rattle.std.specs.Prelude.{◌≡◌, Some};
 ghost use Rattle.std.specs.Process.{exit_status};
 ghost use Rattle.text_programs.specs.declared.failure.Failure.TheVariants.{OutOfMemory};

@@ -1,5 +1,5 @@
-// What the programs have in common: their options and usages, their tables, the text of a file's bytes, reading to the end, streams, how they fail. Parts:
-// where a function asks something, the programs have seen to it.
+//! What the programs have in common: their options and usages, their tables, the text of a file's bytes, reading to the end, streams, how they fail. Parts:
+//! where a function asks something, the programs have seen to it.
 #![tactic(auto)]
 
 ghost use Rattle.std.specs.Prelude.{◌≡◌, ◌≢◌, ◌≤◌, true, false, length, take, Ok, IfOk, IfErr, IsOk, OnOk};
@@ -81,7 +81,7 @@ pub fn rowlist_text(file: &[u8], setup: Setup, tables: &mut Tables, out: &mut [u
     list_file(file, setup, tables, out).bytes
 }
 
-// What the programs print of a file's bytes where the width asked for is none, put first; how long it is.
+/// What the programs print of a file's bytes where the width asked for is none, put first; how long it is.
 pub fn no_width_text(file: &[u8], out: &mut [u8]) -> usize
     requires { 64 ≤ length out.old }
     ensures value { result ≡ length (no-width-text file.now) }
@@ -117,8 +117,8 @@ fn read_some<R: Read>(input: &mut R, buf: &mut [u8]) -> Result<usize, Failure>
     Err(Failure::CannotRead(io::Error::from(ErrorKind::TimedOut)))
 }
 
-// Reads until the bytes are full or the input ends; how many were read. Where it fails, what is gone of the input is a beginning of it, no more than
-// there was room for.
+/// Reads until the bytes are full or the input ends; how many were read. Where it fails, what is gone of the input is a beginning of it, no more than
+/// there was room for.
 pub fn read_all<R: Read>(input: &mut R, buf: &mut [u8]) -> Result<usize, Failure>
     ensures count { IfOk result (λ n. n ≤ length buf.new) }
     ensures bytes { IfOk result (λ n. Takes (length buf.old) (R.remaining input.old) (R.remaining input.new) (take n buf.new)) }
@@ -156,7 +156,7 @@ fn write_some<W: Write>(output: &mut W, text: &[u8]) -> Result<usize, Failure>
     Err(Failure::CannotWrite(io::Error::from(ErrorKind::TimedOut)))
 }
 
-// Writes all of a text. Where it fails, a beginning of it is written.
+/// Writes all of a text. Where it fails, a beginning of it is written.
 pub fn write_text<W: Write>(output: &mut W, text: &[u8]) -> Result<(), Failure>
     ensures ok { OnOk result (Appends (W.contents output.old) (W.contents output.new) text.now) }
     ensures begun { Begins (W.contents output.old) (W.contents output.new) text.now }

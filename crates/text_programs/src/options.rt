@@ -1,4 +1,4 @@
-// The programs' arguments. Options stand before the others, in any order, and of a repeated one the last counts.
+//! The programs' arguments. Options stand before the others, in any order, and of a repeated one the last counts.
 ghost use Rattle.std.specs.Prelude.{◌≡◌, ◌<◌, ◌⊎◌, IfErr, length, map, string_bytes, MatchOption};
 ghost use Rattle.text_programs.specs.declared.failure.Failure.TheVariants as Failure;
 ghost use Rattle.text_programs.specs.declared.failure.Stop.TheVariants as Stop;
@@ -21,8 +21,8 @@ use std::env;
 use std::io::ErrorKind;
 use std::rt::Env;
 
-// What the options want of a screen, and of its text. no_width: the number typed for the width is none, and every file is refused. panels: lines
-// with a panel show it.
+/// What the options want of a screen, and of its text. no_width: the number typed for the width is none, and every file is refused. panels: lines
+/// with a panel show it.
 #[derive(Clone, Copy)]
 pub struct Want {
     pub setup: Setup,
@@ -30,7 +30,7 @@ pub struct Want {
     pub panels: bool,
 }
 
-// others: the arguments from the first on that is no option.
+/// others: the arguments from the first on that is no option.
 #[derive(Clone, Copy)]
 pub struct Options<'a> {
     pub want: Want,
@@ -75,7 +75,7 @@ fn want_of(mode: Mode, pixels: u32, panels: bool) -> Want
     }
 }
 
-// A number: decimal digits alone, at most 4,294,967,295.
+/// A number: decimal digits alone, at most 4,294,967,295.
 pub fn number(text: &str) -> Option<u32>
     ensures { result ≡ number_of text.now }
 {
@@ -123,8 +123,8 @@ fn next_option<'a>(
     }
 }
 
-// The options at the front of a program's arguments, 128 pixels a bucket without `--width`; panels_known: `--panels` is one of them. Whatever is none ends
-// them: what may stand there the program knows.
+/// The options at the front of a program's arguments, 128 pixels a bucket without `--width`; panels_known: `--panels` is one of them. Whatever is none ends
+/// them: what may stand there the program knows.
 pub fn read_options(args: &[String], panels_known: bool) -> Options<'_>
     ensures usual { Usual (setup-of result.want.setup) }
     ensures wanted { wanted_of result.want ≡ wanted_by (read_arguments panels_known (map string_bytes args.now)).choice }

@@ -1,5 +1,5 @@
-// Streams: files one after the other, each after a head of little-endian u32s, its length in bytes first. They are answered in their order, whatever it is
-// that answers them.
+//! Streams: files one after the other, each after a head of little-endian u32s, its length in bytes first. They are answered in their order, whatever it is
+//! that answers them.
 ghost use Rattle.std.specs.Prelude.{◌≡◌, ◌-◌, ◌≤◌, ◌<◌, ◌⊎◌, ℕ, List, ⊤, length, take, min, Ok, Some, IfSome, IfOk, IfErr, IsOk, OnOk, MatchBool};
 ghost use Rattle.std.specs.Io.KnownBytes.{Appends};
 ghost use Rattle.text_programs.specs.Rooms.{file-room};
@@ -10,7 +10,7 @@ use crate::failure::Failure;
 use crate::{FILE_ROOM, read_all};
 use std::io::{Read, Write};
 
-// Reads up to k bytes to the start of the buffer; how many were read.
+/// Reads up to k bytes to the start of the buffer; how many were read.
 pub fn read<R: Read>(input: &mut R, buf: &mut [u8], k: usize) -> Result<usize, Failure>
     ensures count { IfOk result (λ n. n ≤ length buf.new) }
     ensures at_most { IfOk result (λ n. n ≤ k) }
@@ -25,7 +25,7 @@ pub fn read<R: Read>(input: &mut R, buf: &mut [u8], k: usize) -> Result<usize, F
     read_all(input, buf)
 }
 
-// The u32 at a place of a head, 0 if there are not four bytes.
+/// The u32 at a place of a head, 0 if there are not four bytes.
 pub fn word(head: &[u8], at: usize) -> u32
     ensures { result ≡ word_at head.now at }
 {
@@ -57,7 +57,7 @@ fn skip<R: Read>(input: &mut R, n: usize) -> Result<(), Failure>
     Ok(())
 }
 
-// A file of so many bytes was read into the programs' buffer. One that is longer has filled it, which is too long, and the rest is passed over.
+/// A file of so many bytes was read into the programs' buffer. One that is longer has filled it, which is too long, and the rest is passed over.
 pub fn skip_rest<R: Read>(input: &mut R, size: usize) -> Result<(), Failure>
     ensures ok { OnOk result (Skips (size - file-room) (R.remaining input.old) (R.remaining input.new)) }
     ensures gone { Loses (size - file-room) (R.remaining input.old) (R.remaining input.new) }
@@ -67,7 +67,7 @@ pub fn skip_rest<R: Read>(input: &mut R, size: usize) -> Result<(), Failure>
     skip(input, size.saturating_sub(FILE_ROOM))
 }
 
-// What answers the files of a stream.
+/// What answers the files of a stream.
 pub trait Replies {
     // What it writes of file i.
     ghost reply: { Self → ℕ → Item → List ℕ };
@@ -122,8 +122,8 @@ fn answer_next<R: Read, W: Write, D: Replies>(
     Ok(true)
 }
 
-// Answers each file of a stream, from number 0 on. The head is as long as each file's is; the buffer is the programs' own. Nothing says that a stream ends: the
-// files are counted up to a number that no run reaches.
+/// Answers each file of a stream, from number 0 on. The head is as long as each file's is; the buffer is the programs' own. Nothing says that a stream ends: the
+/// files are counted up to a number that no run reaches.
 pub fn answer_all<R: Read, W: Write, D: Replies>(
     input: &mut R,
     output: &mut W,

@@ -1,4 +1,4 @@
-// The programs' tables and buffers: made once, and lent to each recording. What is printed of one does not depend on what they held.
+//! The programs' tables and buffers: made once, and lent to each recording. What is printed of one does not depend on what they held.
 ghost use Rattle.std.specs.Prelude.{◌≡◌, ◌≤◌, replicate, IfOk};
 ghost use Rattle.sizes.specs.Sizes.{program-rows, program-buckets};
 ghost use Rattle.screen.specs.Lent.{tables_in};

@@ -1,4 +1,4 @@
-// The programs' usages, and what is wrong with arguments that ask for nothing.
+//! The programs' usages, and what is wrong with arguments that ask for nothing.
 ghost use Rattle.std.specs.Prelude.{◌≡◌, ◌⊎◌, Some, map, string_bytes, OnOk, IfErr};
 ghost use Rattle.std.specs.Io.KnownBytes.{Appends};
 ghost use Rattle.text_programs.specs.declared.failure.Failure.TheVariants as Failure;

@@ -1,5 +1,5 @@
-// Prints why a tile of the recording on standard input shows what it shows: for one attribute, for every attribute, or for each question of a stream. What
-// fails is told on standard error, and so is what is wrong with the arguments; nothing else goes there.
+//! Prints why a tile of the recording on standard input shows what it shows: for one attribute, for every attribute, or for each question of a stream. What
+//! fails is told on standard error, and so is what is wrong with the arguments; nothing else goes there.
 #![tactic(auto)]
 
 use run_why::{USAGE, run};

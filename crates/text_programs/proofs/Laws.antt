@@ -1,14 +1,13 @@
 -- What is written of a file is the rules' text. Assumes nothing.
-use Rattle.std.proofs.Common.{◌≡◌, refl, sym, ap, ◌∙◌, Bool, true, false, cond, List, append-nil, Result, Ok, Err, ℕ, ◌≤◌, arith, length, take, drop, length-append, take_at, le-ltb}
+use Rattle.std.proofs.Common.{◌≡◌, refl, sym, ap, ◌∙◌, Bool, true, false, cond, List, append-nil, Result, Ok, Err, ℕ, ◌≤◌, arith, length, take, take_at, le-ltb}
 use Rattle.std.specs.Result.{is_err}
-use Rattle.sizes.specs.declared.width.Width.{Width}
 use Rattle.sizes.specs.declared.answers.Refusal.{Refusal}
 use Rattle.sizes.specs.declared.answers.Refusal.TheVariants as refusal
 use Rattle.sizes.specs.Refusals.{answer_number}
 use Rattle.sizes.proofs.Refusals.{not_done}
 use Rattle.rules.specs.Answers.{BadForm}
 use Rattle.rules.proofs.All.{never}
-use Rattle.rules.specs.Setups.{Mode, Setup}
+use Rattle.rules.specs.Setups.{Setup}
 use Rattle.rules.specs.Lines.{rowlist-screen, refused, no-width, line-bytes}
 use Rattle.file.specs.Words.{words-in}
 use Rattle.text.specs.Listed.{Listing, TextOut, text-out, begun-with, written, refused-listed, text_of}
@@ -16,12 +15,7 @@ use Rattle.text.specs.Files.{Text, Showed, shows-as, Usual, size_of, good-bytes,
 use Rattle.text.proofs.Bytes.{by-file}
 use Rattle.refine_text.proofs.Lengths.{line-few}
 use Rattle.refine_text.proofs.Files.{shows, file-printed, words-print}
-use Rattle.text_programs.specs.Programs.{rowlist-number, rowlist-text, no-width-text, Wanted, wanted, want-of, first}
-
--- what is wanted has C = D = 64
-pub as-usual : (m : Mode) (o : Result Width Refusal) (v : Bool) {q : Setup} {b c : Bool} → wanted q b c ≡ want-of m o v → Usual q
-as-usual m (Err _) v e = record { c = ap (λ (x : Wanted). x.setup.c) e; d = ap (λ (x : Wanted). x.setup.d) e }
-as-usual m (Ok w) v e = record { c = ap (λ (x : Wanted). x.setup.c) e; d = ap (λ (x : Wanted). x.setup.d) e }
+use Rattle.text_programs.specs.Programs.{rowlist-number, rowlist-text, no-width-text, first}
 
 module _ (q : Setup) (u : Usual q) (fs bs : List ℕ) (room : 264256 ≤ length bs) where
   pub rowlist-shown : {x : Text} {cs : List ℕ} → shows-as x cs ≡ bytes-text fs q bs → (x.bytes ≡ length (rowlist-text q fs)) × (cs ≡ first (rowlist-text q fs) bs)
@@ -45,9 +39,6 @@ no-width-line : (fs : List ℕ) → line-bytes (refused (no-width-number fs)) �
 unfolding no-width-number no-width text_of
 no-width-line fs = sym (append-nil _)
 
-pub no-width-few : (fs : List ℕ) → length (no-width-text fs) ≤ 64
-no-width-few fs = rw (← no-width-line fs) (line-few (refused (no-width-number fs)))
-
 pub no-width-shown : (fs bs : List ℕ) → 64 ≤ length bs → {n : ℕ} → n ≡ no-width-number fs → {r : Listing} {cs : List ℕ} → text-out r cs ≡ refused-listed n bs
     → (r.bytes ≡ length (no-width-text fs)) × (cs ≡ first (no-width-text fs) bs)
 unfolding written
@@ -59,10 +50,6 @@ no-width-shown fs bs room {n} h {r} {cs} e =
 -- a text that stands first is the bytes as far as it goes
 pub first_taken : (ts bs : List ℕ) (n : ℕ) (cs : List ℕ) → n ≡ length ts → cs ≡ first ts bs → take n cs ≡ ts
 first_taken ts bs n cs h e = rw (e, h) (take_at ts _ (length ts) (omega arith))
-
--- .. and there are as many of them
-pub first_fits : (ts bs : List ℕ) (n : ℕ) (cs : List ℕ) → n ≡ length ts → cs ≡ first ts bs → n ≤ length cs
-first_fits ts bs n cs h e = rw (e, length-append ts (drop (length ts) bs)) (omega (arith, h))
 
 -- whether an answer is a refusal, by its number
 pub is-refused : {T : Type 0} (x : Result T Refusal) → is_err x ≡ true → answer_number x ≡ 0 → ⊥

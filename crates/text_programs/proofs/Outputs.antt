@@ -2,7 +2,7 @@
 use Rattle.std.proofs.Common.{◌≡◌, Bool, true, if◌then◌else◌, ℕ, ◌+◌, ◌-◌, ◌≤◌, List, ◌++◌, length, take, drop, take_all, length-drop, length-take-le, Option, Some, None, IfSome, sym, ap, ◌∙◌, subst, arith}
 use Rattle.std.proofs.Math.Seq.{take-append-add}
 use Rattle.std.proofs.lemmas.List.{take-append-drop}
-use Rattle.std.proofs.KnownBytes.{Appends-trans, Appends-kept, Appends-nil}
+use Rattle.std.proofs.KnownBytes.{Appends-trans, Appends-nil}
 use Rattle.std.specs.Io.KnownBytes.{Appends, Keeps}
 use Rattle.text_programs.specs.Failures.{Begins}
 
@@ -12,10 +12,6 @@ kept_appends None b c bs k t = tt
 kept_appends (Some xs) None c bs k t = absurd k
 kept_appends (Some xs) (Some ys) None bs k t = absurd t
 kept_appends (Some xs) (Some ys) (Some zs) bs k t = t ∙ ap (λ qs. qs ++ bs) k
-
--- a beginning of a text was written, and then nothing
-pub begun_kept : (a b c : Option (List ℕ)) (n : ℕ) (ts : List ℕ) → Appends a b (take n ts) → Keeps b c → Begins a c ts
-begun_kept a b c n ts p k = (n, Appends-kept a b c (take n ts) p k)
 
 -- n bytes were written of what was left of a text after its first k
 pub write_more : (a b c : Option (List ℕ)) (k n : ℕ) (ts : List ℕ) → k ≤ length ts → n ≤ length (take (length ts - k) (drop k ts)) → Appends a b (take k ts)

@@ -16,9 +16,6 @@ begins_of a c x y p = (length x, subst (Appends a c) (sym (take_at x y (length x
 pub begins_all : (a c : Option (List ℕ)) (x : List ℕ) → Appends a c x → Begins a c x
 begins_all a c x p = (length x, subst (Appends a c) (sym (take_all (length x) x (omega arith))) p)
 
-pub begins_none : (a : Option (List ℕ)) (x : List ℕ) → Begins a a x
-begins_none a x = (0, Appends-nil a)
-
 -- a beginning of a text was written, or a text and then a beginning of another: that is a beginning of both
 pub begins_more : (a c : Option (List ℕ)) (x y : List ℕ) → Begins a c x → Begins a c (x ++ y)
 begins_more a c x y p =
@@ -97,16 +94,6 @@ as-done one k i stream bs a b p =
     let text : stream_printed one k stream ≡ printed_from one 0 p.0 ++ printed_from one i (items k (2 ^ 64 - 1 - i) bs) =
     ap (printed_from one 0) p.2 ∙ printed_append one 0 i p.0 (items k (2 ^ 64 - 1 - i) bs) (omega (arith, p.3)) in
     (printed_from one 0 p.0, p.1, text)
-
-pub none_yet : (one : ℕ → Item → List ℕ) (k : ℕ) (known a : Option (List ℕ)) → Written one k 0 known known a a
-none_yet one k None a = tt
-none_yet one k (Some stream) a = ([], Appends-nil a, refl, refl)
-
--- they are answered, whole
-pub whole_there : (one : ℕ → Item → List ℕ) (k i : ℕ) (known rest a b : Option (List ℕ)) → Written one k i known rest a b → PrintsFirst one k known a b
-whole_there one k i None rest a b p = tt
-whole_there one k i (Some stream) None a b p = absurd p
-whole_there one k i (Some stream) (Some bs) a b p = (p.0, items k (2 ^ 64 - 1 - i) bs, p.2, p.1)
 
 from_there : (one : ℕ → Item → List ℕ) (k i : ℕ) (bs : List ℕ) → i < 2 ^ 64 - 1 → k ≤ length bs
     → printed_from one i (items k (2 ^ 64 - 1 - i) bs) ≡ one i (first_item k bs) ++ printed_from one (suc i) (items k (2 ^ 64 - 1 - (i + 1)) (after_item k bs))

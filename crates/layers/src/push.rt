@@ -1,5 +1,11 @@
+<<<<<<< HEAD
 // A push (rule 8; bucketer.rs, push_layer). `push_layer` is a public call; the others are parts of it.
 ghost use Rattle.std.specs.Prelude.{◌≡◌, ◌≤◌, IfOk, OnOk, OnErr};
+=======
+//! A push (rule 8; bucketer.rs, push_layer). `push_layer` is a public call; the others are parts of it.
+ghost use Rattle.std.specs.Prelude.{◌≡◌, ◌≤◌};
+ghost use Rattle.sizes.specs.Sizes.{most-layers};
+>>>>>>> main
 ghost use Rattle.sizes.specs.Refusals.{answer_number};
 ghost use Rattle.rules.specs.Answers.{answer};
 ghost use Rattle.rect.specs.Rects.{box_of};
@@ -77,8 +83,8 @@ fn judge_push(
     Ok(Opening { bbox, run })
 }
 
-// Rule 8: one more layer is open. Its opacity is copied, bit for bit. BadViewport, BadArena, BadRecord, Deep or FullRow: refused, the screen and every lent
-// word stay.
+/// Rule 8: one more layer is open. Its opacity is copied, bit for bit. BadViewport, BadArena, BadRecord, Deep or FullRow: refused, the screen and every lent
+/// word stay.
 pub fn push_layer(
     screen: &mut Screen,
     rows: &mut Rows<'_>,

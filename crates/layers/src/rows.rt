@@ -1,5 +1,10 @@
+<<<<<<< HEAD
 // The rows a to b of a screen (b is not among them): judged, and the same act done on each. Parts: each has a `requires`, which the steps have judged.
 ghost use Rattle.std.specs.Prelude.{◌≡◌, ◌≤◌, ◌*◌, length, None};
+=======
+//! The rows a to b of a screen (b is not among them): judged, and the same act done on each. Parts: each has a `requires`, which the steps have judged.
+ghost use Rattle.std.specs.Prelude.{◌≡◌, ◌≤◌, ◌*◌, length, None, eqb};
+>>>>>>> main
 ghost use Rattle.sizes.specs.Sizes.{most-layers, most-room, most-rows, row-size};
 ghost use Rattle.rules.specs.Lists.{range};
 ghost use Rattle.rules.specs.Commands.{paint-fill};
@@ -21,7 +26,11 @@ use screen::Screen;
 use sizes::answers::Refusal;
 use span::TileSpan;
 
+<<<<<<< HEAD
 // The rows a to b: BadRecord for the record of one of them, at once; else whether one more command, with the PushBufs that the row lacks, passes C somewhere.
+=======
+/// The rows a to b: 4 for the record of one of them, then 10 if one more command, with the PushBufs that the row lacks, passes C.
+>>>>>>> main
 #[tactic(auto, unfolding(crate::specs::Band::band_number))]
 pub fn judge_rows(screen: Screen, rows: &[u32], a: usize, b: usize) -> Result<Fault, Refusal>
     requires { (screen.layers ≤ most-layers) × (screen.c ≤ most-room) × (b ≤ most-rows) × (b * row-size ≤ length rows.now) }
@@ -41,7 +50,18 @@ pub fn judge_rows(screen: Screen, rows: &[u32], a: usize, b: usize) -> Result<Fa
     Ok(found)
 }
 
+<<<<<<< HEAD
 // Rule 5 alone, with `layers` layers open.
+=======
+/// Whether rows were refused for the record of one of them, 4: that comes before a step's own 6, 8 and 9.
+pub fn is_bad_record(judged: Result<(), Refusal>) -> bool
+    ensures { result ≡ eqb (answer_number judged) BadRecord }
+{
+    matches!(judged, Err(Refusal::BadRecord))
+}
+
+/// What is done on each row, with n layers open.
+>>>>>>> main
 #[derive(Clone, Copy)]
 pub struct Touch {
     pub layers: u32,
@@ -96,3 +116,32 @@ pub fn on_rows<A: RowAct>(screen: Screen, rows: &mut Rows<'_>, a: usize, b: usiz
         );
     }
 }
+<<<<<<< HEAD
+=======
+
+/// Rule 8: rule 5 on each of the rows a to b, n layers being open.
+pub fn touch_rows(screen: Screen, rows: &mut Rows<'_>, a: usize, b: usize, n: u32)
+    requires { OnRows screen n (acted (bucket-tiles screen.width) n touch) a b (all-held rows.old) }
+    ensures same { SameRows rows.old rows.new }
+    ensures rows { all-held rows.new ≡ lay (each (acted (bucket-tiles screen.width) n touch) (range a b) (rows_at (frame-of screen) (all-held rows.old))) }
+{
+    on_rows(screen, rows, a, b, n, Act::Touch);
+}
+
+/// Rule 11: a solid fill that is no depth fill, over a span of tiles, on each of the rows a to b, n layers being open.
+pub fn paint_rows(
+    screen: Screen,
+    rows: &mut Rows<'_>,
+    a: usize,
+    b: usize,
+    n: u32,
+    span: TileSpan,
+    attrs_idx: u32,
+)
+    requires { Short (tiles span) × OnRows screen n (acted (bucket-tiles screen.width) n (paint (tiles span) None attrs_idx)) a b (all-held rows.old) }
+    ensures same { SameRows rows.old rows.new }
+    ensures rows { all-held rows.new ≡ lay (each (acted (bucket-tiles screen.width) n (paint (tiles span) None attrs_idx)) (range a b) (rows_at (frame-of screen) (all-held rows.old))) }
+{
+    on_rows(screen, rows, a, b, n, Act::Paint { span, attrs_idx });
+}
+>>>>>>> main

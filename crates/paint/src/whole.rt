@@ -1,5 +1,5 @@
-// A row painted from where it stands: one step, or all of them. `paint_step` and `paint_row` are public calls: they have no `requires`. The
-// others are their parts.
+//! A row painted from where it stands: one step, or all of them. `paint_step` and `paint_row` are public calls: they have no `requires`. The
+//! others are their parts.
 ghost use Rattle.std.specs.Prelude.{◌≡◌, ◌≤◌};
 ghost use Rattle.sizes.specs.Widths.{bucket-tiles};
 ghost use Rattle.paint.specs.Answers.{painted_of};
@@ -62,8 +62,8 @@ fn row_part(
     )
 }
 
-// One step of one row: its depth fills last to first, then its render commands in order, then finished, as often as asked. The pieces stand at the list's
-// start. BadViewport, BadArena, BadRecord, BadRun for no such row, Open or NoRoom: refused, every word stays.
+/// One step of one row: its depth fills last to first, then its render commands in order, then finished, as often as asked. The pieces stand at the list's
+/// start. BadViewport, BadArena, BadRecord, BadRun for no such row, Open or NoRoom: refused, every word stays.
 pub fn paint_step(
     screen: Screen,
     row: usize,
@@ -79,8 +79,8 @@ pub fn paint_step(
     row_part(screen, row, stored, depth, painting, list, 1)
 }
 
-// The row's next steps, one after the other, until one is refused or the row is finished; refused where the first step is. The pieces stand one after the other
-// in the list. finished: no step is left. At most 2,049 steps, which no row passes: C, D and the one that finds nothing left.
+/// The row's next steps, one after the other, until one is refused or the row is finished; refused where the first step is. The pieces stand one after the other
+/// in the list. finished: no step is left. At most 2,049 steps, which no row passes: C, D and the one that finds nothing left.
 pub fn paint_row(
     screen: Screen,
     row: usize,

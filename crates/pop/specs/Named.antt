@@ -1,9 +1,17 @@
 -- A closing layer's rows and its clip, by the code's own values: what the contracts of this crate say in one word.
+<<<<<<< HEAD
 use Rattle.std.specs.Prelude.{ℕ, ◌+◌, ◌-◌, ◌*◌, ◌≤◌, ◌<◌, ◌≡◌, Bool, true, false, ◌||◌, cond, List, [], ◌∷◌, length, map, None}
 use Rattle.sizes.specs.Widths.{bucket-tiles}
 use Rattle.rules.specs.Lists.{join, range}
 use Rattle.rules.specs.Boxes.{rows_of}
 use Rattle.rules.specs.Segments.{Segment, Cut, cut_in, good-segment, judge-segments}
+=======
+use Rattle.std.specs.Prelude.{ℕ, ◌+◌, ◌-◌, ◌≤◌, ◌<◌, ◌≡◌, Bool, true, false, ◌||◌, cond, List, [], ◌∷◌, length, map, None}
+use Rattle.sizes.specs.Widths.{bucket-tiles}
+use Rattle.rules.specs.Lists.{join, range}
+use Rattle.rules.specs.Boxes.{rows_of}
+use Rattle.rules.specs.Segments.{Segment, Cut, cut_in, judge-segments}
+>>>>>>> main
 use Rattle.rules.specs.Plans.{Put, on, close, close-puts}
 use Rattle.span.specs.declared.TileSpan.{TileSpan}
 use Rattle.span.specs.Spans.{tiles}
@@ -62,10 +70,13 @@ clip_cuts p ws = join (cut_in (origin p.scene) (bounds p.scene)) (clip_segments 
 abbrev pub segment_cut : Scene → List ℕ → ℕ → List Cut
 segment_cut e ws i = cut_in (origin e) (bounds e) (seg-at ws i)
 
+<<<<<<< HEAD
 -- segment i of a list is there, and good
 abbrev pub GoodAt : List ℕ → ℕ → Type 0
 GoodAt ws i = (5 * i + 5 ≤ length ws) × (good-segment (seg-at ws i) ≡ true)
 
+=======
+>>>>>>> main
 -- rule 9: the LayerFills of segment i, in the touched rows of the band; a LayerFill of a span on each of some rows
 abbrev pub segment_puts : Screen → Band → Scene → List ℕ → ℕ → Rows → List Put
 segment_puts s b e ws i r = close-puts s.layer_attrs (touched s b r) (segment_cut e ws i)

@@ -1,12 +1,21 @@
-// A pop (rules 9 and 10; bucketer.rs, pop_layer): judged, then done, or refused with nothing changed. `pop_layer` is a public call; the others are parts of it:
-// where one asks something, its callers have judged it.
+//! A pop (rules 9 and 10; bucketer.rs, pop_layer): judged, then done, or refused with nothing changed. `pop_layer` is a public call; the others are parts of it:
+//! where one asks something, its callers have judged it.
 #![tactic(auto)]
 
+<<<<<<< HEAD
 ghost use Rattle.std.specs.Prelude.{◌≡◌, ◌&&◌, cond, ◌+◌, ◌-◌, ◌*◌, ◌/◌, ◌≤◌, ◌<◌, length, eqb, IfOk};
 ghost use Rattle.sizes.specs.Sizes.{most-layers, most-attrs, open-layer-table, opacity-count, layer-attr-table};
 ghost use Rattle.rules.specs.Lists.{every};
 ghost use Rattle.rules.specs.Plans.{pop, clip-box};
 ghost use Rattle.rect.specs.Rects.{box_of};
+=======
+ghost use Rattle.std.specs.Prelude.{◌≡◌, false, ◌&&◌, cond, ◌+◌, ◌-◌, ◌*◌, ◌/◌, ◌≤◌, ◌<◌, length, eqb};
+ghost use Rattle.sizes.specs.Sizes.{most-layers, most-attrs, last-id, open-layer-table, opacity-count, layer-attr-table};
+ghost use Rattle.rules.specs.Lists.{every};
+ghost use Rattle.rules.specs.Plans.{close, pop, clip-box};
+ghost use Rattle.rect.specs.Rects.{box_of};
+ghost use Rattle.screen.specs.Screens.{frame-of, screen-in};
+>>>>>>> main
 ghost use Rattle.screen.specs.Judging.{judged};
 ghost use Rattle.segments.specs.Segs.{origin, bounds, Starts};
 ghost use Rattle.row.specs.Rows.{all-held, SameRows};
@@ -14,8 +23,13 @@ ghost use Rattle.screen.specs.LentLayers.{SameLayers};
 ghost use Rattle.sizes.specs.Refusals.{answer_number};
 ghost use Rattle.row.specs.Arena.{nowhere};
 ghost use Rattle.screen.specs.Layers.{open_at, good_layer, good_own_box};
+<<<<<<< HEAD
 ghost use Rattle.pop.specs.Pop.{lent, out, layers-in, good_lengths, number, popped, Judged, closing-puts, words-after, attr_by, tables_after, Closes};
 ghost use Rattle.pop.specs.Named.{screen_rows, closed_by, WholeRows, InScreen, plain_number, clip_number, open_number, lent_of};
+=======
+ghost use Rattle.pop.specs.Pop.{lent, out, layers-in, good_lengths, number, popped, Judged, closing-puts, words-after, attr_by, tables_after};
+ghost use Rattle.pop.specs.Named.{InScreen, WholeRows, clip_number, closed_by, lent_of, open_number, plain_number, screen_rows};
+>>>>>>> main
 
 use crate::rows::{
     Band, ClipPath, close_segments, close_spans, is_full_clip, judge_pop_rows, pop_rows,
@@ -80,10 +94,14 @@ fn is_good_open(viewport: Rect, layer: OpenLayer, parent: Rect) -> bool
 
 // Without a clip: 4 for the rows of the band, then 8, 9 and 10.
 fn judge_plain(screen: Screen, rows: &Rows<'_>, band: Band) -> Result<(), Refusal>
+<<<<<<< HEAD
     requires whole { WholeRows screen rows.now }
     requires band { InScreen screen band }
     requires some { 1 ≤ screen.layers }
     requires deep { screen.layers ≤ most-layers }
+=======
+    requires { WholeRows screen rows.now × InScreen screen band × (1 ≤ screen.layers) × (screen.layers ≤ most-layers) }
+>>>>>>> main
     ensures { answer_number result ≡ plain_number screen band rows.now }
 {
     let fault = judge_pop_rows(screen, rows, band, 1)?;
@@ -104,6 +122,7 @@ fn judge_clip(
     clip: ClipPath,
     band: Band,
 ) -> Result<(), Refusal>
+<<<<<<< HEAD
     requires whole { WholeRows screen rows.now }
     requires band { InScreen screen band }
     requires some { 1 ≤ screen.layers }
@@ -111,6 +130,9 @@ fn judge_clip(
     requires ordered { clip.start ≤ clip.«end» }
     requires listed { 5 * clip.«end» ≤ length list.now }
     requires starts { Starts (origin clip.scene) (bounds clip.scene) }
+=======
+    requires { WholeRows screen rows.now × InScreen screen band × (1 ≤ screen.layers) × (screen.layers ≤ most-layers) × (clip.start ≤ clip.«end») × (5 * clip.«end» ≤ length list.now) × Starts (origin clip.scene) (bounds clip.scene) }
+>>>>>>> main
     ensures { answer_number result ≡ clip_number screen band rows.now clip list.now }
 {
     let fault = judge_pop_rows(screen, rows, band, 0)?;
@@ -134,12 +156,18 @@ fn judge_open(
     rows: &Rows<'_>,
     layers: &Layers<'_>,
     list: &[u32],
+<<<<<<< HEAD
 ) -> Result<Closing, Refusal>
     requires screen { judged screen (length rows.now.state.now) (length rows.now.render.now) (length rows.now.fills.now) ≡ 0 }
     requires table { length layers.now.table.now ≡ open-layer-table }
     requires some { 1 ≤ screen.layers }
     ensures closing { IfOk result (Closes screen layers.now.table.now) }
     ensures number { answer_number result ≡ open_number screen rows.now layers.now.table.now list.now }
+=======
+) -> Result<(), Refusal>
+    requires { (judged screen (length rows.now.state.now) (length rows.now.render.now) (length rows.now.fills.now) ≡ 0) × (length layers.now.table.now ≡ open-layer-table) × (1 ≤ screen.layers) }
+    ensures { answer_number result ≡ open_number screen rows.now layers.now.table.now list.now }
+>>>>>>> main
 {
     let layer = layers.open_at(screen.layers - 1);
     let parent = parent_box(screen.viewport, layers, screen.layers);
@@ -180,9 +208,14 @@ fn judge_pop(
     layers: &Layers<'_>,
     layer_attrs: &[u32],
     list: &[u32],
+<<<<<<< HEAD
 ) -> Result<Closing, Refusal>
     ensures closing { IfOk result (Closes screen layers.now.table.now) }
     ensures number { answer_number result ≡ number screen (lent_of rows.now layers.now layer_attrs.now) list.now }
+=======
+) -> Result<(), Refusal>
+    ensures { answer_number result ≡ number screen (lent_of rows.now layers.now layer_attrs.now) list.now }
+>>>>>>> main
 {
     judge_screen(
         screen,
@@ -277,8 +310,25 @@ fn do_tables(screen: Screen, layers: &mut Layers<'_>, layer: OpenLayer, layer_at
     layers.drop_at(k);
 }
 
+<<<<<<< HEAD
 // Rules 9 and 10: the innermost layer closes. The list has the segments of its clip, five words each. BadViewport, BadArena, BadRecord, BadOrder, NoLayer, Ids,
 // FullAttrs or FullRow: refused, the screen and every lent word stay.
+=======
+// One layer less, whose parent's box is given; it took an id and an attribute, and it ends painting.
+fn close(screen: &mut Screen, parent: Rect)
+    requires { (1 ≤ screen.old.layers) × (screen.old.next_draw_id ≤ last-id) × (screen.old.layer_attrs < most-attrs) }
+    ensures { screen.new ≡ screen-in (frame-of screen.old) parent (screen.old.next_draw_id + 1) screen.old.paint_attrs (screen.old.layer_attrs + 1) screen.old.filter_paints (screen.old.layers - 1) false }
+{
+    screen.clip_bbox = parent;
+    screen.next_draw_id += 1;
+    screen.layer_attrs += 1;
+    screen.layers -= 1;
+    screen.painting = false;
+}
+
+/// Rules 9 and 10: the innermost layer closes. The list has the segments of its clip, five words each. BadViewport, BadArena, BadRecord, BadOrder, NoLayer, Ids,
+/// FullAttrs or FullRow: refused, the screen and every lent word stay.
+>>>>>>> main
 pub fn pop_layer(
     screen: &mut Screen,
     rows: &mut Rows<'_>,

@@ -1,20 +1,41 @@
+<<<<<<< HEAD
 // The rows of a closing layer (rules 9 and 10; bucketer.rs, pop_layer): judging them, the closing LayerFills, the PopBufs. Parts: each has a `requires`, which
 // its callers have judged. The layer that closes is the innermost of `screen.layers`. A row is touched if it has that layer's PushBuf.
 ghost use Rattle.std.specs.Prelude.{◌≡◌, true, cond, map, ◌+◌, ◌-◌, ◌*◌, ◌≤◌, ◌<◌, length, None};
 ghost use Rattle.sizes.specs.Sizes.{most-layers, most-rows, row-size};
 ghost use Rattle.rules.specs.Lists.{range, every};
 ghost use Rattle.rules.specs.Answers.{FullRow};
+=======
+//! The rows of a closing layer (rules 9 and 10; bucketer.rs, pop_layer): judging them, the closing LayerFills, the PopBufs. Parts: each has a `requires`, which
+//! its callers have judged. The layer that closes is the innermost of `screen.layers`. A row is touched if it has that layer's PushBuf.
+ghost use Rattle.std.specs.Prelude.{◌≡◌, true, cond, map, ◌+◌, ◌-◌, ◌*◌, ◌≤◌, ◌<◌, length, None};
+ghost use Rattle.sizes.specs.Sizes.{most-layers, most-rows, row-size};
+ghost use Rattle.rules.specs.Lists.{change, range, every};
+ghost use Rattle.rules.specs.Answers.{FullRow};
+ghost use Rattle.rules.specs.Commands.{layer-fill};
+>>>>>>> main
 ghost use Rattle.rules.specs.Segments.{good-segment};
 ghost use Rattle.rules.specs.Plans.{on, pop};
 ghost use Rattle.span.specs.Spans.{tiles};
 ghost use Rattle.screen.specs.Screens.{frame-of};
+<<<<<<< HEAD
 ghost use Rattle.segments.specs.Segs.{origin, bounds, Starts};
 ghost use Rattle.row.specs.Words.{words};
+=======
+ghost use Rattle.segments.specs.Segs.{origin, bounds, Starts, seg-at};
+ghost use Rattle.row.specs.Words.{words, put_command, end_buf, Room};
+>>>>>>> main
 ghost use Rattle.row.specs.Cmds.{Short};
 ghost use Rattle.row.specs.Room.{fault_number, record-at, at-hand, Found, Told};
 ghost use Rattle.row.specs.Rows.{all-held, SameRows};
+<<<<<<< HEAD
 ghost use Rattle.pop.specs.Closing.{row_of, good-pop, full-pop, pops-number, Poppable, Each, touched-word, clip-puts, Clips, pop-limits, ShallowRow, Clean, Counted};
 ghost use Rattle.pop.specs.Named.{screen_rows, touched, if_touched, closed_by, WholeRows, InScreen, RowOf, clip_segments, clip_cuts, segment_cut, good_band, overfull, GoodAt, segment_puts, span_puts, RoomFor, FillableAt};
+=======
+ghost use Rattle.sizes.specs.Refusals.{answer_number};
+ghost use Rattle.pop.specs.Closing.{row_of, good-pop, full-pop, pops-number, Fillable, Poppable, Each, touched-word, clip-puts, Clips, pop-limits, ShallowRow, Clean, Counted};
+ghost use Rattle.pop.specs.Named.{FillableAt, InScreen, RoomFor, RowOf, WholeRows, clip_cuts, clip_segments, closed_by, good_band, if_touched, overfull, screen_rows, segment_cut, segment_puts, span_puts, touched};
+>>>>>>> main
 
 use cmd::command::Fill;
 use row::act::{Close, Pop, on_row};
@@ -27,14 +48,14 @@ use sizes::answers::Refusal;
 use sizes::{LEVEL, LEVEL_BASE, LEVELS, ROW};
 use span::TileSpan;
 
-// The rows of the layer's box, from a to b, which is not among them.
+/// The rows of the layer's box, from a to b, which is not among them.
 #[derive(Clone, Copy)]
 pub struct Band {
     pub a: usize,
     pub b: usize,
 }
 
-// The segments of the layer's clip, from start to end of a list, and the scene that they are cut to: the parent's box.
+/// The segments of the layer's clip, from start to end of a list, and the scene that they are cut to: the parent's box.
 #[derive(Clone, Copy)]
 pub struct ClipPath {
     pub start: usize,
@@ -72,10 +93,14 @@ fn is_good_pop(state: &[u32], render: &[u32], fills: &[u32], c: u32, d: u32, ope
 
 // Row r of the layer's box (answer 4).
 fn judge_pop_row(screen: Screen, rows: &Rows<'_>, r: usize) -> bool
+<<<<<<< HEAD
     requires whole { WholeRows screen rows.now }
     requires row { RowOf screen r }
     requires some { 1 ≤ screen.layers }
     requires deep { screen.layers ≤ most-layers }
+=======
+    requires { WholeRows screen rows.now × RowOf screen r × (1 ≤ screen.layers) × (screen.layers ≤ most-layers) }
+>>>>>>> main
     ensures { result ≡ good-pop screen.c screen.d screen.layers (row_of (screen_rows screen rows.now) r) }
 {
     is_good_pop(
@@ -111,13 +136,18 @@ fn count_pop_row(screen: Screen, rows: &[u32], found: Fault, r: usize, more: usi
         .found
 }
 
+<<<<<<< HEAD
 // The rows of the band: BadRecord for one of them, at once; else whether the PopBuf of a touched one and `more` commands pass C somewhere.
+=======
+/// The rows of the band: 4 for one of them, then 10 for a touched one, its PopBuf and `more` commands.
+>>>>>>> main
 #[inline(always)]
 pub fn judge_pop_rows(
     screen: Screen,
     rows: &Rows<'_>,
     band: Band,
     more: usize,
+<<<<<<< HEAD
 ) -> Result<Fault, Refusal>
     requires whole { WholeRows screen rows.now }
     requires band { InScreen screen band }
@@ -125,6 +155,11 @@ pub fn judge_pop_rows(
     requires deep { screen.layers ≤ most-layers }
     requires more { more ≤ 1 }
     ensures { Told (pops-number screen.c screen.d screen.layers (more + 1) (screen_rows screen rows.now) (range band.a band.b)) result }
+=======
+) -> Result<(), Refusal>
+    requires { WholeRows screen rows.now × InScreen screen band × (1 ≤ screen.layers) × (screen.layers ≤ most-layers) × (more ≤ 1) }
+    ensures { answer_number result ≡ pops-number screen.c screen.d screen.layers (more + 1) (screen_rows screen rows.now) (range band.a band.b) }
+>>>>>>> main
 {
     let mut found = Fault::Nothing;
     for r in band.a..band.b {
@@ -155,12 +190,17 @@ fn count_segment(
     band: Band,
     hand: Hand,
 ) -> Hand
+<<<<<<< HEAD
     requires whole { WholeRows screen rows.now }
     requires band { InScreen screen band }
     requires segment { GoodAt list.now i }
     requires starts { Starts (origin scene) (bounds scene) }
     requires good { good_band screen band rows.now ≡ true }
     requires clean { Clean screen.d (at-hand hand) }
+=======
+    requires { WholeRows screen rows.now × InScreen screen band × (5 * i + 5 ≤ length list.now) × (good-segment (seg-at list.now i) ≡ true) × Starts (origin scene) (bounds scene)
+        × (good_band screen band rows.now ≡ true) × Clean screen.d (at-hand hand) }
+>>>>>>> main
     ensures { Counted screen.c screen.d (touched screen band rows.now) (screen_rows screen rows.now)
         (at-hand hand) (segment_cut scene list.now i) (at-hand result) }
 {
@@ -178,7 +218,7 @@ fn count_segment(
     load(part(rows.state, ROW, r), limits, hand.found, placed.row).add(limits, ONE_COMMAND)
 }
 
-// With a clip: whether a touched row would get more than C commands (answer 10), the LayerFills of the clip's segments and each row's PopBuf after them.
+/// With a clip: whether a touched row would get more than C commands (answer 10), the LayerFills of the clip's segments and each row's PopBuf after them.
 pub fn is_full_clip(
     screen: Screen,
     rows: &Rows<'_>,
@@ -186,6 +226,7 @@ pub fn is_full_clip(
     clip: ClipPath,
     band: Band,
 ) -> bool
+<<<<<<< HEAD
     requires whole { WholeRows screen rows.now }
     requires band { InScreen screen band }
     requires ordered { clip.start ≤ clip.«end» }
@@ -193,6 +234,10 @@ pub fn is_full_clip(
     requires segments { every good-segment (clip_segments clip list.now) ≡ true }
     requires starts { Starts (origin clip.scene) (bounds clip.scene) }
     requires good { good_band screen band rows.now ≡ true }
+=======
+    requires { WholeRows screen rows.now × InScreen screen band × (clip.start ≤ clip.«end») × (5 * clip.«end» ≤ length list.now) × (every good-segment (clip_segments clip list.now) ≡ true) × Starts (origin clip.scene) (bounds clip.scene)
+        × (good_band screen band rows.now ≡ true) }
+>>>>>>> main
     ensures { result ≡ overfull screen band rows.now (clip_cuts clip list.now) }
 {
     let mut hand = NO_ROW;
@@ -205,6 +250,7 @@ pub fn is_full_clip(
     false
 }
 
+<<<<<<< HEAD
 // Without a clip: a LayerFill of the layer's span on row r, if it is touched.
 #[inline(never)]
 fn close_span(screen: Screen, rows: &mut Rows<'_>, r: usize, span: TileSpan)
@@ -212,6 +258,77 @@ fn close_span(screen: Screen, rows: &mut Rows<'_>, r: usize, span: TileSpan)
     requires row { RowOf screen r }
     requires short { Short (tiles span) }
     requires room { FillableAt screen span rows.old (if_touched screen r rows.old) }
+=======
+// A LayerFill on one row's words.
+fn push_closing(state: &mut [u32], render: &mut [u32], fills: &mut [u32], fill: Fill)
+    requires { Short (tiles fill.span) × Room (words state.old render.old fills.old) (put_command (layer-fill (tiles fill.span) fill.alpha fill.attrs_idx) (words state.old render.old fills.old)) }
+    ensures { words state.new render.new fills.new ≡ put_command (layer-fill (tiles fill.span) fill.alpha fill.attrs_idx) (words state.old render.old fills.old) }
+{
+    let mut row = Row {
+        state,
+        render,
+        fills,
+    };
+    row.push_closing(fill.span, fill.alpha, fill.attrs_idx);
+}
+
+// A LayerFill on row r.
+fn close_at(
+    screen: Screen,
+    state: &mut [u32],
+    render: &mut [u32],
+    fills: &mut [u32],
+    r: usize,
+    fill: Fill,
+)
+    requires { Whole (frame-of screen) (words state.old render.old fills.old) × RowOf screen r × Short (tiles fill.span)
+        × Fillable (tiles fill.span) fill.alpha fill.attrs_idx (row_of (rows_at (frame-of screen) (words state.old render.old fills.old)) r) }
+    ensures { rows_at (frame-of screen) (words state.new render.new fills.new)
+        ≡ change (put_command (layer-fill (tiles fill.span) fill.alpha fill.attrs_idx)) r (rows_at (frame-of screen) (words state.old render.old fills.old)) }
+{
+    let p = place_of(screen.c, screen.d, r);
+    push_closing(
+        &mut state[p.x0..p.x1],
+        &mut render[p.y0..p.y1],
+        &mut fills[p.z0..p.z1],
+        fill,
+    );
+}
+
+// A PopBuf on one row's words.
+fn pop_buf(state: &mut [u32], render: &mut [u32], fills: &mut [u32])
+    requires { Poppable (words state.old render.old fills.old) }
+    ensures { words state.new render.new fills.new ≡ end_buf (words state.old render.old fills.old) }
+{
+    let mut row = Row {
+        state,
+        render,
+        fills,
+    };
+    row.pop_buf();
+}
+
+// A PopBuf on row r.
+fn pop_at(screen: Screen, state: &mut [u32], render: &mut [u32], fills: &mut [u32], r: usize)
+    requires { Whole (frame-of screen) (words state.old render.old fills.old) × RowOf screen r
+        × Poppable (row_of (rows_at (frame-of screen) (words state.old render.old fills.old)) r) }
+    ensures { rows_at (frame-of screen) (words state.new render.new fills.new)
+        ≡ change end_buf r (rows_at (frame-of screen) (words state.old render.old fills.old)) }
+{
+    let p = place_of(screen.c, screen.d, r);
+    pop_buf(
+        &mut state[p.x0..p.x1],
+        &mut render[p.y0..p.y1],
+        &mut fills[p.z0..p.z1],
+    );
+}
+
+// Without a clip: a LayerFill of the layer's span on row r, if it is touched.
+#[inline(never)]
+fn close_span(screen: Screen, rows: &mut Rows<'_>, r: usize, span: TileSpan)
+    requires { WholeRows screen rows.old × RowOf screen r × Short (tiles span)
+        × FillableAt screen span rows.old (if_touched screen r rows.old) }
+>>>>>>> main
     ensures same { SameRows rows.old rows.new }
     ensures rows { screen_rows screen rows.new
         ≡ closed_by screen (span_puts screen span (if_touched screen r rows.old)) (screen_rows screen rows.old) }
@@ -235,12 +352,17 @@ fn close_span(screen: Screen, rows: &mut Rows<'_>, r: usize, span: TileSpan)
     );
 }
 
-// Rule 9 without a clip: a LayerFill of the layer's span of tiles on each touched row of the band.
+/// Rule 9 without a clip: a LayerFill of the layer's span of tiles on each touched row of the band.
 pub fn close_spans(screen: Screen, rows: &mut Rows<'_>, band: Band, span: TileSpan)
+<<<<<<< HEAD
     requires whole { WholeRows screen rows.old }
     requires band { InScreen screen band }
     requires short { Short (tiles span) }
     requires room { FillableAt screen span rows.old (touched screen band rows.old) }
+=======
+    requires { WholeRows screen rows.old × InScreen screen band × Short (tiles span)
+        × FillableAt screen span rows.old (touched screen band rows.old) }
+>>>>>>> main
     ensures same { SameRows rows.old rows.new }
     ensures rows { screen_rows screen rows.new
         ≡ closed_by screen (span_puts screen span (touched screen band rows.old)) (screen_rows screen rows.old) }
@@ -252,9 +374,14 @@ pub fn close_spans(screen: Screen, rows: &mut Rows<'_>, band: Band, span: TileSp
 
 // A PopBuf on row r, if it is touched.
 fn pop_row(screen: Screen, rows: &mut Rows<'_>, r: usize)
+<<<<<<< HEAD
     requires whole { WholeRows screen rows.old }
     requires row { RowOf screen r }
     requires room { Each Poppable (screen_rows screen rows.old) (if_touched screen r rows.old) }
+=======
+    requires { WholeRows screen rows.old × RowOf screen r
+        × Each Poppable (screen_rows screen rows.old) (if_touched screen r rows.old) }
+>>>>>>> main
     ensures same { SameRows rows.old rows.new }
     ensures rows { screen_rows screen rows.new
         ≡ closed_by screen (map (on pop) (if_touched screen r rows.old)) (screen_rows screen rows.old) }
@@ -273,11 +400,16 @@ fn pop_row(screen: Screen, rows: &mut Rows<'_>, r: usize)
     );
 }
 
-// Rule 10: a PopBuf on each touched row of the band.
+/// Rule 10: a PopBuf on each touched row of the band.
 pub fn pop_rows(screen: Screen, rows: &mut Rows<'_>, band: Band)
+<<<<<<< HEAD
     requires whole { WholeRows screen rows.old }
     requires band { InScreen screen band }
     requires room { Each Poppable (screen_rows screen rows.old) (touched screen band rows.old) }
+=======
+    requires { WholeRows screen rows.old × InScreen screen band
+        × Each Poppable (screen_rows screen rows.old) (touched screen band rows.old) }
+>>>>>>> main
     ensures same { SameRows rows.old rows.new }
     ensures rows { screen_rows screen rows.new
         ≡ closed_by screen (map (on pop) (touched screen band rows.old)) (screen_rows screen rows.old) }
@@ -296,11 +428,16 @@ fn close_segment(
     scene: Scene,
     band: Band,
 )
+<<<<<<< HEAD
     requires whole { WholeRows screen rows.old }
     requires band { InScreen screen band }
     requires segment { GoodAt list.now i }
     requires starts { Starts (origin scene) (bounds scene) }
     requires room { RoomFor screen (segment_puts screen band scene list.now i rows.old) (screen_rows screen rows.old) }
+=======
+    requires { WholeRows screen rows.old × InScreen screen band × (5 * i + 5 ≤ length list.now) × (good-segment (seg-at list.now i) ≡ true) × Starts (origin scene) (bounds scene)
+        × RoomFor screen (segment_puts screen band scene list.now i rows.old) (screen_rows screen rows.old) }
+>>>>>>> main
     ensures same { SameRows rows.old rows.new }
     ensures rows { screen_rows screen rows.new
         ≡ closed_by screen (segment_puts screen band scene list.now i rows.old) (screen_rows screen rows.old) }
@@ -328,7 +465,7 @@ fn close_segment(
     );
 }
 
-// Rule 9 with a clip: the LayerFills of the clip's segments, cut to the parent's box, in touched rows of the band.
+/// Rule 9 with a clip: the LayerFills of the clip's segments, cut to the parent's box, in touched rows of the band.
 pub fn close_segments(screen: Screen, rows: &mut Rows<'_>, list: &[u32], clip: ClipPath, band: Band)
     requires { Clips (frame-of screen) screen.layers screen.layer_attrs list.now clip.start clip.«end» clip.scene band.a band.b (all-held rows.old) }
     ensures same { SameRows rows.old rows.new }

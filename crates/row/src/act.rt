@@ -1,4 +1,4 @@
-// What is done to one row, and the same done to row r of a screen's three slices: the one place where a row is cut out of them to be written.
+//! What is done to one row, and the same done to row r of a screen's three slices: the one place where a row is cut out of them to be written.
 ghost use Rattle.std.specs.Prelude.{◌≡◌, ℕ};
 ghost use Rattle.rules.specs.Lists.{change};
 ghost use Rattle.rules.specs.Commands.{layer-fill};
@@ -12,7 +12,7 @@ use crate::rows::place_of;
 use crate::words::Row;
 use cmd::command::{Fill, RenderCmd};
 
-// Something that a step does to one row.
+/// Something that a step does to one row.
 pub trait RowAct: Copy {
     // What it makes of a row's words.
     ghost made: { Self → Words → Words };
@@ -20,6 +20,7 @@ pub trait RowAct: Copy {
     // What it asks of itself and of the row, besides room for what it makes.
     ghost Asks: { Self → Words → Type 0 };
 
+    /// Does it; the row has room for what it makes.
     fn on(self, row: &mut Row<'_>)
         requires { Asks self (held row.old) × Room (held row.old) (made self (held row.old)) }
         ensures same { Same row.old row.new }
@@ -41,7 +42,7 @@ fn on_words<A: RowAct>(state: &mut [u32], render: &mut [u32], fills: &mut [u32],
     act.on(&mut row);
 }
 
-// An act on row r, with room for c commands and d depth fills in a row.
+/// An act on row r, with room for c commands and d depth fills in a row.
 pub fn on_row<A: RowAct>(
     state: &mut [u32],
     render: &mut [u32],
@@ -64,7 +65,7 @@ pub fn on_row<A: RowAct>(
     );
 }
 
-// Rule 9: a closing LayerFill.
+/// Rule 9: a closing LayerFill.
 #[derive(Clone, Copy)]
 pub struct Close {
     pub fill: Fill,
@@ -80,7 +81,7 @@ impl RowAct for Close {
     }
 }
 
-// Rules 9 and 10: a PopBuf.
+/// Rules 9 and 10: a PopBuf.
 #[derive(Clone, Copy)]
 pub struct Pop;
 

@@ -1,4 +1,4 @@
-// The doing halves of a step: the runs of a judged fill become pieces at the list's start, and the row's steps go up by one.
+//! The doing halves of a step: the runs of a judged fill become pieces at the list's start, and the row's steps go up by one.
 ghost use Rattle.std.specs.Prelude.{◌≡◌, Some, ◌-◌, ◌≤◌, ◌<◌, length};
 ghost use Rattle.sizes.specs.Sizes.{tile-end};
 ghost use Rattle.span.specs.Spans.{tiles, buckets, Moves};
@@ -18,7 +18,7 @@ use sizes::PIECE;
 use sizes::answers::Refusal;
 use sizes::width::Width;
 
-// A depth fill gives its unset runs, whole buckets, and writes its id there. NoRoom, 14, where the list has no room for its pieces: nothing changes.
+/// A depth fill gives its unset runs, whole buckets, and writes its id there. NoRoom, 14, where the list has no room for its pieces: nothing changes.
 pub fn paint_depth(
     depth: &mut [u32],
     painting: &mut [u32],
@@ -46,7 +46,7 @@ pub fn paint_depth(
     Ok(advance(painting, nesting, n))
 }
 
-// A paint's or a layer's fill gives the runs of its tiles that are shown for its attribute's id. NoRoom, 14, where the list has no room: nothing changes.
+/// A paint's or a layer's fill gives the runs of its tiles that are shown for its attribute's id. NoRoom, 14, where the list has no room: nothing changes.
 #[inline(always)]
 pub fn paint_fill(
     row: &Row<'_>,

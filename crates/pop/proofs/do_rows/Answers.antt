@@ -1,6 +1,9 @@
+<<<<<<< HEAD
+=======
+use Rattle.std.proofs.Common.{arith, rules}
+>>>>>>> main
 use Rattle.pop.proofs.Rooms.{long_after}
 use Rattle.pop.proofs.Doing.{seen, b-bottom, pop-requires, pop-done}
-use borrow.Author.Rules.{rules}
 use Rattle.pop.proofs.do_rows.Goals as goal
 
 pub pop_rows-requires : goal.pop_rows-requires

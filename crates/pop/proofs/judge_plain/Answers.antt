@@ -1,4 +1,5 @@
 -- The rows' number is 4, 10 or 0; 8 and 9 come between.
+<<<<<<< HEAD
 use mathlib.Core.Path.{refl, sym, ◌∙◌}
 use Rattle.std.proofs.lemmas.Result.{err_from_is_err_and}
 use Rattle.row.proofs.RoomLaws.{never_bad}
@@ -22,3 +23,26 @@ pub returns : goal.returns
 returns c =
     c.answer.ensures
     ∙ rows_last _ _ _ _ _ _ c.in_ok-fault.ensures (never_bad c.in_ok-fault.fault) _ _ c.if-screen-gt-LAST_ID.false c.if-screen-ge-MOST_ATTRS.false
+=======
+use Rattle.std.proofs.Common.{arith}
+use Rattle.std.proofs.lemmas.Bool.Decides.{nat_tests}
+use Rattle.pop.specs.Closing.{pops-number}
+use Rattle.pop.specs.Pop.{late}
+use Rattle.pop.proofs.judge_plain.Goals as goal
+
+pub returns-then-is_bad_record : goal.returns-then-is_bad_record
+unfolding late pops-number
+returns-then-is_bad_record c = grind (arith, nat_tests)
+
+pub returns-then-screen-gt-LAST_ID : goal.returns-then-screen-gt-LAST_ID
+unfolding late pops-number
+returns-then-screen-gt-LAST_ID c = grind (arith, nat_tests)
+
+pub returns-then-screen-ge-MOST_ATTRS : goal.returns-then-screen-ge-MOST_ATTRS
+unfolding late pops-number
+returns-then-screen-ge-MOST_ATTRS c = grind (arith, nat_tests)
+
+pub returns : goal.returns
+unfolding late pops-number
+returns c = grind (arith, nat_tests)
+>>>>>>> main

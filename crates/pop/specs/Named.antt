@@ -10,6 +10,7 @@ use Rattle.span.specs.Spans.{tiles}
 use Rattle.screen.specs.declared.layers.Layers.{Layers}
 use Rattle.rect.specs.Rects.{box_of}
 use Rattle.row.specs.Words.{Words}
+use Rattle.row.specs.Arena.{nowhere}
 use Rattle.row.specs.declared.rows.Rows.{Rows}
 use Rattle.row.specs.Rows.{all-held}
 use Rattle.row.specs.Building.{rows_at, Whole}
@@ -19,7 +20,7 @@ use Rattle.segments.specs.declared.Scene.{Scene}
 use Rattle.segments.specs.Segs.{seg-at, segs, origin, bounds}
 use Rattle.std.specs.declared.ops.Range.{Range}
 use Rattle.pop.specs.declared.rows.ClipPath.{ClipPath}
-use Rattle.pop.specs.Closing.{touched-in, good-pops, full_by, done-puts, runs-full, Roomy, Fillable, Each}
+use Rattle.pop.specs.Closing.{touched-in, good-pops, full_by, done-puts, runs-full, clip-puts, Clips, Roomy, Fillable, Each}
 use Rattle.pop.specs.Pop.{PopLent, PopOut, lent, out, good-open, late, number-after}
 
 -- the screen's rows, as the slices hold them
@@ -73,6 +74,13 @@ segment_puts s b e ws i r = close-puts s.layer_attrs (touched s b r) (segment_cu
 abbrev pub span_puts : Screen → TileSpan → List ℕ → List Put
 span_puts s p is = map (on (close (tiles p) None s.layer_attrs)) is
 
+-- .. those of a clip's segments, and what putting them requires
+abbrev pub clip_puts : Screen → Range ℕ → ClipPath → List ℕ → Rows → List Put
+clip_puts s b p ws r = clip-puts s.layer_attrs (touched s b r) p.scene (clip_segments p ws)
+
+abbrev pub ClipReady : Screen → Range ℕ → ClipPath → List ℕ → Rows → Type 0
+ClipReady s b p ws r = Clips (frame-of s) s.layers s.layer_attrs ws p.start p.«end» p.scene b.start b.«end» (all-held r)
+
 -- each row that is put on has room for what all the puts make of it; each of some rows has, for a LayerFill of a span
 abbrev pub RoomFor : Screen → List Put → List Words → Type 0
 RoomFor s ps rs = Roomy (bucket-tiles s.width) (s.layers - 1) ps rs
@@ -100,6 +108,10 @@ open_number s r t ws = cond (good-open (box_of s.viewport) t s.layers) (number-a
 -- what a pop is lent
 abbrev pub lent_of : Rows → Layers → List ℕ → PopLent
 lent_of r l a = lent (all-held r) l.table.now l.opacities.now a
+
+-- .. but for rows
+abbrev pub tables_of : Layers → List ℕ → PopLent
+tables_of l a = lent nowhere l.table.now l.opacities.now a
 
 -- a screen with what is lent, as it stands
 abbrev pub standing : Screen → PopLent → PopOut

@@ -1,14 +1,13 @@
-//! The rows of a closing layer's box, closed (rules 9 and 10): the closing LayerFills, the PopBufs. Parts: each has a `requires`, which its callers have judged.
-//! The layer that closes is the innermost of `screen.layers`.
+//! The rows of a closing layer's box, closed (rules 9 and 10): the closing LayerFills, the PopBufs. Parts: each has a `requires`, which its callers have
+//! judged. The layer that closes is the innermost of `screen.layers`.
 ghost use Rattle.std.specs.Prelude.{◌≡◌, map};
 ghost use Rattle.rules.specs.Plans.{on, pop};
 ghost use Rattle.span.specs.Spans.{tiles};
-ghost use Rattle.screen.specs.Screens.{frame-of};
 ghost use Rattle.segments.specs.Segs.{origin, bounds, Starts};
 ghost use Rattle.row.specs.Cmds.{Short};
-ghost use Rattle.row.specs.Rows.{all-held, SameRows};
-ghost use Rattle.pop.specs.Closing.{Poppable, Each, clip-puts, Clips};
-ghost use Rattle.pop.specs.Named.{screen_rows, touched, if_touched, closed_by, WholeRows, InScreen, RowOf, clip_segments, GoodAt, segment_puts, span_puts, RoomFor, FillableAt};
+ghost use Rattle.row.specs.Rows.{SameRows};
+ghost use Rattle.pop.specs.Closing.{Poppable, Each};
+ghost use Rattle.pop.specs.Named.{screen_rows, touched, if_touched, closed_by, WholeRows, InScreen, RowOf, GoodAt, ClipReady, clip_puts, segment_puts, span_puts, RoomFor, FillableAt};
 
 use crate::rows::{ClipPath, is_touched};
 use cmd::command::Fill;
@@ -151,10 +150,10 @@ pub fn close_segments(
     clip: ClipPath,
     band: &Range<usize>,
 )
-    requires { Clips (frame-of screen) screen.layers screen.layer_attrs list.now clip.start clip.«end» clip.scene band.now.start band.now.«end» (all-held rows.old) }
+    requires { ClipReady screen band.now clip list.now rows.old }
     ensures same { SameRows rows.old rows.new }
     ensures rows { screen_rows screen rows.new
-        ≡ closed_by screen (clip-puts screen.layer_attrs (touched screen band.now rows.old) clip.scene (clip_segments clip list.now)) (screen_rows screen rows.old) }
+        ≡ closed_by screen (clip_puts screen band.now clip list.now rows.old) (screen_rows screen rows.old) }
 {
     for i in clip.start..clip.end {
         close_segment(screen, rows, list, i, clip.scene, band);

@@ -1,5 +1,5 @@
-//! The tests of a pop, in the order of its refusals: what is lent, the innermost layer, the rows of its box and its clip's segments, ids and attributes. Parts of
-//! `pop_layer`: where one asks something, its callers have judged it.
+//! The tests of a pop, in the order of its refusals: what is lent, the innermost layer, the rows of its box and its clip's segments, ids and attributes.
+//! Parts of `pop_layer`: where one asks something, its callers have judged it.
 ghost use Rattle.std.specs.Prelude.{◌≡◌, ◌&&◌, ◌-◌, ◌*◌, ◌≤◌, length, IfOk};
 ghost use Rattle.sizes.specs.Sizes.{most-layers, open-layer-table};
 ghost use Rattle.rules.specs.Plans.{clip-box};

@@ -1,5 +1,5 @@
-//! A pop (rules 9 and 10; bucketer.rs, pop_layer): judged, then done, or refused with nothing changed. `pop_layer` is a public call; the others are parts of it:
-//! where one asks something, its callers have judged it. `judge` has the tests, `rows` those of rows, `close` what is done to rows.
+//! A pop (rules 9 and 10; bucketer.rs, pop_layer): judged, then done, or refused with nothing changed. `pop_layer` is a public call; the others are parts of
+//! it: where one asks something, its callers have judged it. `judge` has the tests, `rows` those of rows, `close` what is done to rows.
 #![tactic(auto)]
 
 ghost use Rattle.std.specs.Prelude.{◌≡◌, cond, ◌-◌, ◌≤◌, ◌<◌, length, eqb, OnOk, OnErr};
@@ -7,10 +7,9 @@ ghost use Rattle.sizes.specs.Sizes.{most-layers, most-attrs, open-layer-table, o
 ghost use Rattle.row.specs.Rows.{all-held, SameRows};
 ghost use Rattle.screen.specs.LentLayers.{SameLayers};
 ghost use Rattle.sizes.specs.Refusals.{answer_number};
-ghost use Rattle.row.specs.Arena.{nowhere};
 ghost use Rattle.screen.specs.Layers.{open_at};
-ghost use Rattle.pop.specs.Pop.{lent, out, number, after, popped, Judged, closing-puts, words-after, attr_by, tables_after, Closes};
-ghost use Rattle.pop.specs.Named.{screen_rows, closed_by, lent_of, standing};
+ghost use Rattle.pop.specs.Pop.{out, number, after, popped, Judged, closing-puts, words-after, attr_by, tables_after, Closes};
+ghost use Rattle.pop.specs.Named.{screen_rows, closed_by, lent_of, tables_of, standing};
 
 use crate::close::{close_segments, close_spans, pop_rows};
 use crate::judge::{Closing, judge_pop};
@@ -95,8 +94,8 @@ fn do_tables(screen: Screen, layers: &mut Layers<'_>, layer: OpenLayer, layer_at
     requires deep { screen.layers ≤ most-layers }
     requires room { screen.layer_attrs < most-attrs }
     ensures same { SameLayers layers.old layers.new }
-    ensures tables { lent nowhere layers.new.table.now layers.new.opacities.now layer_attrs.new
-        ≡ tables_after screen (lent nowhere layers.old.table.now layers.old.opacities.now layer_attrs.old) }
+    ensures tables { tables_of layers.new layer_attrs.new
+        ≡ tables_after screen (tables_of layers.old layer_attrs.old) }
 {
     let k = screen.layers - 1;
     let attrs = attr_of(screen, layer, layers.opacities[k as usize]);
@@ -109,8 +108,8 @@ fn do_tables(screen: Screen, layers: &mut Layers<'_>, layer: OpenLayer, layer_at
     layers.drop_at(k);
 }
 
-/// Rules 9 and 10: the innermost layer closes. The list has the segments of its clip, five words each. BadViewport, BadArena, BadRecord, BadOrder, NoLayer, Ids,
-/// FullAttrs or FullRow: refused, the screen and every lent word stay.
+/// Rules 9 and 10: the innermost layer closes. The list has the segments of its clip, five words each. BadViewport, BadArena, BadRecord, BadOrder, NoLayer,
+/// Ids, FullAttrs or FullRow: refused, the screen and every lent word stay.
 pub fn pop_layer(
     screen: &mut Screen,
     rows: &mut Rows<'_>,

@@ -1,5 +1,5 @@
-//! The rows of a closing layer's box, judged (answers 4 and 10). Parts: each has a `requires`, which its callers have judged. The layer that closes is the innermost
-//! of `screen.layers`. A row is touched if it has that layer's PushBuf.
+//! The rows of a closing layer's box, judged (answers 4 and 10). Parts: each has a `requires`, which its callers have judged. The layer that closes is the
+//! innermost of `screen.layers`. A row is touched if it has that layer's PushBuf.
 ghost use Rattle.std.specs.Prelude.{◌≡◌, true, cond, ◌+◌, ◌*◌, ◌≤◌, ◌<◌, length};
 ghost use Rattle.sizes.specs.Sizes.{most-layers, most-rows, row-size};
 ghost use Rattle.rules.specs.Lists.{range, every};

@@ -1,17 +1,6 @@
 -- What the doing half of a filter fill asks, and what it leaves. Assumes nothing.
-<<<<<<< HEAD
-use mathlib.Core.Path.{◌≡◌, ap, ◌∙◌}
-use mathlib.Core.Bool.{true, false}
-use mathlib.Core.List.{List}
-use Rattle.std.specs.Prelude.{None, unwrap_or}
-use Prim.Native.Nat.{ℕ, ◌+◌, ◌/◌, ◌≤◌, ◌<◌}
-use native.Mathlib.Omega.{arith}
-use lib.IntN.{ℤ}
-use lib.ListN.{length}
-=======
-use Rattle.std.proofs.Common.{◌≡◌, true, false, List, None, ℕ, ◌+◌, ◌/◌, ◌≤◌, ◌<◌, arith, ℤ, length}
+use Rattle.std.proofs.Common.{◌≡◌, ap, ◌∙◌, true, false, List, None, ℕ, ◌+◌, ◌/◌, ◌≤◌, ◌<◌, arith, ℤ, length}
 use Rattle.std.specs.Prelude.{unwrap_or}
->>>>>>> main
 use Rattle.sizes.specs.Sizes.{paint-attr-table, filter-paint-table}
 use Rattle.rules.specs.Lists.{range}
 use Rattle.rules.specs.Boxes.{span_of}
@@ -33,35 +22,26 @@ use Rattle.row.specs.Building.{rows_at}
 use Rattle.layers.specs.Band.{each, OnRows}
 use Rattle.layers.specs.Filter.{FilterGiven, filter-of, paint-from, attrs-of, lent, filter-number, after, own-box, Drawing}
 use Rattle.layers.proofs.RowsLaws.{plain-on, plain-each}
-use Rattle.layers.proofs.FilterLaws.{told-by, Sound, sound, FilterReady, ready, Free, free, bottom-small, paint-asked, after-drawn, after_nothing, fit}
+use Rattle.layers.proofs.FilterLaws.{told-by, Sound, sound, FilterReady, ready, Free, free, paint-asked, after-drawn, after_nothing, fit}
 
 module _ {g : FilterGiven} {s : Screen} {w : Words} {ps : List ℕ} {fs : List ℤ} {b : Rect} (q : Drawing g (lent s w ps fs) b) where
   able : FilterReady g s w ps fs
   able = ready g s w ps fs q.number
 
-  fine : Sound g
+  pub fine : Sound g
   fine = sound g able.good
 
   draws : draws-nothing (filter-of g) (own-box g s) ≡ false
   draws = told-by g s b false q.bounds q.drawn
 
-  room : Free g s w
+  pub room : Free g s w
   room = free g s w ps fs q.number draws
-
-  pub paint-needs : (g.placement.source_x ≤ 32768) × (g.placement.source_y ≤ 32768) × (g.placement.dest.x0 ≤ 32768) × (g.placement.dest.y0 ≤ 32768)
-  paint-needs = (fine.across, fine.down, fine.left, fine.top)
-
-  pub attrs-needs : (g.count ≤ 4096) × (s.filter_paints ≤ 256)
-  attrs-needs = (fine.count, omega (arith, room.paint))
 
   pub put-paint-needs : (s.filter_paints < 256) × (length fs ≡ filter-paint-table) × (unwrap_or g.pixmap 0 < 2147483648)
   put-paint-needs = (room.paint, able.paints, fine.pixmap)
 
   pub put-attrs-needs : (s.paint_attrs < 1024) × (length ps ≡ paint-attr-table)
   put-attrs-needs = (room.attr, able.attrs)
-
-  pub bottom : b.y1 ≤ 32768
-  bottom = bottom-small g s w able.zero b q.bounds
 
   pub rows-needs : (t : Span) → t ≡ span_of (box_of b)
       → (Short t × (s.layers ≤ 16)) × OnRows s (λ (u : Words). put_command (paint-fill t None s.paint_attrs) (ensured s.layers u)) (b.y0 / 4) ((b.y1 + 3) / 4) w

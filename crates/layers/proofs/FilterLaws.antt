@@ -259,10 +259,6 @@ module _ (g : FilterGiven) (s : Screen) (w : Words) (z : judged-at s w ≡ 0) (b
   bottom-is : b.y1 ≡ (own-box g s).y1
   bottom-is = ap (λ (x : Box). x.y1) e
 
-  pub bottom-small : b.y1 ≤ 32768
-  bottom-small =
-      omega (arith, bottom-is, box-bottom g s ok.screen ok.view, (view (box_of s.viewport) ok.view).high)
-
   pub rows-asked : (s.layers ≤ 16) × (s.c ≤ 1024) × ((b.y1 + 3) / 4 ≤ 512) × ((b.y1 + 3) / 4 * 54 ≤ length w.state)
   rows-asked =
       let h : (b.y1 + 3) / 4 ≤ rows_of (box_of s.viewport) = rw bottom-is (run-within g s ok.screen ok.view) in

@@ -16,6 +16,8 @@ use Rattle.cmd.specs.declared.attrs.FilterPaint as cmd
 use Rattle.cmd.specs.declared.attrs.PaintFillAttrs.{PaintFillAttrs}
 use Rattle.row.specs.Words.{Words, word-ops}
 use Rattle.row.specs.Arena.{lay}
+use Rattle.row.specs.declared.rows.Rows.{Rows}
+use Rattle.row.specs.Rows.{all-held}
 use Rattle.row.specs.Building.{rows_at, screen-at, good_rows, step_number}
 use Rattle.rect.specs.declared.Rect.{Rect}
 use Rattle.rect.specs.Rects.{box_of}
@@ -76,6 +78,10 @@ pub record FilterLent : Type 0 where
 
 abbrev pub lent : Screen → Words → List ℕ → List ℤ → FilterLent
 lent s w ps fs = record { screen = s; words = w; paint-attrs = ps; filter-paints = fs }
+
+-- the same, of what is lent
+abbrev pub lent_of : Screen → Rows → List ℕ → List ℤ → FilterLent
+lent_of s r ps fs = lent s (all-held r) ps fs
 
 -- the rules' filter fill
 abbrev pub plan-of : FilterGiven → Screen → Plan

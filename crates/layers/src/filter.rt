@@ -1,10 +1,5 @@
-<<<<<<< HEAD
-// A filter fill (rule 11; bucketer.rs, generate_filter_layer_fill). `filter_fill` is a public call; the others are parts of it.
-ghost use Rattle.std.specs.Prelude.{◌≡◌, ◌||◌, ◌≤◌, IfOk};
-=======
 //! A filter fill (rule 11; bucketer.rs, generate_filter_layer_fill). `filter_fill` is a public call; the others are parts of it.
-ghost use Rattle.std.specs.Prelude.{◌≡◌, ◌||◌, ◌≤◌, ◌+◌};
->>>>>>> main
+ghost use Rattle.std.specs.Prelude.{◌≡◌, ◌||◌, ◌≤◌, IfOk, OnOk, OnErr};
 ghost use Rattle.std.proofs.Math.IntN.{sub_ℕ};
 ghost use Rattle.sizes.specs.Sizes.{most-filters, most-records};
 ghost use Rattle.sizes.specs.Refusals.{answer_number};
@@ -14,7 +9,7 @@ ghost use Rattle.rules.specs.Inputs.{good-pixmap};
 ghost use Rattle.rules.specs.Lists.{is_none};
 ghost use Rattle.rect.specs.Rects.{box_of};
 ghost use Rattle.row.specs.Rows.{all-held, SameRows};
-ghost use Rattle.layers.specs.Filter.{given_of, good-given, paint-from, attrs-of, lent, filter-number, after, filtered, Draws, Drawing};
+ghost use Rattle.layers.specs.Filter.{given_of, good-given, paint-from, attrs-of, lent_of, filter-number, after, filtered, Draws, Drawing};
 
 use crate::rows::{Plain, judge_rows, on_rows};
 use cmd::attrs::{FilterPaint, PaintFillAttrs, put_filter_paint, put_paint_attrs};
@@ -25,7 +20,7 @@ use screen::{Screen, judge_screen};
 use sizes::answers::Refusal;
 use sizes::{
     FILTER_TABLE, HANDLE_END, LAST_ID, MOST_ATTRS, MOST_FILTERS, MOST_RECORDS, PAINT_TABLE,
-    PANEL_END,
+    PANEL_END, SCENE_END,
 };
 
 /// Where a filter layer is drawn, a box in pixels of the scene, and the pixel of its picture that comes to the box's corner (vello_common,
@@ -64,8 +59,8 @@ impl FilterFill {
     {
         is_good_pixmap(self.pixmap)
             && self.placement.dest.is_good_dest()
-            && self.placement.source_x <= 32768
-            && self.placement.source_y <= 32768
+            && self.placement.source_x <= SCENE_END
+            && self.placement.source_y <= SCENE_END
             && self.paint_count as usize <= MOST_RECORDS
             && self.panel < PANEL_END
     }
@@ -81,7 +76,8 @@ pub fn filter_box(viewport: Rect, clip: Rect, dest: Rect) -> Rect
 
 // Source minus destination, exact.
 fn shift(source: u32, dest: u32) -> i32
-    requires { (source ≤ 32768) × (dest ≤ 32768) }
+    requires source { source ≤ 32768 }
+    requires dest { dest ≤ 32768 }
     ensures { result ≡ sub_ℕ source dest }
 {
     (source as i32) - (dest as i32)
@@ -96,7 +92,10 @@ pub fn draws_nothing(pixmap: Option<u32>, bbox: Rect) -> bool
 
 // The paint that a filter fill adds. The dest box is the one given, not made local.
 fn filter_paint(dest: Rect, source_x: u32, source_y: u32, pixmap: u32) -> FilterPaint
-    requires { (source_x ≤ 32768) × (source_y ≤ 32768) × (dest.x0 ≤ 32768) × (dest.y0 ≤ 32768) }
+    requires across { source_x ≤ 32768 }
+    requires down { source_y ≤ 32768 }
+    requires left { dest.x0 ≤ 32768 }
+    requires top { dest.y0 ≤ 32768 }
     ensures { result ≡ paint-from dest source_x source_y pixmap }
 {
     FilterPaint {
@@ -108,7 +107,8 @@ fn filter_paint(dest: Rect, source_x: u32, source_y: u32, pixmap: u32) -> Filter
 
 // The attribute that it adds: default blend, no mask, thread 0, the given panel.
 fn filter_attrs(screen: Screen, paint_count: u32, panel: u32) -> PaintFillAttrs
-    requires { (paint_count ≤ most-records) × (screen.filter_paints ≤ most-filters) }
+    requires count { paint_count ≤ most-records }
+    requires paints { screen.filter_paints ≤ most-filters }
     ensures { result ≡ attrs-of screen paint_count panel }
 {
     PaintFillAttrs {
@@ -123,7 +123,8 @@ fn filter_attrs(screen: Screen, paint_count: u32, panel: u32) -> PaintFillAttrs
     }
 }
 
-// A filter fill, before anything is done: 2, 1, 4; then done where nothing is drawn; then 8, 9, 10. It gives the box that is drawn, or none.
+// A filter fill, before anything is done: BadViewport, BadArena, BadRecord; then done where nothing is drawn; then Ids, FullAttrs, FullRow. It gives the box
+// that is drawn, or none.
 fn judge_filter(
     screen: Screen,
     rows: &Rows<'_>,
@@ -132,7 +133,7 @@ fn judge_filter(
     fill: FilterFill,
 ) -> Result<Option<Rect>, Refusal>
     ensures drawn { IfOk result (Draws (given_of fill) screen) }
-    ensures number { answer_number result ≡ filter-number (given_of fill) (lent screen (all-held rows.now) paint_attrs.now filter_paints.now) }
+    ensures number { answer_number result ≡ filter-number (given_of fill) (lent_of screen rows.now paint_attrs.now filter_paints.now) }
 {
     judge_screen(
         screen,
@@ -150,12 +151,7 @@ fn judge_filter(
     if draws_nothing(fill.pixmap, bbox) {
         return Ok(None);
     }
-    let fault = judge_rows(
-        screen,
-        rows.state,
-        (bbox.y0 / 4) as usize,
-        ((bbox.y1 + 3) / 4) as usize,
-    )?;
+    let fault = judge_rows(screen, rows.state, &bbox.rows())?;
     if LAST_ID < screen.next_draw_id {
         return Err(Refusal::Ids);
     }
@@ -175,10 +171,10 @@ fn draw(
     fill: FilterFill,
     bbox: Rect,
 )
-    requires { Drawing (given_of fill) (lent screen.old (all-held rows.old) paint_attrs.old filter_paints.old) bbox }
+    requires { Drawing (given_of fill) (lent_of screen.old rows.old paint_attrs.old filter_paints.old) bbox }
     ensures same { SameRows rows.old rows.new }
-    ensures drawn { lent screen.new (all-held rows.new) paint_attrs.new filter_paints.new
-        ≡ after (given_of fill) (lent screen.old (all-held rows.old) paint_attrs.old filter_paints.old) }
+    ensures drawn { lent_of screen.new rows.new paint_attrs.new filter_paints.new
+        ≡ after (given_of fill) (lent_of screen.old rows.old paint_attrs.old filter_paints.old) }
 {
     let from = fill.placement;
     let handle = fill.pixmap.unwrap_or(0);
@@ -191,18 +187,12 @@ fn draw(
         span: bbox.bbox_span(),
         attrs_idx: screen.paint_attrs,
     };
-    on_rows(
-        *screen,
-        rows,
-        (bbox.y0 / 4) as usize,
-        ((bbox.y1 + 3) / 4) as usize,
-        plain,
-    );
+    on_rows(*screen, rows, &bbox.rows(), plain);
     screen.take_filter(1);
 }
 
-/// Rule 11: one id, one filter paint, one attribute, and a fill on each row of the box; or nothing. BadViewport, BadArena, BadRecord, Ids, FullAttrs or FullRow:
-/// refused, the screen and every lent word stay.
+/// Rule 11: one id, one filter paint, one attribute, and a fill on each row of the box; or nothing. BadViewport, BadArena, BadRecord, Ids, FullAttrs or
+/// FullRow: refused, the screen and every lent word stay.
 pub fn filter_fill(
     screen: &mut Screen,
     rows: &mut Rows<'_>,
@@ -211,8 +201,13 @@ pub fn filter_fill(
     fill: FilterFill,
 ) -> Result<(), Refusal>
     ensures same { SameRows rows.old rows.new }
-    ensures filtered { answer (answer_number result) (lent screen.new (all-held rows.new) paint_attrs.new filter_paints.new)
-        ≡ filtered (given_of fill) (lent screen.old (all-held rows.old) paint_attrs.old filter_paints.old) }
+    ensures filtered { answer (answer_number result) (lent_of screen.new rows.new paint_attrs.new filter_paints.new)
+        ≡ filtered (given_of fill) (lent_of screen.old rows.old paint_attrs.old filter_paints.old) }
+    ensures refused { answer_number result ≡ filter-number (given_of fill) (lent_of screen.old rows.old paint_attrs.old filter_paints.old) }
+    ensures unchanged { OnErr result (lent_of screen.new rows.new paint_attrs.new filter_paints.new
+        ≡ lent_of screen.old rows.old paint_attrs.old filter_paints.old) }
+    ensures done { OnOk result (lent_of screen.new rows.new paint_attrs.new filter_paints.new
+        ≡ after (given_of fill) (lent_of screen.old rows.old paint_attrs.old filter_paints.old)) }
 {
     match judge_filter(*screen, rows, paint_attrs, filter_paints, fill)? {
         None => screen.take_filter(0),

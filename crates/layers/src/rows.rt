@@ -1,10 +1,5 @@
-<<<<<<< HEAD
-// The rows a to b of a screen (b is not among them): judged, and the same act done on each. Parts: each has a `requires`, which the steps have judged.
+//! Some rows of a screen, a range of their numbers: judged, and the same act done on each. Parts: each has a `requires`, which the steps have judged.
 ghost use Rattle.std.specs.Prelude.{◌≡◌, ◌≤◌, ◌*◌, length, None};
-=======
-//! The rows a to b of a screen (b is not among them): judged, and the same act done on each. Parts: each has a `requires`, which the steps have judged.
-ghost use Rattle.std.specs.Prelude.{◌≡◌, ◌≤◌, ◌*◌, length, None, eqb};
->>>>>>> main
 ghost use Rattle.sizes.specs.Sizes.{most-layers, most-room, most-rows, row-size};
 ghost use Rattle.rules.specs.Lists.{range};
 ghost use Rattle.rules.specs.Commands.{paint-fill};
@@ -25,16 +20,17 @@ use row::{Row, Rows};
 use screen::Screen;
 use sizes::answers::Refusal;
 use span::TileSpan;
+use std::ops::Range;
 
-<<<<<<< HEAD
-// The rows a to b: BadRecord for the record of one of them, at once; else whether one more command, with the PushBufs that the row lacks, passes C somewhere.
-=======
-/// The rows a to b: 4 for the record of one of them, then 10 if one more command, with the PushBufs that the row lacks, passes C.
->>>>>>> main
+/// The rows of a band: BadRecord for the record of one of them, at once; else whether one more command, with the PushBufs that the row lacks, passes C
+/// somewhere.
 #[tactic(auto, unfolding(crate::specs::Band::band_number))]
-pub fn judge_rows(screen: Screen, rows: &[u32], a: usize, b: usize) -> Result<Fault, Refusal>
-    requires { (screen.layers ≤ most-layers) × (screen.c ≤ most-room) × (b ≤ most-rows) × (b * row-size ≤ length rows.now) }
-    ensures { Told (band_number screen.c screen.d screen.layers rows.now (range a b)) result }
+pub fn judge_rows(screen: Screen, rows: &[u32], band: &Range<usize>) -> Result<Fault, Refusal>
+    requires layers { screen.layers ≤ most-layers }
+    requires room { screen.c ≤ most-room }
+    requires few { band.now.«end» ≤ most-rows }
+    requires there { band.now.«end» * row-size ≤ length rows.now }
+    ensures { Told (band_number screen.c screen.d screen.layers rows.now (range band.now.start band.now.«end»)) result }
 {
     let limits = Limits {
         c: screen.c,
@@ -43,26 +39,15 @@ pub fn judge_rows(screen: Screen, rows: &[u32], a: usize, b: usize) -> Result<Fa
         once: 0,
     };
     let mut found = Fault::Nothing;
-    for r in a..b {
+    for r in band.start..band.end {
         let turned = turn_to(rows, limits, found, r as u32)?;
         found = turned.add(limits, ONE_COMMAND).found;
     }
     Ok(found)
 }
 
-<<<<<<< HEAD
-// Rule 5 alone, with `layers` layers open.
-=======
-/// Whether rows were refused for the record of one of them, 4: that comes before a step's own 6, 8 and 9.
-pub fn is_bad_record(judged: Result<(), Refusal>) -> bool
-    ensures { result ≡ eqb (answer_number judged) BadRecord }
-{
-    matches!(judged, Err(Refusal::BadRecord))
-}
-
-/// What is done on each row, with n layers open.
->>>>>>> main
-#[derive(Clone, Copy)]
+/// Rule 5 alone, with `layers` layers open.
+#[derive(Clone, Copy, Debug, PartialEq, Eq)]
 pub struct Touch {
     pub layers: u32,
 }
@@ -77,7 +62,7 @@ impl RowAct for Touch {
     }
 }
 
-// Rules 5 to 7 for a solid fill that is no depth fill, over a span of tiles, with `layers` layers open.
+/// Rules 5 to 7 for a solid fill that is no depth fill, over a span of tiles, with `layers` layers open.
 #[derive(Clone, Copy)]
 pub struct Plain {
     pub layers: u32,
@@ -97,14 +82,14 @@ impl RowAct for Plain {
     }
 }
 
-// An act that asks nothing of a row but room, on each of the rows a to b.
-pub fn on_rows<A: RowAct>(screen: Screen, rows: &mut Rows<'_>, a: usize, b: usize, act: A)
+/// An act that asks nothing of a row but room, on each row of a band.
+pub fn on_rows<A: RowAct>(screen: Screen, rows: &mut Rows<'_>, band: &Range<usize>, act: A)
     requires asks { (w : Words) → A.Asks act w }
-    requires rows { OnRows screen (A.made act) a b (all-held rows.old) }
+    requires rows { OnRows screen (A.made act) band.now.start band.now.«end» (all-held rows.old) }
     ensures same { SameRows rows.old rows.new }
-    ensures rows { all-held rows.new ≡ lay (each (A.made act) (range a b) (screen_rows screen rows.old)) }
+    ensures rows { all-held rows.new ≡ lay (each (A.made act) (range band.now.start band.now.«end») (screen_rows screen rows.old)) }
 {
-    for r in a..b {
+    for r in band.start..band.end {
         on_row(
             rows.state,
             rows.render,
@@ -116,32 +101,3 @@ pub fn on_rows<A: RowAct>(screen: Screen, rows: &mut Rows<'_>, a: usize, b: usiz
         );
     }
 }
-<<<<<<< HEAD
-=======
-
-/// Rule 8: rule 5 on each of the rows a to b, n layers being open.
-pub fn touch_rows(screen: Screen, rows: &mut Rows<'_>, a: usize, b: usize, n: u32)
-    requires { OnRows screen n (acted (bucket-tiles screen.width) n touch) a b (all-held rows.old) }
-    ensures same { SameRows rows.old rows.new }
-    ensures rows { all-held rows.new ≡ lay (each (acted (bucket-tiles screen.width) n touch) (range a b) (rows_at (frame-of screen) (all-held rows.old))) }
-{
-    on_rows(screen, rows, a, b, n, Act::Touch);
-}
-
-/// Rule 11: a solid fill that is no depth fill, over a span of tiles, on each of the rows a to b, n layers being open.
-pub fn paint_rows(
-    screen: Screen,
-    rows: &mut Rows<'_>,
-    a: usize,
-    b: usize,
-    n: u32,
-    span: TileSpan,
-    attrs_idx: u32,
-)
-    requires { Short (tiles span) × OnRows screen n (acted (bucket-tiles screen.width) n (paint (tiles span) None attrs_idx)) a b (all-held rows.old) }
-    ensures same { SameRows rows.old rows.new }
-    ensures rows { all-held rows.new ≡ lay (each (acted (bucket-tiles screen.width) n (paint (tiles span) None attrs_idx)) (range a b) (rows_at (frame-of screen) (all-held rows.old))) }
-{
-    on_rows(screen, rows, a, b, n, Act::Paint { span, attrs_idx });
-}
->>>>>>> main

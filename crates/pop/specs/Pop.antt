@@ -18,7 +18,7 @@ use Rattle.rect.specs.Rects.{box_of}
 use Rattle.segments.specs.Segs.{segs-of, SceneOf}
 use Rattle.rect.specs.declared.Rect.{Rect}
 use Rattle.pop.specs.declared.rows.ClipPath.{ClipPath}
-use Rattle.pop.specs.declared.Closing.{Closing}
+use Rattle.pop.specs.declared.judge.Closing.{Closing}
 use Rattle.screen.specs.declared.Screen.{Screen}
 use Rattle.screen.specs.Screens.{frame-of, state-of, screen-after}
 use Rattle.screen.specs.Judging.{judged}
@@ -119,9 +119,12 @@ module _ (s : Screen) (l : PopLent) (ws : List ℕ) where
       (set (set l.opacities (most-layers + s.layer_attrs) (get_or l.opacities (s.layers - 1) nan)) (s.layers - 1) float-0)
       (words-at l.attrs (layer-attr-size * s.layer_attrs) new-words)
 
+  abbrev pub after : PopOut
+  after = out Done (screen-after s pop-plan) lent-after
+
   -- a pop: done, or refused by its number with nothing changed
   unfoldable pub popped : PopOut
-  popped = cond (eqb number Done) (out Done (screen-after s pop-plan) lent-after) (out number s l)
+  popped = cond (eqb number Done) after (out number s l)
 
 -- what the doing half requires: nothing is refused. Opacities and attributes are not read here
 pub record Judged (s : Screen) (t ws : List ℕ) (w : Words) : Type 0 where
@@ -140,8 +143,8 @@ ClipOf s y q (Some p) = (y.flag ≡ 0 → ⊥) × (p.start ≡ y.start) × (p.«
 pub record Closes (s : Screen) (t : List ℕ) (c : Closing) : Type 0 where
   pub layer : c.layer ≡ open_at t (s.layers - 1)
   pub parent : box_of c.parent ≡ clip-box (box_of s.viewport) (layers-in t (s.layers - 1))
-  pub first : c.band.a ≡ c.layer.bbox.y0 / 4
-  pub last : c.band.b ≡ (c.layer.bbox.y1 + 3) / 4
+  pub first : c.band.start ≡ c.layer.bbox.y0 / 4
+  pub last : c.band.«end» ≡ (c.layer.bbox.y1 + 3) / 4
   pub clip : ClipOf s c.layer c.parent c.clip
 
 -- rule 9: the closing LayerFills of the innermost layer

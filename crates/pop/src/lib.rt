@@ -1,267 +1,65 @@
-//! A pop (rules 9 and 10; bucketer.rs, pop_layer): judged, then done, or refused with nothing changed. `pop_layer` is a public call; the others are parts of it:
-//! where one asks something, its callers have judged it.
+//! A pop (rules 9 and 10; bucketer.rs, pop_layer): judged, then done, or refused with nothing changed. `pop_layer` is a public call; the others are parts of
+//! it: where one asks something, its callers have judged it. `judge` has the tests, `rows` those of rows, `close` what is done to rows.
 #![tactic(auto)]
 
-<<<<<<< HEAD
-ghost use Rattle.std.specs.Prelude.{◌≡◌, ◌&&◌, cond, ◌+◌, ◌-◌, ◌*◌, ◌/◌, ◌≤◌, ◌<◌, length, eqb, IfOk};
+ghost use Rattle.std.specs.Prelude.{◌≡◌, cond, ◌-◌, ◌≤◌, ◌<◌, length, eqb, OnOk, OnErr};
 ghost use Rattle.sizes.specs.Sizes.{most-layers, most-attrs, open-layer-table, opacity-count, layer-attr-table};
-ghost use Rattle.rules.specs.Lists.{every};
-ghost use Rattle.rules.specs.Plans.{pop, clip-box};
-ghost use Rattle.rect.specs.Rects.{box_of};
-=======
-ghost use Rattle.std.specs.Prelude.{◌≡◌, false, ◌&&◌, cond, ◌+◌, ◌-◌, ◌*◌, ◌/◌, ◌≤◌, ◌<◌, length, eqb};
-ghost use Rattle.sizes.specs.Sizes.{most-layers, most-attrs, last-id, open-layer-table, opacity-count, layer-attr-table};
-ghost use Rattle.rules.specs.Lists.{every};
-ghost use Rattle.rules.specs.Plans.{close, pop, clip-box};
-ghost use Rattle.rect.specs.Rects.{box_of};
-ghost use Rattle.screen.specs.Screens.{frame-of, screen-in};
->>>>>>> main
-ghost use Rattle.screen.specs.Judging.{judged};
-ghost use Rattle.segments.specs.Segs.{origin, bounds, Starts};
 ghost use Rattle.row.specs.Rows.{all-held, SameRows};
 ghost use Rattle.screen.specs.LentLayers.{SameLayers};
 ghost use Rattle.sizes.specs.Refusals.{answer_number};
-ghost use Rattle.row.specs.Arena.{nowhere};
-ghost use Rattle.screen.specs.Layers.{open_at, good_layer, good_own_box};
-<<<<<<< HEAD
-ghost use Rattle.pop.specs.Pop.{lent, out, layers-in, good_lengths, number, popped, Judged, closing-puts, words-after, attr_by, tables_after, Closes};
-ghost use Rattle.pop.specs.Named.{screen_rows, closed_by, WholeRows, InScreen, plain_number, clip_number, open_number, lent_of};
-=======
-ghost use Rattle.pop.specs.Pop.{lent, out, layers-in, good_lengths, number, popped, Judged, closing-puts, words-after, attr_by, tables_after};
-ghost use Rattle.pop.specs.Named.{InScreen, WholeRows, clip_number, closed_by, lent_of, open_number, plain_number, screen_rows};
->>>>>>> main
+ghost use Rattle.screen.specs.Layers.{open_at};
+ghost use Rattle.pop.specs.Pop.{out, number, after, popped, Judged, closing-puts, words-after, attr_by, tables_after, Closes};
+ghost use Rattle.pop.specs.Named.{screen_rows, closed_by, lent_of, tables_of, standing};
 
-use crate::rows::{
-    Band, ClipPath, close_segments, close_spans, is_full_clip, judge_pop_rows, pop_rows,
-};
+use crate::close::{close_segments, close_spans, pop_rows};
+use crate::judge::{Closing, judge_pop};
 use cmd::attrs::{LayerFillAttrs, put_layer_attrs};
-use rect::Rect;
 use row::Rows;
-use screen::layers::{Layers, OpenLayer, is_good_own_box};
-use screen::{Screen, judge_screen};
-use segments::{judge_segments, scene_of};
+use screen::Screen;
+use screen::layers::{Layers, OpenLayer};
 use sizes::answers::Refusal;
-use sizes::{LAST_ID, LAYER_TABLE, MOST_ATTRS, OPACITIES, OPEN_TABLE};
 
+pub mod close;
+pub mod judge;
 pub mod rows;
 
-// How the innermost layer closes: the layer, its parent's box, its box's rows, and its clip's segments where it has a clip.
-#[derive(Clone, Copy)]
-struct Closing {
-    layer: OpenLayer,
-    parent: Rect,
-    band: Band,
-    clip: Option<ClipPath>,
-}
-
-// The rows of a box.
-fn band_of(bbox: Rect) -> Band
-    ensures { (result.a ≡ bbox.y0 / 4) × (result.b ≡ (bbox.y1 + 3) / 4) }
-{
-    Band {
-        a: (bbox.y0 / 4) as usize,
-        b: (bbox.y1 as usize + 3) / 4,
-    }
-}
-
-// The box of the innermost layer's parent.
-fn parent_box(viewport: Rect, layers: &Layers<'_>, open: u32) -> Rect
-    requires some { 1 ≤ «open» }
-    requires deep { «open» ≤ most-layers }
-    requires table { length layers.now.table.now ≡ open-layer-table }
-    ensures { box_of result ≡ clip-box (box_of viewport) (layers-in layers.now.table.now («open» - 1)) }
-{
-    if open == 1 {
-        return viewport.whole();
-    }
-    layers.box_at(open - 2)
-}
-
-// How many words are lent beside the screen's (answer 4).
-#[tactic(auto, unfolding(crate::specs::Pop::good_lengths))]
-fn is_good_lengths(layers: usize, opacities: usize, attrs: usize, list: usize) -> bool
-    ensures { result ≡ good_lengths layers opacities attrs list }
-{
-    layers == OPEN_TABLE && opacities == OPACITIES && attrs == LAYER_TABLE && list % 5 == 0
-}
-
-// The layer, its own box, its parent's box (answer 4).
-fn is_good_open(viewport: Rect, layer: OpenLayer, parent: Rect) -> bool
-    ensures { result ≡ (good_layer layer && good_own_box (box_of viewport) (box_of layer.bbox) && good_own_box (box_of viewport) (box_of parent)) }
-{
-    layer.is_good() && is_good_own_box(viewport, layer.bbox) && is_good_own_box(viewport, parent)
-}
-
-// Without a clip: 4 for the rows of the band, then 8, 9 and 10.
-fn judge_plain(screen: Screen, rows: &Rows<'_>, band: Band) -> Result<(), Refusal>
-<<<<<<< HEAD
-    requires whole { WholeRows screen rows.now }
-    requires band { InScreen screen band }
-    requires some { 1 ≤ screen.layers }
-    requires deep { screen.layers ≤ most-layers }
-=======
-    requires { WholeRows screen rows.now × InScreen screen band × (1 ≤ screen.layers) × (screen.layers ≤ most-layers) }
->>>>>>> main
-    ensures { answer_number result ≡ plain_number screen band rows.now }
-{
-    let fault = judge_pop_rows(screen, rows, band, 1)?;
-    if LAST_ID < screen.next_draw_id {
-        return Err(Refusal::Ids);
-    }
-    if MOST_ATTRS <= screen.layer_attrs {
-        return Err(Refusal::FullAttrs);
-    }
-    fault.answer()
-}
-
-// With a clip: 4 for the rows of the band or a segment, 5 for their order, then 8, 9 and 10.
-fn judge_clip(
-    screen: Screen,
-    rows: &Rows<'_>,
-    list: &[u32],
-    clip: ClipPath,
-    band: Band,
-) -> Result<(), Refusal>
-<<<<<<< HEAD
-    requires whole { WholeRows screen rows.now }
-    requires band { InScreen screen band }
-    requires some { 1 ≤ screen.layers }
-    requires deep { screen.layers ≤ most-layers }
-    requires ordered { clip.start ≤ clip.«end» }
-    requires listed { 5 * clip.«end» ≤ length list.now }
-    requires starts { Starts (origin clip.scene) (bounds clip.scene) }
-=======
-    requires { WholeRows screen rows.now × InScreen screen band × (1 ≤ screen.layers) × (screen.layers ≤ most-layers) × (clip.start ≤ clip.«end») × (5 * clip.«end» ≤ length list.now) × Starts (origin clip.scene) (bounds clip.scene) }
->>>>>>> main
-    ensures { answer_number result ≡ clip_number screen band rows.now clip list.now }
-{
-    let fault = judge_pop_rows(screen, rows, band, 0)?;
-    judge_segments(list, clip.start, clip.end)?;
-    if LAST_ID < screen.next_draw_id {
-        return Err(Refusal::Ids);
-    }
-    if MOST_ATTRS <= screen.layer_attrs {
-        return Err(Refusal::FullAttrs);
-    }
-    fault.answer()?;
-    if is_full_clip(screen, rows, list, clip, band) {
-        return Err(Refusal::FullRow);
-    }
-    Ok(())
-}
-
-// With a layer open: 4 for it, then what its rows and its list say, 8, 9 and 10. It gives how the layer closes.
-fn judge_open(
-    screen: Screen,
-    rows: &Rows<'_>,
-    layers: &Layers<'_>,
-    list: &[u32],
-<<<<<<< HEAD
-) -> Result<Closing, Refusal>
-    requires screen { judged screen (length rows.now.state.now) (length rows.now.render.now) (length rows.now.fills.now) ≡ 0 }
-    requires table { length layers.now.table.now ≡ open-layer-table }
-    requires some { 1 ≤ screen.layers }
-    ensures closing { IfOk result (Closes screen layers.now.table.now) }
-    ensures number { answer_number result ≡ open_number screen rows.now layers.now.table.now list.now }
-=======
-) -> Result<(), Refusal>
-    requires { (judged screen (length rows.now.state.now) (length rows.now.render.now) (length rows.now.fills.now) ≡ 0) × (length layers.now.table.now ≡ open-layer-table) × (1 ≤ screen.layers) }
-    ensures { answer_number result ≡ open_number screen rows.now layers.now.table.now list.now }
->>>>>>> main
-{
-    let layer = layers.open_at(screen.layers - 1);
-    let parent = parent_box(screen.viewport, layers, screen.layers);
-    if !is_good_open(screen.viewport, layer, parent) {
-        return Err(Refusal::BadRecord);
-    }
-    let band = band_of(layer.bbox);
-    if layer.flag == 0 {
-        judge_plain(screen, rows, band)?;
-        return Ok(Closing {
-            layer,
-            parent,
-            band,
-            clip: None,
-        });
-    }
-    if list.len() / 5 < layer.end as usize {
-        return Err(Refusal::BadRecord);
-    }
-    let clip = ClipPath {
-        start: layer.start as usize,
-        end: layer.end as usize,
-        scene: scene_of(screen.viewport, parent),
-    };
-    judge_clip(screen, rows, list, clip, band)?;
-    Ok(Closing {
-        layer,
-        parent,
-        band,
-        clip: Some(clip),
-    })
-}
-
-// A pop, before anything is done: 2, 1, 4 for the lengths, 7 with no layer open, and then as above.
-fn judge_pop(
-    screen: Screen,
-    rows: &Rows<'_>,
-    layers: &Layers<'_>,
-    layer_attrs: &[u32],
-    list: &[u32],
-<<<<<<< HEAD
-) -> Result<Closing, Refusal>
-    ensures closing { IfOk result (Closes screen layers.now.table.now) }
-    ensures number { answer_number result ≡ number screen (lent_of rows.now layers.now layer_attrs.now) list.now }
-=======
-) -> Result<(), Refusal>
-    ensures { answer_number result ≡ number screen (lent_of rows.now layers.now layer_attrs.now) list.now }
->>>>>>> main
-{
-    judge_screen(
-        screen,
-        rows.state.len(),
-        rows.render.len(),
-        rows.fills.len(),
-    )?;
-    if !is_good_lengths(
-        layers.table.len(),
-        layers.opacities.len(),
-        layer_attrs.len(),
-        list.len(),
-    ) {
-        return Err(Refusal::BadRecord);
-    }
-    if screen.layers == 0 {
-        return Err(Refusal::NoLayer);
-    }
-    judge_open(screen, rows, layers, list)
-}
-
 // Rule 9: the closing LayerFills.
-fn close_rows(screen: Screen, rows: &mut Rows<'_>, layers: &Layers<'_>, closing: Closing, list: &[u32])
+fn close_rows(
+    screen: Screen,
+    rows: &mut Rows<'_>,
+    layers: &Layers<'_>,
+    closing: &Closing,
+    list: &[u32],
+)
     requires judged { Judged screen layers.now.table.now list.now (all-held rows.old) }
-    requires closing { Closes screen layers.now.table.now closing }
+    requires closing { Closes screen layers.now.table.now closing.now }
     ensures same { SameRows rows.old rows.new }
     ensures rows { screen_rows screen rows.new
         ≡ closed_by screen (closing-puts screen layers.now.table.now list.now (all-held rows.old))
         (screen_rows screen rows.old) }
 {
     match closing.clip {
-        None => close_spans(screen, rows, closing.band, closing.layer.bbox.bbox_span()),
-        Some(clip) => close_segments(screen, rows, list, clip, closing.band),
+        None => close_spans(screen, rows, &closing.band, closing.layer.bbox.bbox_span()),
+        Some(clip) => close_segments(screen, rows, list, clip, &closing.band),
     }
 }
 
 // Rules 9 and 10: the closing LayerFills, then the PopBufs.
-fn do_rows(screen: Screen, rows: &mut Rows<'_>, layers: &Layers<'_>, closing: Closing, list: &[u32])
+fn do_rows(
+    screen: Screen,
+    rows: &mut Rows<'_>,
+    layers: &Layers<'_>,
+    closing: &Closing,
+    list: &[u32],
+)
     requires judged { Judged screen layers.now.table.now list.now (all-held rows.old) }
-    requires closing { Closes screen layers.now.table.now closing }
+    requires closing { Closes screen layers.now.table.now closing.now }
     ensures same { SameRows rows.old rows.new }
     ensures rows { all-held rows.new
         ≡ words-after screen layers.now.table.now list.now (all-held rows.old) }
 {
     close_rows(screen, rows, layers, closing, list);
-    pop_rows(screen, rows, closing.band);
+    pop_rows(screen, rows, &closing.band);
 }
 
 // A clip's thread, 0 without one.
@@ -296,8 +94,8 @@ fn do_tables(screen: Screen, layers: &mut Layers<'_>, layer: OpenLayer, layer_at
     requires deep { screen.layers ≤ most-layers }
     requires room { screen.layer_attrs < most-attrs }
     ensures same { SameLayers layers.old layers.new }
-    ensures tables { lent nowhere layers.new.table.now layers.new.opacities.now layer_attrs.new
-        ≡ tables_after screen (lent nowhere layers.old.table.now layers.old.opacities.now layer_attrs.old) }
+    ensures tables { tables_of layers.new layer_attrs.new
+        ≡ tables_after screen (tables_of layers.old layer_attrs.old) }
 {
     let k = screen.layers - 1;
     let attrs = attr_of(screen, layer, layers.opacities[k as usize]);
@@ -310,25 +108,8 @@ fn do_tables(screen: Screen, layers: &mut Layers<'_>, layer: OpenLayer, layer_at
     layers.drop_at(k);
 }
 
-<<<<<<< HEAD
-// Rules 9 and 10: the innermost layer closes. The list has the segments of its clip, five words each. BadViewport, BadArena, BadRecord, BadOrder, NoLayer, Ids,
-// FullAttrs or FullRow: refused, the screen and every lent word stay.
-=======
-// One layer less, whose parent's box is given; it took an id and an attribute, and it ends painting.
-fn close(screen: &mut Screen, parent: Rect)
-    requires { (1 ≤ screen.old.layers) × (screen.old.next_draw_id ≤ last-id) × (screen.old.layer_attrs < most-attrs) }
-    ensures { screen.new ≡ screen-in (frame-of screen.old) parent (screen.old.next_draw_id + 1) screen.old.paint_attrs (screen.old.layer_attrs + 1) screen.old.filter_paints (screen.old.layers - 1) false }
-{
-    screen.clip_bbox = parent;
-    screen.next_draw_id += 1;
-    screen.layer_attrs += 1;
-    screen.layers -= 1;
-    screen.painting = false;
-}
-
-/// Rules 9 and 10: the innermost layer closes. The list has the segments of its clip, five words each. BadViewport, BadArena, BadRecord, BadOrder, NoLayer, Ids,
-/// FullAttrs or FullRow: refused, the screen and every lent word stay.
->>>>>>> main
+/// Rules 9 and 10: the innermost layer closes. The list has the segments of its clip, five words each. BadViewport, BadArena, BadRecord, BadOrder, NoLayer,
+/// Ids, FullAttrs or FullRow: refused, the screen and every lent word stay.
 pub fn pop_layer(
     screen: &mut Screen,
     rows: &mut Rows<'_>,
@@ -340,6 +121,11 @@ pub fn pop_layer(
     ensures same_layers { SameLayers layers.old layers.new }
     ensures popped { out (answer_number result) screen.new (lent_of rows.new layers.new layer_attrs.new)
         ≡ popped screen.old (lent_of rows.old layers.old layer_attrs.old) list.now }
+    ensures refused { answer_number result ≡ number screen.old (lent_of rows.old layers.old layer_attrs.old) list.now }
+    ensures unchanged { OnErr result (standing screen.new (lent_of rows.new layers.new layer_attrs.new)
+        ≡ standing screen.old (lent_of rows.old layers.old layer_attrs.old)) }
+    ensures done { OnOk result (standing screen.new (lent_of rows.new layers.new layer_attrs.new)
+        ≡ after screen.old (lent_of rows.old layers.old layer_attrs.old) list.now) }
 {
     let closing = judge_pop(*screen, rows, layers, layer_attrs, list)?;
     // Rows by value: behind a reference their slices are loaded again for each segment.
@@ -348,7 +134,7 @@ pub fn pop_layer(
         render: rows.render,
         fills: rows.fills,
     };
-    do_rows(*screen, &mut own, layers, closing, list);
+    do_rows(*screen, &mut own, layers, &closing, list);
     do_tables(*screen, layers, closing.layer, layer_attrs);
     screen.close_layer(closing.parent);
     Ok(())

@@ -1,11 +1,5 @@
-<<<<<<< HEAD
 -- With a clip the LayerFills of its segments, without one a LayerFill on each touched row.
 use Rattle.pop.proofs.Doing.{plain-requires, plain_done, clip-requires, clip-done}
-=======
--- With a clip the LayerFills of its segments, without one a LayerFill on each touched row; then the PopBufs.
-use Rattle.std.proofs.Common.{refl, arith}
-use Rattle.pop.proofs.Doing.{seen, small-boxes, plain-requires, plain_done, clip-requires, clip-done}
->>>>>>> main
 use Rattle.pop.proofs.close_rows.Goals as goal
 
 pub close_spans-requires : goal.close_spans-requires

@@ -3,11 +3,10 @@
 use Rattle.std.proofs.Common.{rules, sym, ◌∙◌}
 use Rattle.std.proofs.lemmas.Result.{err_from_is_err_and}
 use Rattle.sizes.proofs.Refusals.{not_done}
-use Rattle.row.specs.Rows.{all-held}
-use Rattle.pop.specs.Pop.{lent}
+use Rattle.pop.specs.Named.{lent_of}
 use Rattle.pop.proofs.Numbers.{zero-judged, zero-lengths}
-use Rattle.pop.proofs.Doing.{seen, ready}
-use Rattle.pop.proofs.Popping.{screen-is, pop-out, refused-out}
+use Rattle.pop.proofs.Doing.{deep, ready}
+use Rattle.pop.proofs.Popping.{screen-is, pop-out, done-out, refused-out}
 use Rattle.pop.proofs.pop_layer.Goals as goal
 
 pub returns-in_err-closing-clause-popped : goal.returns-in_err-closing-clause-popped
@@ -22,7 +21,7 @@ pub do_tables-requires : goal.do_tables-requires
 do_tables-requires c =
     let z = sym c.in_ok-closing.ensures.number in
     let judged = zero-judged _ _ _ z in
-    let lengths = zero-lengths _ _ _ z in record { layer = c.in_ok-closing.ensures.closing.layer; table = lengths.0; opacities = lengths.1; attrs = lengths.2; some = judged.some; deep = (seen judged).bounds.deep; room = (ready judged).attrs }
+    let lengths = zero-lengths _ _ _ z in record { layer = c.in_ok-closing.ensures.closing.layer; table = lengths.0; opacities = lengths.1; attrs = lengths.2; some = judged.some; deep = deep judged; room = (ready judged).attrs }
 
 pub close_layer-requires : goal.close_layer-requires
 close_layer-requires c =
@@ -31,10 +30,20 @@ close_layer-requires c =
 
 pub returns-clause-popped : goal.returns-clause-popped
 returns-clause-popped c =
-    let l = lent (all-held c.args.rows.now) c.args.layers.now.table.now c.args.layers.now.opacities.now c.args.layer_attrs.now in
+    let l = lent_of c.args.rows.now c.args.layers.now c.args.layer_attrs.now in
     let z = sym c.in_ok-closing.ensures.number in
     let judged = zero-judged c.args.screen.now l c.args.list.now z in
-    let e = pop-out c.args.screen.now l c.args.list.now judged z
+    let e = done-out c.args.screen.now l c.args.list.now z
+    (pop-out c.args.screen.now l c.args.list.now judged
+    (c.close_layer.ensures ∙ screen-is c.args.screen.now l c.args.list.now judged _ c.in_ok-closing.ensures.closing.parent) c.do_rows.ensures.rows
+    c.do_tables.ensures.tables) in
+    search (rules, e)
+
+pub returns-clause-done : goal.returns-clause-done
+returns-clause-done c =
+    let l = lent_of c.args.rows.now c.args.layers.now c.args.layer_attrs.now in
+    let judged = zero-judged c.args.screen.now l c.args.list.now (sym c.in_ok-closing.ensures.number) in
+    let e = pop-out c.args.screen.now l c.args.list.now judged
     (c.close_layer.ensures ∙ screen-is c.args.screen.now l c.args.list.now judged _ c.in_ok-closing.ensures.closing.parent) c.do_rows.ensures.rows
     c.do_tables.ensures.tables in
     search (rules, e)

@@ -1,5 +1,5 @@
 -- Judged first; refused, nothing is written. Done, the rows of the box get the fill, the tables its paint and its attribute.
-use Rattle.std.proofs.Common.{sym, ◌∙◌}
+use Rattle.std.proofs.Common.{sym}
 use Rattle.std.proofs.lemmas.Result.{err_from_is_err_and}
 use Rattle.sizes.proofs.Refusals.{not_done}
 use Rattle.layers.proofs.FilterLaws.{refused-is, done-is}
@@ -18,6 +18,11 @@ pub returns-in-None-clause-filtered : goal.returns-in-None-clause-filtered
 returns-in-None-clause-filtered c =
     let q = sym c.in_ok-judge_filter.ensures.number in
     done-is _ _ _ q (nothing_left _ _ _ _ _ q _ (rw c.in-None.is at c.in_ok-judge_filter.ensures.drawn) c.take_filter.ensures)
+
+pub returns-in-None-clause-done : goal.returns-in-None-clause-done
+returns-in-None-clause-done c =
+    let q = sym c.in_ok-judge_filter.ensures.number in
+    nothing_left _ _ _ _ _ q _ (rw c.in-None.is at c.in_ok-judge_filter.ensures.drawn) c.take_filter.ensures
 
 pub draw-requires : goal.draw-requires
 draw-requires c =

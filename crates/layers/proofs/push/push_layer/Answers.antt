@@ -1,14 +1,9 @@
 -- Judged first; refused, nothing is written. Done, the rows of the layer's box get their buffers, where it needs one; the table gets the layer;
 -- the clip box narrows.
-<<<<<<< HEAD
-use mathlib.Core.Path.{sym, ap, ◌∙◌}
-use native.Mathlib.Omega.{arith}
-=======
-use Rattle.std.proofs.Common.{sym, arith}
->>>>>>> main
+use Rattle.std.proofs.Common.{sym, ap, ◌∙◌, arith}
 use Rattle.std.proofs.lemmas.Result.{err_from_is_err_and}
 use Rattle.sizes.proofs.Refusals.{not_done}
-use Rattle.layers.proofs.PushLaws.{ready, bottom-small, run_is, after_is, refused-is, done-is}
+use Rattle.layers.proofs.PushLaws.{ready, rows_is, after_is, refused-is, done-is}
 use Rattle.sizes.specs.Widths.{bucket-tiles}
 use Rattle.row.specs.Arena.{lay}
 use Rattle.layers.proofs.RowsLaws.{touch-on, touch-each}
@@ -32,7 +27,7 @@ on_rows-requires c =
     let r = ready _ _ _ _ _ (sym c.in_ok-bbox.ensures.number) in
     record {
       asks = λ w. omega (arith, r.free);
-      rows = touch-on _ (bucket-tiles c.args.screen.now.width) _ (rw (run_is c.args.props _ _ r.zero _ c.in_ok-bbox.ensures.opening.bbox _ c.in_ok-bbox.ensures.opening.run) r.on);
+      rows = touch-on _ (bucket-tiles c.args.screen.now.width) _ (rw (rows_is c.args.props _ _ r.zero _ c.in_ok-bbox.ensures.opening.bbox _ c.in_ok-bbox.ensures.opening.band) r.on);
     }
 
 pub open_layer-requires : goal.open_layer-requires
@@ -43,10 +38,10 @@ returns-clause-pushed c =
     let r = ready _ _ _ _ _ (sym c.in_ok-bbox.ensures.number) in
     done-is _ _ _ (sym c.in_ok-bbox.ensures.number)
     (rw (c.put.ensures.table, c.put.ensures.opacities)
-    (after_is _ _ _ _ _ r _ c.in_ok-bbox.ensures.opening.bbox _ _ _ c.open_layer.ensures c.in_ok-bbox.ensures.opening.run (c.on_rows.ensures.rows ∙ ap lay (touch-each (bucket-tiles c.args.screen.now.width) _ _ _))))
+    (after_is _ _ _ _ _ r _ c.in_ok-bbox.ensures.opening.bbox _ _ _ c.open_layer.ensures c.in_ok-bbox.ensures.opening.band (c.on_rows.ensures.rows ∙ ap lay (touch-each (bucket-tiles c.args.screen.now.width) _ _ _))))
 
 pub returns-clause-done : goal.returns-clause-done
 returns-clause-done c =
     let r = ready _ _ _ _ _ (sym c.in_ok-bbox.ensures.number) in
     rw (c.put.ensures.table, c.put.ensures.opacities)
-    (after_is _ _ _ _ _ r _ c.in_ok-bbox.ensures.opening.bbox _ _ _ c.open_layer.ensures c.in_ok-bbox.ensures.opening.run (c.on_rows.ensures.rows ∙ ap lay (touch-each (bucket-tiles c.args.screen.now.width) _ _ _)))
+    (after_is _ _ _ _ _ r _ c.in_ok-bbox.ensures.opening.bbox _ _ _ c.open_layer.ensures c.in_ok-bbox.ensures.opening.band (c.on_rows.ensures.rows ∙ ap lay (touch-each (bucket-tiles c.args.screen.now.width) _ _ _)))

@@ -1,8 +1,4 @@
-<<<<<<< HEAD
-use mathlib.Core.Path.{sym, ◌∙◌}
-=======
-use Rattle.std.proofs.Common.{◌∙◌}
->>>>>>> main
+use Rattle.std.proofs.Common.{sym}
 use Rattle.std.proofs.lemmas.Result.{err_from_is_err_and}
 use Rattle.row.proofs.RoomRows.{going_end, going-bad, going_on}
 use Rattle.layers.specs.Band.{band_number}

@@ -10,7 +10,7 @@ loop-r-preserved g c =
     let held = c.loop-r.invariant.1 in (
       search rules,
       band-again held c.loop-r-test.true _ (long_after c.args.screen _ _ _ _ held.on.whole.long (search rules) (search rules) (search rules))
-      (c.on_row.ensures _ (band_row held _ c.requires.asks c.loop-r-test.true)),
+          (c.on_row.ensures _ (band_row held _ c.requires.asks c.loop-r-test.true)),
     )
 
 pub returns : goal.returns

@@ -6,4 +6,4 @@ use Rattle.layers.proofs.rows.on_rows.Given as goal
 abbrev pub invariant-loop-r : goal.invariant-loop-r
 invariant-loop-r g l =
     SameRows l.initial.rows l.rows
-    × Banding l.screen (g.A.RowAct.made l.act) l.a l.b (all-held l.initial.rows) l.r (all-held l.rows)
+    × Banding l.screen (g.A.RowAct.made l.act) l.band.start l.band.end (all-held l.initial.rows) l.r (all-held l.rows)

@@ -1,9 +1,4 @@
-<<<<<<< HEAD
-use mathlib.Core.Path.{refl, sym, ◌∙◌}
-use native.Mathlib.Omega.{arith}
-=======
-use Rattle.std.proofs.Common.{sym, ◌∙◌, arith}
->>>>>>> main
+use Rattle.std.proofs.Common.{refl, sym, ◌∙◌, arith}
 use Rattle.row.proofs.RoomRows.{going_end, going-bad, going_on}
 use Rattle.pop.proofs.Judging.{pops-told, row-there, row-shallow, row-counted}
 use Rattle.pop.proofs.rows.judge_pop_rows.Goals as goal

@@ -3,7 +3,7 @@ use Rattle.rules.specs.Plans.{close}
 use Rattle.span.specs.Spans.{tiles}
 use Rattle.pop.specs.Closing.{Fillable}
 use Rattle.pop.proofs.Judging.{act-other, close-here, each-here}
-use Rattle.pop.proofs.rows.close_span.Goals as goal
+use Rattle.pop.proofs.close.close_span.Goals as goal
 
 pub returns-then-rows-r-clause-rows : goal.returns-then-rows-r-clause-rows
 returns-then-rows-r-clause-rows c =

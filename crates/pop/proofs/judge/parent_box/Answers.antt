@@ -1,5 +1,5 @@
 use Rattle.pop.proofs.Opening.{parent-none, parent-some}
-use Rattle.pop.proofs.parent_box.Goals as goal
+use Rattle.pop.proofs.judge.parent_box.Goals as goal
 
 pub returns-then-open-eq1 : goal.returns-then-open-eq1
 returns-then-open-eq1 c = parent-none _ _ _ c.if-open-eq1.true _ c.whole.ensures

@@ -7,11 +7,11 @@ use Rattle.row.specs.Rows.{all-held, SameRows}
 use Rattle.row.specs.Building.{rows_at, Whole}
 use Rattle.pop.specs.Closing.{Poppable}
 use Rattle.pop.proofs.Going.{Going}
-use Rattle.pop.proofs.rows.pop_rows.Given as goal
+use Rattle.pop.proofs.close.pop_rows.Given as goal
 
 abbrev pub invariant-loop-r : goal.invariant-loop-r
 invariant-loop-r l =
     SameRows l.initial.rows l.rows
     × Whole (frame-of l.screen) (all-held l.rows)
-    × Going pop Poppable (bucket-tiles l.screen.width) (l.screen.layers - 1) l.screen.layers l.fn.band.a l.fn.band.b
+    × Going pop Poppable (bucket-tiles l.screen.width) (l.screen.layers - 1) l.screen.layers l.fn.band.start l.fn.band.«end»
     (rows_at (frame-of l.screen) (all-held l.initial.rows)) l.r (rows_at (frame-of l.screen) (all-held l.rows))

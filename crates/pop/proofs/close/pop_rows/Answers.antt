@@ -1,7 +1,7 @@
 use Rattle.std.proofs.Common.{arith, rules}
 use Rattle.pop.proofs.Going.{going_done, going-here, going_on}
 use Rattle.pop.proofs.Rooms.{long_after}
-use Rattle.pop.proofs.rows.pop_rows.Goals as goal
+use Rattle.pop.proofs.close.pop_rows.Goals as goal
 
 pub pop_row-requires : goal.pop_row-requires
 pop_row-requires c = record { whole = c.loop-r.invariant.1; row = omega arith; room = going-here c.loop-r.invariant.2 c.loop-r-test.true }

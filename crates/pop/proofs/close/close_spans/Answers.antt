@@ -1,7 +1,7 @@
 use Rattle.std.proofs.Common.{arith, rules}
 use Rattle.pop.proofs.Going.{going_done, going-here, going_on}
 use Rattle.pop.proofs.Rooms.{long_after}
-use Rattle.pop.proofs.rows.close_spans.Goals as goal
+use Rattle.pop.proofs.close.close_spans.Goals as goal
 
 pub close_span-requires : goal.close_span-requires
 close_span-requires c = record { whole = c.loop-r.invariant.1; row = omega arith; short = c.requires.short; room = going-here c.loop-r.invariant.2 c.loop-r-test.true }

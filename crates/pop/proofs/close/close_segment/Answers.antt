@@ -3,7 +3,7 @@ use Rattle.std.proofs.Common.{◌-◌, refl, sym, ap, ◌∙◌, not}
 use Rattle.segments.specs.Segs.{seg-at}
 use Rattle.pop.proofs.Clipping.{one_none, one_out, one_in}
 use Rattle.pop.proofs.Judging.{touched-no, touched-yes, clip-here}
-use Rattle.pop.proofs.rows.close_segment.Goals as goal
+use Rattle.pop.proofs.close.close_segment.Goals as goal
 
 pub returns-then-not-is_touched-clause-rows : goal.returns-then-not-is_touched-clause-rows
 returns-then-not-is_touched-clause-rows c =
@@ -14,8 +14,8 @@ returns-then-not-is_touched-clause-rows c =
 pub on_row-requires : goal.on_row-requires
 on_row-requires c =
     let h = clip-here c.requires.whole _ _ _ _ (c.args.screen.layers - 1) c.args.screen.layer_attrs c.args.scene
-        (seg-at c.args.list.now c.args.i) _ c.requires.band c.requires.segment.1 c.requires.starts (rw c.segment_at.ensures at c.in-Some.ensures)
-        (touched-yes c.requires.whole _ _ _ c.requires.band _ c.is_touched.ensures refl (ap not c.if-not-is_touched.false)) c.requires.room in
+    (seg-at c.args.list.now c.args.i) _ c.requires.band c.requires.segment.1 c.requires.starts (rw c.segment_at.ensures at c.in-Some.ensures)
+    (touched-yes c.requires.whole _ _ _ c.requires.band _ c.is_touched.ensures refl (ap not c.if-not-is_touched.false)) c.requires.room in
     (_, record { arenas = h.0; within = h.1; asked = h.2; room = h.3 })
 
 pub returns-in_default-clause-rows : goal.returns-in_default-clause-rows
@@ -25,8 +25,8 @@ returns-in_default-clause-rows c =
 pub returns-clause-rows : goal.returns-clause-rows
 returns-clause-rows c =
     let h = clip-here c.requires.whole _ _ _ _ (c.args.screen.layers - 1) c.args.screen.layer_attrs c.args.scene
-        (seg-at c.args.list.now c.args.i) _ c.requires.band c.requires.segment.1 c.requires.starts (rw c.segment_at.ensures at c.in-Some.ensures)
-        (touched-yes c.requires.whole _ _ _ c.requires.band _ c.is_touched.ensures refl (ap not c.if-not-is_touched.false)) c.requires.room in
+    (seg-at c.args.list.now c.args.i) _ c.requires.band c.requires.segment.1 c.requires.starts (rw c.segment_at.ensures at c.in-Some.ensures)
+    (touched-yes c.requires.whole _ _ _ c.requires.band _ c.is_touched.ensures refl (ap not c.if-not-is_touched.false)) c.requires.room in
     c.on_row.ensures _ (record { arenas = h.0; within = h.1; asked = h.2; room = h.3 })
     ∙ sym
     (one_in _ (c.args.screen.layers - 1) c.args.screen.layer_attrs _ _ _ _ (rw c.segment_at.ensures at c.in-Some.ensures)

@@ -2,7 +2,7 @@ use Rattle.std.proofs.Common.{◌-◌, ◌∙◌}
 use Rattle.rules.specs.Plans.{pop}
 use Rattle.pop.specs.Closing.{Poppable}
 use Rattle.pop.proofs.Judging.{act-other, pop-here, each-here}
-use Rattle.pop.proofs.rows.pop_row.Goals as goal
+use Rattle.pop.proofs.close.pop_row.Goals as goal
 
 pub returns-then-rows-r-clause-rows : goal.returns-then-rows-r-clause-rows
 returns-then-rows-r-clause-rows c = act-other c.requires.whole _ _ c.requires.row c.if-rows-r.true _ (c.args.screen.layers - 1) pop

@@ -1,12 +1,6 @@
-<<<<<<< HEAD
-// Judging a fill's segments and the rows that they come to (answers 4, 5, 10 and 11), in one pass, before anything is done: by a sure look,
-// and exactly where that look is not sure. Parts.
+//! Judging a fill's segments and the rows that they come to (BadRecord, BadOrder, FullRow and FullDepth), in one pass, before anything is done: by a sure look,
+//! and exactly where that look is not sure.
 ghost use Rattle.std.specs.Prelude.{◌≡◌, true, ◌*◌, ◌≤◌, ◌<◌, length};
-=======
-//! Judging a fill's segments and the rows that they come to (answers 4, 5, 10 and 11), in one pass, before anything is done: by a sure look,
-//! and exactly where that look is not sure. Parts.
-ghost use Rattle.std.specs.Prelude.{◌≡◌, true, false, ◌-◌, ◌*◌, ◌≤◌, ◌<◌, length};
->>>>>>> main
 ghost use Rattle.sizes.specs.Sizes.{tile-end, most-layers, most-room, row-size};
 ghost use Rattle.rules.specs.Segments.{cut_in, good-segment};
 ghost use Rattle.span.specs.Spans.{tiles};
@@ -191,12 +185,8 @@ fn is_sure(rows: &[u32], list: &[u32], start: usize, end: usize, job: Job) -> bo
     row < TILE_END && has_room_at(rows, job, row, i - from, split)
 }
 
-<<<<<<< HEAD
-// The segments from start to end of a list: BadRecord for a bad one or for the bad record of a row that gets one, then BadOrder, at once; else whether some row
-// passes C, or D.
-=======
-/// The segments from start to end of a list: 4 for a bad one or for the bad record of a row that gets one, then 5 for their order, then 10, then 11.
->>>>>>> main
+/// The segments from start to end of a list: BadRecord for a bad one or for the bad record of a row that gets one, then BadOrder, at once; else whether some row
+/// passes C, or D.
 pub fn judge_list(
     rows: &[u32],
     list: &[u32],

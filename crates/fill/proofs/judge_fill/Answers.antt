@@ -1,11 +1,5 @@
 -- The tests in the rules' order; the list is judged in one pass together with the rows that it comes to.
-<<<<<<< HEAD
-use mathlib.Core.Path.{◌≡◌, sym, ◌∙◌}
-use mathlib.Core.Bool.{Bool}
-use Prim.Native.Nat.{ℕ}
-=======
-use Rattle.std.proofs.Common.{sym, ◌∙◌}
->>>>>>> main
+use Rattle.std.proofs.Common.{◌≡◌, sym, ◌∙◌, Bool, ℕ}
 use Rattle.std.proofs.lemmas.Result.{err_from_is_err_and}
 use Rattle.sizes.proofs.Refusals.{not_done}
 use Rattle.row.specs.Rows.{all-held}

@@ -1,5 +1,5 @@
 -- A row that has its layers gets one command, which is what drawing puts there (`drawn-once`); any other goes by `push_fill`.
-use mathlib.Core.Path.{sym, ◌∙◌}
+use Rattle.std.proofs.Common.{sym, ◌∙◌}
 use Rattle.row.specs.Row.{held}
 use Rattle.span.specs.Spans.{tiles}
 use Rattle.sizes.specs.Widths.{bucket-tiles}

@@ -16,7 +16,8 @@ use Rattle.fill.proofs.Runs.{at_most_one}
 use Rattle.row.specs.declared.room.Limits.{Limits}
 use Rattle.row.specs.Room.{record-at, Counted, hand_of, loaded, noted, added_to}
 use Rattle.row.proofs.RoomLaws.{good-small}
-use Rattle.fill.specs.Tallies.{Tally, job-adds, known, tallied, tally_cuts, verdict, cuts-of, none_yet, Rowed, list-number, marked_by, limits_of, stretched, counted_cut, hand_cuts}
+use Rattle.fill.specs.Filling.{cuts-of}
+use Rattle.fill.specs.Tallies.{Tally, job-adds, known, tallied, tally_cuts, verdict, none_yet, Rowed, list-number, marked_by, limits_of, stretched, counted_cut, hand_cuts}
 use Rattle.fill.proofs.JudgeLaws.{turned, Fits, took-none, took-bad, took-good, tally-more, tally-stop, fits_after, lands}
 
 -- the number for an order that is kept if ok, and for rows that are full or deep

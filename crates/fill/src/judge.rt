@@ -97,8 +97,8 @@ fn judge_segment(rows: &[u32], job: Job, hand: Hand, segment: Segment) -> Result
     Ok(turned.add(limits, more))
 }
 
-// One by one: BadRecord for a bad segment or for the bad record of a row that gets one, at once; else BadOrder, FullRow or FullDepth, if found. Out of line: its
-// numbers would take the registers of the loop that draws.
+// One by one: BadRecord for a bad segment or for the bad record of a row that gets one, at once; else BadOrder, FullRow or FullDepth, if found. Out of line:
+// in line its numbers take the registers of the loop that draws.
 #[inline(never)]
 fn judge_each(
     rows: &[u32],
@@ -205,8 +205,8 @@ fn is_sure(rows: &[u32], list: &[u32], start: usize, end: usize, job: Job) -> bo
     row < TILE_END && has_room_at(rows, job, row, i - from, split)
 }
 
-/// The segments from start to end of a list: BadRecord for a bad one or for the bad record of a row that gets one, then BadOrder, at once; else what was found of
-/// the rows, whether one passes C, or D.
+/// The segments from start to end of a list: BadRecord for a bad one or for the bad record of a row that gets one, then BadOrder, at once; else what was found
+/// of the rows, whether one passes C, or D.
 pub fn judge_list(
     rows: &[u32],
     list: &[u32],

@@ -136,8 +136,8 @@ fn judge_lent(
     Ok(())
 }
 
-// A fill, before anything is done: BadViewport, BadArena, BadRecord, BadOrder, Ids, FullAttrs if there is a segment, FullRow, FullDepth, in this order. It gives
-// what its segments have in common.
+// A fill, before anything is done: BadViewport, BadArena, BadRecord, BadOrder, Ids, FullAttrs if there is a segment, FullRow, FullDepth, in this order. It
+// gives what its segments have in common.
 fn judge_fill(
     screen: Screen,
     rows: &Rows<'_>,

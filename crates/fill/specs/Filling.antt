@@ -1,18 +1,26 @@
 -- The doing half of a fill: the rules' puts at rows of words, and what the judging half has shown.
 use Rattle.std.specs.Prelude.{ℕ, ◌+◌, ◌-◌, ◌*◌, ◌/◌, ◌≤◌, ◌<◌, ◌≡◌, true, List, [], ◌∷◌, get_or, length}
 use Rattle.std.specs.Prelude.{Option}
-use Rattle.sizes.specs.Sizes.{most-layers}
+use Rattle.sizes.specs.Sizes.{most-layers, tile-height}
 use Rattle.rules.specs.Lists.{join, every}
 use Rattle.rules.specs.Spans.{Span}
-use Rattle.rules.specs.Segments.{Cut, cut_in, good-segment}
+use Rattle.rules.specs.Segments.{Segment, Cut, cut_in, good-segment}
 use Rattle.rules.specs.Plans.{Put, draw-puts}
 use Rattle.rules.specs.Steps.{do-puts}
 use Rattle.sizes.specs.Widths.{bucket-tiles}
 use Rattle.row.specs.Words.{Words, word-ops, Room}
 use Rattle.row.specs.Acts.{drawn}
-use Rattle.row.specs.Arena.{nowhere, sizes, cut, count-rows, Arenas}
+use Rattle.row.specs.Arena.{nowhere, sizes, cut, Arenas}
 use Rattle.segments.specs.Segs.{seg-at, segs, origin, bounds, Starts}
 use Rattle.fill.specs.declared.rows.Job.{Job}
+
+-- rule 4: what is left of a segment in the job's clip box
+abbrev pub cut_for : Job → Segment → List Cut
+cut_for j g = cut_in (origin j.scene) (bounds j.scene) g
+
+-- .. of the segments from a to b
+abbrev pub cuts-of : Job → List ℕ → ℕ → ℕ → List Cut
+cuts-of j ws a b = join (cut_for j) (segs ws a (b - a))
 
 -- rules 5 to 7 on one row
 abbrev pub draws : Job → Span → Option ℕ → Words → Words
@@ -24,11 +32,11 @@ puts_of j ks = draw-puts j.eligible j.attr j.id ks
 
 -- what segment i puts on rows
 abbrev pub one-put : Job → List ℕ → ℕ → List Put
-one-put j ws i = puts_of j (cut_in (origin j.scene) (bounds j.scene) (seg-at ws i))
+one-put j ws i = puts_of j (cut_for j (seg-at ws i))
 
 -- what k segments from i on put on rows
 abbrev pub puts : Job → List ℕ → ℕ → ℕ → List Put
-puts j ws i k = puts_of j (join (cut_in (origin j.scene) (bounds j.scene)) (segs ws i k))
+puts j ws i k = puts_of j (join (cut_for j) (segs ws i k))
 
 abbrev pub done : Job → List Put → List Words → List Words
 done j ps rs = do-puts Words word-ops (bucket-tiles j.width) j.layers ps rs
@@ -38,13 +46,9 @@ abbrev pub draw-all : Job → List Cut → Words → Words
 draw-all j [] w = w
 draw-all j (k ∷ ks) w = draw-all j ks (draws j k.stretch.tiles k.stretch.alpha w)
 
--- what is left of the segments from a to b
-abbrev pub cuts-in : Job → List ℕ → ℕ → ℕ → List Cut
-cuts-in j ws a b = join (cut_in (origin j.scene) (bounds j.scene)) (segs ws a (b - a))
-
--- those of one row, on its words
+-- what is left of the segments from a to b, which stand on one row, on its words
 abbrev pub run_of : Job → List ℕ → ℕ → ℕ → Words → Words
-run_of j ws a b w = draw-all j (cuts-in j ws a b) w
+run_of j ws a b w = draw-all j (cuts-of j ws a b) w
 
 -- the segments from a to b stand on a row
 abbrev pub OnRow : List ℕ → ℕ → ℕ → ℕ → Type 0
@@ -55,27 +59,12 @@ pub data Roomy : List Put → List Words → List Words → Type 0 where
   none-put : {rs ts : List Words} → Roomy [] rs ts
   one_more : {rs ts : List Words} {p : Put} {ps : List Put} → Room (get_or rs p.row nowhere) (get_or ts p.row nowhere) → Roomy ps rs ts → Roomy (p ∷ ps) rs ts
 
--- the rows whose records are s, as the words hold them
-abbrev pub job_rows : Job → List ℕ → Words → List Words
-job_rows j s w = cut (sizes j.c j.d) (count-rows s) w
-
--- each row that is put on has room for what all the puts make of it
-abbrev pub RoomFor : Job → List Put → List Words → Type 0
-RoomFor j ps rs = Roomy ps rs (done j ps rs)
-
--- segment i is there, and good; it has alpha values
-abbrev pub GoodAt : List ℕ → ℕ → Type 0
-GoodAt ws i = (5 * i + 5 ≤ length ws) × (good-segment (seg-at ws i) ≡ true)
-
-abbrev pub NotSolid : List ℕ → ℕ → Type 0
-NotSolid ws i = (seg-at ws i).kind ≡ 0 → ⊥
-
 -- n rows of words, and the job's other numbers
 pub record Fits (j : Job) (n : ℕ) (w : Words) : Type 0 where
   pub arenas : Arenas j.c j.d n w
   pub layers : j.layers ≤ most-layers
   pub starts : Starts (origin j.scene) (bounds j.scene)
-  pub bottom : j.scene.rows.end ≤ j.scene.y / 4 + n
+  pub bottom : j.scene.rows.end ≤ j.scene.y / tile-height + n
 
 -- what the judging half has shown of the segments from a to b
 pub record FillReady (j : Job) (n : ℕ) (ws : List ℕ) (a b : ℕ) (w : Words) : Type 0 where
@@ -95,5 +84,5 @@ pub record RunReady (j : Job) (ws : List ℕ) (row a b : ℕ) (w : Words) : Type
   pub here : (seg-at ws a).row ≡ row
   pub index : (seg-at ws a).kind ≡ 0 → ⊥
   pub first : Cut
-  pub left : first ∷ [] ≡ cut_in (origin j.scene) (bounds j.scene) (seg-at ws a)
+  pub left : first ∷ [] ≡ cut_for j (seg-at ws a)
   pub room : (t : ℕ) → a < t → t ≤ b → OnRow ws row a t → Room w (run_of j ws a t w)

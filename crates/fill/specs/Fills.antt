@@ -1,9 +1,9 @@
 -- A fill at a screen's words: its number, and every lent word afterwards.
-use Rattle.std.specs.Prelude.{ℕ, zero, suc, ◌+◌, ◌*◌, ◌/◌, ◌%◌, ◌≡◌, Bool, true, ◌&&◌, cond, List, [], ◌∷◌, eqb, get_or, length, drop, ltb}
+use Rattle.std.specs.Prelude.{ℕ, zero, suc, ◌+◌, ◌*◌, ◌/◌, ◌%◌, Bool, ◌&&◌, cond, List, [], ◌∷◌, eqb, get_or, length, drop, ltb}
 use Rattle.sizes.specs.Sizes.{paint-attr-size, paint-attr-table}
 use Rattle.rules.specs.Lists.{join}
 use Rattle.rules.specs.Answers.{Answer, settle, Done, BadRecord}
-use Rattle.rules.specs.Boxes.{Box, good_viewport}
+use Rattle.rules.specs.Boxes.{Box, scene-tiles}
 use Rattle.rules.specs.Blends.{good-blend}
 use Rattle.rules.specs.Spans.{good-range}
 use Rattle.rules.specs.Inputs.{Paint, draw-paint, good-thread, good-paint, good-handle, good-panel, few-paints}
@@ -18,7 +18,7 @@ use Rattle.row.specs.Arena.{lay}
 use Rattle.row.specs.Building.{screen-at, good_rows, step_number}
 use Rattle.rect.specs.Rects.{box_of}
 use Rattle.screen.specs.declared.Screen.{Screen}
-use Rattle.screen.specs.Screens.{frame-of, state-of, screen-after, good_screen}
+use Rattle.screen.specs.Screens.{frame-of, state-of, screen-after}
 use Rattle.screen.specs.Judging.{judged}
 use Rattle.segments.specs.declared.Scene.{Scene}
 use Rattle.segments.specs.Segs.{segs-of}
@@ -63,14 +63,15 @@ good-draw-at ps ss d =
 abbrev pub good-fill-at : List ℕ → List ℕ → Draw → Bool
 good-fill-at ps ss d = few-paints (length ps / 4) && good-draw-at ps ss d
 
--- the scene of the viewport v and the clip box c
+-- the scene of the viewport v and the clip box c, which is the one that `SceneOf` tells of
 abbrev pub scene-at : Box → Box → Scene
 scene-at v c =
+    let t = scene-tiles v c in
     record {
       x = v.x0;
       y = v.y0;
-      columns = record { first = (v.x0 + c.x0) / 4; end = (v.x0 + c.x1) / 4 };
-      rows = record { first = (v.y0 + c.y0) / 4; end = (v.y0 + c.y1) / 4 };
+      columns = record { first = t.x0; end = t.x1 };
+      rows = record { first = t.y0; end = t.y1 };
     }
 
 -- what stays the same over a fill's segments
@@ -86,11 +87,6 @@ job_of s ps d =
       id = s.next_draw_id;
       width = s.width;
     }
-
--- a screen that is judged: its numbers are good
-pub record Passing (s : Screen) : Type 0 where
-  pub view : good_viewport (box_of s.viewport) ≡ true
-  pub screen : good_screen s ≡ true
 
 -- a screen and the words that a fill writes
 pub record FillLent : Type 0 where

@@ -2,14 +2,18 @@
 //! story of a tile.
 #![tactic(auto)]
 
-ghost use Rattle.std.specs.Prelude.{◌≡◌, ◌/◌, ◌<◌, eqb, length, IfOk};
+ghost use Rattle.std.specs.Prelude.{◌≡◌, true, ◌/◌, ◌<◌, eqb, length, IfOk, OnOk, OnErr};
 ghost use Rattle.sizes.specs.Refusals.{answer_number};
 ghost use Rattle.rules.specs.Answers.{answer};
+ghost use Rattle.rules.specs.Boxes.{good_viewport};
 ghost use Rattle.rules.specs.Inputs.{good-paint, draw-paint};
 ghost use Rattle.rules.specs.Spans.{good-range};
 ghost use Rattle.rules.specs.Plans.{eligible};
-ghost use Rattle.row.specs.Rows.{all-held, SameRows};
-ghost use Rattle.fill.specs.Fills.{draw-of, paint-at, paints-of, good-draw-at, good-fill-at, job_of, lent, first_number, fill_number, filled, Passing};
+ghost use Rattle.rect.specs.Rects.{box_of};
+ghost use Rattle.row.specs.Rows.{SameRows};
+ghost use Rattle.screen.specs.Screens.{good_screen};
+ghost use Rattle.fill.specs.Fills.{draw-of, paint-at, paints-of, good-draw-at, good-fill-at, job_of, first-of-lent, fill_number, fill_done, filled};
+ghost use Rattle.fill.specs.Named.{lent_of};
 
 use crate::judge::judge_list;
 use crate::rows::{Job, fill_rows};
@@ -19,7 +23,10 @@ use row::Rows;
 use screen::{Screen, judge_screen};
 use segments::scene_of;
 use sizes::answers::Refusal;
-use sizes::{HANDLE_END, LAST_ID, MOST_ATTRS, MOST_RECORDS, PAINT_TABLE, PANEL_END, THREAD_END};
+use sizes::{
+    HANDLE_END, LAST_ID, MOST_ATTRS, MOST_RECORDS, PAINT, PAINT_TABLE, PANEL_END, SEGMENT,
+    THREAD_END,
+};
 
 pub mod judge;
 pub mod rows;
@@ -49,7 +56,7 @@ fn is_good_paint(paints: &[u32], paint: usize) -> bool
     requires { paint < length paints.now / 4 }
     ensures { result ≡ good-paint (paint-at paints.now paint) }
 {
-    paints[4 * paint] <= 1 && paints[4 * paint + 1] < HANDLE_END
+    paints[PAINT * paint] <= 1 && paints[PAINT * paint + 1] < HANDLE_END
 }
 
 // The draw's own fields, and the paint that it names (answer 4).
@@ -57,8 +64,8 @@ fn is_good_draw(paints: &[u32], segments: &[u32], draw: Draw) -> bool
     ensures { result ≡ good-draw-at paints.now segments.now draw }
 {
     draw.thread < THREAD_END
-        && is_range(draw.start, draw.end, segments.len() / 5)
-        && (draw.paint as usize) < paints.len() / 4
+        && is_range(draw.start, draw.end, segments.len() / SEGMENT)
+        && (draw.paint as usize) < paints.len() / PAINT
         && is_good_paint(paints, draw.paint as usize)
         && draw.blend.is_good()
         && draw.mask < HANDLE_END
@@ -69,7 +76,7 @@ fn is_good_draw(paints: &[u32], segments: &[u32], draw: Draw) -> bool
 fn is_good_fill(paints: &[u32], segments: &[u32], draw: Draw) -> bool
     ensures { result ≡ good-fill-at paints.now segments.now draw }
 {
-    paints.len() / 4 <= MOST_RECORDS && is_good_draw(paints, segments, draw)
+    paints.len() / PAINT <= MOST_RECORDS && is_good_draw(paints, segments, draw)
 }
 
 /// Rule 6: whether the solid segments of a draw may become depth fills. No layer is open, the blend is the default, there is no mask, and the paint is opaque.
@@ -78,12 +85,17 @@ pub fn is_eligible(layers: u32, paints: &[u32], draw: Draw) -> bool
     requires { draw.paint < length paints.now / 4 }
     ensures { result ≡ eligible (eqb layers 0) (draw-paint (paints-of paints.now) (draw-of draw)) (draw-of draw) }
 {
-    layers == 0 && draw.blend.is_default() && draw.mask == 0 && paints[4 * draw.paint as usize] == 1
+    layers == 0
+        && draw.blend.is_default()
+        && draw.mask == 0
+        && paints[PAINT * draw.paint as usize] == 1
 }
 
 // What the segments of the draw have in common.
 fn job_of(screen: Screen, paints: &[u32], draw: Draw) -> Job
-    requires { Passing screen × (draw.paint < length paints.now / 4) }
+    requires viewport { good_viewport (box_of screen.viewport) ≡ true }
+    requires numbers { good_screen screen ≡ true }
+    requires paint { draw.paint < length paints.now / 4 }
     ensures { result ≡ job_of screen paints.now draw }
 {
     Job {
@@ -98,27 +110,34 @@ fn job_of(screen: Screen, paints: &[u32], draw: Draw) -> Job
     }
 }
 
-// What the screen and the lengths of what is lent say: 2, then 1, then 4.
+// What the screen and the lengths of what is lent say: BadViewport, then BadArena, then BadRecord.
 #[tactic(auto, unfolding(crate::specs::Fills::first_number))]
 fn judge_lent(
     screen: Screen,
-    rows: usize,
-    render: usize,
-    fills: usize,
-    table: usize,
-    paints: usize,
-    segments: usize,
+    rows: &Rows<'_>,
+    paint_attrs: &[u32],
+    paints: &[u32],
+    segments: &[u32],
 ) -> Result<(), Refusal>
-    ensures { answer_number result ≡ first_number screen rows render fills table paints segments }
+    ensures { answer_number result ≡ first-of-lent (lent_of screen rows.now paint_attrs.now) paints.now segments.now }
 {
-    judge_screen(screen, rows, render, fills)?;
-    if table != PAINT_TABLE || paints % 4 != 0 || segments % 5 != 0 {
+    judge_screen(
+        screen,
+        rows.state.len(),
+        rows.render.len(),
+        rows.fills.len(),
+    )?;
+    if paint_attrs.len() != PAINT_TABLE
+        || paints.len() % PAINT != 0
+        || segments.len() % SEGMENT != 0
+    {
         return Err(Refusal::BadRecord);
     }
     Ok(())
 }
 
-// A fill, before anything is done: 2, 1, 4, 5, 8, 9 if there is a segment, 10, 11. It gives what its segments have in common.
+// A fill, before anything is done: BadViewport, BadArena, BadRecord, BadOrder, Ids, FullAttrs if there is a segment, FullRow, FullDepth, in this order. It
+// gives what its segments have in common.
 fn judge_fill(
     screen: Screen,
     rows: &Rows<'_>,
@@ -128,17 +147,10 @@ fn judge_fill(
     draw: Draw,
 ) -> Result<Job, Refusal>
     ensures job { IfOk result (λ j. j ≡ job_of screen paints.now draw) }
-    ensures number { answer_number result ≡ fill_number (lent screen (all-held rows.now) paint_attrs.now) paints.now segments.now draw }
+    ensures number { answer_number result
+        ≡ fill_number (lent_of screen rows.now paint_attrs.now) paints.now segments.now draw }
 {
-    judge_lent(
-        screen,
-        rows.state.len(),
-        rows.render.len(),
-        rows.fills.len(),
-        paint_attrs.len(),
-        paints.len(),
-        segments.len(),
-    )?;
+    judge_lent(screen, rows, paint_attrs, paints, segments)?;
     if !is_good_fill(paints, segments, draw) {
         return Err(Refusal::BadRecord);
     }
@@ -157,8 +169,8 @@ fn judge_fill(
     Ok(job)
 }
 
-/// Rules 3 to 7. The lists are lent as words, four a paint and five a segment. BadViewport, BadArena, BadRecord, BadOrder, Ids, FullAttrs, FullRow or FullDepth:
-/// refused, the screen and every lent word stay.
+/// Rules 3 to 7. The lists are lent as words, PAINT a paint and SEGMENT a segment. BadViewport, BadArena, BadRecord, BadOrder, Ids, FullAttrs, FullRow or
+/// FullDepth: refused, the screen and every lent word stay. What is done is what the rules' `plan-fill` says.
 pub fn fill(
     screen: &mut Screen,
     rows: &mut Rows<'_>,
@@ -168,8 +180,14 @@ pub fn fill(
     draw: Draw,
 ) -> Result<(), Refusal>
     ensures same { SameRows rows.old rows.new }
-    ensures filled { answer (answer_number result) (lent screen.new (all-held rows.new) paint_attrs.new)
-        ≡ filled (lent screen.old (all-held rows.old) paint_attrs.old) paints.now segments.now draw }
+    ensures refused { answer_number result
+        ≡ fill_number (lent_of screen.old rows.old paint_attrs.old) paints.now segments.now draw }
+    ensures unchanged { OnErr result
+        (lent_of screen.new rows.new paint_attrs.new ≡ lent_of screen.old rows.old paint_attrs.old) }
+    ensures done { OnOk result (lent_of screen.new rows.new paint_attrs.new
+        ≡ fill_done (lent_of screen.old rows.old paint_attrs.old) paints.now segments.now draw) }
+    ensures filled { answer (answer_number result) (lent_of screen.new rows.new paint_attrs.new)
+        ≡ filled (lent_of screen.old rows.old paint_attrs.old) paints.now segments.now draw }
 {
     let job = judge_fill(*screen, rows, paint_attrs, paints, segments, draw)?;
     if draw.start == draw.end {

@@ -1,11 +1,5 @@
 -- The tests in the rules' order; the list is judged in one pass together with the rows that it comes to.
-<<<<<<< HEAD
-use mathlib.Core.Path.{◌≡◌, sym, ◌∙◌}
-use mathlib.Core.Bool.{Bool}
-use Prim.Native.Nat.{ℕ}
-=======
-use Rattle.std.proofs.Common.{sym, ◌∙◌}
->>>>>>> main
+use Rattle.std.proofs.Common.{◌≡◌, sym, ◌∙◌, Bool, ℕ}
 use Rattle.std.proofs.lemmas.Result.{err_from_is_err_and}
 use Rattle.sizes.proofs.Refusals.{not_done}
 use Rattle.row.specs.Rows.{all-held}
@@ -27,15 +21,15 @@ pub returns-then-not-is_good_fill-clause-number : goal.returns-then-not-is_good_
 returns-then-not-is_good_fill-clause-number c = bad-draw _ _ _ _ (sym c.in_ok-judge_lent.ensures) (fill-told c.args.paints.now c.args.segments.now c.args.draw c.is_good_fill.ensures c.if-not-is_good_fill.true)
 
 pub job_of-job-requires : goal.job_of-job-requires
-job_of-job-requires c = (
-  passing _ _ _ c.args.draw (sym c.in_ok-judge_lent.ensures),
-  (draw-facts c.args.paints.now c.args.segments.now c.args.draw (fill-told c.args.paints.now c.args.segments.now c.args.draw c.is_good_fill.ensures c.if-not-is_good_fill.false)).paint,
-)
+job_of-job-requires c =
+    let p = passing _ _ _ c.args.draw (sym c.in_ok-judge_lent.ensures) in
+    record { viewport = p.view; numbers = p.screen; paint = (draw-facts c.args.paints.now c.args.segments.now c.args.draw (fill-told c.args.paints.now c.args.segments.now c.args.draw c.is_good_fill.ensures c.if-not-is_good_fill.false)).paint }
 
 pub judge_list-requires : goal.judge_list-requires
 judge_list-requires c =
     let l = lent c.args.screen (all-held c.args.rows.now) c.args.paint_attrs.now in
-    rw c.job_of-job.ensures (list-asked l c.args.paints.now c.args.segments.now c.args.draw (sym c.in_ok-judge_lent.ensures) (fill-told c.args.paints.now c.args.segments.now c.args.draw c.is_good_fill.ensures c.if-not-is_good_fill.false))
+    let asked = list-asked l c.args.paints.now c.args.segments.now c.args.draw (sym c.in_ok-judge_lent.ensures) (fill-told c.args.paints.now c.args.segments.now c.args.draw c.is_good_fill.ensures c.if-not-is_good_fill.false) in
+    rw c.job_of-job.ensures (record { rows = asked.0; range = asked.1; list = asked.2 })
 
 pub returns-in_err-fault-clause-number : goal.returns-in_err-fault-clause-number
 returns-in_err-fault-clause-number c =

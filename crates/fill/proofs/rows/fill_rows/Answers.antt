@@ -32,7 +32,7 @@ loop-i-preserved c =
     let held = c.loop-i.invariant.1 in
     let r = c.fill_run-i.ensures in (
       search rules,
-      after_run held _ r.on.0 r.on.1 _ (long_after _ _ _ held.rest.fits.arenas.long (search rules) (search rules) (search rules))
+      after_run held _ r.after.0 r.after.1 _ (long_after _ _ _ held.rest.fits.arenas.long (search rules) (search rules) (search rules))
           (rw (rows-counted _ _ held.rest.fits.arenas.long.state) at r.rows),
     )
 

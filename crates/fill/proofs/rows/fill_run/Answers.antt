@@ -27,16 +27,16 @@ pub returns : goal.returns
 returns c =
     let r = c.push_run.ensures in
     record {
-      on = (r.on.0, r.on.1);
+      after = r.after;
       rows =
           run-back c.requires.ready c.requires.some _ (rw c.segment_at-first.ensures at c.in-Some.ensures) (ap (λ (s : Segment). s.row) c.segment_at-first.ensures)
-          c.place_of-p.ensures _ r.on.0 r.on.1 r.on.2 _ _ _ r.row;
+          c.place_of-p.ensures _ r.after.0 r.after.1 r.on _ _ _ r.row;
     }
 
 pub returns-in_default : goal.returns-in_default
 returns-in_default c =
     record {
-      on = (omega arith, omega (arith, c.requires.some));
+      after = (omega arith, omega (arith, c.requires.some));
       rows = nothing_put c.args.job c.args.segs.now c.args.start _ (rw c.segment_at-first.ensures at c.in_default.ensures);
     }
 

@@ -1,6 +1,6 @@
 //! One row over its own words (bucketer.rs, RowState). Parts: each function has a `requires`, which its callers have judged. They know one row and not its place
 //! on the screen.
-ghost use Rattle.std.specs.Prelude.{◌≡◌, ◌+◌, ◌*◌, ◌≤◌, ◌<◌, length, get_or, set};
+ghost use Rattle.std.specs.Prelude.{◌≡◌, ◌≤◌, ◌<◌, length, get_or};
 ghost use Rattle.sizes.specs.Sizes.{tile-end, most-layers, most-room, row-size, renders-at, levels-at};
 ghost use Rattle.rules.specs.Spans.{span};
 ghost use Rattle.rules.specs.Commands.{span-word, paint-fill, layer-fill};
@@ -10,10 +10,10 @@ ghost use Rattle.sizes.specs.Widths.{bucket-tiles};
 ghost use Rattle.cmd.specs.Commands.{command};
 ghost use Rattle.rules.specs.Rows.{adds};
 ghost use Rattle.row.specs.Cmds.{Short, ShortCmd};
-ghost use Rattle.row.specs.Words.{words, put4, hull_word, include_span, include-adds, put_command, put_buf, end_buf, put_depth, Room, Ends};
+ghost use Rattle.row.specs.Words.{words, hull_word, include_span, include-adds, put_command, put_buf, end_buf, put_depth, Room, Ends};
 ghost use Rattle.row.specs.Row.{held, Same};
 
-use cmd::command::{CmdWords, Fill, RenderCmd};
+use cmd::command::{Fill, RenderCmd, SpanWord};
 use cmd::depth_fill::DepthFill;
 use sizes::width::Width;
 use sizes::{DEPTHS, END, FIRST, LARGEST, LEVEL, LEVEL_BASE, LEVELS, RENDERS};
@@ -34,9 +34,10 @@ fn hull_word(tag: u32, span: u32, first: u32, end: u32) -> u32
     ensures { result ≡ hull_word tag span first «end» }
 {
     if tag == 6 {
-        (span / 65536).min(first) * 65536 + (span % 65536).max(end)
+        let union = SpanWord(span);
+        SpanWord::of(union.first().min(first), union.end().max(end)).0
     } else {
-        first * 65536 + end
+        SpanWord::of(first, end).0
     }
 }
 
@@ -55,26 +56,6 @@ fn include_current_span(state: &mut [u32], first: u32, end: u32)
     let span = state[at + 2];
     state[at + 1] = 6;
     state[at + 2] = hull_word(tag, span, first, end);
-}
-
-// The four words of command n.
-fn put_four(s: &mut [u32], n: u32, a: u32, b: u32, x: u32, y: u32)
-    requires { 4 * n + 4 ≤ length s.old }
-    ensures { s.new ≡ put4 s.old n a b x y }
-{
-    let at = 4 * n as usize;
-    s[at] = a;
-    s[at + 1] = b;
-    s[at + 2] = x;
-    s[at + 3] = y;
-}
-
-// A command's four words, as command n.
-fn put_words(s: &mut [u32], n: u32, words: CmdWords)
-    requires { 4 * n + 4 ≤ length s.old }
-    ensures { s.new ≡ put4 s.old n words.tag words.span words.alpha words.attrs_idx }
-{
-    put_four(s, n, words.tag, words.span, words.alpha, words.attrs_idx);
 }
 
 // Rule 10: a fill's span counts for the innermost level; a buffer has none.
@@ -100,7 +81,7 @@ impl Row<'_> {
     {
         let n = self.state[RENDERS];
         include_fill(self.state, cmd);
-        put_words(self.render, n, cmd.words());
+        cmd.words().put(self.render, n as usize);
         self.state[RENDERS] = n + 1;
     }
 
@@ -118,7 +99,7 @@ impl Row<'_> {
     }
 
     /// Rule 5 (push_buf): a PushBuf, one level more. Its span is none so far.
-    #[tactic(auto, using(crate::proofs::WordsLaws::buf_room), unfolding(crate::specs::Words::put_buf))]
+    #[tactic(auto, using(crate::proofs::WordsLaws::buf_room), unfolding(crate::specs::Words::put_buf, rules::specs::Commands::command_words))]
     pub fn push_buf(&mut self)
         requires { (get_or self.old.state.now levels-at 0 < most-layers) × Room (held self.old) (put_buf (held self.old)) }
         ensures same { Same self.old self.new }
@@ -126,7 +107,9 @@ impl Row<'_> {
     {
         let n = self.state[RENDERS];
         let k = self.state[LEVELS] + 1;
-        put_four(self.render, n, 5, 0, 0, 0);
+        RenderCmd::PushBuf(None)
+            .words()
+            .put(self.render, n as usize);
         let at = LEVEL_BASE + LEVEL * k as usize;
         self.state[at] = n;
         self.state[at + 1] = 5;
@@ -136,7 +119,7 @@ impl Row<'_> {
     }
 
     /// Rules 9 and 10 (pop_buf): a PopBuf; the innermost level's PushBuf gets its span, and the level's words become 0.
-    #[tactic(auto, using(crate::proofs::WordsLaws::end_room), unfolding(crate::specs::Words::end_buf))]
+    #[tactic(auto, using(crate::proofs::WordsLaws::end_room), unfolding(crate::specs::Words::end_buf, rules::specs::Commands::command_words))]
     pub fn pop_buf(&mut self)
         requires { Ends (held self.old) × Room (held self.old) (end_buf (held self.old)) }
         ensures same { Same self.old self.new }
@@ -148,7 +131,7 @@ impl Row<'_> {
         let p = 4 * self.state[at] as usize;
         self.render[p] = self.state[at + 1];
         self.render[p + 1] = self.state[at + 2];
-        put_four(self.render, n, 7, 0, 0, 0);
+        RenderCmd::PopBuf.words().put(self.render, n as usize);
         self.state[at] = 0;
         self.state[at + 1] = 0;
         self.state[at + 2] = 0;
@@ -180,7 +163,7 @@ impl Row<'_> {
         self.state[LARGEST] = largest;
         self.state[DEPTHS] = n + 1;
         let at = 2 * n as usize;
-        self.fills[at] = two.span;
+        self.fills[at] = two.span.0;
         self.fills[at + 1] = two.attrs_idx;
     }
 }

@@ -11,9 +11,9 @@ ghost use Rattle.paint.specs.Reading.{attrs_of};
 use crate::command::fills::{paint_depth, paint_fill};
 use crate::command::reading::Row;
 use crate::pieces::{Stepped, advance};
-use crate::shown::is_good_summary;
 use cmd::command::{CmdWords, RenderCmd};
 use cmd::depth_fill::DepthWords;
+use row::judge::is_good_summary;
 use sizes::answers::Refusal;
 use sizes::{DEPTHS, MOST_LAYERS, RENDERS};
 
@@ -43,10 +43,7 @@ fn step_depth(
     requires painting_len { (length painting.old ≡ 2) × (word painting.old 0 < 4294967295) }
     ensures { out (painted_of result) depth.new painting.new list.new ≡ settled (depth-step (bucket-tiles row.now.width) (attrs_of row.now.attrs) (painter-at depth.old painting.old) (depth-fill-at (length depth.old) row.now.fills.now k)) depth.old painting.old list.old }
 {
-    let words = DepthWords {
-        span: row.fills[2 * k],
-        attrs_idx: row.fills[2 * k + 1],
-    };
+    let words = DepthWords::at(row.fills, k);
     let fill = words.read(depth.len() as u32).ok_or(Refusal::BadRecord)?;
     let mark = row.attrs.paint(fill.attrs_idx).ok_or(Refusal::BadRecord)?;
     paint_depth(depth, painting, fill, mark, list, row.width)
@@ -90,21 +87,6 @@ fn step_command(
     }
 }
 
-// The command at place k, if its words stand for one.
-fn read_command(render: &[u32], k: usize) -> Option<RenderCmd>
-    requires { 4 * k + 4 ≤ length render.now }
-    ensures { option_map command result ≡ command-at render.now k }
-{
-    let at = 4 * k;
-    let words = CmdWords {
-        tag: render[at],
-        span: render[at + 1],
-        alpha: render[at + 2],
-        attrs_idx: render[at + 3],
-    };
-    words.read()
-}
-
 /// One step of a row: its depth fills last to first, then its commands in order, then finished, as often as asked. `painting` has its two words: steps done, and
 /// nesting. BadRecord, 4, for words that are no row's; NoRoom, 14.
 pub fn step_row(
@@ -128,7 +110,8 @@ pub fn step_row(
     }
     let k = steps - depths;
     if k < renders {
-        let cmd = read_command(row.render, k as usize).ok_or(Refusal::BadRecord)?;
+        let words = CmdWords::at(row.render, k as usize);
+        let cmd = words.read().ok_or(Refusal::BadRecord)?;
         return step_command(row, cmd, depth, painting, list);
     }
     Ok(Stepped {

@@ -24,16 +24,16 @@ pub returns-in_err-cmd : goal.returns-in_err-cmd
 returns-in_err-cmd c =
     let p = err_from_is_err_and c.from_residual.result c.from_residual.ensures.1 in
     let n = ok_none _ _ _ c.in_err-cmd.ensures.value in
-    rw (p.1, p.2, n.1) (then_unread _ (attrs_of c.args.row.now.attrs) _ _ _ _ _ _ (sym c.is_forged.ensures ∙ c.if-is_forged.false) c.if-steps-depths.false c.if-k-renders.true _ c.read_command.ensures n.0)
+    rw (p.1, p.2, n.1) (then_unread _ (attrs_of c.args.row.now.attrs) _ _ _ _ _ _ (sym c.is_forged.ensures ∙ c.if-is_forged.false) c.if-steps-depths.false c.if-k-renders.true _ (rw c.at-words.ensures at c.read.ensures) n.0)
 
 pub step_command-requires : goal.step_command-requires
 step_command-requires c =
     let k = counts c.args.row.now.state.now c.args.row.now.render.now c.args.row.now.fills.now c.args.painting.now (sym c.is_forged.ensures ∙ c.if-is_forged.false) in
-    (command_good c.args.row.now.render.now (word c.args.painting.now 0 - word c.args.row.now.state.now 1) _ _ c.read_command.ensures (ok_some _ _ _ c.in_ok-cmd.ensures.value), c.requires.0, c.requires.1, omega (arith, k.renders, k.depths, k.steps))
+    (command_good c.args.row.now.render.now (word c.args.painting.now 0 - word c.args.row.now.state.now 1) _ _ (rw c.at-words.ensures at c.read.ensures) (ok_some _ _ _ c.in_ok-cmd.ensures.value), c.requires.0, c.requires.1, omega (arith, k.renders, k.depths, k.steps))
 
 pub returns-then-k-renders : goal.returns-then-k-renders
 returns-then-k-renders c =
-    then_command _ (attrs_of c.args.row.now.attrs) _ _ _ _ _ _ (sym c.is_forged.ensures ∙ c.if-is_forged.false) c.if-steps-depths.false c.if-k-renders.true _ c.read_command.ensures _ _
+    then_command _ (attrs_of c.args.row.now.attrs) _ _ _ _ _ _ (sym c.is_forged.ensures ∙ c.if-is_forged.false) c.if-steps-depths.false c.if-k-renders.true _ (rw c.at-words.ensures at c.read.ensures) _ _
     (ok_some _ _ _ c.in_ok-cmd.ensures.value) c.step_command.ensures
 
 pub returns : goal.returns

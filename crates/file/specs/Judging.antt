@@ -9,14 +9,8 @@ use Rattle.rules.specs.Spans.{good-range}
 use Rattle.rules.specs.Inputs.{Draw, draw-segments, Clip, good-clip, good-filter, good-handle, good-thread, good-panel}
 use Rattle.rules.specs.Recording.{Recording, LayerRec, Node, zero-clip, zero-filter, good-records, good-order}
 
-abbrev pub word_from : List ℕ → ℕ → ℕ
-word_from ws p = get_or ws p 0
-
 unfoldable pub box_from : List ℕ → ℕ → Box
 box_from ws p = box (get_or ws p 0) (get_or ws (p + 1) 0) (get_or ws (p + 2) 0) (get_or ws (p + 3) 0)
-
-abbrev pub is_zero : ℕ → Bool
-is_zero x = eqb x 0
 
 -- a draw, its own paint's fields left out
 unfoldable pub draw_fields : ℕ → ℕ → Draw → Bool

@@ -5,51 +5,20 @@ ghost use Rattle.sizes.specs.Refusals.{answer_number};
 ghost use Rattle.rules.specs.Lists.{every, slice};
 ghost use Rattle.rules.specs.Segments.{good-segment, ordered};
 ghost use Rattle.rules.specs.Spans.{good-range};
-ghost use Rattle.rules.specs.Inputs.{good-paint, good-pixmap, good-filter};
-ghost use Rattle.rules.specs.Recording.{recording, pixmap-of, good-records, good-order};
-ghost use Rattle.rect.specs.Rects.{box_of};
+ghost use Rattle.rules.specs.Inputs.{good-paint};
+ghost use Rattle.rules.specs.Recording.{recording, good-records, good-order};
 ghost use Rattle.segments.specs.Segs.{segs-of};
 ghost use Rattle.file.specs.Each.{each};
 ghost use Rattle.file.specs.Layouts.{Fits, sections_at};
-ghost use Rattle.file.specs.Places.{paint_from, segment_from, draw_from, clip_from, filter_from, layer_from, node_from};
-ghost use Rattle.file.specs.Judging.{box_from, word_from, is_zero, draw_fields, clip_fields, clip_part, filter_part, layer_fields, node_fields, draw_range, clip_range, draw_ordered, clip_ordered, judged};
+ghost use Rattle.file.specs.Places.{paint_from, segment_from, draw_from, layer_from, node_from};
+ghost use Rattle.file.specs.Judging.{draw_fields, layer_fields, node_fields, draw_range, clip_range, draw_ordered, clip_ordered, judged};
 ghost use Rattle.file.specs.Counted.{counted};
 
 use crate::form::{Layout, Section};
-use cmd::blend::Blend;
-use rect::Rect;
+use crate::records::{draw_at, is_good_range, layer_at, node_at};
 use segments::{judge_segments, segment_at};
 use sizes::answers::Refusal;
-use sizes::{DRAW, HANDLE_END, LAYER, NODE, PAINT, SEGMENT, THREAD_END};
-
-// The box whose four words stand from a place on: x0, y0, x1, y1, in pixels.
-#[tactic(auto, unfolding(crate::specs::Judging::box_from))]
-pub fn box_at(w: &[u32], at: usize) -> Rect
-    requires { at + 4 ≤ length w.now }
-    ensures { box_of result ≡ box_from w.now at }
-{
-    Rect {
-        x0: w[at],
-        y0: w[at + 1],
-        x1: w[at + 2],
-        y1: w[at + 3],
-    }
-}
-
-// A range of a list of n.
-fn is_good_range(start: u32, end: u32, n: usize) -> bool
-    ensures { result ≡ good-range start «end» n }
-{
-    start <= end && end as usize <= n
-}
-
-// n words from place a on are all 0.
-fn zeros(w: &[u32], a: usize, n: usize) -> bool
-    requires { a + n ≤ length w.now }
-    ensures { result ≡ every is_zero (each word_from 1 w.now a n) }
-{
-    w[a..a + n].iter().all(|word| *word == 0)
-}
+use sizes::{DRAW, HANDLE_END, LAYER, NODE, PAINT, SEGMENT};
 
 // The paint at a place.
 #[tactic(auto, unfolding(crate::specs::Places::paint_from))]
@@ -58,116 +27,6 @@ fn is_good_paint(w: &[u32], at: usize) -> bool
     ensures { result ≡ good-paint (paint_from w.now at) }
 {
     w[at] <= 1 && w[at + 1] < HANDLE_END
-}
-
-// The draw at a place, in a file of so many paints and segments.
-#[tactic(auto, unfolding(crate::specs::Judging::draw_fields, crate::specs::Places::draw_from))]
-fn is_good_draw(w: &[u32], at: usize, paints: usize, segments: usize) -> bool
-    requires { at + 7 ≤ length w.now }
-    ensures { result ≡ draw_fields paints segments (draw_from w.now at) }
-{
-    let blend = Blend {
-        mix: w[at + 4],
-        compose: w[at + 5],
-    };
-    w[at] < THREAD_END
-        && is_good_range(w[at + 1], w[at + 2], segments)
-        && (w[at + 3] as usize) < paints
-        && blend.is_good()
-        && w[at + 6] < HANDLE_END
-}
-
-// The clip of the layer at a place.
-#[tactic(auto, unfolding(crate::specs::Judging::clip_fields, crate::specs::Places::clip_from))]
-fn is_good_clip(w: &[u32], at: usize, segments: usize) -> bool
-    requires { at + 22 ≤ length w.now }
-    ensures { result ≡ clip_fields segments (clip_from w.now at) }
-{
-    let bounds = Rect {
-        x0: w[at + 8],
-        y0: w[at + 9],
-        x1: w[at + 10],
-        y1: w[at + 11],
-    };
-    bounds.is_good()
-        && w[at + 12] <= w[at + 13]
-        && w[at + 14] < THREAD_END
-        && w[at + 13] as usize <= segments
-}
-
-// A present clip, or fields of 0.
-fn is_good_clip_part(w: &[u32], at: usize, segments: usize) -> bool
-    requires { at + 22 ≤ length w.now }
-    ensures { result ≡ clip_part segments (layer_from w.now at) }
-{
-    if w[at + 7] == 1 {
-        is_good_clip(w, at, segments)
-    } else {
-        zeros(w, at + 8, 7)
-    }
-}
-
-// The word of a picture is its handle + 1, 0 where there is none.
-#[tactic(auto, using(crate::proofs::Fields::picture))]
-fn is_good_picture(word: u32) -> bool
-    ensures { result ≡ good-pixmap (pixmap-of word) }
-{
-    word <= HANDLE_END
-}
-
-// The filter of the layer at a place.
-#[tactic(auto, unfolding(crate::specs::Places::filter_from))]
-fn is_good_filter(w: &[u32], at: usize) -> bool
-    requires { at + 22 ≤ length w.now }
-    ensures { result ≡ good-filter (filter_from w.now at) }
-{
-    let dest = Rect {
-        x0: w[at + 16],
-        y0: w[at + 17],
-        x1: w[at + 18],
-        y1: w[at + 19],
-    };
-    is_good_picture(w[at + 15]) && dest.is_good_dest() && w[at + 20] <= 32768 && w[at + 21] <= 32768
-}
-
-// A filter layer's filter, or fields of 0.
-fn is_good_filter_part(w: &[u32], at: usize) -> bool
-    requires { at + 22 ≤ length w.now }
-    ensures { result ≡ filter_part (layer_from w.now at) }
-{
-    if w[at] == 1 {
-        is_good_filter(w, at)
-    } else {
-        zeros(w, at + 15, 7)
-    }
-}
-
-// The layer at a place, in a file of so many nodes and segments.
-#[tactic(auto, unfolding(crate::specs::Judging::layer_fields, crate::specs::Places::layer_from))]
-fn is_good_layer(w: &[u32], at: usize, nodes: usize, segments: usize) -> bool
-    requires { at + 22 ≤ length w.now }
-    ensures { result ≡ layer_fields nodes segments (layer_from w.now at) }
-{
-    let blend = Blend {
-        mix: w[at + 3],
-        compose: w[at + 4],
-    };
-    w[at] <= 1
-        && is_good_range(w[at + 1], w[at + 2], nodes)
-        && blend.is_good()
-        && w[at + 6] < HANDLE_END
-        && w[at + 7] <= 1
-        && is_good_clip_part(w, at, segments)
-        && is_good_filter_part(w, at)
-}
-
-// The node at a place, in a file of so many draws and layers.
-#[tactic(auto, unfolding(crate::specs::Judging::node_fields, crate::specs::Places::node_from))]
-fn is_good_node(w: &[u32], at: usize, draws: usize, layers: usize) -> bool
-    requires { at + 3 ≤ length w.now }
-    ensures { result ≡ node_fields draws layers (node_from w.now at) }
-{
-    is_good_range(w[at], w[at + 1], draws) && w[at + 2] as usize <= layers
 }
 
 fn good_paints(w: &[u32], paints: Section) -> bool
@@ -189,21 +48,21 @@ fn good_draws(w: &[u32], draws: Section, paints: usize, segments: usize) -> bool
     requires { draws.at + 7 * draws.count ≤ length w.now }
     ensures { result ≡ every (draw_fields paints segments) (each draw_from 7 w.now draws.at draws.count) }
 {
-    (0..draws.count).all(|i| is_good_draw(w, draws.at + DRAW * i, paints, segments))
+    (0..draws.count).all(|i| draw_at(w, draws.at + DRAW * i).is_good(paints, segments))
 }
 
 fn good_layers(w: &[u32], layers: Section, nodes: usize, segments: usize) -> bool
     requires { layers.at + 22 * layers.count ≤ length w.now }
     ensures { result ≡ every (layer_fields nodes segments) (each layer_from 22 w.now layers.at layers.count) }
 {
-    (0..layers.count).all(|i| is_good_layer(w, layers.at + LAYER * i, nodes, segments))
+    (0..layers.count).all(|i| layer_at(w, layers.at + LAYER * i).is_good(nodes, segments))
 }
 
 fn good_nodes(w: &[u32], nodes: Section, draws: usize, layers: usize) -> bool
     requires { nodes.at + 3 * nodes.count ≤ length w.now }
     ensures { result ≡ every (node_fields draws layers) (each node_from 3 w.now nodes.at nodes.count) }
 {
-    (0..nodes.count).all(|i| is_good_node(w, nodes.at + NODE * i, draws, layers))
+    (0..nodes.count).all(|i| node_at(w, nodes.at + NODE * i).is_good(draws, layers))
 }
 
 // Every record of a file, also one that no walk reaches.

@@ -16,8 +16,9 @@ ghost use Rattle.text_programs.specs.Programs.{first};
 ghost use Rattle.text_programs.specs.Tables.{Long};
 ghost use Rattle.text_why.specs.Questions.{question-of, read_by, ToldOf, answer-most};
 
-use file::form::{read_form, words_of_bytes};
-use file::judge::box_at;
+use file::form::{VIEWPORT, read_form, words_of_bytes};
+use file::recording::Recording;
+use file::records::box_at;
 use screen::{Lent, Setup};
 use sizes::LINE_TABLE;
 use sizes::answers::Refusal;
@@ -25,7 +26,6 @@ use text::lines::Refused;
 use text::{Out, Print, print_first};
 use text_programs::list_file;
 use tile::{Asked, Reason, Tale, is_off_screen, reason_of, tell_tile};
-use walk::Recording;
 
 // One attribute, or every attribute.
 #[derive(Clone, Copy)]
@@ -154,7 +154,7 @@ fn tell_words(
     ensures { ToldOf (setup-of setup) words.now row tile result lines.new }
 {
     let layout = read_form(words)?;
-    let viewport = box_at(words, 1).viewport_in(setup.mode)?;
+    let viewport = box_at(words, VIEWPORT).viewport_in(setup.mode)?;
     if is_off_screen(viewport, row, tile) {
         return Err(Refusal::BadRun);
     }

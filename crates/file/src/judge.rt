@@ -1,5 +1,5 @@
-// The recording file's records (answer 4) and their order (answer 5). Every record is judged, also one that no walk reaches. Parts: a caller has read the form.
-// `at` is a record's place among the file's words.
+//! The recording file's records (answer 4) and their order (answer 5). Every record is judged, also one that no walk reaches. Parts: a caller has read the form.
+//! `at` is a record's place among the file's words.
 ghost use Rattle.std.specs.Prelude.{◌≡◌, true, ◌+◌, ◌*◌, ◌/◌, ◌≤◌, length};
 ghost use Rattle.sizes.specs.Refusals.{answer_number};
 ghost use Rattle.rules.specs.Lists.{every, slice};
@@ -18,7 +18,40 @@ use crate::form::{Layout, Section};
 use crate::records::{draw_at, is_good_range, layer_at, node_at};
 use segments::{judge_segments, segment_at};
 use sizes::answers::Refusal;
+<<<<<<< HEAD
 use sizes::{DRAW, HANDLE_END, LAYER, NODE, PAINT, SEGMENT};
+=======
+use sizes::{DRAW, HANDLE_END, LAYER, NODE, PAINT, SEGMENT, THREAD_END};
+
+/// The box whose four words stand from a place on: x0, y0, x1, y1, in pixels.
+#[tactic(auto, unfolding(crate::specs::Judging::box_from))]
+pub fn box_at(w: &[u32], at: usize) -> Rect
+    requires { at + 4 ≤ length w.now }
+    ensures { box_of result ≡ box_from w.now at }
+{
+    Rect {
+        x0: w[at],
+        y0: w[at + 1],
+        x1: w[at + 2],
+        y1: w[at + 3],
+    }
+}
+
+// A range of a list of n.
+fn is_good_range(start: u32, end: u32, n: usize) -> bool
+    ensures { result ≡ good-range start «end» n }
+{
+    start <= end && end as usize <= n
+}
+
+// n words from place a on are all 0.
+fn zeros(w: &[u32], a: usize, n: usize) -> bool
+    requires { a + n ≤ length w.now }
+    ensures { result ≡ every is_zero (each word_from 1 w.now a n) }
+{
+    w[a..a + n].iter().all(|word| *word == 0)
+}
+>>>>>>> main
 
 // The paint at a place.
 #[tactic(auto, unfolding(crate::specs::Places::paint_from))]
@@ -127,7 +160,7 @@ fn good_order(w: &[u32], l: Layout) -> bool
     draws_ordered(w, l.draws, list) && clips_ordered(w, l.layers, list)
 }
 
-// BadRecord, 4, if a record is bad, then BadOrder, 5, if a list is out of order.
+/// BadRecord, 4, if a record is bad, then BadOrder, 5, if a list is out of order.
 pub fn judge_records(w: &[u32], l: Layout) -> Result<(), Refusal>
     requires { Fits w.now l }
     ensures { answer_number result ≡ judged (recording (sections_at l w.now)) }

@@ -1,4 +1,4 @@
-// The calls of reset, of the building steps and of a recording. `state` has the screen's 17 words; tables are lent as `Lent` names them.
+//! The calls of reset, of the building steps and of a recording. `state` has the screen's 17 words; tables are lent as `Lent` names them.
 ghost use Rattle.std.specs.Prelude.{◌≡◌};
 ghost use Rattle.rules.specs.Answers.{answer};
 ghost use Rattle.row.specs.Words.{words};
@@ -21,7 +21,7 @@ use screen::{Lent, reset};
 use walk::bucket_recording;
 use walk::read::{float_of, pattern_of};
 
-// Rule 1: a fresh screen of a viewport, in pixels, in a setup. Words that ask for no setup are refused at once, by 2 or 4.
+/// Rule 1: a fresh screen of a viewport, in pixels, in a setup. Words that ask for no setup are refused at once, by 2 or 4.
 #[unsafe(no_mangle)]
 #[tactic(auto, using(crate::proofs::Words::long, crate::proofs::HostAsked::reset_unasked))]
 pub extern "C" fn coarse_reset(
@@ -74,7 +74,7 @@ pub extern "C" fn coarse_reset(
     }
 }
 
-// Rule 2: the words of a recording file, in a setup. Words that ask for no setup are refused by 2 or 4, after 3 for the file's form.
+/// Rule 2: the words of a recording file, in a setup. Words that ask for no setup are refused by 2 or 4, after 3 for the file's form.
 #[unsafe(no_mangle)]
 #[tactic(auto, using(crate::proofs::Words::long, crate::proofs::HostAsked::recording_unasked))]
 pub extern "C" fn coarse_bucket_recording(
@@ -118,7 +118,7 @@ pub extern "C" fn coarse_bucket_recording(
     leave(state, screen, done)
 }
 
-// Rules 3 to 7: segments start to end of a list, five words each, painted with the paint at a place of a paint list, four words each. Refused as `fill`.
+/// Rules 3 to 7: segments start to end of a list, five words each, painted with the paint at a place of a paint list, four words each. Refused as `fill`.
 #[unsafe(no_mangle)]
 #[tactic(auto, using(crate::proofs::Words::long, crate::proofs::Unheld::fill_unheld))]
 pub extern "C" fn coarse_fill(
@@ -197,8 +197,8 @@ fn props_of(
     }
 }
 
-// Rule 8. The opacity is the bits of an f32; flag 1: the clip has a box, a range of segments and a thread, 0: there is none, any other is 4. Refused as
-// `push_layer`.
+/// Rule 8. The opacity is the bits of an f32; flag 1: the clip has a box, a range of segments and a thread, 0: there is none, any other is 4. Refused as
+/// `push_layer`.
 #[unsafe(no_mangle)]
 #[tactic(auto, using(crate::proofs::Words::long, crate::proofs::Unheld::push_unheld))]
 pub extern "C" fn coarse_push_layer(
@@ -244,7 +244,7 @@ pub extern "C" fn coarse_push_layer(
     leave(state, screen, done)
 }
 
-// Rules 9 and 10. The segments are the list that the layer's clip names a range of, five words each. Refused as `pop_layer`.
+/// Rules 9 and 10. The segments are the list that the layer's clip names a range of, five words each. Refused as `pop_layer`.
 #[unsafe(no_mangle)]
 #[tactic(auto, using(crate::proofs::Words::long, crate::proofs::Unheld::pop_unheld))]
 pub extern "C" fn coarse_pop_layer(
@@ -283,8 +283,8 @@ fn pixmap_of(flag: u32, handle: u32) -> Option<u32>
     (flag == 1).then_some(handle)
 }
 
-// Rule 11: a picture drawn into a box, from a source origin, in pixels; paint_count is the length of the paint list, panel the layer's. has_pixmap 1: the
-// picture is the one whose handle is pixmap, 0: there is none, any other is 4. Refused as `filter_fill`.
+/// Rule 11: a picture drawn into a box, from a source origin, in pixels; paint_count is the length of the paint list, panel the layer's. has_pixmap 1: the
+/// picture is the one whose handle is pixmap, 0: there is none, any other is 4. Refused as `filter_fill`.
 #[unsafe(no_mangle)]
 #[tactic(auto, using(crate::proofs::Words::long, crate::proofs::Unheld::filter_unheld))]
 pub extern "C" fn coarse_filter_fill(

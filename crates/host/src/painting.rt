@@ -1,5 +1,5 @@
-// The calls of painting, of the runs of a row, of `can_skip` and of the split. Each refuses as the call of its name in `paint` or `depth`, and by 4 where a
-// result has a wrong length.
+//! The calls of painting, of the runs of a row, of `can_skip` and of the split. Each refuses as the call of its name in `paint` or `depth`, and by 4 where a
+//! result has a wrong length.
 ghost use Rattle.std.specs.Prelude.{◌≡◌};
 ghost use Rattle.rules.specs.Answers.{answer};
 ghost use Rattle.rules.specs.Spans.{span};
@@ -19,7 +19,7 @@ use sizes::answers::Refusal;
 use sizes::width::Width;
 use span::{BucketRange, TileSpan};
 
-// Clears the depth words and sets every row to its first step, at nesting 0.
+/// Clears the depth words and sets every row to its first step, at nesting 0.
 #[unsafe(no_mangle)]
 #[tactic(auto, using(crate::proofs::Words::long, crate::proofs::Unheld::begin_unheld))]
 pub extern "C" fn coarse_begin_painting(
@@ -37,7 +37,7 @@ pub extern "C" fn coarse_begin_painting(
     leave(state, screen, done)
 }
 
-// The next step of a row; its pieces in list. res: 1 if none was left, else 0; how many pieces are listed.
+/// The next step of a row; its pieces in list. res: 1 if none was left, else 0; how many pieces are listed.
 #[unsafe(no_mangle)]
 #[tactic(auto, using(crate::proofs::Words::was_good, crate::proofs::Unheld::step_unheld))]
 pub extern "C" fn coarse_paint_step(
@@ -70,7 +70,7 @@ pub extern "C" fn coarse_paint_step(
     put_step(done, res)
 }
 
-// A row's steps from where it stands to its end, or up to the first that is refused. res: 1 if the row has come to its end, else 0; how many pieces are listed.
+/// A row's steps from where it stands to its end, or up to the first that is refused. res: 1 if the row has come to its end, else 0; how many pieces are listed.
 #[unsafe(no_mangle)]
 #[tactic(auto, using(crate::proofs::Words::was_good, crate::proofs::Unheld::row_unheld))]
 pub extern "C" fn coarse_paint_row(
@@ -103,7 +103,7 @@ pub extern "C" fn coarse_paint_row(
     put_step(done, res)
 }
 
-// The runs of the tiles first to end whose buckets hold 0, two words each in list; count: how many.
+/// The runs of the tiles first to end whose buckets hold 0, two words each in list; count: how many.
 #[unsafe(no_mangle)]
 #[tactic(auto, using(crate::proofs::Words::was_good, crate::proofs::Unheld::unset_unheld))]
 pub extern "C" fn coarse_unset_runs(
@@ -126,7 +126,7 @@ pub extern "C" fn coarse_unset_runs(
     put_runs(runs, count)
 }
 
-// The runs of the tiles first to end whose buckets hold at most the id, two words each in list; count: how many.
+/// The runs of the tiles first to end whose buckets hold at most the id, two words each in list; count: how many.
 #[unsafe(no_mangle)]
 #[tactic(auto, using(crate::proofs::Words::was_good, crate::proofs::Unheld::visible_unheld))]
 pub extern "C" fn coarse_visible_runs(
@@ -150,7 +150,7 @@ pub extern "C" fn coarse_visible_runs(
     put_runs(runs, count)
 }
 
-// Lists the unset runs of the buckets first to end, as buckets, and stores the id there; count: how many. Done, it ends painting.
+/// Lists the unset runs of the buckets first to end, as buckets, and stores the id there; count: how many. Done, it ends painting.
 #[unsafe(no_mangle)]
 #[tactic(auto, using(crate::proofs::Words::long, crate::proofs::Words::was_good, crate::proofs::Unheld::write_unheld))]
 pub extern "C" fn coarse_unset_runs_and_write(
@@ -175,7 +175,7 @@ pub extern "C" fn coarse_unset_runs_and_write(
     put_runs(runs, count)
 }
 
-// Whether a draw over the tiles first to end need not look at the row's depth words; yes: 1 or 0.
+/// Whether a draw over the tiles first to end need not look at the row's depth words; yes: 1 or 0.
 #[unsafe(no_mangle)]
 #[tactic(auto, using(crate::proofs::Words::was_good, crate::proofs::Unheld::skip_unheld))]
 pub extern "C" fn coarse_can_skip(
@@ -198,8 +198,8 @@ pub extern "C" fn coarse_can_skip(
     put_skip(skip, yes)
 }
 
-// Rule 7: the parts of an opaque span, at so many pixels a bucket. parts: nine words, three a part, left to right (1 for tiles or 2 for buckets, first, end),
-// then zeros. 2 for no width of a bucket, 4 for another length of parts, 12 for no range.
+/// Rule 7: the parts of an opaque span, at so many pixels a bucket. parts: nine words, three a part, left to right (1 for tiles or 2 for buckets, first, end),
+/// then zeros. 2 for no width of a bucket, 4 for another length of parts, 12 for no range.
 #[unsafe(no_mangle)]
 #[tactic(auto, unfolding(crate::specs::Painting::split_call))]
 pub extern "C" fn coarse_split_opaque_span(

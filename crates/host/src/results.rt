@@ -1,4 +1,4 @@
-// What a host's call leaves in its result words, whose number is fixed: a refused call leaves them as they were.
+//! What a host's call leaves in its result words, whose number is fixed: a refused call leaves them as they were.
 ghost use Rattle.std.specs.Prelude.{◌≡◌, [], length};
 ghost use Rattle.rules.specs.Answers.{answer};
 ghost use Rattle.depth.specs.Answers.{parts_of, skip_of, split_of};
@@ -10,7 +10,7 @@ use depth::Split;
 use paint::Stepped;
 use sizes::answers::Refusal;
 
-// Whether no step of the row was left, and how many pieces are listed, where the step is not refused. It gives the number of the call, as all here do.
+/// Whether no step of the row was left, and how many pieces are listed, where the step is not refused. It gives the number of the call, as all here do.
 pub fn put_step(done: Result<Stepped, Refusal>, res: &mut [usize]) -> u32
     requires { length res.old ≡ 2 }
     ensures { answer result res.new ≡ step-result res.old (painted_of done) }
@@ -24,7 +24,7 @@ pub fn put_step(done: Result<Stepped, Refusal>, res: &mut [usize]) -> u32
     }
 }
 
-// The number of runs, where they are not refused.
+/// The number of runs, where they are not refused.
 pub fn put_runs(runs: Result<usize, Refusal>, count: &mut [usize]) -> u32
     requires { length count.old ≡ 1 }
     ensures { answer result count.new ≡ count_left count.old (out runs []) }
@@ -38,7 +38,7 @@ pub fn put_runs(runs: Result<usize, Refusal>, count: &mut [usize]) -> u32
     }
 }
 
-// 1 for yes and 0 for no, where it is not refused.
+/// 1 for yes and 0 for no, where it is not refused.
 pub fn put_skip(skip: Result<bool, Refusal>, yes: &mut [u32]) -> u32
     requires { length yes.old ≡ 1 }
     ensures { answer result yes.new ≡ skip-left yes.old (skip_of skip) }
@@ -72,7 +72,7 @@ fn words_of(split: Split) -> [u32; 9]
     }
 }
 
-// The nine words of the parts, where the span is not refused.
+/// The nine words of the parts, where the span is not refused.
 pub fn put_split(parts: &mut [u32], split: Result<Split, Refusal>) -> u32
     requires { length parts.old ≡ 9 }
     ensures { answer result parts.new ≡ split-left parts.old (split_of split) }

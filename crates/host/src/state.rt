@@ -1,6 +1,6 @@
-// A screen's numbers as 17 lent words: the viewport's four, the clip box's four, C, D, next id, the counts of paint attributes, layer
-// attributes, filter paints and open layers, 1 if painting has begun, else 0, and a bucket's width: 0 for 128 pixels, 1 for 64, 2 for 256.
-// So words that are all 0 are a screen's. And what a host asks a screen to be, as words.
+//! A screen's numbers as 17 lent words: the viewport's four, the clip box's four, C, D, next id, the counts of paint attributes, layer
+//! attributes, filter paints and open layers, 1 if painting has begun, else 0, and a bucket's width: 0 for 128 pixels, 1 for 64, 2 for 256.
+//! So words that are all 0 are a screen's. And what a host asks a screen to be, as words.
 ghost use Rattle.std.specs.Prelude.{◌≡◌, length};
 ghost use Rattle.sizes.specs.Refusals.{answer_number};
 ghost use Rattle.sizes.specs.Sizes.{state-size};
@@ -14,8 +14,8 @@ use sizes::STATE;
 use sizes::answers::{Refusal, answer_number};
 use sizes::width::Width;
 
-// What a screen is asked to be, as a host gives it: room for C render commands and D depth fills in each row; the mode is 0 exact, 1 snapping; the width of a
-// bucket is 64, 128 or 256 pixels. Laid out as in C.
+/// What a screen is asked to be, as a host gives it: room for C render commands and D depth fills in each row; the mode is 0 exact, 1 snapping; the width of a
+/// bucket is 64, 128 or 256 pixels. Laid out as in C.
 #[repr(C)]
 #[derive(Clone, Copy)]
 pub struct SetupWords {
@@ -35,7 +35,7 @@ fn mode_at(word: u32) -> Mode
     }
 }
 
-// What such words ask for. BadViewport, 2, where the width is none; BadRecord, 4, where the mode is none. C and D are judged by the call.
+/// What such words ask for. BadViewport, 2, where the width is none; BadRecord, 4, where the mode is none. C and D are judged by the call.
 #[tactic(auto, unfolding(crate::specs::Asked::asked_setup))]
 pub fn read_setup(words: SetupWords) -> Result<Setup, Refusal>
     ensures { asked-for result ≡ asked_setup words }
@@ -74,7 +74,7 @@ fn width_word(width: Width) -> u32
     }
 }
 
-// The screen of 17 words, whatever the last two: painting has begun only if its word is 1, a width that is none is 128 pixels.
+/// The screen of 17 words, whatever the last two: painting has begun only if its word is 1, a width that is none is 128 pixels.
 pub fn screen_at(state: &[u32]) -> Screen
     requires { length state.now ≡ state-size }
     ensures { result ≡ screen-at state.now }
@@ -106,7 +106,7 @@ pub fn screen_at(state: &[u32]) -> Screen
     }
 }
 
-// The screen of a state of 17 words, if the last two are good and what else the host gives is.
+/// The screen of a state of 17 words, if the last two are good and what else the host gives is.
 #[tactic(auto, unfolding(crate::specs::State::screen_of))]
 pub fn screen_of(state: &[u32], good: bool) -> Option<Screen>
     ensures { result ≡ screen_of good state.now }
@@ -117,7 +117,7 @@ pub fn screen_of(state: &[u32], good: bool) -> Option<Screen>
     Some(screen_at(state))
 }
 
-// The number of a call whose words are refused by 4 at the border, by what the call's own judge says: 1, 2 and 3 come first.
+/// The number of a call whose words are refused by 4 at the border, by what the call's own judge says: 1, 2 and 3 come first.
 #[tactic(auto, unfolding(crate::specs::State::before_4))]
 pub fn before_4(judged: Result<(), Refusal>) -> u32
     ensures { result ≡ before_4 (answer_number judged) }
@@ -130,7 +130,7 @@ pub fn before_4(judged: Result<(), Refusal>) -> u32
     }
 }
 
-// The 17 words of a screen.
+/// The 17 words of a screen.
 pub fn put_screen(state: &mut [u32], screen: Screen)
     requires { length state.old ≡ state-size }
     ensures { state.new ≡ screen-words screen }
@@ -158,7 +158,7 @@ pub fn put_screen(state: &mut [u32], screen: Screen)
     ]);
 }
 
-// What a call gave: its screen's words are stored, and its number given.
+/// What a call gave: its screen's words are stored, and its number given.
 pub fn leave(state: &mut [u32], screen: Screen, done: Result<(), Refusal>) -> u32
     requires { length state.old ≡ state-size }
     ensures { (result ≡ answer_number done) × (state.new ≡ screen-words screen) }

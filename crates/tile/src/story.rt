@@ -1,6 +1,12 @@
+<<<<<<< HEAD
 // The walk over a recording that tells the story of one tile (rule 2), in plain draw order: over a run of nodes, and over a layer, which call each other.
 // Parts: callers have read the form, judged the records and chosen a tile of the screen.
 ghost use Rattle.std.specs.Prelude.{◌≡◌, true, not, List, [], ◌-◌, ◌≤◌, ◌<◌, eqb, length, get_or};
+=======
+//! The walk over a recording that tells the story of one tile (rule 2), in plain draw order: over a run of nodes, and over a layer, which call each other.
+//! Parts: callers have read the form, judged the records and chosen a tile of the screen.
+ghost use Rattle.std.specs.Prelude.{◌≡◌, true, not, List, [], ◌+◌, ◌-◌, ◌*◌, ◌≤◌, ◌<◌, eqb, length, get_or};
+>>>>>>> main
 ghost use Rattle.sizes.specs.Sizes.{line-table};
 ghost use Rattle.sizes.specs.Refusals.{answer_number};
 ghost use Rattle.rules.specs.Lists.{slice};
@@ -119,7 +125,7 @@ fn tell_filter_layer(
     tell_pop(tale, spot, inner, within, props, file.segments(), lines)
 }
 
-// Nodes a to b, each its draws and then its layer, up to the first step that is refused. Layers in them may be nested `depth` deep.
+/// Nodes a to b, each its draws and then its layer, up to the first step that is refused. Layers in them may be nested `depth` deep.
 #[cycle(tell)]
 pub fn tell_nodes(
     depth: u32,

@@ -1,5 +1,10 @@
+<<<<<<< HEAD
 // What the building calls take, of a recording's records. Parts: callers have judged them.
 ghost use Rattle.std.specs.Prelude.{◌≡◌, ◌<◌};
+=======
+//! What the building calls take, read off a recording file's words. Parts: callers have judged the records. `at` is a record's place among the words.
+ghost use Rattle.std.specs.Prelude.{◌≡◌, ◌+◌, ◌≤◌, ◌<◌, length};
+>>>>>>> main
 ghost use Rattle.std.specs.Float.{binary32};
 ghost use Rattle.std.specs.Float.Ieee.{of_bits, nan_bits};
 ghost use Rattle.rules.specs.Walk.{props-of};
@@ -11,9 +16,20 @@ use file::records::Layer;
 use fill::Draw;
 use screen::layers::{Clip, LayerProps};
 
+<<<<<<< HEAD
 // The draw as a fill takes it.
 pub fn to_draw(draw: records::Draw) -> Draw
     ensures { result ≡ draw_in (draw_of draw) }
+=======
+// A file has no panel numbers: its draws and layers have this one.
+const NO_PANEL: u32 = 0;
+
+/// The draw at a place, seven words. Its panel is 0.
+#[tactic(auto, unfolding(file::specs::Places::draw_from))]
+pub fn draw_at(w: &[u32], at: usize) -> Draw
+    requires { at + 7 ≤ length w.now }
+    ensures { result ≡ draw_in (draw_from w.now at) }
+>>>>>>> main
 {
     Draw {
         thread: draw.thread,
@@ -68,10 +84,19 @@ fn to_clip(layer: Layer) -> Option<Clip>
     }
 }
 
+<<<<<<< HEAD
 // What a push is given of a layer. The opacity's word is the bits of an f32.
 pub fn to_props(layer: Layer) -> LayerProps
     ensures props { result ≡ props_in (props-of (layer_of layer)) }
     ensures word { (layer_of layer).opacity < 4294967296 }
+=======
+/// What a push is given of the layer at a place, 22 words. The opacity's word is the bits of an f32; the panel is 0.
+#[tactic(auto, unfolding(file::specs::Places::layer_from))]
+pub fn props_at(w: &[u32], at: usize) -> LayerProps
+    requires { at + 22 ≤ length w.now }
+    ensures props { result ≡ props_in (props-of (layer_from w.now at)) }
+    ensures word { (layer_from w.now at).opacity < 4294967296 }
+>>>>>>> main
 {
     LayerProps {
         blend: layer.blend,
@@ -83,7 +108,7 @@ pub fn to_props(layer: Layer) -> LayerProps
     }
 }
 
-// Rule 2: whether a filter layer is pushed and popped around its filter fill. A NaN opacity is not equal to 1.0, so it is.
+/// Rule 2: whether a filter layer is pushed and popped around its filter fill. A NaN opacity is not equal to 1.0, so it is.
 pub fn needs_buffer(props: LayerProps) -> bool
     ensures { result ≡ buffered props }
 {

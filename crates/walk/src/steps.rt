@@ -1,6 +1,12 @@
+<<<<<<< HEAD
 // The building steps of a recording, called from its records: a draw's fill and a run of them, a push, a pop, a filter layer. Parts: callers have read the form
 // and judged the records. Paints and segments are parts of the file's words, handed on. Each step refuses as the call that it makes.
 ghost use Rattle.std.specs.Prelude.{◌≡◌, ◌≤◌, ◌<◌, length, get_or};
+=======
+//! The building steps of a recording, called from its words: a draw's fill and a run of them, a push, a pop, a filter layer. Parts: callers have read the form
+//! and judged the records. Paints and segments are parts of the file's words, handed on. Each step refuses as the call that it makes.
+ghost use Rattle.std.specs.Prelude.{◌≡◌, ◌+◌, ◌*◌, ◌≤◌, ◌<◌, length};
+>>>>>>> main
 ghost use Rattle.sizes.specs.Refusals.{answer_number};
 ghost use Rattle.rules.specs.Answers.{answer};
 ghost use Rattle.rules.specs.Lists.{slice};
@@ -26,10 +32,39 @@ use screen::layers::{LayerProps, Layers};
 use screen::{Lent, Screen};
 use sizes::answers::Refusal;
 
+<<<<<<< HEAD
 // What a filter layer draws, in a recording of so many paints.
 fn to_filter(filter: Filter, paints: usize, panel: u32) -> FilterFill
     requires { paints ≤ 4294967295 }
     ensures { given_of result ≡ given (placement_in (filter_of filter)) (filter_of filter).pixmap paints panel }
+=======
+/// A recording file's words, and where its sections stand in them.
+#[derive(Clone, Copy)]
+pub struct Recording<'a> {
+    pub words: &'a [u32],
+    pub layout: Layout,
+}
+
+// A section's records, of `size` words each.
+fn records(words: &[u32], section: Section, size: usize) -> &[u32]
+    requires { (section.at + size * section.count ≤ length words.now) × (size * section.count ≤ 4294967295) }
+    ensures { result.now ≡ records_of size section words.now }
+{
+    &words[section.at..section.at + size * section.count]
+}
+
+/// The picture that a file's word says: its handle, counted from 0, is the word - 1; 0 is none.
+pub fn pixmap_of(word: u32) -> Option<u32>
+    ensures { result ≡ pixmap-of word }
+{
+    word.checked_sub(1)
+}
+
+// What the filter layer at a place draws, in a recording of so many paints. A file has no panel numbers: its layers have panel 0.
+fn filter_at(w: &[u32], at: usize, paints: usize) -> FilterFill
+    requires { (at + 22 ≤ length w.now) × (paints ≤ 4294967295) }
+    ensures { given_of result ≡ given (placement_in (filter_from w.now at)) (filter_from w.now at).pixmap paints 0 }
+>>>>>>> main
 {
     FilterFill {
         placement: Placement {
@@ -70,7 +105,7 @@ fn fill_draw(
     )
 }
 
-// The fills of draws a to b, in order, up to the first that is refused.
+/// The fills of draws a to b, in order, up to the first that is refused.
 pub fn walk_draws(
     screen: &mut Screen,
     file: &Recording<'_>,
@@ -89,7 +124,11 @@ pub fn walk_draws(
     Ok(())
 }
 
+<<<<<<< HEAD
 // A push of what a layer says.
+=======
+/// A push of what the words of a layer say.
+>>>>>>> main
 pub fn push_at(screen: &mut Screen, props: LayerProps, lent: &mut Lent<'_>) -> Result<(), Refusal>
     ensures same { SameLent lent.old lent.new }
     ensures pushed { (p : Props) → props ≡ props_in p → answer (answer_number result) (whole screen.new lent.new) ≡ call_at (a-push p) (whole screen.old lent.old) }
@@ -106,7 +145,7 @@ pub fn push_at(screen: &mut Screen, props: LayerProps, lent: &mut Lent<'_>) -> R
     push_layer(screen, &mut rows, &mut layers, props)
 }
 
-// A pop, lent the file's segments for the layer's clip.
+/// A pop, lent the file's segments for the layer's clip.
 pub fn pop_at(screen: &mut Screen, file: &Recording<'_>, lent: &mut Lent<'_>) -> Result<(), Refusal>
     requires { FitsIn file.now }
     ensures same { SameLent lent.old lent.new }
@@ -156,7 +195,11 @@ fn fill_filter(
     )
 }
 
+<<<<<<< HEAD
 // Rule 2: a filter layer. Its nodes are not walked; it is pushed and popped around its filter fill only if it needs a buffer.
+=======
+/// Rule 2: the filter layer at a place. Its nodes are not walked; it is pushed and popped around its filter fill only if it needs a buffer.
+>>>>>>> main
 pub fn walk_filter(
     screen: &mut Screen,
     file: &Recording<'_>,

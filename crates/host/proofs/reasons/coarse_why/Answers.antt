@@ -1,10 +1,6 @@
 -- Words that ask for no setup are refused. Where the state's words stand for no screen, or the question is none, the border answers; else the call's own
 -- equation, carried over to the words.
-use mathlib.Core.Path.{sym, ◌∙◌}
-use lib.ListN.{length}
-use lib.Dec.{leb, eqb}
-use borrow.Author.Tests.{eqb-true}
-use Rattle.std.proofs.Common.{rules}
+use Rattle.std.proofs.Common.{sym, ◌∙◌, length, leb, eqb, eqb-true, rules}
 use Rattle.rules.proofs.All.{both}
 use Rattle.screen.specs.Screens.{setup-of}
 use Rattle.screen.specs.Tables.{Tables, tables}

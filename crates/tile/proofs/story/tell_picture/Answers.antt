@@ -1,6 +1,13 @@
+<<<<<<< HEAD
 -- The call is the rules' filter fill, at the layer's picture and dest box.
 use mathlib.Core.Path.{refl}
 use Rattle.file.specs.Records.{layer_of}
+=======
+-- The call is the rules' filter fill, at the picture and the dest box that the file's words say.
+use Rattle.std.proofs.Common.{sym, ◌∙◌}
+use Rattle.file.specs.Places.{filter_from}
+use Rattle.file.proofs.Fields.{filter-box}
+>>>>>>> main
 use Rattle.tile.proofs.Said.{says}
 use Rattle.tile.proofs.Records.{dest-small}
 use Rattle.tile.proofs.story.tell_picture.Goals as goal

@@ -1,5 +1,9 @@
+<<<<<<< HEAD
 use Rattle.std.proofs.Common.{arith, rules, ◌∙◌, ◌-◌}
 use mathlib.Core.Path.{refl}
+=======
+use Rattle.std.proofs.Common.{arith, rules, sym, ◌∙◌, ◌+◌, ◌*◌, ◌-◌, refl}
+>>>>>>> main
 use Rattle.std.proofs.lemmas.Result.{err_from_is_err_and}
 use Rattle.sizes.proofs.Refusals.{not_done}
 use Rattle.file.specs.Held.{held}

@@ -1,6 +1,10 @@
 -- The layer is pushed, its fill is drawn, it is popped; the first refusal ends it. Each of the three is the rules' step at the words so far.
+<<<<<<< HEAD
 use mathlib.Core.Path.{refl}
 use Rattle.std.proofs.Common.{Bool, ◌≡◌, ◌<◌, sym, ◌∙◌}
+=======
+use Rattle.std.proofs.Common.{refl, ℕ, Bool, List, ◌≡◌, ◌<◌, sym, ◌∙◌}
+>>>>>>> main
 use Rattle.std.proofs.lemmas.Result.{err_from_is_err_and}
 use Rattle.sizes.proofs.Refusals.{not_done}
 use Rattle.rules.specs.Inputs.{needs-buffer}

@@ -5,11 +5,17 @@ use Rattle.sizes.specs.declared.answers.Refusal.TheVariants.{BadForm}
 use Rattle.rules.specs.Recording as rule
 use Rattle.rules.specs.Recording.{shape, sections, recording}
 use Rattle.file.specs.Layouts.{Fits}
-use Rattle.file.specs.Places.{recorded}
+use Rattle.rules.specs.Inputs.{Paint}
+use Rattle.file.specs.Each.{each}
+use Rattle.file.specs.Places.{paint_from, recorded}
 use Rattle.file.specs.declared.recording.Recording.{Recording}
 
 abbrev pub held : Recording → rule.Recording
 held r = recorded r.layout r.words.now
+
+-- n paints of a list of its own, four words each
+abbrev pub paints-in : List ℕ → ℕ → List Paint
+paints-in ws n = each paint_from 4 ws 0 n
 
 -- its sections lie within its words
 abbrev pub FitsIn : Recording → Type 0

@@ -1,7 +1,6 @@
-use mathlib.Core.Path.{refl}
 use Rattle.file.specs.Places.{recorded}
 use Rattle.file.proofs.recording.Recording.root.Goals as goal
 
 pub returns : goal.returns
 unfolding recorded
-returns c = refl
+returns c = c.root_at.ensures

@@ -1,14 +1,5 @@
 -- The public call from the recording's answer on: each way that the code takes gives what the definition gives.
-<<<<<<< HEAD
-use Prim.Native.Nat.{ℕ, ◌+◌}
-use native.Mathlib.Omega.{arith}
-use mathlib.Core.Path.{◌≡◌, refl, sym, ap, ◌∙◌}
-use mathlib.Core.Bool.{true, false}
-use mathlib.Core.List.{List}
-use Rattle.std.specs.Prelude.{Option, None, Some, Ok, Err}
-=======
-use Rattle.std.proofs.Common.{ℕ, ◌+◌, ◌≡◌, refl, sym, ap, ◌∙◌, true, false, List, None, Ok, Err, replicate, ne_eqb}
->>>>>>> main
+use Rattle.std.proofs.Common.{ℕ, ◌+◌, arith, ◌≡◌, refl, sym, ap, ◌∙◌, true, false, List, Option, None, Some, Ok, Err}
 use Rattle.sizes.specs.declared.answers.Refusal.{Refusal}
 use Rattle.sizes.specs.Sizes.{line-table}
 use Rattle.sizes.specs.Widths.{bucket-tiles}

@@ -1,12 +1,6 @@
-<<<<<<< HEAD
 // The walk over a recording that tells the story of one tile (rule 2), in plain draw order: over a run of nodes, and over a layer, which call each other.
 // Parts: callers have read the form, judged the records and chosen a tile of the screen.
 ghost use Rattle.std.specs.Prelude.{◌≡◌, true, not, List, [], ◌-◌, ◌≤◌, ◌<◌, eqb, length, get_or};
-=======
-//! The walk over a recording that tells the story of one tile (rule 2), in plain draw order: over a run of nodes, and over a layer, which call each other.
-//! Parts: callers have read the form, judged the records and chosen a tile of the screen.
-ghost use Rattle.std.specs.Prelude.{◌≡◌, true, not, List, [], ◌+◌, ◌-◌, ◌*◌, ◌≤◌, ◌<◌, eqb, length, get_or};
->>>>>>> main
 ghost use Rattle.sizes.specs.Sizes.{line-table};
 ghost use Rattle.sizes.specs.Refusals.{answer_number};
 ghost use Rattle.rules.specs.Lists.{slice};
@@ -16,7 +10,7 @@ ghost use Rattle.rules.specs.Recording.{layer-rec, good-layer-rec};
 ghost use Rattle.rules.specs.Plans.{Layer as RuleLayer, a-fill};
 ghost use Rattle.rules.specs.Walk.{when, each, walk-filter, walk-layer, walk-nodes};
 ghost use Rattle.rect.specs.Rects.{box_of};
-ghost use Rattle.file.specs.Records.{layer_of};
+ghost use Rattle.file.specs.Records.{layer-of};
 ghost use Rattle.file.specs.Held.{held};
 ghost use Rattle.tile.specs.Telling.{Telling, tell-at, tell-filter};
 ghost use Rattle.tile.specs.Places.{Spotted, Bounded, Holds, Low, Says, telling};
@@ -91,10 +85,10 @@ fn tell_picture(
     layer: Layer,
     lines: &mut [u32],
 ) -> Result<(), Refusal>
-    requires { Spotted spot × Bounded within × Low tale.old × (length lines.old ≡ line-table) × (good-dest (layer_of layer).filter.dest ≡ true) }
+    requires { Spotted spot × Bounded within × Low tale.old × (length lines.old ≡ line-table) × (good-dest (layer-of layer).filter.dest ≡ true) }
     ensures low { Low tale.new }
     ensures told { (ls : List RuleLayer) → Holds (box_of spot.viewport) within ls
-        → Says (tell-filter spot.width (box_of spot.viewport) spot.row spot.tile (layer_of layer).filter (layer_of layer).panel (telling tale.old ls lines.old))
+        → Says (tell-filter spot.width (box_of spot.viewport) spot.row spot.tile (layer-of layer).filter (layer-of layer).panel (telling tale.old ls lines.old))
         (answer_number result) (telling tale.new ls lines.new) }
 {
     let filter = layer.filter;
@@ -110,10 +104,10 @@ fn tell_filter_layer(
     layer: Layer,
     lines: &mut [u32],
 ) -> Result<(), Refusal>
-    requires { TaleReady file.now spot within tale.old lines.old × (good-layer-rec (held file.now) (layer_of layer) ≡ true) × (layer.kind ≡ 1) }
+    requires { TaleReady file.now spot within tale.old lines.old × (good-layer-rec (held file.now) (layer-of layer) ≡ true) × (layer.kind ≡ 1) }
     ensures low { Low tale.new }
     ensures told { (ls : List RuleLayer) → Holds (box_of spot.viewport) within ls
-        → Says (walk-filter Telling (tell-at spot.width (box_of spot.viewport) spot.row spot.tile) (held file.now) (layer_of layer) (telling tale.old ls lines.old))
+        → Says (walk-filter Telling (tell-at spot.width (box_of spot.viewport) spot.row spot.tile) (held file.now) (layer-of layer) (telling tale.old ls lines.old))
         (answer_number result) (telling tale.new ls lines.new) }
 {
     let props = to_props(layer);

@@ -3,12 +3,8 @@ use Rattle.std.proofs.Common.{ℕ, zero, suc, ◌+◌, ◌-◌, ◌*◌, ◌/◌
 use Rattle.rules.specs.Lists.{join}
 use Rattle.rules.specs.Inputs.{Paint}
 use Rattle.rules.specs.Segments.{Segment}
-<<<<<<< HEAD
 use Rattle.rules.specs.Recording.{Recording}
-use Rattle.rules.proofs.Words.{paint-words, segment-words}
-=======
 use Rattle.rules.specs.Words.{paint-words, segment-words}
->>>>>>> main
 use Rattle.segments.specs.Segs.{seg-at, segs, segs-of}
 use Rattle.file.specs.Each.{each}
 use Rattle.file.specs.Places.{paint_from}

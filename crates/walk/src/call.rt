@@ -2,13 +2,10 @@
 ghost use Rattle.std.specs.Prelude.{◌≡◌};
 ghost use Rattle.sizes.specs.Refusals.{answer_number};
 ghost use Rattle.rules.specs.Answers.{answer};
-ghost use Rattle.rules.specs.Walk.{◌then◌, walk-all};
 ghost use Rattle.screen.specs.Screens.{setup-of};
-ghost use Rattle.screen.specs.Tables.{ScreenLent};
 ghost use Rattle.screen.specs.Lent.{whole, SameLent};
-ghost use Rattle.walk.specs.Steps.{call_at};
 ghost use Rattle.file.specs.Held.{held, FitsIn};
-ghost use Rattle.walk.specs.Recorded.{judging, recorded};
+ghost use Rattle.walk.specs.Recorded.{played-once, recorded};
 
 use crate::nodes::walk_nodes;
 use file::recording::Recording;
@@ -21,7 +18,7 @@ fn play(screen: &mut Screen, file: &Recording<'_>, lent: &mut Lent<'_>) -> Resul
     requires { FitsIn file.now }
     ensures same { SameLent lent.old lent.new }
     ensures played { answer (answer_number result) (whole screen.new lent.new)
-        ≡ (judging (held file.now) then walk-all ScreenLent call_at (held file.now)) (whole screen.old lent.old) }
+        ≡ played-once (held file.now) (whole screen.old lent.old) }
 {
     file.judge()?;
     let (first, end) = file.root();

@@ -1,19 +1,10 @@
-<<<<<<< HEAD
-// The walk over a recording (rule 2; bucketer.rs, bucket_commands): over a run of nodes, and over a layer, which call each other. Parts: callers have read the
-// form and judged the records.
-ghost use Rattle.std.specs.Prelude.{[], ◌≡◌, not, ◌-◌, ◌≤◌, eqb, length, get_or};
-=======
 //! The walk over a recording (rule 2; bucketer.rs, bucket_commands): over a run of nodes, and over a layer, which call each other. Parts: callers have read the
 //! form and judged the records.
-ghost use Rattle.std.specs.Prelude.{[], ◌≡◌, not, ◌-◌, ◌≤◌, eqb, get_or};
->>>>>>> main
+ghost use Rattle.std.specs.Prelude.{◌≡◌, ◌≤◌, length};
 ghost use Rattle.sizes.specs.Refusals.{answer_number};
 ghost use Rattle.rules.specs.Answers.{answer};
-ghost use Rattle.rules.specs.Recording.{layer-rec};
-ghost use Rattle.rules.specs.Walk.{when, walk-layer, walk-nodes};
-ghost use Rattle.screen.specs.Tables.{ScreenLent};
 ghost use Rattle.screen.specs.Lent.{whole, SameLent};
-ghost use Rattle.walk.specs.Steps.{call_at};
+ghost use Rattle.walk.specs.Steps.{nodes-walked, layer-walked};
 ghost use Rattle.file.specs.Held.{held};
 ghost use Rattle.walk.specs.Ready.{ReadyIn};
 
@@ -33,10 +24,12 @@ pub fn walk_nodes(
     b: usize,
     lent: &mut Lent<'_>,
 ) -> Result<(), Refusal>
-    requires { ReadyIn file.now × (a ≤ b) × (b ≤ length (held file.now).nodes) }
+    requires ready { ReadyIn file.now }
+    requires order { a ≤ b }
+    requires ends { b ≤ length (held file.now).nodes }
     ensures same { SameLent lent.old lent.new }
     ensures walked { answer (answer_number result) (whole screen.new lent.new)
-        ≡ walk-nodes ScreenLent call_at (held file.now) (walk-layer ScreenLent call_at (held file.now) depth) a b (whole screen.old lent.old) }
+        ≡ nodes-walked (held file.now) depth a b (whole screen.old lent.old) }
 {
     for i in a..b {
         let node = file.node(i);
@@ -56,10 +49,11 @@ pub fn walk_layer(
     layer: u32,
     lent: &mut Lent<'_>,
 ) -> Result<(), Refusal>
-    requires { ReadyIn file.now × (layer ≤ length (held file.now).layers) }
+    requires ready { ReadyIn file.now }
+    requires named { layer ≤ length (held file.now).layers }
     ensures same { SameLent lent.old lent.new }
     ensures walked { answer (answer_number result) (whole screen.new lent.new)
-        ≡ when (not (eqb layer 0)) (walk-layer ScreenLent call_at (held file.now) depth (get_or (held file.now).layers (layer - 1) (layer-rec []))) (whole screen.old lent.old) }
+        ≡ layer-walked (held file.now) depth layer (whole screen.old lent.old) }
 {
     if layer == 0 {
         return Ok(());

@@ -1,13 +1,12 @@
 -- A layer's steps: it is pushed, its nodes are walked one level deeper, and it is popped. As many levels are left as layers can still be opened, so after a
 -- push that is done there is one.
-use Rattle.std.proofs.Common.{◌≡◌, refl, ◌∙◌, ◌+◌, ◌-◌, ◌*◌, ◌≤◌, ◌<◌, arith}
+use Rattle.std.proofs.Common.{◌≡◌, refl, ◌∙◌, ◌+◌, ◌-◌, ◌*◌, ◌≤◌, ◌<◌, arith, length}
 use Rattle.std.proofs.lemmas.Result.{err_from_is_err_and}
 use Rattle.sizes.proofs.Refusals.{not_done}
 use Rattle.rules.specs.Walk.{props-of}
 use Rattle.rect.specs.Rects.{box_of}
-use lib.ListN.{length}
 use Rattle.file.specs.Held.{held}
-use Rattle.file.specs.Records.{layer_of, node_of}
+use Rattle.file.specs.Records.{layer-of, node-of}
 use Rattle.walk.proofs.Places.{node-range, layer-fit}
 use Rattle.tile.specs.Places.{layer-in}
 use Rattle.tile.proofs.Said.{says, says-left, said-by}
@@ -36,7 +35,7 @@ tell_layer-returns-then-record-ne0-clause-told t c =
     let s = c.args in
     let r = held s.file.now in
     let few : s.layer - 1 < length r.layers = omega arith in
-    let y = layer_of c.layer-record.result in
+    let y = layer-of c.layer-record.result in
     let fit = layer-fit r c.requires.0.walk.good _ few (c.layer-record.ensures _) in
     let one : y.kind ≡ 1 = omega (arith, fit.kind) in
     λ ls o.
@@ -51,7 +50,7 @@ tell_layer-tell_push-requires t c =
       ready.spotted,
       ready.bounded,
       ready.low,
-      good-told (layer_of c.layer-record.result) c.to_props-props.ensures.props r
+      good-told (layer-of c.layer-record.result) c.to_props-props.ensures.props r
           (layer-good r ready.walk.good _ few (c.layer-record.ensures _)),
     )
 
@@ -59,7 +58,7 @@ pub tell_layer-returns-in_err-inner-clause-told : goal.tell_layer-returns-in_err
 tell_layer-returns-in_err-inner-clause-told t c =
     let s = c.args in
     let r = held s.file.now in
-    let y = layer_of c.layer-record.result in
+    let y = layer-of c.layer-record.result in
     let e = c.to_props-props.ensures.props in
     let p = err_from_is_err_and c.from_residual.result c.from_residual.ensures.1 in
     rw (p.1, p.2)
@@ -89,7 +88,7 @@ pub tell_layer-returns-in_err-tell_nodes-clause-told : goal.tell_layer-returns-i
 tell_layer-returns-in_err-tell_nodes-clause-told t c =
     let s = c.args in
     let r = held s.file.now in
-    let y = layer_of c.layer-record.result in
+    let y = layer-of c.layer-record.result in
     let e = c.to_props-props.ensures.props in
     let pushed = c.in_ok-inner.ensures in
     let left : 1 ≤ s.depth = omega (arith, pushed.opens.1, pushed.opens.0.few) in
@@ -112,7 +111,7 @@ tell_layer-tell_pop-requires t c =
       c.in_ok-inner.ensures.opens.1,
       c.in_ok-tell_nodes.ensures.low,
       c.tell_nodes.auto.lines ∙ ready.room,
-      ready-told (layer_of c.layer-record.result) c.to_props-props.ensures.props r ready.walk.good _ c.segments.ensures.read c.segments.ensures.long
+      ready-told (layer-of c.layer-record.result) c.to_props-props.ensures.props r ready.walk.good _ c.segments.ensures.read c.segments.ensures.long
           (layer-good r ready.walk.good _ few (c.layer-record.ensures _)),
     )
 
@@ -120,7 +119,7 @@ pub tell_layer-returns-clause-told : goal.tell_layer-returns-clause-told
 tell_layer-returns-clause-told t c =
     let s = c.args in
     let r = held s.file.now in
-    let y = layer_of c.layer-record.result in
+    let y = layer-of c.layer-record.result in
     let e = c.to_props-props.ensures.props in
     let pushed = c.in_ok-inner.ensures in
     let left : 1 ≤ s.depth = omega (arith, pushed.opens.1, pushed.opens.0.few) in
@@ -147,7 +146,7 @@ tell_nodes-returns-in_err-tell_draws-clause-told t c =
     let r = held c.args.file.now in
     let p = err_from_is_err_and c.from_residual.result c.from_residual.ensures.1 in
     rw (p.1, p.2)
-    (draws-refused c.args.spot r _ c.loop-i.invariant.1 c.loop-i-test.true c.requires.3 (node_of c.node-node.result) (c.node-node.ensures _) _ _ c.in_err-tell_draws.ensures.told (not_done _))
+    (draws-refused c.args.spot r _ c.loop-i.invariant.1 c.loop-i-test.true c.requires.3 (node-of c.node-node.result) (c.node-node.ensures _) _ _ c.in_err-tell_draws.ensures.told (not_done _))
 
 pub tell_nodes-tell_layer-requires : goal.tell_nodes-tell_layer-requires
 tell_nodes-tell_layer-requires t c =
@@ -173,14 +172,14 @@ tell_nodes-returns-in_err-tell_layer-clause-told t c =
     let r = held c.args.file.now in
     let p = err_from_is_err_and c.from_residual-in_err-tell_layer.result c.from_residual-in_err-tell_layer.ensures.1 in
     rw (p.1, p.2)
-    (layer-refused c.args.spot r _ c.loop-i.invariant.1 c.loop-i-test.true c.requires.3 (node_of c.node-node.result) (c.node-node.ensures _) _ _ c.in_ok-tell_draws.ensures.told refl
+    (layer-refused c.args.spot r _ c.loop-i.invariant.1 c.loop-i-test.true c.requires.3 (node-of c.node-node.result) (c.node-node.ensures _) _ _ c.in_ok-tell_draws.ensures.told refl
     _ _ c.in_err-tell_layer.ensures.told (not_done _))
 
 pub tell_nodes-loop-i-preserved : goal.tell_nodes-loop-i-preserved
 tell_nodes-loop-i-preserved t c =
     let r = held c.args.file.now in (
       c.in_ok-tell_layer.ensures.low,
-      node-turned c.args.spot r _ c.loop-i.invariant.1 c.loop-i-test.true c.requires.3 (node_of c.node-node.result) (c.node-node.ensures _) _ _ c.in_ok-tell_draws.ensures.told refl
+      node-turned c.args.spot r _ c.loop-i.invariant.1 c.loop-i-test.true c.requires.3 (node-of c.node-node.result) (c.node-node.ensures _) _ _ c.in_ok-tell_draws.ensures.told refl
           _ _ c.in_ok-tell_layer.ensures.told refl,
     )
 

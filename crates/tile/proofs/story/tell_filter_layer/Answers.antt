@@ -6,7 +6,7 @@ use Rattle.sizes.proofs.Refusals.{not_done}
 use Rattle.rules.specs.Walk.{props-of}
 use Rattle.rect.specs.Rects.{box_of}
 use Rattle.file.specs.Held.{held}
-use Rattle.file.specs.Records.{layer_of}
+use Rattle.file.specs.Records.{layer-of}
 use Rattle.tile.specs.Places.{layer-in}
 use Rattle.tile.proofs.Said.{says, says-left}
 use Rattle.tile.proofs.Records.{filter-dest}
@@ -22,13 +22,13 @@ tell_picture-requires c =
       ready.bounded,
       ready.low,
       ready.room,
-      filter-dest (held r) (layer_of c.args.layer) c.requires.1 c.requires.2,
+      filter-dest (held r) (layer-of c.args.layer) c.requires.1 c.requires.2,
     )
 
 pub returns-then-not-needs_buffer-clause-told : goal.returns-then-not-needs_buffer-clause-told
 returns-then-not-needs_buffer-clause-told c =
     let s = c.args in
-    let y = layer_of s.layer in
+    let y = layer-of s.layer in
     let e = c.to_props-props.ensures.props in
     let q = buffer-told y e _ c.needs_buffer.ensures c.to_props-props.ensures.word in
     λ ls o. plain s.spot _ y (q ∙ c.if-not-needs_buffer.true) _ (filter-told s.spot _ _ refl _ (c.tell_picture.ensures.told ls o))
@@ -40,13 +40,13 @@ tell_push-requires c =
       ready.spotted,
       ready.bounded,
       ready.low,
-      good-told (layer_of c.args.layer) c.to_props-props.ensures.props (held r) c.requires.1,
+      good-told (layer-of c.args.layer) c.to_props-props.ensures.props (held r) c.requires.1,
     )
 
 pub returns-in_err-inner-clause-told : goal.returns-in_err-inner-clause-told
 returns-in_err-inner-clause-told c =
     let s = c.args in
-    let y = layer_of s.layer in
+    let y = layer-of s.layer in
     let e = c.to_props-props.ensures.props in
     let q = buffer-told y e _ c.needs_buffer.ensures c.to_props-props.ensures.word in
     let p = err_from_is_err_and c.from_residual.result c.from_residual.ensures.1 in
@@ -63,13 +63,13 @@ tell_picture-requires-2 c =
       c.in_ok-inner.ensures.opens.0,
       c.in_ok-inner.ensures.low,
       ready.room,
-      filter-dest (held r) (layer_of c.args.layer) c.requires.1 c.requires.2,
+      filter-dest (held r) (layer-of c.args.layer) c.requires.1 c.requires.2,
     )
 
 pub returns-in_err-tell_picture-clause-told : goal.returns-in_err-tell_picture-clause-told
 returns-in_err-tell_picture-clause-told c =
     let s = c.args in
-    let y = layer_of s.layer in
+    let y = layer-of s.layer in
     let e = c.to_props-props.ensures.props in
     let q = buffer-told y e _ c.needs_buffer.ensures c.to_props-props.ensures.word in
     let pushed = c.in_ok-inner.ensures in
@@ -92,13 +92,13 @@ tell_pop-requires c =
       c.in_ok-inner.ensures.opens.1,
       c.in_ok-tell_picture.ensures.low,
       c.tell_picture-2.auto.lines ∙ ready.room,
-      ready-told (layer_of c.args.layer) c.to_props-props.ensures.props (held r) ready.walk.good _ c.segments.ensures.read c.segments.ensures.long c.requires.1,
+      ready-told (layer-of c.args.layer) c.to_props-props.ensures.props (held r) ready.walk.good _ c.segments.ensures.read c.segments.ensures.long c.requires.1,
     )
 
 pub returns-clause-told : goal.returns-clause-told
 returns-clause-told c =
     let s = c.args in
-    let y = layer_of s.layer in
+    let y = layer-of s.layer in
     let e = c.to_props-props.ensures.props in
     let q = buffer-told y e _ c.needs_buffer.ensures c.to_props-props.ensures.word in
     let pushed = c.in_ok-inner.ensures in

@@ -1,13 +1,6 @@
-<<<<<<< HEAD
 -- The call is the rules' filter fill, at the layer's picture and dest box.
-use mathlib.Core.Path.{refl}
-use Rattle.file.specs.Records.{layer_of}
-=======
--- The call is the rules' filter fill, at the picture and the dest box that the file's words say.
-use Rattle.std.proofs.Common.{sym, ◌∙◌}
-use Rattle.file.specs.Places.{filter_from}
-use Rattle.file.proofs.Fields.{filter-box}
->>>>>>> main
+use Rattle.std.proofs.Common.{refl}
+use Rattle.file.specs.Records.{layer-of}
 use Rattle.tile.proofs.Said.{says}
 use Rattle.tile.proofs.Records.{dest-small}
 use Rattle.tile.proofs.story.tell_picture.Goals as goal
@@ -20,4 +13,4 @@ tell_filter-requires c =
 pub returns-clause-told : goal.returns-clause-told
 returns-clause-told c =
     λ ls o.
-    says (c.tell_filter.ensures.told (layer_of c.args.layer).filter ls refl refl o)
+    says (c.tell_filter.ensures.told (layer-of c.args.layer).filter ls refl refl o)

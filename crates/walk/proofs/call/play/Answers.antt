@@ -16,7 +16,7 @@ pub walk_nodes-requires : goal.walk_nodes-requires
 walk_nodes-requires c =
     let e = root (held c.args.file.now) _ c.in_ok-judge.ensures refl in
     let y : ReadyIn c.args.file.now = record { fits = c.requires; good = good (held c.args.file.now) _ c.in_ok-judge.ensures refl } in
-    rw c.root-first.ensures (y, e.0, e.1)
+    rw c.root-first.ensures (record { ready = y; order = e.0; ends = e.1 })
 
 pub returns-clause-played : goal.returns-clause-played
 returns-clause-played c =

@@ -1,6 +1,4 @@
-use mathlib.Core.Path.{ap}
-use Rattle.std.proofs.Common.{rules, ◌∙◌}
-use lib.ListN.{get_or}
+use Rattle.std.proofs.Common.{ap, rules, ◌∙◌, get_or}
 use Rattle.screen.specs.Lent.{whole}
 use Rattle.file.specs.Held.{held}
 use Rattle.walk.specs.Reading.{draw_in}

@@ -9,13 +9,13 @@ pub returns-in_err-fill_draw-clause-walked : goal.returns-in_err-fill_draw-claus
 returns-in_err-fill_draw-clause-walked c =
     let p = err_from_is_err_and c.from_residual.result c.from_residual.ensures.1 in
     rw (p.1, p.2)
-    (draw_refused (held c.args.file.now) _ _ _ c.loop-i-test.true c.requires.2 _ _ (c.in_err-fill_draw.ensures.filled some-draw) (not_done _)
+    (draw_refused (held c.args.file.now) _ _ _ c.loop-i-test.true c.requires.ends _ _ (c.in_err-fill_draw.ensures.filled some-draw) (not_done _)
     ∙ c.loop-i.invariant.1)
 
 pub loop-i-preserved : goal.loop-i-preserved
 loop-i-preserved c = (
   search rules,
-  draw_turned (held c.args.file.now) _ _ _ c.loop-i-test.true c.requires.2 _ _ (c.in_ok-fill_draw.ensures.filled some-draw) refl ∙ c.loop-i.invariant.1,
+  draw_turned (held c.args.file.now) _ _ _ c.loop-i-test.true c.requires.ends _ _ (c.in_ok-fill_draw.ensures.filled some-draw) refl ∙ c.loop-i.invariant.1,
 )
 
 pub returns-clause-walked : goal.returns-clause-walked

@@ -3,3 +3,5 @@
 
 pub mod form;
 pub mod judge;
+pub mod recording;
+pub mod records;

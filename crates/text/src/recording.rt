@@ -9,8 +9,8 @@ ghost use Rattle.file.specs.Words.{words-in};
 ghost use Rattle.text.specs.Files.{nothing, showed, file-out, refusing, showing, recording-text, size_of, file-size, good-bytes, no-width-of, no-width-number};
 
 use crate::listing::{list_screen, refusal_line};
-use file::form::{read_form, words_of_bytes};
-use file::judge::box_at;
+use file::form::{VIEWPORT, read_form, words_of_bytes};
+use file::records::box_at;
 use rect::NOWHERE;
 use row::Rows;
 use screen::{Lent, Screen, Setup, fresh};
@@ -94,7 +94,7 @@ pub fn size_of(file: &[u32], setup: Setup) -> Result<Size, Refusal>
     ensures rows_le_program_rows { IfOk result (λ size. (size.rows ≤ program-rows) × (size.buckets ≤ program-buckets)) }
 {
     read_form(file)?;
-    let viewport = box_at(file, 1).viewport_in(setup.mode)?;
+    let viewport = box_at(file, VIEWPORT).viewport_in(setup.mode)?;
     let screen = fresh(viewport, setup.c, setup.d, setup.width);
     let rows = screen.rows();
     if PROGRAM_ROWS < rows {

@@ -19,11 +19,11 @@ use Rattle.rules_picture.proofs.Walked.{all-walks}
 use Rattle.rules_reason.specs.Reasons.{Asked, reason}
 use Rattle.rules_reason.specs.Answers.{Question, answer-lines, history, off-screen, tile-answer, refused-bytes, recording-answer, answer-in, why-words}
 use Rattle.file.specs.declared.form.Layout.{Layout}
-use Rattle.file.specs.Layouts.{form_of, sections_at}
+use Rattle.file.specs.Layouts.{Fits, form_of, sections_at}
 use Rattle.file.specs.Places.{recorded}
 use Rattle.file.proofs.Laid.{GoodForm, good-form, bad-form}
 use Rattle.file.proofs.Reading.{reads}
-use Rattle.walk.specs.Ready.{WalkReady}
+use Rattle.file.specs.Judging.{box_from}
 use Rattle.tile.specs.declared.steps.Tale.{Tale}
 use Rattle.tile.specs.Telling.{Telling, tell-at, nothing-told}
 use Rattle.tile.specs.Places.{Says, ToldTo}
@@ -176,8 +176,13 @@ module _ (u : Setup) (ws : List ℕ) (accepted : (rowlist-screen u ws).number �
     goods : (good_viewport f.viewport ≡ true) × (good-records r ≡ true)
     goods = records-good (rowlist-place u ws) (reset fresh-row nothing) r facts.0
 
-    pub ready : WalkReady ws l
-    ready = record { fits = good.fits; good = goods.1 }
+    pub ready : Fits ws l × (good-records r ≡ true)
+    ready = (good.fits, goods.1)
+
+    -- the viewport that stands in the words
+    pub viewed : {b : Box} → b ≡ box_from ws 1 → b ≡ r.viewport
+    unfolding recorded box_from
+    viewed e = e
 
     pub good-view : good_viewport f.viewport ≡ true
     good-view = goods.0

@@ -14,9 +14,16 @@ ghost use Rattle.text.specs.Files.{Usual};
 ghost use Rattle.text_programs.specs.Programs.{first};
 ghost use Rattle.text_why.specs.Questions.{question-of, read_by, ToldOf, answer-most};
 
+<<<<<<< HEAD
+use file::form::{VIEWPORT, read_form, words_of_bytes};
+use file::recording::Recording;
+use file::records::box_at;
+use screen::{Lent, Setup};
+=======
 use file::form::{read_form, words_of_bytes};
 use file::judge::box_at;
 use screen::Setup;
+>>>>>>> main
 use sizes::LINE_TABLE;
 use sizes::answers::Refusal;
 use text::lines::Refused;
@@ -24,7 +31,6 @@ use text::{Out, Print, print_first};
 use text_programs::list_file;
 use text_programs::tables::Tables;
 use tile::{Asked, Reason, Tale, is_off_screen, reason_of, tell_tile};
-use walk::Recording;
 
 /// What is asked of a tile: one attribute, or every attribute.
 #[derive(Clone, Copy)]
@@ -153,7 +159,7 @@ fn tell_words(
     ensures { ToldOf (setup-of setup) words.now row tile result lines.new }
 {
     let layout = read_form(words)?;
-    let viewport = box_at(words, 1).viewport_in(setup.mode)?;
+    let viewport = box_at(words, VIEWPORT).viewport_in(setup.mode)?;
     if is_off_screen(viewport, row, tile) {
         return Err(Refusal::BadRun);
     }

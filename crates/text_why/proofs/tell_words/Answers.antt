@@ -5,8 +5,9 @@ use Rattle.std.proofs.lemmas.Result.{err_from_is_err_and}
 use Rattle.rules.proofs.All.{never}
 use Rattle.screen.specs.Screens.{setup-of}
 use Rattle.file.proofs.Laid.{good-form}
+use Rattle.walk.specs.Ready.{ReadyIn}
 use Rattle.tile.proofs.Explaining.{view-seen, view-unseen}
-use Rattle.text_why.proofs.Accepted.{formless, ready, good-view, off-answer, told-of}
+use Rattle.text_why.proofs.Accepted.{formless, ready, viewed, good-view, off-answer, told-of}
 use Rattle.text_why.proofs.tell_words.Goals as goal
 
 pub returns-in_err-layout : goal.returns-in_err-layout
@@ -22,7 +23,7 @@ pub returns-in_err-viewport : goal.returns-in_err-viewport
 returns-in_err-viewport c =
     let a = c.args in
     let u = setup-of a.setup in
-    let bad = view-unseen _ a.words.now u _ c.box_at.ensures c.in_err-viewport.ensures in
+    let bad = view-unseen _ u _ (viewed u a.words.now c.requires.0 a.row a.tile c.in_ok-layout.layout c.in_ok-layout.ensures c.box_at.ensures) c.in_err-viewport.ensures in
     never (sym (good-view u a.words.now c.requires.0 a.row a.tile c.in_ok-layout.layout c.in_ok-layout.ensures) ∙ bad)
 
 pub returns-then-is_off_screen : goal.returns-then-is_off_screen
@@ -30,7 +31,7 @@ returns-then-is_off_screen c =
     let a = c.args in
     let u = setup-of a.setup in
     let l = c.in_ok-layout.layout in
-    let view = view-seen l a.words.now u _ c.box_at.ensures _ c.in_ok-viewport.ensures in
+    let view = view-seen _ u _ (viewed u a.words.now c.requires.0 a.row a.tile l c.in_ok-layout.ensures c.box_at.ensures) _ c.in_ok-viewport.ensures in
     off-answer u a.words.now c.requires.0 a.row a.tile l c.in_ok-layout.ensures _ view (sym c.is_off_screen.ensures ∙ c.if-is_off_screen.true)
 
 pub tell_tile-requires : goal.tell_tile-requires
@@ -38,8 +39,10 @@ tell_tile-requires c =
     let a = c.args in
     let u = setup-of a.setup in
     let l = c.in_ok-layout.layout in
-    let view = view-seen l a.words.now u _ c.box_at.ensures _ c.in_ok-viewport.ensures in (
-      ready u a.words.now c.requires.0 a.row a.tile l c.in_ok-layout.ensures,
+    let view = view-seen _ u _ (viewed u a.words.now c.requires.0 a.row a.tile l c.in_ok-layout.ensures c.box_at.ensures) _ c.in_ok-viewport.ensures in
+    let k = ready u a.words.now c.requires.0 a.row a.tile l c.in_ok-layout.ensures in
+    let y : ReadyIn (record { words = a.words; layout = l }) = record { fits = k.0; good = k.1 } in (
+      y,
       rw view at (good-view u a.words.now c.requires.0 a.row a.tile l c.in_ok-layout.ensures),
       sym c.is_off_screen.ensures ∙ c.if-is_off_screen.false,
       c.requires.1,
@@ -50,6 +53,6 @@ returns c =
     let a = c.args in
     let u = setup-of a.setup in
     let l = c.in_ok-layout.layout in
-    let view = view-seen l a.words.now u _ c.box_at.ensures _ c.in_ok-viewport.ensures in
+    let view = view-seen _ u _ (viewed u a.words.now c.requires.0 a.row a.tile l c.in_ok-layout.ensures c.box_at.ensures) _ c.in_ok-viewport.ensures in
     told-of u a.words.now c.requires.0 a.row a.tile l c.in_ok-layout.ensures _ view (sym c.is_off_screen.ensures ∙ c.if-is_off_screen.false) _ _ _
     c.tell_tile.ensures

@@ -1,14 +1,5 @@
 -- The ways through the judges at the border.
-<<<<<<< HEAD
-use mathlib.Core.Path.{◌≡◌, refl, sym, ap, ◌∙◌}
-use native.Mathlib.Omega.{arith}
-use mathlib.Core.Bool.{false}
-use mathlib.Core.List.{List}
-use Rattle.std.specs.Prelude.{Option, None, Some}
-use Prim.Native.Nat.{ℕ}
-=======
-use Rattle.std.proofs.Common.{◌≡◌, ap, ◌∙◌, false, List, None, ℕ}
->>>>>>> main
+use Rattle.std.proofs.Common.{◌≡◌, refl, sym, ap, ◌∙◌, arith, false, List, Option, None, Some, ℕ}
 use Rattle.sizes.specs.declared.answers.Refusal.{Refusal}
 use Rattle.sizes.specs.declared.answers.Refusal.TheVariants.{BadViewport}
 use Rattle.sizes.specs.Refusals.{number_of}

@@ -12,7 +12,7 @@ ghost use Rattle.host.specs.State.{refused_at};
 ghost use Rattle.host.specs.Border.{arenas-in, arenas_number, file_number, unasked_number};
 
 use crate::state::{before_4, screen_at};
-use file::recording::Recording;
+use file::Recording;
 use paint::Stored;
 use paint::canvas::judge::{judge_begin, judge_runs, judge_skip, judge_step};
 use rect::Rect;

@@ -22,7 +22,7 @@ ghost use Rattle.tile.specs.Explained.{explained-as, reason_said, reason-told, t
 use crate::reason::{Asked, Reason, reason_of};
 use crate::steps::{Spot, Tale, Within};
 use crate::story::tell_nodes;
-use file::recording::Recording;
+use file::Recording;
 use rect::Rect;
 use screen::{Lent, Screen, Setup};
 use sizes::answers::Refusal;
@@ -47,7 +47,10 @@ pub fn tell_tile(
     tile: u32,
     lines: &mut [u32],
 ) -> Result<Tale, Refusal>
-    requires { ReadyIn file.now × (good_viewport (box_of viewport) ≡ true) × (off-screen (box_of viewport) row tile ≡ false) × (length lines.old ≡ line-table) }
+    requires ready { ReadyIn file.now }
+    requires good { good_viewport (box_of viewport) ≡ true }
+    requires on_screen { off-screen (box_of viewport) row tile ≡ false }
+    requires room { length lines.old ≡ line-table }
     ensures { ToldTo (walk-all Telling (tell-at (bucket-tiles width) (box_of viewport) row tile) (held file.now) (nothing-told lines.old)) result lines.new }
 {
     let (first, end) = file.root();
@@ -90,7 +93,9 @@ fn reason_at(
     tile: u32,
     asked: Asked,
 ) -> Result<Reason, Refusal>
-    requires { ReadyIn file.now × (good_viewport (box_of viewport) ≡ true) × (off-screen (box_of viewport) row tile ≡ false) }
+    requires ready { ReadyIn file.now }
+    requires good { good_viewport (box_of viewport) ≡ true }
+    requires on_screen { off-screen (box_of viewport) row tile ≡ false }
     ensures { (l : ScreenLent) → explained-as (answer_number result) l (reason_said result)
         ≡ reason-told (asked_of asked) (told_of (bucket-tiles width) (box_of viewport) (held file.now) row tile) l }
 {

@@ -1,24 +1,22 @@
-// The walk over a recording that tells the story of one tile (rule 2), in plain draw order: over a run of nodes, and over a layer, which call each other.
-// Parts: callers have read the form, judged the records and chosen a tile of the screen.
-ghost use Rattle.std.specs.Prelude.{◌≡◌, true, not, List, [], ◌-◌, ◌≤◌, ◌<◌, eqb, length, get_or};
+//! The walk over a recording that tells the story of one tile (rule 2), in plain draw order: over a run of nodes, and over a layer, which call each other.
+//! Parts: callers have read the form, judged the records and chosen a tile of the screen.
+ghost use Rattle.std.specs.Prelude.{◌≡◌, true, List, ◌≤◌, ◌<◌, length, get_or};
 ghost use Rattle.sizes.specs.Sizes.{line-table};
 ghost use Rattle.sizes.specs.Refusals.{answer_number};
-ghost use Rattle.rules.specs.Lists.{slice};
 ghost use Rattle.rules.specs.Inputs.{Draw as RuleDraw};
 ghost use Rattle.rules.specs.Boxes.{good-dest};
-ghost use Rattle.rules.specs.Recording.{layer-rec, good-layer-rec};
-ghost use Rattle.rules.specs.Plans.{Layer as RuleLayer, a-fill};
-ghost use Rattle.rules.specs.Walk.{when, each, walk-filter, walk-layer, walk-nodes};
+ghost use Rattle.rules.specs.Recording.{good-layer-rec};
+ghost use Rattle.rules.specs.Plans.{Layer as RuleLayer};
 ghost use Rattle.rect.specs.Rects.{box_of};
 ghost use Rattle.file.specs.Records.{layer-of};
 ghost use Rattle.file.specs.Held.{held};
-ghost use Rattle.tile.specs.Telling.{Telling, tell-at, tell-filter};
+ghost use Rattle.tile.specs.Telling.{tell-filter};
 ghost use Rattle.tile.specs.Places.{Spotted, Bounded, Holds, Low, Says, telling};
+ghost use Rattle.tile.specs.Story.{draw-told, draws-told, filter-layer-told, nodes-told, layer-told};
 ghost use Rattle.tile.specs.Ready.{TaleReady, Deep};
 
 use crate::steps::{Spot, Stroke, Tale, Within, tell_fill, tell_filter, tell_pop, tell_push};
-use file::recording::Recording;
-use file::records::Layer;
+use file::{Layer, Recording};
 use fill::is_eligible;
 use sizes::answers::Refusal;
 use walk::read::{needs_buffer, to_draw, to_props};
@@ -32,10 +30,11 @@ fn tell_draw(
     i: usize,
     lines: &mut [u32],
 ) -> Result<(), Refusal>
-    requires { TaleReady file.now spot within tale.old lines.old × (i < length (held file.now).draws) }
+    requires ready { TaleReady file.now spot within tale.old lines.old }
+    requires there { i < length (held file.now).draws }
     ensures low { Low tale.new }
     ensures told { (d : RuleDraw) (ls : List RuleLayer) → Holds (box_of spot.viewport) within ls
-        → Says (tell-at spot.width (box_of spot.viewport) spot.row spot.tile (a-fill (held file.now).paints (held file.now).segments (get_or (held file.now).draws i d)) (telling tale.old ls lines.old))
+        → Says (draw-told spot (held file.now) (get_or (held file.now).draws i d) (telling tale.old ls lines.old))
         (answer_number result) (telling tale.new ls lines.new) }
 {
     let draw = to_draw(file.draw(i));
@@ -65,10 +64,12 @@ fn tell_draws(
     b: usize,
     lines: &mut [u32],
 ) -> Result<(), Refusal>
-    requires { TaleReady file.now spot within tale.old lines.old × (a ≤ b) × (b ≤ length (held file.now).draws) }
+    requires ready { TaleReady file.now spot within tale.old lines.old }
+    requires order { a ≤ b }
+    requires ends { b ≤ length (held file.now).draws }
     ensures low { Low tale.new }
     ensures told { (ls : List RuleLayer) → Holds (box_of spot.viewport) within ls
-        → Says (each (λ (d : RuleDraw). tell-at spot.width (box_of spot.viewport) spot.row spot.tile (a-fill (held file.now).paints (held file.now).segments d)) (slice a b (held file.now).draws) (telling tale.old ls lines.old))
+        → Says (draws-told spot (held file.now) a b (telling tale.old ls lines.old))
         (answer_number result) (telling tale.new ls lines.new) }
 {
     for i in a..b {
@@ -104,10 +105,12 @@ fn tell_filter_layer(
     layer: Layer,
     lines: &mut [u32],
 ) -> Result<(), Refusal>
-    requires { TaleReady file.now spot within tale.old lines.old × (good-layer-rec (held file.now) (layer-of layer) ≡ true) × (layer.kind ≡ 1) }
+    requires ready { TaleReady file.now spot within tale.old lines.old }
+    requires good { good-layer-rec (held file.now) (layer-of layer) ≡ true }
+    requires filter { layer.kind ≡ 1 }
     ensures low { Low tale.new }
     ensures told { (ls : List RuleLayer) → Holds (box_of spot.viewport) within ls
-        → Says (walk-filter Telling (tell-at spot.width (box_of spot.viewport) spot.row spot.tile) (held file.now) (layer-of layer) (telling tale.old ls lines.old))
+        → Says (filter-layer-told spot (held file.now) (layer-of layer) (telling tale.old ls lines.old))
         (answer_number result) (telling tale.new ls lines.new) }
 {
     let props = to_props(layer);
@@ -131,10 +134,13 @@ pub fn tell_nodes(
     b: usize,
     lines: &mut [u32],
 ) -> Result<(), Refusal>
-    requires { TaleReady file.now spot within tale.old lines.old × Deep depth within × (a ≤ b) × (b ≤ length (held file.now).nodes) }
+    requires ready { TaleReady file.now spot within tale.old lines.old }
+    requires levels { Deep depth within }
+    requires order { a ≤ b }
+    requires ends { b ≤ length (held file.now).nodes }
     ensures low { Low tale.new }
     ensures told { (ls : List RuleLayer) → Holds (box_of spot.viewport) within ls
-        → Says (walk-nodes Telling (tell-at spot.width (box_of spot.viewport) spot.row spot.tile) (held file.now) (walk-layer Telling (tell-at spot.width (box_of spot.viewport) spot.row spot.tile) (held file.now) depth) a b (telling tale.old ls lines.old))
+        → Says (nodes-told spot (held file.now) depth a b (telling tale.old ls lines.old))
         (answer_number result) (telling tale.new ls lines.new) }
 {
     for i in a..b {
@@ -159,10 +165,12 @@ fn tell_layer(
     layer: u32,
     lines: &mut [u32],
 ) -> Result<(), Refusal>
-    requires { TaleReady file.now spot within tale.old lines.old × Deep depth within × (layer ≤ length (held file.now).layers) }
+    requires ready { TaleReady file.now spot within tale.old lines.old }
+    requires levels { Deep depth within }
+    requires named { layer ≤ length (held file.now).layers }
     ensures low { Low tale.new }
     ensures told { (ls : List RuleLayer) → Holds (box_of spot.viewport) within ls
-        → Says (when (not (eqb layer 0)) (walk-layer Telling (tell-at spot.width (box_of spot.viewport) spot.row spot.tile) (held file.now) depth (get_or (held file.now).layers (layer - 1) (layer-rec []))) (telling tale.old ls lines.old))
+        → Says (layer-told spot (held file.now) depth layer (telling tale.old ls lines.old))
         (answer_number result) (telling tale.new ls lines.new) }
 {
     if layer == 0 {

@@ -8,7 +8,7 @@ ghost use Rattle.file.specs.Held.{held, FitsIn};
 ghost use Rattle.walk.specs.Recorded.{played-once, recorded};
 
 use crate::nodes::walk_nodes;
-use file::recording::Recording;
+use file::Recording;
 use screen::{Lent, Screen, Setup, reset};
 use sizes::MOST_LAYERS;
 use sizes::answers::Refusal;

@@ -10,7 +10,7 @@ ghost use Rattle.walk.specs.Ready.{ReadyIn};
 
 use crate::read::to_props;
 use crate::steps::{pop_at, push_at, walk_draws, walk_filter};
-use file::recording::Recording;
+use file::Recording;
 use screen::{Lent, Screen};
 use sizes::answers::Refusal;
 

@@ -7,7 +7,7 @@ ghost use Rattle.inputs.specs.Inputs.{draw-of};
 ghost use Rattle.file.specs.Records.{layer-of};
 ghost use Rattle.walk.specs.Reading.{draw_in, pattern_of, clip_in, clip_read, props_in, present, buffered};
 
-use file::records::Layer;
+use file::Layer;
 use fill::Draw;
 use inputs::Clip;
 use screen::layers::LayerProps;

@@ -16,8 +16,7 @@ ghost use Rattle.walk.specs.Reading.{props_in};
 ghost use Rattle.walk.specs.Steps.{placement_in, call_at, draw_step, filter_step, draws-walked};
 
 use crate::read::{needs_buffer, to_draw, to_props};
-use file::recording::Recording;
-use file::records::Layer;
+use file::{Layer, Recording};
 use fill::fill;
 use inputs::Filter;
 use layers::{FilterFill, Placement, filter_fill, push_layer};

@@ -32,11 +32,12 @@ pub reason_at-requires : goal.reason_at-requires
 reason_at-requires c =
     let q = setup-of c.args.setup in
     let r = c.in_ok-file.file in
-    let same = view-seen (held r) q _ c.viewport.ensures _ c.in_ok-viewport.ensures in (
-      given-ready r _ c.in_ok-file.ensures q c.requires,
-      rw same at (given-view r _ c.in_ok-file.ensures q c.requires),
-      sym c.is_off_screen.ensures ∙ c.if-is_off_screen.false,
-    )
+    let same = view-seen (held r) q _ c.viewport.ensures _ c.in_ok-viewport.ensures in
+    record {
+      ready = given-ready r _ c.in_ok-file.ensures q c.requires;
+      good = rw same at (given-view r _ c.in_ok-file.ensures q c.requires);
+      on_screen = sym c.is_off_screen.ensures ∙ c.if-is_off_screen.false;
+    }
 
 pub returns : goal.returns
 returns c =

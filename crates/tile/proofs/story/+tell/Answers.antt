@@ -22,13 +22,10 @@ tell_layer-returns-then-layer-eq0-clause-told t c = λ ls o. names-none _ (held 
 pub tell_layer-tell_filter_layer-requires : goal.tell_layer-tell_filter_layer-requires
 tell_layer-tell_filter_layer-requires t c =
     let r = held c.args.file.now in
-    let ready = c.requires.0 in
+    let ready = c.requires.ready in
     let few : c.args.layer - 1 < length r.layers = omega arith in
-    let fit = layer-fit r ready.walk.good _ few (c.layer-record.ensures _) in (
-      ready,
-      layer-good r ready.walk.good _ few (c.layer-record.ensures _),
-      omega (arith, fit.kind),
-    )
+    let fit = layer-fit r ready.walk.good _ few (c.layer-record.ensures _) in
+    record { ready = ready; good = layer-good r ready.walk.good _ few (c.layer-record.ensures _); filter = omega (arith, fit.kind) }
 
 pub tell_layer-returns-then-record-ne0-clause-told : goal.tell_layer-returns-then-record-ne0-clause-told
 tell_layer-returns-then-record-ne0-clause-told t c =
@@ -36,7 +33,7 @@ tell_layer-returns-then-record-ne0-clause-told t c =
     let r = held s.file.now in
     let few : s.layer - 1 < length r.layers = omega arith in
     let y = layer-of c.layer-record.result in
-    let fit = layer-fit r c.requires.0.walk.good _ few (c.layer-record.ensures _) in
+    let fit = layer-fit r c.requires.ready.walk.good _ few (c.layer-record.ensures _) in
     let one : y.kind ≡ 1 = omega (arith, fit.kind) in
     λ ls o.
     said-by (names-one s.spot r _ _ _ (c.layer-record.ensures _) c.if-layer-eq0.false ∙ as-filter s.spot _ y _ one _)
@@ -45,7 +42,7 @@ tell_layer-returns-then-record-ne0-clause-told t c =
 pub tell_layer-tell_push-requires : goal.tell_layer-tell_push-requires
 tell_layer-tell_push-requires t c =
     let r = held c.args.file.now in
-    let ready = c.requires.0 in
+    let ready = c.requires.ready in
     let few : c.args.layer - 1 < length r.layers = omega arith in (
       ready.spotted,
       ready.bounded,
@@ -70,7 +67,7 @@ tell_layer-returns-in_err-inner-clause-told t c =
 pub tell_layer-tell_nodes-requires : goal.tell_layer-tell_nodes-requires
 tell_layer-tell_nodes-requires t c =
     let r = held c.args.file.now in
-    let ready = c.requires.0 in
+    let ready = c.requires.ready in
     let few : c.args.layer - 1 < length r.layers = omega arith in
     let fit = layer-fit r ready.walk.good _ few (c.layer-record.ensures _) in
     let pushed = c.in_ok-inner.ensures in
@@ -78,9 +75,7 @@ tell_layer-tell_nodes-requires t c =
       omega (arith, pushed.opens.1, most),
       (
         record { walk = ready.walk; spotted = ready.spotted; bounded = pushed.opens.0; low = pushed.low; room = ready.room },
-        omega (arith, pushed.opens.1, most),
-        fit.order,
-        fit.ends,
+        (omega (arith, pushed.opens.1, most), (fit.order, fit.ends)),
       ),
     )
 
@@ -103,7 +98,7 @@ tell_layer-returns-in_err-tell_nodes-clause-told t c =
 pub tell_layer-tell_pop-requires : goal.tell_layer-tell_pop-requires
 tell_layer-tell_pop-requires t c =
     let r = held c.args.file.now in
-    let ready = c.requires.0 in
+    let ready = c.requires.ready in
     let few : c.args.layer - 1 < length r.layers = omega arith in (
       ready.spotted,
       c.in_ok-inner.ensures.opens.0,
@@ -134,24 +129,25 @@ tell_layer-returns-clause-told t c =
 pub tell_nodes-tell_draws-requires : goal.tell_nodes-tell_draws-requires
 tell_nodes-tell_draws-requires t c =
     let r = held c.args.file.now in
-    let ready = c.requires.0 in
-    let range = node-range r ready.walk.good c.loop-i.i (omega arith) (c.node-node.ensures _) in (
-      record { walk = ready.walk; spotted = ready.spotted; bounded = ready.bounded; low = c.loop-i.invariant.0; room = c.loop-i.auto.lines ∙ ready.room },
-      range.0,
-      range.1.0,
-    )
+    let ready = c.requires.ready in
+    let range = node-range r ready.walk.good c.loop-i.i (omega arith) (c.node-node.ensures _) in
+    record {
+      ready = record { walk = ready.walk; spotted = ready.spotted; bounded = ready.bounded; low = c.loop-i.invariant.0; room = c.loop-i.auto.lines ∙ ready.room };
+      order = range.0;
+      ends = range.1.0;
+    }
 
 pub tell_nodes-returns-in_err-tell_draws-clause-told : goal.tell_nodes-returns-in_err-tell_draws-clause-told
 tell_nodes-returns-in_err-tell_draws-clause-told t c =
     let r = held c.args.file.now in
     let p = err_from_is_err_and c.from_residual.result c.from_residual.ensures.1 in
     rw (p.1, p.2)
-    (draws-refused c.args.spot r _ c.loop-i.invariant.1 c.loop-i-test.true c.requires.3 (node-of c.node-node.result) (c.node-node.ensures _) _ _ c.in_err-tell_draws.ensures.told (not_done _))
+    (draws-refused c.args.spot r _ c.loop-i.invariant.1 c.loop-i-test.true c.requires.ends (node-of c.node-node.result) (c.node-node.ensures _) _ _ c.in_err-tell_draws.ensures.told (not_done _))
 
 pub tell_nodes-tell_layer-requires : goal.tell_nodes-tell_layer-requires
 tell_nodes-tell_layer-requires t c =
     let r = held c.args.file.now in
-    let ready = c.requires.0 in
+    let ready = c.requires.ready in
     let range = node-range r ready.walk.good c.loop-i.i (omega arith) (c.node-node.ensures _) in (
       omega arith,
       (
@@ -162,8 +158,7 @@ tell_nodes-tell_layer-requires t c =
           low = c.in_ok-tell_draws.ensures.low;
           room = c.tell_draws.auto.lines ∙ c.loop-i.auto.lines ∙ ready.room;
         },
-        c.requires.1,
-        range.1.1,
+        (c.requires.levels, range.1.1),
       ),
     )
 
@@ -172,14 +167,14 @@ tell_nodes-returns-in_err-tell_layer-clause-told t c =
     let r = held c.args.file.now in
     let p = err_from_is_err_and c.from_residual-in_err-tell_layer.result c.from_residual-in_err-tell_layer.ensures.1 in
     rw (p.1, p.2)
-    (layer-refused c.args.spot r _ c.loop-i.invariant.1 c.loop-i-test.true c.requires.3 (node-of c.node-node.result) (c.node-node.ensures _) _ _ c.in_ok-tell_draws.ensures.told refl
+    (layer-refused c.args.spot r _ c.loop-i.invariant.1 c.loop-i-test.true c.requires.ends (node-of c.node-node.result) (c.node-node.ensures _) _ _ c.in_ok-tell_draws.ensures.told refl
     _ _ c.in_err-tell_layer.ensures.told (not_done _))
 
 pub tell_nodes-loop-i-preserved : goal.tell_nodes-loop-i-preserved
 tell_nodes-loop-i-preserved t c =
     let r = held c.args.file.now in (
       c.in_ok-tell_layer.ensures.low,
-      node-turned c.args.spot r _ c.loop-i.invariant.1 c.loop-i-test.true c.requires.3 (node-of c.node-node.result) (c.node-node.ensures _) _ _ c.in_ok-tell_draws.ensures.told refl
+      node-turned c.args.spot r _ c.loop-i.invariant.1 c.loop-i-test.true c.requires.ends (node-of c.node-node.result) (c.node-node.ensures _) _ _ c.in_ok-tell_draws.ensures.told refl
           _ _ c.in_ok-tell_layer.ensures.told refl,
     )
 

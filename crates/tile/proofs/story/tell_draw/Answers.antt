@@ -12,7 +12,7 @@ use Rattle.tile.proofs.story.tell_draw.Goals as goal
 pub is_eligible-eligible-requires : goal.is_eligible-eligible-requires
 is_eligible-eligible-requires c =
     let r = held c.args.file.now in
-    let k = draw-is r c.requires.0.walk.good c.args.i c.requires.1 (c.draw.ensures some-draw) in
+    let k = draw-is r c.requires.ready.walk.good c.args.i c.requires.there (c.draw.ensures some-draw) in
     let paint = k.paint in
     let long = c.paints.ensures.long in
     rw c.to_draw-draw.ensures (omega arith)
@@ -20,8 +20,8 @@ is_eligible-eligible-requires c =
 pub tell_fill-requires : goal.tell_fill-requires
 tell_fill-requires c =
     let r = held c.args.file.now in
-    let ready = c.requires.0 in
-    let k = draw-is r ready.walk.good c.args.i c.requires.1 (c.draw.ensures some-draw) in
+    let ready = c.requires.ready in
+    let k = draw-is r ready.walk.good c.args.i c.requires.there (c.draw.ensures some-draw) in
     let e = c.to_draw-draw.ensures in
     let read = c.segments.ensures.read in
     let long = c.segments.ensures.long in (
@@ -37,7 +37,7 @@ tell_fill-requires c =
 pub returns-clause-told : goal.returns-clause-told
 returns-clause-told c =
     let r = held c.args.file.now in
-    let k = draw-is r c.requires.0.walk.good c.args.i c.requires.1 (c.draw.ensures some-draw) in
+    let k = draw-is r c.requires.ready.walk.good c.args.i c.requires.there (c.draw.ensures some-draw) in
     λ d ls o.
     rw (← c.draw.ensures d)
     (draw-told c.args.spot r k _ _ (paints-lent r _ c.paints.ensures.read c.paints.ensures.long) c.segments.ensures.read c.segments.ensures.long c.args.within _ o

@@ -16,13 +16,13 @@ use Rattle.tile.proofs.story.tell_filter_layer.Goals as goal
 
 pub tell_picture-requires : goal.tell_picture-requires
 tell_picture-requires c =
-    let ready = c.requires.0 in
+    let ready = c.requires.ready in
     let r = c.args.file.now in (
       ready.spotted,
       ready.bounded,
       ready.low,
       ready.room,
-      filter-dest (held r) (layer-of c.args.layer) c.requires.1 c.requires.2,
+      filter-dest (held r) (layer-of c.args.layer) c.requires.good c.requires.filter,
     )
 
 pub returns-then-not-needs_buffer-clause-told : goal.returns-then-not-needs_buffer-clause-told
@@ -35,12 +35,12 @@ returns-then-not-needs_buffer-clause-told c =
 
 pub tell_push-requires : goal.tell_push-requires
 tell_push-requires c =
-    let ready = c.requires.0 in
+    let ready = c.requires.ready in
     let r = c.args.file.now in (
       ready.spotted,
       ready.bounded,
       ready.low,
-      good-told (layer-of c.args.layer) c.to_props-props.ensures.props (held r) c.requires.1,
+      good-told (layer-of c.args.layer) c.to_props-props.ensures.props (held r) c.requires.good,
     )
 
 pub returns-in_err-inner-clause-told : goal.returns-in_err-inner-clause-told
@@ -57,13 +57,13 @@ returns-in_err-inner-clause-told c =
 
 pub tell_picture-requires-2 : goal.tell_picture-requires-2
 tell_picture-requires-2 c =
-    let ready = c.requires.0 in
+    let ready = c.requires.ready in
     let r = c.args.file.now in (
       ready.spotted,
       c.in_ok-inner.ensures.opens.0,
       c.in_ok-inner.ensures.low,
       ready.room,
-      filter-dest (held r) (layer-of c.args.layer) c.requires.1 c.requires.2,
+      filter-dest (held r) (layer-of c.args.layer) c.requires.good c.requires.filter,
     )
 
 pub returns-in_err-tell_picture-clause-told : goal.returns-in_err-tell_picture-clause-told
@@ -84,7 +84,7 @@ returns-in_err-tell_picture-clause-told c =
 
 pub tell_pop-requires : goal.tell_pop-requires
 tell_pop-requires c =
-    let ready = c.requires.0 in
+    let ready = c.requires.ready in
     let r = c.args.file.now in (
       ready.spotted,
       c.in_ok-inner.ensures.opens.0,
@@ -92,7 +92,7 @@ tell_pop-requires c =
       c.in_ok-inner.ensures.opens.1,
       c.in_ok-tell_picture.ensures.low,
       c.tell_picture-2.auto.lines ∙ ready.room,
-      ready-told (layer-of c.args.layer) c.to_props-props.ensures.props (held r) ready.walk.good _ c.segments.ensures.read c.segments.ensures.long c.requires.1,
+      ready-told (layer-of c.args.layer) c.to_props-props.ensures.props (held r) ready.walk.good _ c.segments.ensures.read c.segments.ensures.long c.requires.good,
     )
 
 pub returns-clause-told : goal.returns-clause-told

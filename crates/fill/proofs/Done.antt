@@ -33,8 +33,9 @@ use Rattle.fill.proofs.Rising.{rising}
 use Rattle.fill.proofs.Judged.{all-landed, roomy-judged}
 use Rattle.fill.specs.declared.rows.Job.{Job}
 use Rattle.fill.specs.Named.{job_rows, rows_after}
-use Rattle.fill.specs.declared.Draw.{Draw}
-use Rattle.fill.specs.Fills.{draw-of, paints-of, job_of, FillLent, lent, fill-plan, first-of-lent, fill_number, fill_done, filled}
+use Rattle.inputs.specs.declared.Draw.{Draw}
+use Rattle.inputs.specs.Inputs.{draw-of}
+use Rattle.fill.specs.Fills.{paints-of, job_of, FillLent, lent, fill-plan, first-of-lent, fill_number, fill_done, filled}
 use Rattle.fill.proofs.Inputs.{GoodDraw, draw-facts}
 use Rattle.fill.proofs.Planned.{state-frame, state-next, plan-layers, plan-next, refused-bad, refused-are, puts-are, rows_are, attrs-same, attrs-more, full-attrs, paints-more, filters-same}
 use Rattle.fill.proofs.Numbers.{passing, long, rowed, good-are}

@@ -14,8 +14,9 @@ use Rattle.screen.proofs.ScreenLaws.{clip, good-clip-of}
 use Rattle.segments.specs.declared.Scene.{Scene}
 use Rattle.segments.specs.Segs.{segs-of, SceneOf}
 use Rattle.segments.proofs.Laws.{segs-count}
-use Rattle.fill.specs.declared.Draw.{Draw}
-use Rattle.fill.specs.Fills.{draw-of, paint-at, paints, paints-of, good-fill-at, scene-at}
+use Rattle.inputs.specs.declared.Draw.{Draw}
+use Rattle.inputs.specs.Inputs.{draw-of, draw_fields}
+use Rattle.fill.specs.Fills.{paint-at, paints, paints-of, good-fill-at, scene-at}
 
 module _ (ws : List ℕ) where
   paints-length : (i k : ℕ) → length (paints ws i k) ≡ k
@@ -35,19 +36,33 @@ module _ (ws : List ℕ) where
   pub paint-there : (z : Paint) (x : ℕ) → x < length ws / 4 → get_or (paints-of ws) x z ≡ paint-at ws x
   paint-there z x h = there z 0 (length ws / 4) x x h (omega arith)
 
+-- a test that stands last may stand second
+moved : (a g y z w : Bool) → (a && y && z && w && g) ≡ (a && g && y && z && w)
+moved false g y z w = refl
+moved true true true true true = refl
+moved true true true true false = refl
+moved true true true false w = refl
+moved true true false z w = refl
+moved true false true true true = refl
+moved true false true true false = refl
+moved true false true false w = refl
+moved true false false z w = refl
+
 -- what a fill is told, at the words
 module _ (ps ss : List ℕ) (d : Draw) where
-  paint_at : (x y z w v b : Bool) → ltb d.paint (length ps / 4) ≡ b
-      → (x && b && good-paint (paint-at ps d.paint) && y && z && w) ≡ (x && b && good-paint (draw-paint (paints-of ps) (draw-of d)) && y && z && w)
-  paint_at x y z w v true e = rw (paint-there ps (record { opaque = 0; handle = 0 }) d.paint (ltb-true _ _ e))
-  paint_at true y z w v false e = refl
-  paint_at false y z w v false e = refl
+  -- the paint's own test stands last at the words, and after the paint's place in the rule
+  paint_at : (x y z w b : Bool) → ltb d.paint (length ps / 4) ≡ b
+      → (x && b && y && z && w && good-paint (paint-at ps d.paint)) ≡ (x && b && good-paint (draw-paint (paints-of ps) (draw-of d)) && y && z && w)
+  paint_at x y z w true e = rw (paint-there ps (record { opaque = 0; handle = 0 }) d.paint (ltb-true _ _ e)) (moved (x && true) _ y z w)
+  paint_at true y z w false e = refl
+  paint_at false y z w false e = refl
 
   fill_at : good-fill-at ps ss d ≡ good-fill (paints-of ps) (segs-of ss) (draw-of d)
+  unfolding draw_fields
   fill_at =
       rw (paints-count ps, segs-count ss)
       (ap (λ (t : Bool). few-paints (length ps / 4) && t)
-      (paint_at (good-thread d.thread && good-range d.start d.end (length ss / 5)) (good-blend (draw-of d).blend) (good-handle d.mask) (good-panel d.panel) true
+      (paint_at (good-thread d.thread && good-range d.start d.end (length ss / 5)) (good-blend (draw-of d).blend) (good-handle d.mask) (good-panel d.panel)
       (ltb d.paint (length ps / 4)) refl))
 
   pub fill-told : {r b : Bool} → r ≡ good-fill-at ps ss d → r ≡ b → good-fill (paints-of ps) (segs-of ss) (draw-of d) ≡ b

@@ -26,8 +26,9 @@ use Rattle.fill.specs.Filling.{puts_of, cuts-of}
 use Rattle.fill.specs.Tallies.{Tally, tally_cuts, verdict, none_yet, Rowed, list-number}
 use Rattle.fill.proofs.Rising.{rising}
 use Rattle.fill.proofs.Judged.{run, flags, verdict-any, verdict-is, all-landed}
-use Rattle.fill.specs.declared.Draw.{Draw}
-use Rattle.fill.specs.Fills.{draw-of, paints-of, job_of, FillLent, fill-plan, first_number, first-of-lent, fill_number}
+use Rattle.inputs.specs.declared.Draw.{Draw}
+use Rattle.inputs.specs.Inputs.{draw-of}
+use Rattle.fill.specs.Fills.{paints-of, job_of, FillLent, fill-plan, first_number, first-of-lent, fill_number}
 use Rattle.fill.proofs.Inputs.{GoodDraw, draw-facts, scene-of-it}
 use Rattle.fill.proofs.Planned.{good-unless, state-frame, plan-layers, plan-next, refused-bad, refused-are, puts-are, rows_are, attrs-same, attrs-more, not_full, full-attrs, room-for-one}
 

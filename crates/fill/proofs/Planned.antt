@@ -20,8 +20,9 @@ use Rattle.segments.specs.Segs.{segs-of, origin}
 use Rattle.segments.proofs.Laws.{segs-slice, segs-first, segs-end, cut-in-scene}
 use Rattle.fill.specs.Filling as filling
 use Rattle.fill.specs.Filling.{puts_of, cuts-of}
-use Rattle.fill.specs.declared.Draw.{Draw}
-use Rattle.fill.specs.Fills.{draw-of, paints-of, job_of, fill-plan}
+use Rattle.inputs.specs.declared.Draw.{Draw}
+use Rattle.inputs.specs.Inputs.{draw-of}
+use Rattle.fill.specs.Fills.{paints-of, job_of, fill-plan}
 use Rattle.fill.proofs.Inputs.{GoodDraw, scene-of-it}
 
 -- a list that is not refused by 4 has good segments

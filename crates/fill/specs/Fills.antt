@@ -1,17 +1,13 @@
 -- A fill at a screen's words: its number, and every lent word afterwards.
-use Rattle.std.specs.Prelude.{ℕ, zero, suc, ◌+◌, ◌*◌, ◌/◌, ◌%◌, Bool, ◌&&◌, cond, List, [], ◌∷◌, eqb, get_or, length, drop, ltb}
+use Rattle.std.specs.Prelude.{ℕ, zero, suc, ◌+◌, ◌*◌, ◌/◌, ◌%◌, Bool, ◌&&◌, cond, List, [], ◌∷◌, eqb, get_or, length, drop}
 use Rattle.sizes.specs.Sizes.{paint-attr-size, paint-attr-table}
 use Rattle.rules.specs.Lists.{join}
 use Rattle.rules.specs.Answers.{Answer, settle, Done, BadRecord}
 use Rattle.rules.specs.Boxes.{Box, scene-tiles}
-use Rattle.rules.specs.Blends.{good-blend}
-use Rattle.rules.specs.Spans.{good-range}
-use Rattle.rules.specs.Inputs.{Paint, draw-paint, good-thread, good-paint, good-handle, good-panel, few-paints}
-use Rattle.rules.specs.Inputs as rule
+use Rattle.rules.specs.Inputs.{Paint, draw-paint, good-paint, few-paints}
 use Rattle.screen.specs.Attributes.{paint-attr-words}
 use Rattle.rules.specs.Plans.{Plan, eligible, plan-fill}
 use Rattle.rules.specs.Steps.{done}
-use Rattle.cmd.specs.Blends.{blend_of}
 use Rattle.cmd.specs.Attrs.{words-at}
 use Rattle.row.specs.Words.{Words, word-ops}
 use Rattle.row.specs.Arena.{lay}
@@ -23,19 +19,8 @@ use Rattle.screen.specs.Judging.{judged}
 use Rattle.segments.specs.declared.Scene.{Scene}
 use Rattle.segments.specs.Segs.{segs-of}
 use Rattle.fill.specs.declared.rows.Job.{Job}
-use Rattle.fill.specs.declared.Draw.{Draw}
-
-abbrev pub draw-of : Draw → rule.Draw
-draw-of d =
-    record {
-      thread = d.thread;
-      start = d.start;
-      end = d.end;
-      paint = d.paint;
-      blend = blend_of d.blend;
-      mask = d.mask;
-      panel = d.panel;
-    }
+use Rattle.inputs.specs.declared.Draw.{Draw}
+use Rattle.inputs.specs.Inputs.{draw_fields, draw-of}
 
 -- paint i of the words, four each: flag, handle, and two shifts that no rule reads
 abbrev pub paint-at : List ℕ → ℕ → Paint
@@ -51,14 +36,7 @@ paints-of ws = paints ws 0 (length ws / 4)
 
 -- answer 4 for what a fill is told, at the words
 abbrev pub good-draw-at : List ℕ → List ℕ → Draw → Bool
-good-draw-at ps ss d =
-    good-thread d.thread
-    && good-range d.start d.end (length ss / 5)
-    && ltb d.paint (length ps / 4)
-    && good-paint (paint-at ps d.paint)
-    && good-blend (blend_of d.blend)
-    && good-handle d.mask
-    && good-panel d.panel
+good-draw-at ps ss d = draw_fields (length ps / 4) (length ss / 5) (draw-of d) && good-paint (paint-at ps d.paint)
 
 abbrev pub good-fill-at : List ℕ → List ℕ → Draw → Bool
 good-fill-at ps ss d = few-paints (length ps / 4) && good-draw-at ps ss d

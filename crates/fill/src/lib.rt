@@ -7,49 +7,26 @@ ghost use Rattle.sizes.specs.Refusals.{answer_number};
 ghost use Rattle.rules.specs.Answers.{answer};
 ghost use Rattle.rules.specs.Boxes.{good_viewport};
 ghost use Rattle.rules.specs.Inputs.{good-paint, draw-paint};
-ghost use Rattle.rules.specs.Spans.{good-range};
 ghost use Rattle.rules.specs.Plans.{eligible};
 ghost use Rattle.rect.specs.Rects.{box_of};
 ghost use Rattle.row.specs.Rows.{SameRows};
 ghost use Rattle.screen.specs.Screens.{good_screen};
-ghost use Rattle.fill.specs.Fills.{draw-of, paint-at, paints-of, good-draw-at, good-fill-at, job_of, first-of-lent, fill_number, fill_done, filled};
+ghost use Rattle.inputs.specs.Inputs.{draw-of};
+ghost use Rattle.fill.specs.Fills.{paint-at, paints-of, good-draw-at, good-fill-at, job_of, first-of-lent, fill_number, fill_done, filled};
 ghost use Rattle.fill.specs.Named.{lent_of};
 
 use crate::judge::judge_list;
 use crate::rows::{Job, fill_rows};
 use cmd::attrs::{PaintFillAttrs, put_paint_attrs};
-use cmd::blend::Blend;
+use inputs::Draw;
 use row::Rows;
 use screen::{Screen, judge_screen};
 use segments::scene_of;
 use sizes::answers::Refusal;
-use sizes::{
-    HANDLE_END, LAST_ID, MOST_ATTRS, MOST_RECORDS, PAINT, PAINT_TABLE, PANEL_END, SEGMENT,
-    THREAD_END,
-};
+use sizes::{HANDLE_END, LAST_ID, MOST_ATTRS, MOST_RECORDS, PAINT, PAINT_TABLE, SEGMENT};
 
 pub mod judge;
 pub mod rows;
-
-/// Segments start to end of a list, painted with the paint at a place of a paint list (record.rs, RecordedFill). The thread is that of their alpha values;
-/// `mask` is a handle, or 0 for none.
-#[derive(Clone, Copy)]
-pub struct Draw {
-    pub thread: u32,
-    pub start: usize,
-    pub end: usize,
-    pub paint: u32,
-    pub blend: Blend,
-    pub mask: u32,
-    pub panel: u32,
-}
-
-// A range of a list of `count`.
-fn is_range(start: usize, end: usize, count: usize) -> bool
-    ensures { result ≡ good-range start «end» count }
-{
-    start <= end && end <= count
-}
 
 // Whether a paint's opaque flag and handle are in their bounds.
 fn is_good_paint(paints: &[u32], paint: usize) -> bool
@@ -60,16 +37,12 @@ fn is_good_paint(paints: &[u32], paint: usize) -> bool
 }
 
 // The draw's own fields, and the paint that it names (answer 4).
+#[tactic(auto, unfolding(inputs::specs::Inputs::draw_fields))]
 fn is_good_draw(paints: &[u32], segments: &[u32], draw: Draw) -> bool
     ensures { result ≡ good-draw-at paints.now segments.now draw }
 {
-    draw.thread < THREAD_END
-        && is_range(draw.start, draw.end, segments.len() / SEGMENT)
-        && (draw.paint as usize) < paints.len() / PAINT
+    draw.is_good(paints.len() / PAINT, segments.len() / SEGMENT)
         && is_good_paint(paints, draw.paint as usize)
-        && draw.blend.is_good()
-        && draw.mask < HANDLE_END
-        && draw.panel < PANEL_END
 }
 
 // The same, and how many paints are lent (answer 4).

@@ -13,7 +13,7 @@ use Rattle.rect.specs.Rects.{box_of}
 use Rattle.row.specs.Words.{Words}
 use Rattle.screen.specs.Judging.{arenas}
 use Rattle.screen.specs.Tables.{Tables, tables, lengths}
-use Rattle.fill.specs.declared.Draw.{Draw}
+use Rattle.inputs.specs.declared.Draw.{Draw}
 use Rattle.pop.specs.Pop as pop
 use Rattle.layers.specs.declared.filter.Placement.{Placement}
 use Rattle.layers.specs.Filter.{given}

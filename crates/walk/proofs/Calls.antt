@@ -10,7 +10,7 @@ use Rattle.rules.specs.Plans.{a-push, a-pop, a-filter}
 use Rattle.segments.specs.Segs.{segs-of}
 use Rattle.screen.specs.declared.Screen.{Screen}
 use Rattle.screen.specs.Tables.{ScreenLent}
-use Rattle.fill.specs.declared.Draw.{Draw}
+use Rattle.inputs.specs.declared.Draw.{Draw}
 use Rattle.fill.specs.Fills as fills
 use Rattle.fill.specs.Fills.{paints-of, filled, fill_number, fill_done}
 use Rattle.layers.specs.Push as push

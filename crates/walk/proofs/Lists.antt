@@ -9,7 +9,7 @@ use Rattle.segments.specs.Segs.{seg-at, segs, segs-of}
 use Rattle.file.specs.Each.{each}
 use Rattle.file.specs.Places.{paint_from}
 use Rattle.screen.specs.declared.Screen.{Screen}
-use Rattle.fill.specs.declared.Draw as step
+use Rattle.inputs.specs.declared.Draw as step
 use Rattle.fill.specs.Fills as fills
 use Rattle.fill.specs.Fills.{paint-at, paints, paints-of, filled}
 use Rattle.pop.specs.Pop as pop

@@ -127,13 +127,13 @@ pub fn pop_layer(
     ensures done { OnOk result (standing screen.new (lent_of rows.new layers.new layer_attrs.new)
         ≡ after screen.old (lent_of rows.old layers.old layer_attrs.old) list.now) }
 {
-    let closing = judge_pop(*screen, rows, layers, layer_attrs, list)?;
     // Rows by value: behind a reference their slices are loaded again for each segment.
     let mut own = Rows {
         state: rows.state,
         render: rows.render,
         fills: rows.fills,
     };
+    let closing = judge_pop(*screen, &own, layers, layer_attrs, list)?;
     do_rows(*screen, &mut own, layers, &closing, list);
     do_tables(*screen, layers, closing.layer, layer_attrs);
     screen.close_layer(closing.parent);

@@ -165,6 +165,7 @@ fn count_segment(
 }
 
 /// With a clip: whether a touched row would get more than C commands (answer 10), the LayerFills of the clip's segments and each row's PopBuf after them.
+#[inline(always)]
 pub fn is_full_clip(
     screen: Screen,
     rows: &Rows<'_>,

@@ -9,7 +9,8 @@ ghost use Rattle.screen.specs.LentLayers.{SameLayers};
 ghost use Rattle.sizes.specs.Refusals.{answer_number};
 ghost use Rattle.screen.specs.Layers.{open_at};
 ghost use Rattle.pop.specs.Pop.{out, number, after, popped, Judged, closing-puts, words-after, attr_by, tables_after, Closes};
-ghost use Rattle.pop.specs.Named.{screen_rows, closed_by, lent_of, tables_of, standing};
+ghost use Rattle.layers.specs.Band.{screen_rows};
+ghost use Rattle.pop.specs.Named.{closed_by, lent_of, tables_of, standing};
 
 use crate::close::{close_segments, close_spans, pop_rows};
 use crate::judge::{Closing, judge_pop};

@@ -33,13 +33,13 @@ use Rattle.screen.specs.Screens.{frame-of, state-of, screen-after, good_screen, 
 use Rattle.screen.specs.Judging.{judged}
 use Rattle.rect.proofs.Boxes.{view}
 use Rattle.screen.proofs.ScreenLaws.{bounds, clip, good-clip-of, clip-of, same-layers, paint-count, layer-attr-count, filter-count, layer-count}
-use Rattle.screen.proofs.Passed.{Passed, passed}
+use Rattle.screen.proofs.Passed.{passed}
 use Rattle.row.specs.Room.{rows_told}
 use Rattle.layers.specs.Band.{band_number, each, OnRows}
 use Rattle.layers.proofs.RowsLaws.{puts-each}
 use Rattle.layers.proofs.Numbers.{band-answer, band-step, band-room, paint-adds, run-told}
 use Rattle.std.proofs.lemmas.Bool.Decides.{nat_tests}
-use Rattle.layers.proofs.Passing.{passed-whole, rows-within, either}
+use Rattle.layers.proofs.Passing.{PassedOn, passed-whole, rows-within, either}
 use Rattle.layers.specs.Filter.{FilterGiven, filter-of, good-given, paint-from, attrs-of, FilterLent, lent, plan-of, filter-number, filter-paint-words, after, filtered, own-box}
 
 frame_is : (s : Screen) → (state-of s).frame ≡ frame-of s
@@ -169,7 +169,7 @@ module _ (g : FilterGiven) (s : Screen) (w : Words) (ps : List ℕ) (fs : List �
 
   module _ (z : judged-at s w ≡ 0) where
     -- the screen's own facts
-    pub fit : Passed s (length w.state) (length w.render) (length w.fills) (rows_of (box_of s.viewport))
+    pub fit : PassedOn s w
     fit = passed s (length w.state) (length w.render) (length w.fills) z
 
     pub whole : Whole (frame-of s) w
@@ -250,7 +250,7 @@ module _ (g : FilterGiven) (s : Screen) (w : Words) (ps : List ℕ) (fs : List �
 
 -- the box and the rows that the code finds
 module _ (g : FilterGiven) (s : Screen) (w : Words) (z : judged-at s w ≡ 0) (b : Rect) (e : box_of b ≡ own-box g s) where
-  ok : Passed s (length w.state) (length w.render) (length w.fills) (rows_of (box_of s.viewport))
+  ok : PassedOn s w
   ok = passed s (length w.state) (length w.render) (length w.fills) z
 
   top-is : b.y0 ≡ (own-box g s).y0

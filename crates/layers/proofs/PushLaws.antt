@@ -24,14 +24,14 @@ use Rattle.screen.specs.declared.Screen.{Screen}
 use Rattle.screen.specs.Screens.{frame-of, state-of, screen-after, opened, good_screen}
 use Rattle.screen.specs.Judging.{judged}
 use Rattle.screen.proofs.ScreenLaws.{bounds, clip, good-clip-of, clip-of, paint-count, layer-attr-count, filter-count, layer-count}
-use Rattle.screen.proofs.Passed.{Passed, passed}
+use Rattle.screen.proofs.Passed.{passed}
 use Rattle.screen.specs.declared.layers.LayerProps.{LayerProps}
 use Rattle.screen.specs.Layers.{clip-of as clip-in, props-of, good-pattern, good-given, layer-of, layer-words}
 use Rattle.layers.specs.Band.{band_number, each, OnRows}
 use Rattle.layers.proofs.RowsLaws.{puts-each}
 use Rattle.layers.proofs.Numbers.{Adding, band-answer, band-step, band-room, touch-adds, run-told}
 use Rattle.std.proofs.lemmas.Bool.Decides.{nat_tests}
-use Rattle.layers.proofs.Passing.{passed-whole, rows-within, either}
+use Rattle.layers.proofs.Passing.{PassedOn, passed-whole, rows-within, either}
 use Rattle.std.specs.declared.ops.Range.{Range}
 use Rattle.layers.specs.Push.{PushLent, lent, plan-of, push-number, after, pushed, no_rows, box-rows, touch_rows}
 
@@ -126,7 +126,7 @@ module _ (p : LayerProps) (s : Screen) (w : Words) (ls : List ℕ) (os : List Fl
 
   module _ (z : judged-at s w ≡ 0) where
     -- the screen's own facts
-    pub fit : Passed s (length w.state) (length w.render) (length w.fills) (rows_of (box_of s.viewport))
+    pub fit : PassedOn s w
     fit = passed s (length w.state) (length w.render) (length w.fills) z
 
     pub whole : Whole (frame-of s) w
@@ -166,7 +166,7 @@ module _ (p : LayerProps) (s : Screen) (w : Words) (ls : List ℕ) (os : List Fl
 
 -- the box and the rows that the code finds
 module _ (p : LayerProps) (s : Screen) (w : Words) (z : judged-at s w ≡ 0) (b : Rect) (e : box_of b ≡ own-box p s) where
-  ok : Passed s (length w.state) (length w.render) (length w.fills) (rows_of (box_of s.viewport))
+  ok : PassedOn s w
   ok = passed s (length w.state) (length w.render) (length w.fills) z
 
   module _ (r : Range ℕ) (f : r ≡ touch_rows p.blend.compose (box_of b)) where

@@ -13,19 +13,16 @@ use Rattle.row.specs.Words.{Words}
 use Rattle.row.specs.Arena.{nowhere}
 use Rattle.row.specs.declared.rows.Rows.{Rows}
 use Rattle.row.specs.Rows.{all-held}
-use Rattle.row.specs.Building.{rows_at, Whole}
+use Rattle.row.specs.Building.{Whole}
 use Rattle.screen.specs.declared.Screen.{Screen}
 use Rattle.screen.specs.Screens.{frame-of}
 use Rattle.segments.specs.declared.Scene.{Scene}
 use Rattle.segments.specs.Segs.{seg-at, segs, origin, bounds}
 use Rattle.std.specs.declared.ops.Range.{Range}
+use Rattle.layers.specs.Band.{screen_rows}
 use Rattle.pop.specs.declared.rows.ClipPath.{ClipPath}
 use Rattle.pop.specs.Closing.{touched-in, good-pops, full_by, done-puts, runs-full, clip-puts, Clips, Roomy, Fillable, Each}
 use Rattle.pop.specs.Pop.{PopLent, PopOut, lent, out, good-open, late, number-after}
-
--- the screen's rows, as the slices hold them
-abbrev pub screen_rows : Screen → Rows → List Words
-screen_rows s r = rows_at (frame-of s) (all-held r)
 
 -- the slices hold every row of the screen, and no word more
 abbrev pub WholeRows : Screen → Rows → Type 0

@@ -7,7 +7,8 @@ ghost use Rattle.segments.specs.Segs.{origin, bounds, Starts};
 ghost use Rattle.row.specs.Cmds.{Short};
 ghost use Rattle.row.specs.Rows.{SameRows};
 ghost use Rattle.pop.specs.Closing.{Poppable, Each};
-ghost use Rattle.pop.specs.Named.{screen_rows, touched, if_touched, closed_by, WholeRows, InScreen, RowOf, GoodAt, ClipReady, clip_puts, segment_puts, span_puts, RoomFor, FillableAt};
+ghost use Rattle.layers.specs.Band.{screen_rows};
+ghost use Rattle.pop.specs.Named.{touched, if_touched, closed_by, WholeRows, InScreen, RowOf, GoodAt, ClipReady, clip_puts, segment_puts, span_puts, RoomFor, FillableAt};
 
 use crate::rows::{ClipPath, is_touched};
 use cmd::command::Fill;

@@ -59,6 +59,8 @@ fn is_good_open(viewport: Rect, layer: OpenLayer, parent: Rect) -> bool
 }
 
 // Without a clip: BadRecord for the rows of the band, then Ids, FullAttrs and FullRow.
+// Out of line: within `pop_layer` it takes registers from the loops over a clip's segments.
+#[inline(never)]
 fn judge_plain(screen: Screen, rows: &Rows<'_>, band: &Range<usize>) -> Result<(), Refusal>
     requires whole { WholeRows screen rows.now }
     requires band { InScreen screen band.now }

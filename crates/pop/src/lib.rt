@@ -9,7 +9,8 @@ ghost use Rattle.screen.specs.LentLayers.{SameLayers};
 ghost use Rattle.sizes.specs.Refusals.{answer_number};
 ghost use Rattle.screen.specs.Layers.{open_at};
 ghost use Rattle.pop.specs.Pop.{out, number, after, popped, Judged, closing-puts, words-after, attr_by, tables_after, Closes};
-ghost use Rattle.pop.specs.Named.{screen_rows, closed_by, lent_of, tables_of, standing};
+ghost use Rattle.layers.specs.Band.{screen_rows};
+ghost use Rattle.pop.specs.Named.{closed_by, lent_of, tables_of, standing};
 
 use crate::close::{close_segments, close_spans, pop_rows};
 use crate::judge::{Closing, judge_pop};
@@ -127,13 +128,13 @@ pub fn pop_layer(
     ensures done { OnOk result (standing screen.new (lent_of rows.new layers.new layer_attrs.new)
         ≡ after screen.old (lent_of rows.old layers.old layer_attrs.old) list.now) }
 {
-    let closing = judge_pop(*screen, rows, layers, layer_attrs, list)?;
     // Rows by value: behind a reference their slices are loaded again for each segment.
     let mut own = Rows {
         state: rows.state,
         render: rows.render,
         fills: rows.fills,
     };
+    let closing = judge_pop(*screen, &own, layers, layer_attrs, list)?;
     do_rows(*screen, &mut own, layers, &closing, list);
     do_tables(*screen, layers, closing.layer, layer_attrs);
     screen.close_layer(closing.parent);

@@ -9,7 +9,8 @@ ghost use Rattle.segments.specs.Segs.{origin, bounds, Starts};
 ghost use Rattle.row.specs.Words.{words};
 ghost use Rattle.row.specs.Room.{fault_number, record-at, at-hand, Found, Told};
 ghost use Rattle.pop.specs.Closing.{row_of, good-pop, full-pop, pops-number, touched-word, pop-limits, ShallowRow, Clean, Counted};
-ghost use Rattle.pop.specs.Named.{screen_rows, touched, WholeRows, InScreen, RowOf, clip_segments, clip_cuts, segment_cut, good_band, overfull, GoodAt};
+ghost use Rattle.layers.specs.Band.{screen_rows};
+ghost use Rattle.pop.specs.Named.{touched, WholeRows, InScreen, RowOf, clip_segments, clip_cuts, segment_cut, good_band, overfull, GoodAt};
 
 use row::judge::is_good_row;
 use row::room::{Counts, Fault, Hand, Limits, NO_ROW, ONE_COMMAND, load};
@@ -165,6 +166,7 @@ fn count_segment(
 }
 
 /// With a clip: whether a touched row would get more than C commands (answer 10), the LayerFills of the clip's segments and each row's PopBuf after them.
+#[inline(always)]
 pub fn is_full_clip(
     screen: Screen,
     rows: &Rows<'_>,

@@ -1,5 +1,5 @@
 -- The definitions of Kinds and Running, of a row's value and of looks.
-use Rattle.std.specs.Prelude.{Option, ℕ, ◌+◌, ◌-◌, ◌<◌, cond, List, [], ◌∷◌, leb}
+use Rattle.std.specs.Prelude.{Option, Some, length, ℕ, ◌+◌, ◌-◌, ◌<◌, cond, List, [], ◌∷◌, leb}
 use Rattle.rules.specs.Attributes.{Attrs}
 use Rattle.rules.specs.Depth.{Summary}
 use Rattle.sizes.specs.Sizes.{most-layers}
@@ -7,10 +7,13 @@ use Rattle.sizes.specs.Widths.{bucket-tiles}
 use Rattle.paint.specs.Summaries.{summary-at}
 use Rattle.paint.specs.declared.command.reading.Row.{Row}
 use Rattle.paint.specs.declared.command.marks.Mark.{Mark}
-use Rattle.paint.specs.Painting.{StepOut}
+use Rattle.paint.specs.Painting.{word, lent, StepOut, painter-at, depth-step, command-step, depth-fill-at, settled}
 use Rattle.paint.specs.Reading.{attrs_of, paint_mark, layer_mark}
-use Rattle.paint.specs.Running.{own-step}
-use Rattle.paint.specs.Kinds.{Looked, tiles-met, Shows, whole_words, Gives, GivesPart}
+use Rattle.paint.specs.Running.{own-step, own-run}
+use Rattle.rules.specs.Commands.{Command}
+use Rattle.paint.specs.declared.pieces.Pieces.{Pieces}
+use Rattle.paint.specs.declared.whole.plain.Reached.{Reached}
+use Rattle.paint.specs.Kinds.{Looked, tiles-met, Shows, whole_words, Gives, GivesPart, Calm, place, Reaches}
 use Rattle.cmd.specs.Reading.{word-span}
 use Rattle.cmd.specs.Commands.{cmd_at}
 use Rattle.cmd.specs.declared.command.CmdWords.{CmdWords}
@@ -21,6 +24,27 @@ use Rattle.paint.specs.declared.whole.reading.Look.TheVariants as look
 
 abbrev pub steps_of : Row → List ℕ → List ℕ → List ℕ → StepOut
 steps_of r = own-step (bucket-tiles r.width) (attrs_of r.attrs) r.state.now r.render.now r.fills.now
+
+-- the step of the depth fill at place k, and of a command
+abbrev pub depth_step_of : Row → ℕ → List ℕ → List ℕ → List ℕ → StepOut
+depth_step_of r k d p l =
+    settled (depth-step (bucket-tiles r.width) (attrs_of r.attrs) (painter-at d p) (depth-fill-at (length d) r.fills.now k)) d p l
+
+abbrev pub command_step_of : Row → Command → List ℕ → List ℕ → List ℕ → StepOut
+command_step_of r c d p l =
+    settled (command-step (bucket-tiles r.width) (attrs_of r.attrs) (summary-at r.state.now) (painter-at d p) (Some c)) d p l
+
+-- at most f steps
+abbrev pub run_of : Row → ℕ → List ℕ → List ℕ → List ℕ → StepOut
+run_of r f d p l = own-run (bucket-tiles r.width) f (attrs_of r.attrs) (lent r.state.now r.render.now r.fills.now d p l)
+
+-- the counts of its record have room, and its summary is in order
+abbrev pub CalmRow : Row → Type 0
+CalmRow r = Calm r.state.now r.render.now r.fills.now
+
+-- its commands from `start` at nesting m, the pieces so far being p, up to where their run ended, with the pieces p'
+abbrev pub Ran : Row → List ℕ → ℕ → ℕ → Pieces → Reached → Pieces → Type 0
+Ran r D start m p o p' = Reaches (steps_of r) D (word r.state.now 1) (place start p.count m p.list.now) (place o.at p'.count o.nesting p'.list.now)
 
 -- what a fill's attribute says, a paint's or a layer's by the tag
 abbrev pub mark_in : Attrs → ℕ → ℕ → Option Mark

@@ -1,12 +1,11 @@
 //! One step of one row: judged first, then done.
-ghost use Rattle.std.specs.Prelude.{◌≡◌, Some, [], option_map, ◌+◌, ◌*◌, ◌≤◌, ◌<◌, length};
-ghost use Rattle.sizes.specs.Widths.{bucket-tiles};
+ghost use Rattle.std.specs.Prelude.{◌≡◌, [], ◌+◌, ◌*◌, ◌≤◌, length};
 ghost use Rattle.cmd.specs.Commands.{command};
 ghost use Rattle.cmd.specs.Good.{GoodCommand};
 ghost use Rattle.paint.specs.Answers.{painted_of};
-ghost use Rattle.paint.specs.Summaries.{summary-at};
-ghost use Rattle.paint.specs.Painting.{word, lent, out, painter-at, depth-step, command-step, depth-fill-at, command-at, bad-row, settled, painted-row};
-ghost use Rattle.paint.specs.Reading.{attrs_of};
+ghost use Rattle.paint.specs.Painting.{lent, out, bad-row};
+ghost use Rattle.paint.specs.Named.{CanStep};
+ghost use Rattle.paint.specs.Rows.{steps_of, depth_step_of, command_step_of};
 
 use crate::command::fills::{paint_depth, paint_fill};
 use crate::command::reading::Row;
@@ -39,9 +38,10 @@ fn step_depth(
     painting: &mut [u32],
     list: &mut [u32],
 ) -> Result<Stepped, Refusal>
-    requires k_in_bounds { (2 * k + 2 ≤ length row.now.fills.now) × (length depth.old ≤ 65535) }
-    requires painting_len { (length painting.old ≡ 2) × (word painting.old 0 < 4294967295) }
-    ensures { out (painted_of result) depth.new painting.new list.new ≡ settled (depth-step (bucket-tiles row.now.width) (attrs_of row.now.attrs) (painter-at depth.old painting.old) (depth-fill-at (length depth.old) row.now.fills.now k)) depth.old painting.old list.old }
+    requires k_in_bounds { 2 * k + 2 ≤ length row.now.fills.now }
+    requires depth_len { length depth.old ≤ 65535 }
+    requires painting { CanStep painting.old }
+    ensures { out (painted_of result) depth.new painting.new list.new ≡ depth_step_of row.now k depth.old painting.old list.old }
 {
     let words = DepthWords::at(row.fills, k);
     let fill = words.read(depth.len() as u32).ok_or(Refusal::BadRecord)?;
@@ -58,8 +58,10 @@ fn step_command(
     painting: &mut [u32],
     list: &mut [u32],
 ) -> Result<Stepped, Refusal>
-    requires { GoodCommand (command cmd) × (length depth.now ≤ 65535) × (length painting.old ≡ 2) × (word painting.old 0 < 4294967295) }
-    ensures { out (painted_of result) depth.now painting.new list.new ≡ settled (command-step (bucket-tiles row.now.width) (attrs_of row.now.attrs) (summary-at row.now.state.now) (painter-at depth.now painting.old) (Some (command cmd))) depth.now painting.old list.old }
+    requires good { GoodCommand (command cmd) }
+    requires depth_len { length depth.now ≤ 65535 }
+    requires painting { CanStep painting.old }
+    ensures { out (painted_of result) depth.now painting.new list.new ≡ command_step_of row.now (command cmd) depth.now painting.old list.old }
 {
     match cmd {
         RenderCmd::PaintFill(fill) => {
@@ -95,8 +97,9 @@ pub fn step_row(
     painting: &mut [u32],
     list: &mut [u32],
 ) -> Result<Stepped, Refusal>
-    requires { (length depth.old ≤ 65535) × (length painting.old ≡ 2) }
-    ensures { out (painted_of result) depth.new painting.new list.new ≡ painted-row (bucket-tiles row.now.width) (attrs_of row.now.attrs) (lent row.now.state.now row.now.render.now row.now.fills.now depth.old painting.old list.old) }
+    requires depth_len { length depth.old ≤ 65535 }
+    requires painting_len { length painting.old ≡ 2 }
+    ensures { out (painted_of result) depth.new painting.new list.new ≡ steps_of row.now depth.old painting.old list.old }
 {
     if is_forged(row, painting) {
         return Err(Refusal::BadRecord);

@@ -7,7 +7,7 @@ ghost use Rattle.sizes.specs.Widths.{bucket-tiles};
 ghost use Rattle.cmd.specs.Attrs.{words-at};
 ghost use Rattle.paint.specs.Pieces.{words_of};
 ghost use Rattle.paint.specs.Kinds.{low-met, high-met, moved-index, runs-met};
-ghost use Rattle.paint.specs.Cuts.{FillsCut, LookedCut, cut_words, met, FirstRun};
+ghost use Rattle.paint.specs.Cuts.{FillsCut, LookedCut, end_met, cut_words, met, FirstRun};
 
 use crate::command::Mark;
 use crate::pieces::{PieceWords, Pieces};
@@ -40,7 +40,9 @@ fn moved_index(tag: u32, alpha: u32, tiles: u32) -> u32
 impl Cut {
     // The buckets of a run, cut to the fill's tiles.
     fn piece(self, run: Run) -> PieceWords
-        requires { FillsCut self × (run.first < high-met (bucket-tiles self.width) self.words.span.0) × (run.«end» ≤ high-met (bucket-tiles self.width) self.words.span.0) }
+        requires good { FillsCut self }
+        requires first { run.first < end_met self }
+        requires within { run.«end» ≤ end_met self }
         ensures { words_of result ≡ cut_words self (span run.first run.«end») }
     {
         let first = self.words.span.first();
@@ -59,7 +61,7 @@ impl Cut {
 
     // The end of the buckets that the fill meets.
     fn end(self) -> usize
-        ensures { result ≡ high-met (bucket-tiles self.width) self.words.span.0 }
+        ensures { result ≡ end_met self }
     {
         self.width.above(self.words.span.end()) as usize
     }
@@ -83,7 +85,9 @@ impl Cut {
 /// A fill that some of its buckets show and some hide. The look has seen its buckets up to `stop`, which are all shown if `seen` and else all hidden, and bucket
 /// `stop`, which is not.
 pub fn put_fill(depth: &[u32], cut: Cut, seen: bool, stop: usize, pieces: &mut Pieces<'_>)
-    requires { LookedCut cut depth.now seen stop × FillsCut cut × (piece-size * (pieces.old.count + length (met cut depth.now)) ≤ length pieces.old.list.now) }
+    requires looked { LookedCut cut depth.now seen stop }
+    requires good { FillsCut cut }
+    requires room { piece-size * (pieces.old.count + length (met cut depth.now)) ≤ length pieces.old.list.now }
     ensures same { pieces.new.list.ghost_name ≡ pieces.old.list.ghost_name }
     ensures count { pieces.new.count ≡ pieces.old.count + length (met cut depth.now) }
     ensures list { pieces.new.list.now ≡ words-at pieces.old.list.now (piece-size * pieces.old.count) (join (cut_words cut) (met cut depth.now)) }

@@ -8,8 +8,8 @@ ghost use Rattle.sizes.specs.Widths.{bucket-tiles};
 ghost use Rattle.paint.specs.Painting.{word, out, listed};
 ghost use Rattle.paint.specs.Reading.{attrs_of};
 ghost use Rattle.paint.specs.Running.{most};
-ghost use Rattle.paint.specs.Rows.{steps_of, mark_in, FillSays, Says, SaysAt};
-ghost use Rattle.paint.specs.Kinds.{summary-by, good-index, Calm, place, Reaches, Onward};
+ghost use Rattle.paint.specs.Rows.{steps_of, CalmRow, Ran, mark_in, FillSays, Says, SaysAt};
+ghost use Rattle.paint.specs.Kinds.{summary-by, good-index, Onward};
 
 use crate::command::{Mark, Row};
 use crate::pieces::{PieceWords, Pieces};
@@ -139,7 +139,7 @@ fn look_at(row: &Row<'_>, depth: &[u32], words: CmdWords, nesting: u32, hull: Hu
 }
 
 // Where a run of commands ended: the place of the next command, the nesting, and a fill that is shown in part there, if that is why.
-#[derive(Clone, Copy)]
+#[derive(Clone, Copy, Debug, PartialEq, Eq)]
 struct Reached {
     at: usize,
     nesting: u32,
@@ -155,10 +155,10 @@ fn run_sure(
     stop: usize,
     nesting: u32,
 ) -> Reached
-    requires calm { Calm row.now.state.now row.now.render.now row.now.fills.now }
+    requires calm { CalmRow row.now }
     requires start_le_stop { (start ≤ stop) × (stop ≤ word row.now.state.now 0) × (nesting ≤ most-layers) }
     ensures same { pieces.new.list.ghost_name ≡ pieces.old.list.ghost_name }
-    ensures reaches { Reaches (steps_of row.now) depth.now (word row.now.state.now 1) (place start pieces.old.count nesting pieces.old.list.now) (place result.at pieces.new.count result.nesting pieces.new.list.now) }
+    ensures reaches { Ran row.now depth.now start nesting pieces.old result pieces.new }
     ensures at_le_stop { result.at ≤ stop }
     ensures at_lt_stop { IfSome result.part (λ q. (result.at < stop) × SaysAt row.now depth.now result.nesting result.at (Look.Partly q)) }
 {
@@ -223,10 +223,10 @@ fn run_commands(
     stop: usize,
     nesting: u32,
 ) -> Reached
-    requires calm { Calm row.now.state.now row.now.render.now row.now.fills.now }
+    requires calm { CalmRow row.now }
     requires start_le_stop { (start ≤ stop) × (stop ≤ word row.now.state.now 0) × (nesting ≤ most-layers) }
     ensures same { pieces.new.list.ghost_name ≡ pieces.old.list.ghost_name }
-    ensures reaches { Reaches (steps_of row.now) depth.now (word row.now.state.now 1) (place start pieces.old.count nesting pieces.old.list.now) (place result.at pieces.new.count result.nesting pieces.new.list.now) }
+    ensures reaches { Ran row.now depth.now start nesting pieces.old result pieces.new }
     ensures at_le_stop { result.at ≤ stop }
 {
     let mut at = start;
@@ -254,7 +254,7 @@ fn run_commands(
 }
 
 /// How far a run went: the steps done, and how many pieces stand in the list.
-#[derive(Clone, Copy)]
+#[derive(Clone, Copy, Debug, PartialEq, Eq)]
 pub struct Gone {
     pub steps: usize,
     pub pieces: usize,

@@ -21,7 +21,7 @@ returns-in_err-mark c =
 pub paint_depth-requires-clause-first_bound : goal.paint_depth-requires-clause-first_bound
 paint_depth-requires-clause-first_bound c =
     let g = depth_good _ _ _ _ _ (rw c.at-words.ensures at c.read.ensures) (ok_some _ _ _ c.in_ok-fill.ensures.value) in
-    (g.0, g.1, omega (arith, g.1, c.requires.k_in_bounds.1), paint_some (attrs_of c.args.row.now.attrs) c.in_ok-fill.fill.attrs_idx _ (sym c.paint.ensures ∙ ok_some _ _ _ c.in_ok-mark.ensures.value))
+    (g.0, g.1, omega (arith, g.1, c.requires.depth_len), paint_some (attrs_of c.args.row.now.attrs) c.in_ok-fill.fill.attrs_idx _ (sym c.paint.ensures ∙ ok_some _ _ _ c.in_ok-mark.ensures.value))
 
 pub returns : goal.returns
 returns c =

@@ -20,11 +20,14 @@ ahead : (c : Else-left-most_runs) → (c.run_sure-reached.result.at < c.args.sto
     × SaysAt c.args.row.now c.args.depth.now c.run_sure-reached.result.nesting c.run_sure-reached.result.at (look.Partly c.in-Some.part)
 ahead c = (rw c.in-Some.is at c.run_sure-reached.ensures.at_lt_stop)
 
-pub put_fill-requires : goal.put_fill-requires
-put_fill-requires c =
-    let at = (goal.at.put_fill-requires c).Else-left-most_runs in
-    let part = (ahead at).1 in
-    (rw c.at-words.ensures part.looked, rw c.at-words.ensures part.good, room at)
+pub put_fill-requires-clause-looked : goal.put_fill-requires-clause-looked
+put_fill-requires-clause-looked c = rw c.at-words.ensures (ahead (goal.at.put_fill-requires-clause-looked c).Else-left-most_runs).1.looked
+
+pub put_fill-requires-clause-good : goal.put_fill-requires-clause-good
+put_fill-requires-clause-good c = rw c.at-words.ensures (ahead (goal.at.put_fill-requires-clause-good c).Else-left-most_runs).1.good
+
+pub put_fill-requires-clause-room : goal.put_fill-requires-clause-room
+put_fill-requires-clause-room c = room (goal.at.put_fill-requires-clause-room c).Else-left-most_runs
 
 pub loop-part-preserved : goal.loop-part-preserved
 loop-part-preserved c =

@@ -1,5 +1,5 @@
-//! The recording file's records (answer 4) and their order (answer 5). Every record is judged, also one that no walk reaches. Parts: a caller has read the form.
-//! `at` is a record's place among the file's words.
+//! The recording file's records (answer 4) and their order (answer 5). Every record is judged, also one that no walk reaches. Parts: a caller has read the
+//! form. `at` is a record's place among the file's words.
 ghost use Rattle.std.specs.Prelude.{◌≡◌, true, ◌+◌, ◌*◌, ◌/◌, ◌≤◌, length, get_or};
 ghost use Rattle.sizes.specs.Refusals.{answer_number};
 ghost use Rattle.rules.specs.Lists.{every, slice};

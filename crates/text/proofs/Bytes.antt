@@ -55,7 +55,7 @@ pub well-formed : (ws : List ℕ) {y : Recording} → recording_of (sections sha
 unfolding no-width-of
 well-formed ws {y} e = go (sections shape ws) e
   where
-    go : (o : Option (List (List (List ℕ)))) → recording_of o ≡ Some y → 2 ≡ cond (is_none o) 3 2
+    go : (o : Option (List (List (List ℕ)))) → recording_of o ≡ Some y → ◌≡◌ {A = ℕ} 2 (cond (is_none o) 3 2)
     go None i = cc
     go (Some ss) i = refl
 

@@ -93,7 +93,15 @@ fn tell_picture(
         (answer_number result) (telling tale.new ls lines.new) }
 {
     let filter = layer.filter;
-    tell_filter(tale, spot, within, filter.dest, filter.pixmap, layer.panel, lines)
+    tell_filter(
+        tale,
+        spot,
+        within,
+        filter.dest,
+        filter.pixmap,
+        layer.panel,
+        lines,
+    )
 }
 
 // A filter layer: its nodes are not walked. It is pushed and popped only if it needs a buffer.

@@ -3,4 +3,6 @@ pub mod Places
 pub mod Ready
 pub mod Reading
 pub mod Reasons
+pub mod Standings
+pub mod Named
 pub mod Explained

@@ -18,6 +18,7 @@ use Rattle.tile.specs.declared.steps.Tale.{Tale}
 use Rattle.tile.specs.declared.steps.lines.Line.{Line}
 use Rattle.tile.specs.declared.steps.looks.Look.{Look}
 use Rattle.tile.specs.Telling as tell
+use Rattle.tile.specs.Standings.{standing_number}
 use Rattle.tile.specs.Telling.{Telling}
 
 abbrev pub line_of : Line → tell.Line
@@ -25,7 +26,7 @@ line_of l =
     record {
       layer = l.layer;
       attribute = l.attribute;
-      standing = l.standing;
+      standing = standing_number l.standing;
       alpha = l.alpha;
       nesting = l.nesting;
       panel = l.panel;

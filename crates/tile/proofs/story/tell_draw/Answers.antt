@@ -14,15 +14,7 @@ tell_fill-requires c =
     let r = c.args.file.now in
     let ready = c.requires.0 in
     let d = draw-is r.layout r.words.now ready.walk c.args.i c.requires.1 in
-    let e = c.draw_at-draw.ensures in (
-      ready.spotted,
-      ready.bounded,
-      ready.low,
-      ready.room,
-      rw e d.order,
-      rw e (range-ends r.layout r.words.now ready.walk _ _ d.order d.ends),
-      rw e (range-good r.layout r.words.now ready.walk _ _ d.order d.ends),
-    )
+    let e = c.draw_at-draw.ensures in record { spot = ready.spotted; within = ready.bounded; counts = ready.low; lines = ready.room; run = rw e (d.order, range-ends r.layout r.words.now ready.walk _ _ d.order d.ends, range-good r.layout r.words.now ready.walk _ _ d.order d.ends) }
 
 pub returns-clause-told : goal.returns-clause-told
 returns-clause-told c =

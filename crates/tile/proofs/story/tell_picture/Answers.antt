@@ -8,8 +8,7 @@ use Rattle.tile.proofs.story.tell_picture.Goals as goal
 
 pub tell_filter-requires : goal.tell_filter-requires
 tell_filter-requires c =
-    let r = c.requires in
-    (r.0, r.1, r.2, r.3, dest-small (c.box_at-dest.ensures ∙ filter-box _ _) r.5)
+    let r = c.requires in record { spot = r.0; within = r.1; counts = r.2; lines = r.3; dest = dest-small (c.box_at-dest.ensures ∙ filter-box _ _) r.5 }
 
 pub returns-clause-told : goal.returns-clause-told
 unfolding filter_from

@@ -1,14 +1,11 @@
 -- What the contracts of this crate say in one word, by the code's own values.
-use Rattle.std.specs.Prelude.{ℕ, ◌-◌, ◌*◌, ◌≤◌, ◌≡◌, true, not, List, [], ◌∷◌, length, eqb, get_or, Option, Result}
+use Rattle.std.specs.Prelude.{ℕ, ◌-◌, ◌≡◌, List, ◌∷◌, Option, Result}
 use Rattle.sizes.specs.declared.answers.Refusal.{Refusal}
 use Rattle.sizes.specs.Refusals.{answer_number}
-use Rattle.rules.specs.Lists.{every, slice}
 use Rattle.rules.specs.Answers.{Answer, answer}
-use Rattle.rules.specs.Segments.{Segment, good-segment}
-use Rattle.rules.specs.Inputs.{Draw, Props, Filter}
-use Rattle.rules.specs.Plans.{Layer, Step, a-fill}
-use Rattle.rules.specs.Recording.{Recording, LayerRec, layer-rec}
-use Rattle.rules.specs.Walk.{when, each, walk-filter, walk-layer, walk-nodes}
+use Rattle.rules.specs.Segments.{Segment}
+use Rattle.rules.specs.Inputs.{Props, Filter}
+use Rattle.rules.specs.Plans.{Layer}
 use Rattle.rect.specs.declared.Rect.{Rect}
 use Rattle.rect.specs.Rects.{box_of}
 use Rattle.cmd.specs.Blends.{blend_of}
@@ -22,11 +19,7 @@ use Rattle.tile.specs.declared.steps.Tale.{Tale}
 use Rattle.tile.specs.declared.steps.Stroke.{Stroke}
 use Rattle.tile.specs.Telling as tell
 use Rattle.tile.specs.Telling.{Telling, no-look}
-use Rattle.tile.specs.Places.{Holds, Says, telling, opened_by, left_by}
-
--- good segments from a to b, within the list
-abbrev pub GoodRun : List ℕ → ℕ → ℕ → Type 0
-GoodRun ws a b = (a ≤ b) × (5 * b ≤ length ws) × (every good-segment (segs ws a (b - a)) ≡ true)
+use Rattle.tile.specs.Places.{Holds, telling, opened_by, left_by}
 
 -- what segments are to the tile: before the cut, one more, and some, cut to a clip box
 abbrev pub cover_at : Spot → tell.Look → Segment → tell.Look
@@ -44,9 +37,6 @@ closing_in s c own parent ws =
     tell.closing-look s.width (box_of s.viewport) s.row s.tile (clip-of c) (box_of own) (box_of parent) (segs-of ws)
 
 -- what a step says of the tile
-abbrev pub tells : Spot → Step → Telling → Answer Telling
-tells s = tell.tell-at s.width (box_of s.viewport) s.row s.tile
-
 abbrev pub fill_told : Spot → List ℕ → Stroke → Telling → Answer Telling
 fill_told s ws k t = tell.tell-fill s.width (box_of s.viewport) s.row s.tile (segs ws k.start (k.«end» - k.start)) k.eligible k.panel t
 
@@ -59,27 +49,7 @@ pop_told s ls ws t = tell.tell-pop s.width (box_of s.viewport) s.row s.tile ls (
 abbrev pub filter_told : Spot → Filter → ℕ → Telling → Answer Telling
 filter_told s f q t = tell.tell-filter s.width (box_of s.viewport) s.row s.tile f q t
 
--- what is said by draws, by nodes with layers in them, by the layer that a node names, and by a filter layer
-abbrev pub draw_told : Spot → Recording → Draw → Telling → Answer Telling
-draw_told s r d t = tells s (a-fill r.paints r.segments d) t
-
-abbrev pub draws_told : Spot → Recording → ℕ → ℕ → Telling → Answer Telling
-draws_told s r a b t = each (λ (d : Draw). tells s (a-fill r.paints r.segments d)) (slice a b r.draws) t
-
-abbrev pub nodes_told : Spot → Recording → ℕ → ℕ → ℕ → Telling → Answer Telling
-nodes_told s r depth a b t = walk-nodes Telling (tells s) r (walk-layer Telling (tells s) r depth) a b t
-
-abbrev pub layer_told : Spot → Recording → ℕ → ℕ → Telling → Answer Telling
-layer_told s r depth n t = when (not (eqb n 0)) (walk-layer Telling (tells s) r depth (get_or r.layers (n - 1) (layer-rec []))) t
-
-abbrev pub filter_layer_told : Spot → Recording → LayerRec → Telling → Answer Telling
-filter_layer_told s r y t = walk-filter Telling (tells s) r y t
-
--- whatever layers are open, f says the number n, and makes of the first counts and lines the second
-abbrev pub SaysOf : Spot → Within → (Telling → Answer Telling) → ℕ → Tale → List ℕ → Tale → List ℕ → Type 0
-SaysOf s h f n t ws u vs = (ls : List Layer) → Holds (box_of s.viewport) h ls → Says (f (telling t ls ws)) n (telling u ls vs)
-
--- .. and refused, it leaves the first
+-- whatever layers are open, f says the number n and makes of the first counts and lines the second; refused, it leaves the first
 abbrev pub Tells : Spot → Within → (Telling → Answer Telling) → ℕ → Tale → List ℕ → Tale → List ℕ → Type 0
 Tells s h f n t ws u vs = (ls : List Layer) → Holds (box_of s.viewport) h ls → answer n (telling u ls vs) ≡ f (telling t ls ws)
 

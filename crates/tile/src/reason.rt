@@ -9,7 +9,8 @@ ghost use Rattle.tile.specs.Standings.{plain_mark};
 use crate::steps::lines::{LINE_PANEL, Standing};
 use sizes::LINE;
 
-/// `attribute` is the paint attribute of the newest eligible solid segment over the tile's whole bucket, `hider_panel` its panel; `panel` the asked attribute's.
+/// `attribute` is the paint attribute of the newest eligible solid segment over the tile's whole bucket, `hider_panel` its panel; `panel` the asked
+/// attribute's.
 #[derive(Clone, Copy)]
 pub struct Hidden {
     pub attribute: u32,

@@ -1,5 +1,5 @@
-//! What each building step says of one tile, in plain draw order: a line for each attribute that it adds, and no row. Parts: callers have judged the records and
-//! chosen a tile of the screen. `lines` holds the lines of all attributes. The refusals are the step's own, but for those of rows.
+//! What each building step says of one tile, in plain draw order: a line for each attribute that it adds, and no row. Parts: callers have judged the records
+//! and chosen a tile of the screen. `lines` holds the lines of all attributes. The refusals are the step's own, but for those of rows.
 ghost use Rattle.std.specs.Prelude.{◌≡◌, true, ◌&&◌, not, ◌+◌, ◌-◌, ◌*◌, length, ltb};
 ghost use Rattle.sizes.specs.Sizes.{last-id, line-table};
 ghost use Rattle.sizes.specs.Refusals.{answer_number};
@@ -11,8 +11,8 @@ ghost use Rattle.rules.specs.Inputs.{all-good};
 ghost use Rattle.rect.specs.Rects.{box_of, Small};
 ghost use Rattle.screen.specs.Layers.{clip-of};
 ghost use Rattle.tile.specs.Telling.{in_row};
-ghost use Rattle.tile.specs.Places.{Spotted, Bounded, Low, ClipReady, Opens, look-of};
-ghost use Rattle.tile.specs.Named.{GoodRun, closing_in, fill_told, Tells, TellsPush, TellsPop, TellsFilter};
+ghost use Rattle.tile.specs.Places.{Spotted, GoodRun, Bounded, Low, ClipReady, Opens, look-of};
+ghost use Rattle.tile.specs.Named.{closing_in, fill_told, Tells, TellsPush, TellsPop, TellsFilter};
 
 use crate::steps::lines::{Line, put_line, standing_of};
 use crate::steps::looks::{Look, is_in_row, is_met, look_at};

@@ -74,8 +74,8 @@ impl Standing {
     }
 }
 
-/// One line: a layer's attribute or a paint's, its place in their table, how it stands to the tile, and of what covers the tile the alpha index there, if it has
-/// one.
+/// One line: a layer's attribute or a paint's, its place in their table, how it stands to the tile, and of what covers the tile the alpha index there, if it
+/// has one.
 #[derive(Clone, Copy)]
 pub struct Line {
     pub layer: bool,

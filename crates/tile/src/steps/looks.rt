@@ -8,8 +8,8 @@ ghost use Rattle.rect.specs.Rects.{box_of, Small};
 ghost use Rattle.segments.specs.Segs.{segment-of, segs, SceneOf};
 ghost use Rattle.tile.specs.Telling as tell;
 ghost use Rattle.tile.specs.Telling.{in_row, met};
-ghost use Rattle.tile.specs.Places.{Spotted, look-of};
-ghost use Rattle.tile.specs.Named.{GoodRun, cover_at, see_at, look_in};
+ghost use Rattle.tile.specs.Places.{Spotted, GoodRun, look-of};
+ghost use Rattle.tile.specs.Named.{cover_at, see_at, look_in};
 
 use crate::steps::Spot;
 use rect::Rect;

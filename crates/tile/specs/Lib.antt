@@ -4,4 +4,6 @@ pub mod Story
 pub mod Ready
 pub mod Reading
 pub mod Reasons
+pub mod Standings
+pub mod Named
 pub mod Explained

@@ -19,6 +19,7 @@ is_eligible-eligible-requires c =
 
 pub tell_fill-requires : goal.tell_fill-requires
 tell_fill-requires c =
+<<<<<<< HEAD
     let r = held c.args.file.now in
     let ready = c.requires.ready in
     let k = draw-is r ready.walk.good c.args.i c.requires.there (c.draw.ensures some-draw) in
@@ -33,6 +34,12 @@ tell_fill-requires c =
       rw e (range-ends r _ read long _ _ k.order k.ends),
       rw e (range-good r _ read long _ _ k.order k.ends ready.walk.good),
     )
+=======
+    let r = c.args.file.now in
+    let ready = c.requires.0 in
+    let d = draw-is r.layout r.words.now ready.walk c.args.i c.requires.1 in
+    let e = c.draw_at-draw.ensures in record { spot = ready.spotted; within = ready.bounded; counts = ready.low; lines = ready.room; run = rw e (d.order, range-ends r.layout r.words.now ready.walk _ _ d.order d.ends, range-good r.layout r.words.now ready.walk _ _ d.order d.ends) }
+>>>>>>> f22a87b0001992df10422a40253e70ee4ff7a2be
 
 pub returns-clause-told : goal.returns-clause-told
 returns-clause-told c =

@@ -11,7 +11,8 @@ ghost use Rattle.host.specs.Building.{reset_call, recording_call, draw, fill_cal
 use crate::border::{refuse_build, refuse_recording, refuse_reset, refuse_setup};
 use crate::state::{SetupWords, leave, put_screen, read_setup, screen_of};
 use cmd::blend::Blend;
-use fill::{Draw, fill};
+use fill::fill;
+use inputs::Draw;
 use layers::{FilterFill, Placement, filter_fill, push_layer};
 use pop::pop_layer;
 use rect::Rect;

@@ -5,7 +5,7 @@ ghost use Rattle.test_calls.specs.Words.{Passes};
 
 use crate::tables::Table;
 use crate::words::Words;
-use fill::Draw;
+use inputs::Draw;
 use layers::{FilterFill, Placement};
 use rect::{Mode, Rect};
 use screen::Setup;

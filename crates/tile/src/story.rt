@@ -19,7 +19,7 @@ use crate::steps::{Spot, Stroke, Tale, Within, tell_fill, tell_filter, tell_pop,
 use file::{Layer, Recording};
 use fill::is_eligible;
 use sizes::answers::Refusal;
-use walk::read::{needs_buffer, to_draw, to_props};
+use walk::read::{needs_buffer, to_props};
 
 // What draw i says of the tile.
 fn tell_draw(
@@ -37,7 +37,7 @@ fn tell_draw(
         → Says (draw-told spot (held file.now) (get_or (held file.now).draws i d) (telling tale.old ls lines.old))
         (answer_number result) (telling tale.new ls lines.new) }
 {
-    let draw = to_draw(file.draw(i));
+    let draw = file.draw(i);
     let eligible = is_eligible(within.open, file.paints(), draw);
     tell_fill(
         tale,
@@ -86,7 +86,11 @@ fn tell_picture(
     layer: Layer,
     lines: &mut [u32],
 ) -> Result<(), Refusal>
-    requires { Spotted spot × Bounded within × Low tale.old × (length lines.old ≡ line-table) × (good-dest (layer-of layer).filter.dest ≡ true) }
+    requires spot { Spotted spot }
+    requires within { Bounded within }
+    requires counts { Low tale.old }
+    requires lines { length lines.old ≡ line-table }
+    requires dest { good-dest (layer-of layer).filter.dest ≡ true }
     ensures low { Low tale.new }
     ensures told { (ls : List RuleLayer) → Holds (box_of spot.viewport) within ls
         → Says (tell-filter spot.width (box_of spot.viewport) spot.row spot.tile (layer-of layer).filter (layer-of layer).panel (telling tale.old ls lines.old))

@@ -3,29 +3,12 @@ ghost use Rattle.std.specs.Prelude.{◌≡◌, ◌<◌};
 ghost use Rattle.std.specs.Float.{binary32};
 ghost use Rattle.std.specs.Float.Ieee.{of_bits, nan_bits};
 ghost use Rattle.rules.specs.Walk.{props-of};
-ghost use Rattle.inputs.specs.Inputs.{draw-of};
 ghost use Rattle.file.specs.Records.{layer-of};
-ghost use Rattle.walk.specs.Reading.{draw_in, pattern_of, clip_in, clip_read, props_in, present, buffered};
+ghost use Rattle.walk.specs.Reading.{pattern_of, clip_in, clip_read, props_in, present, buffered};
 
 use file::Layer;
-use fill::Draw;
 use inputs::Clip;
 use screen::layers::LayerProps;
-
-/// The draw as a fill takes it.
-pub fn to_draw(draw: inputs::Draw) -> Draw
-    ensures { result ≡ draw_in (draw-of draw) }
-{
-    Draw {
-        thread: draw.thread,
-        start: draw.start,
-        end: draw.end,
-        paint: draw.paint,
-        blend: draw.blend,
-        mask: draw.mask,
-        panel: draw.panel,
-    }
-}
 
 // A NaN's pattern: past infinity's, but for the sign.
 #[tactic(auto, using(crate::proofs::Opacity::no_nan, crate::proofs::Opacity::a_nan))]

@@ -15,7 +15,7 @@ ghost use Rattle.layers.specs.Filter.{given, given_of};
 ghost use Rattle.walk.specs.Reading.{props_in};
 ghost use Rattle.walk.specs.Steps.{placement_in, call_at, draw_step, filter_step, draws-walked};
 
-use crate::read::{needs_buffer, to_draw, to_props};
+use crate::read::{needs_buffer, to_props};
 use file::{Layer, Recording};
 use fill::fill;
 use inputs::Filter;
@@ -67,7 +67,7 @@ fn fill_draw(
         lent.paint_attrs,
         file.paints(),
         file.segments(),
-        to_draw(file.draw(i)),
+        file.draw(i),
     )
 }
 

@@ -12,40 +12,31 @@ use Rattle.tile.proofs.story.tell_draw.Goals as goal
 pub is_eligible-eligible-requires : goal.is_eligible-eligible-requires
 is_eligible-eligible-requires c =
     let r = held c.args.file.now in
-    let k = draw-is r c.requires.ready.walk.good c.args.i c.requires.there (c.draw.ensures some-draw) in
+    let k = draw-is r c.requires.ready.walk.good c.args.i c.requires.there (c.draw-draw.ensures some-draw) in
     let paint = k.paint in
     let long = c.paints.ensures.long in
-    rw c.to_draw-draw.ensures (omega arith)
+    omega arith
 
 pub tell_fill-requires : goal.tell_fill-requires
 tell_fill-requires c =
-<<<<<<< HEAD
     let r = held c.args.file.now in
     let ready = c.requires.ready in
-    let k = draw-is r ready.walk.good c.args.i c.requires.there (c.draw.ensures some-draw) in
-    let e = c.to_draw-draw.ensures in
+    let k = draw-is r ready.walk.good c.args.i c.requires.there (c.draw-draw.ensures some-draw) in
     let read = c.segments.ensures.read in
-    let long = c.segments.ensures.long in (
-      ready.spotted,
-      ready.bounded,
-      ready.low,
-      ready.room,
-      rw e k.order,
-      rw e (range-ends r _ read long _ _ k.order k.ends),
-      rw e (range-good r _ read long _ _ k.order k.ends ready.walk.good),
-    )
-=======
-    let r = c.args.file.now in
-    let ready = c.requires.0 in
-    let d = draw-is r.layout r.words.now ready.walk c.args.i c.requires.1 in
-    let e = c.draw_at-draw.ensures in record { spot = ready.spotted; within = ready.bounded; counts = ready.low; lines = ready.room; run = rw e (d.order, range-ends r.layout r.words.now ready.walk _ _ d.order d.ends, range-good r.layout r.words.now ready.walk _ _ d.order d.ends) }
->>>>>>> f22a87b0001992df10422a40253e70ee4ff7a2be
+    let long = c.segments.ensures.long in
+    record {
+      spot = ready.spotted;
+      within = ready.bounded;
+      counts = ready.low;
+      lines = ready.room;
+      run = (k.order, range-ends r _ read long _ _ k.order k.ends, range-good r _ read long _ _ k.order k.ends ready.walk.good);
+    }
 
 pub returns-clause-told : goal.returns-clause-told
 returns-clause-told c =
     let r = held c.args.file.now in
-    let k = draw-is r c.requires.ready.walk.good c.args.i c.requires.there (c.draw.ensures some-draw) in
+    let k = draw-is r c.requires.ready.walk.good c.args.i c.requires.there (c.draw-draw.ensures some-draw) in
     λ d ls o.
-    rw (← c.draw.ensures d)
+    rw (← c.draw-draw.ensures d)
     (draw-told c.args.spot r k _ _ (paints-lent r _ c.paints.ensures.read c.paints.ensures.long) c.segments.ensures.read c.segments.ensures.long c.args.within _ o
-    (says (rw (c.is_eligible-eligible.ensures, c.to_draw-draw.ensures) at (c.tell_fill.ensures.told ls o))))
+    (says (rw c.is_eligible-eligible.ensures at (c.tell_fill.ensures.told ls o))))

@@ -12,5 +12,5 @@ returns-clause-filled c d =
     let lists : Lent r c.paints.result.now c.segments.result.now = record { paints = c.paints.ensures.read; paints-long = c.paints.ensures.long; segments = c.segments.ensures.read; segments-long = c.segments.ensures.long } in
     let e =
     fill_step (whole c.args.screen.now c.args.lent.now) _ r (get_or r.draws c.args.i d) _
-    (c.fill.ensures.filled ∙ same_filled r _ _ _ lists (c.to_draw.ensures ∙ ap draw_in (c.draw.ensures d))) in
+    (c.fill.ensures.filled ∙ same_filled r _ _ _ lists (ap draw_in (c.draw.ensures d))) in
     search (rules, e)

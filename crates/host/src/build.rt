@@ -6,14 +6,14 @@ ghost use Rattle.screen.specs.Tables.{tables};
 ghost use Rattle.pop.specs.Pop.{lent};
 ghost use Rattle.layers.specs.Filter.{given};
 ghost use Rattle.host.specs.State.{rect};
-ghost use Rattle.host.specs.Building.{reset_call, recording_call, draw, fill_call, clip, props, push_call, pop_call, placement, picture, filter_call};
+ghost use Rattle.host.specs.Building.{reset_call, recording_call, draw, fill_call, clip, props, push_call, pop_call, filter-in, picture, filter_call};
 
 use crate::border::{refuse_build, refuse_recording, refuse_reset, refuse_setup};
 use crate::state::{SetupWords, leave, put_screen, read_setup, screen_of};
 use cmd::blend::Blend;
 use fill::fill;
-use inputs::Draw;
-use layers::{FilterFill, Placement, filter_fill, push_layer};
+use inputs::{Draw, Filter};
+use layers::{FilterFill, filter_fill, push_layer};
 use pop::pop_layer;
 use rect::Rect;
 use row::Rows;
@@ -307,7 +307,7 @@ pub extern "C" fn coarse_filter_fill(
     panel: u32,
 ) -> u32
     ensures { answer result (state.new, words rows.new render.new fills.new, paint_attrs.new, filter_paints.new)
-        ≡ filter_call has_pixmap (given (placement (rect x0 y0 x1 y1) source_x source_y) (picture has_pixmap pixmap) paint_count panel) state.old (words rows.old render.old fills.old) paint_attrs.old filter_paints.old }
+        ≡ filter_call has_pixmap (given (filter-in (rect x0 y0 x1 y1) source_x source_y (picture has_pixmap pixmap)) paint_count panel) state.old (words rows.old render.old fills.old) paint_attrs.old filter_paints.old }
 {
     let mut rows = Rows {
         state: rows,
@@ -318,12 +318,12 @@ pub extern "C" fn coarse_filter_fill(
         return refuse_build(state, &rows);
     };
     let layer = FilterFill {
-        placement: Placement {
+        filter: Filter {
+            pixmap: pixmap_of(has_pixmap, pixmap),
             dest: Rect { x0, y0, x1, y1 },
             source_x,
             source_y,
         },
-        pixmap: pixmap_of(has_pixmap, pixmap),
         paint_count,
         panel,
     };

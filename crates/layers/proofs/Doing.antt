@@ -37,7 +37,7 @@ module _ {g : FilterGiven} {s : Screen} {w : Words} {ps : List ℕ} {fs : List �
   pub room : Free g s w
   room = free g s w ps fs q.number draws
 
-  pub put-paint-needs : (s.filter_paints < 256) × (length fs ≡ filter-paint-table) × (unwrap_or g.pixmap 0 < 2147483648)
+  pub put-paint-needs : (s.filter_paints < 256) × (length fs ≡ filter-paint-table) × (unwrap_or g.filter.pixmap 0 < 2147483648)
   put-paint-needs = (room.paint, able.paints, fine.pixmap)
 
   pub put-attrs-needs : (s.paint_attrs < 1024) × (length ps ≡ paint-attr-table)
@@ -55,7 +55,7 @@ module _ {g : FilterGiven} {s : Screen} {w : Words} {ps : List ℕ} {fs : List �
   pub leaves : (x : Screen) (ws : Words) (t : Span) → t ≡ span_of (box_of b)
       → x ≡ counted s (s.next_draw_id + 1) (s.paint_attrs + 1) s.layer_attrs (s.filter_paints + 1)
       → ws ≡ lay (each (λ (u : Words). put_command (paint-fill t None s.paint_attrs) (ensured s.layers u)) (range (b.y0 / 4) ((b.y1 + 3) / 4)) (rows_at (frame-of s) w))
-      → lent x ws (put-paint ps s.paint_attrs (attrs-of s g.count g.panel)) (put-filter fs s.filter_paints (paint-from g.placement.dest g.placement.source_x g.placement.source_y (unwrap_or g.pixmap 0))) ≡ after g (lent s w ps fs)
+      → lent x ws (put-paint ps s.paint_attrs (attrs-of s g.count g.panel)) (put-filter fs s.filter_paints (paint-from g.filter.dest g.filter.source_x g.filter.source_y (unwrap_or g.filter.pixmap 0))) ≡ after g (lent s w ps fs)
   leaves x ws t e h i =
       after-drawn g s w ps fs able draws x ws t b q.bounds e h (i ∙ ap lay (plain-each (bucket-tiles s.width) s.layers s.paint_attrs t _ _))
 

@@ -24,30 +24,24 @@ use Rattle.rect.specs.Rects.{box_of}
 use Rattle.screen.specs.declared.Screen.{Screen}
 use Rattle.screen.specs.Screens.{frame-of, state-of, screen-after}
 use Rattle.screen.specs.Judging.{judged}
-use Rattle.layers.specs.declared.filter.Placement.{Placement}
+use Rattle.inputs.specs.declared.Filter as code
+use Rattle.inputs.specs.Inputs as inputs
 use Rattle.layers.specs.declared.filter.FilterFill.{FilterFill}
 
--- what a filter fill is given: placement, a picture's handle or none, the paint list's length, its layer's panel
+-- what a filter fill is given: what the layer draws, the paint list's length, its layer's panel
 pub record FilterGiven : Type 0 where
-  pub placement : Placement
-  pub pixmap : Option ℕ
+  pub filter : code.Filter
   pub count : ℕ
   pub panel : ℕ
 
-abbrev pub given : Placement → Option ℕ → ℕ → ℕ → FilterGiven
-given p m n q = record { placement = p; pixmap = m; count = n; panel = q }
+abbrev pub given : code.Filter → ℕ → ℕ → FilterGiven
+given f n q = record { filter = f; count = n; panel = q }
 
 abbrev pub given_of : FilterFill → FilterGiven
-given_of f = given f.placement f.pixmap f.paint_count f.panel
+given_of f = given f.filter f.paint_count f.panel
 
 abbrev pub filter-of : FilterGiven → Filter
-filter-of g =
-    record {
-      pixmap = g.pixmap;
-      dest = box_of g.placement.dest;
-      source-x = g.placement.source_x;
-      source-y = g.placement.source_y;
-    }
+filter-of g = inputs.filter-of g.filter
 
 abbrev pub good-given : FilterGiven → Bool
 good-given g = good-filter-fill g.count (filter-of g) g.panel

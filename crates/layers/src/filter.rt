@@ -5,7 +5,6 @@ ghost use Rattle.sizes.specs.Sizes.{most-filters, most-records};
 ghost use Rattle.sizes.specs.Refusals.{answer_number};
 ghost use Rattle.rules.specs.Answers.{answer};
 ghost use Rattle.rules.specs.Boxes.{meet, to-local, empty-box};
-ghost use Rattle.rules.specs.Inputs.{good-pixmap};
 ghost use Rattle.rules.specs.Lists.{is_none};
 ghost use Rattle.rect.specs.Rects.{box_of};
 ghost use Rattle.row.specs.Rows.{all-held, SameRows};
@@ -14,42 +13,21 @@ ghost use Rattle.layers.specs.Filter.{given_of, good-given, paint-from, attrs-of
 use crate::rows::{Plain, judge_rows, on_rows};
 use cmd::attrs::{FilterPaint, PaintFillAttrs, put_filter_paint, put_paint_attrs};
 use cmd::blend::Blend;
+use inputs::Filter;
 use rect::Rect;
 use row::Rows;
 use screen::{Screen, judge_screen};
 use sizes::answers::Refusal;
 use sizes::{
-    FILTER_TABLE, HANDLE_END, LAST_ID, MOST_ATTRS, MOST_FILTERS, MOST_RECORDS, PAINT_TABLE,
-    PANEL_END, SCENE_END,
+    FILTER_TABLE, LAST_ID, MOST_ATTRS, MOST_FILTERS, MOST_RECORDS, PAINT_TABLE, PANEL_END,
 };
 
-/// Where a filter layer is drawn, a box in pixels of the scene, and the pixel of its picture that comes to the box's corner (vello_common,
-/// FilterLayerPlacement).
-#[derive(Clone, Copy)]
-pub struct Placement {
-    pub dest: Rect,
-    pub source_x: u32,
-    pub source_y: u32,
-}
-
-/// What a filter layer draws: its placement; the picture's handle, counted from 0, or none; how many paints the paint list has, after which the filter paints
-/// are counted; the layer's panel.
+/// What a filter fill is given: what the filter layer draws; how many paints the paint list has, after which the filter paints are counted; the layer's panel.
 #[derive(Clone, Copy)]
 pub struct FilterFill {
-    pub placement: Placement,
-    pub pixmap: Option<u32>,
+    pub filter: Filter,
     pub paint_count: u32,
     pub panel: u32,
-}
-
-// Whether a picture's handle is in its bounds.
-fn is_good_pixmap(pixmap: Option<u32>) -> bool
-    ensures { result ≡ good-pixmap pixmap }
-{
-    match pixmap {
-        None => true,
-        Some(handle) => handle < HANDLE_END,
-    }
 }
 
 impl FilterFill {
@@ -57,10 +35,7 @@ impl FilterFill {
     fn is_good(self) -> bool
         ensures { result ≡ good-given (given_of self) }
     {
-        is_good_pixmap(self.pixmap)
-            && self.placement.dest.is_good_dest()
-            && self.placement.source_x <= SCENE_END
-            && self.placement.source_y <= SCENE_END
+        self.filter.is_good()
             && self.paint_count as usize <= MOST_RECORDS
             && self.panel < PANEL_END
     }
@@ -147,8 +122,8 @@ fn judge_filter(
     if !fill.is_good() {
         return Err(Refusal::BadRecord);
     }
-    let bbox = filter_box(screen.viewport, screen.clip_bbox, fill.placement.dest);
-    if draws_nothing(fill.pixmap, bbox) {
+    let bbox = filter_box(screen.viewport, screen.clip_bbox, fill.filter.dest);
+    if draws_nothing(fill.filter.pixmap, bbox) {
         return Ok(None);
     }
     let fault = judge_rows(screen, rows.state, &bbox.rows())?;
@@ -176,8 +151,8 @@ fn draw(
     ensures drawn { lent_of screen.new rows.new paint_attrs.new filter_paints.new
         ≡ after (given_of fill) (lent_of screen.old rows.old paint_attrs.old filter_paints.old) }
 {
-    let from = fill.placement;
-    let handle = fill.pixmap.unwrap_or(0);
+    let from = fill.filter;
+    let handle = from.pixmap.unwrap_or(0);
     let paint = filter_paint(from.dest, from.source_x, from.source_y, handle);
     let attrs = filter_attrs(*screen, fill.paint_count, fill.panel);
     put_filter_paint(filter_paints, screen.filter_paints as usize, paint);

@@ -16,13 +16,13 @@ use Rattle.layers.specs.Push as push
 use Rattle.layers.specs.Push.{pushed}
 use Rattle.pop.specs.Pop as pop
 use Rattle.pop.specs.Pop.{popped}
-use Rattle.layers.specs.declared.filter.Placement.{Placement}
+use Rattle.inputs.specs.declared.Filter.{Filter}
 use Rattle.layers.specs.Filter as filter
 use Rattle.layers.specs.Filter.{given, filtered}
 use Rattle.walk.specs.Reading.{draw_in, props_in}
 
-abbrev pub placement_in : rule.Filter → Placement
-placement_in f = record { dest = rect-of f.dest; source_x = f.source-x; source_y = f.source-y }
+abbrev pub filter_in : rule.Filter → Filter
+filter_in f = record { pixmap = f.pixmap; dest = rect-of f.dest; source_x = f.source-x; source_y = f.source-y }
 
 -- the words of all the rows
 abbrev pub rows_words : Tables → Words
@@ -70,7 +70,7 @@ unfoldable pub call_at : Step → ScreenLent → Answer ScreenLent
 call_at (a-fill ps ss d) l = with_value (fill-into l.tables) (filled (fill-part l) (join paint-words ps) (join segment-words ss) (draw_in d))
 call_at (a-push p) l = with_value (push-into l.tables) (pushed (props_in p) (push-part l))
 call_at (a-pop ss) l = pop-into l.tables (popped l.screen (pop-part l) (join segment-words ss))
-call_at (a-filter n f q) l = with_value (filter-into l.tables) (filtered (given (placement_in f) f.pixmap n q) (filter-part l))
+call_at (a-filter n f q) l = with_value (filter-into l.tables) (filtered (given (filter_in f) n q) (filter-part l))
 
 -- the fill of a recording's draw
 abbrev pub draw_step : Recording → rule.Draw → ScreenLent → Answer ScreenLent

@@ -13,13 +13,13 @@ ghost use Rattle.file.specs.Records.{layer-of};
 ghost use Rattle.file.specs.Held.{held, FitsIn};
 ghost use Rattle.layers.specs.Filter.{given, given_of};
 ghost use Rattle.walk.specs.Reading.{props_in};
-ghost use Rattle.walk.specs.Steps.{placement_in, call_at, draw_step, filter_step, draws-walked};
+ghost use Rattle.walk.specs.Steps.{filter_in, call_at, draw_step, filter_step, draws-walked};
 
 use crate::read::{needs_buffer, to_props};
 use file::{Layer, Recording};
 use fill::fill;
 use inputs::Filter;
-use layers::{FilterFill, Placement, filter_fill, push_layer};
+use layers::{FilterFill, filter_fill, push_layer};
 use pop::pop_layer;
 use row::Rows;
 use screen::layers::{LayerProps, Layers};
@@ -29,15 +29,10 @@ use sizes::answers::Refusal;
 // What a filter layer draws, in a recording of so many paints.
 fn to_filter(filter: Filter, paints: usize, panel: u32) -> FilterFill
     requires { paints ≤ 4294967295 }
-    ensures { given_of result ≡ given (placement_in (filter-of filter)) (filter-of filter).pixmap paints panel }
+    ensures { given_of result ≡ given (filter_in (filter-of filter)) paints panel }
 {
     FilterFill {
-        placement: Placement {
-            dest: filter.dest,
-            source_x: filter.source_x,
-            source_y: filter.source_y,
-        },
-        pixmap: filter.pixmap,
+        filter,
         paint_count: paints as u32,
         panel,
     }

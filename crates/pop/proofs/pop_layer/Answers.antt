@@ -28,17 +28,6 @@ close_layer-requires c =
     let judged = zero-judged _ _ _ (sym c.in_ok-closing.ensures.number) in
     record { some = judged.some; ids = (ready judged).ids; attrs = (ready judged).attrs }
 
-pub returns-clause-popped : goal.returns-clause-popped
-returns-clause-popped c =
-    let l = lent_of c.args.rows.now c.args.layers.now c.args.layer_attrs.now in
-    let z = sym c.in_ok-closing.ensures.number in
-    let judged = zero-judged c.args.screen.now l c.args.list.now z in
-    let e = done-out c.args.screen.now l c.args.list.now z
-    (pop-out c.args.screen.now l c.args.list.now judged
-    (c.close_layer.ensures ∙ screen-is c.args.screen.now l c.args.list.now judged _ c.in_ok-closing.ensures.closing.parent) c.do_rows.ensures.rows
-    c.do_tables.ensures.tables) in
-    search (rules, e)
-
 pub returns-clause-done : goal.returns-clause-done
 returns-clause-done c =
     let l = lent_of c.args.rows.now c.args.layers.now c.args.layer_attrs.now in
@@ -47,3 +36,6 @@ returns-clause-done c =
     (c.close_layer.ensures ∙ screen-is c.args.screen.now l c.args.list.now judged _ c.in_ok-closing.ensures.closing.parent) c.do_rows.ensures.rows
     c.do_tables.ensures.tables in
     search (rules, e)
+
+pub returns-clause-popped : goal.returns-clause-popped
+returns-clause-popped c = done-out _ _ _ (sym c.in_ok-closing.ensures.number) (returns-clause-done c)

@@ -14,15 +14,12 @@ returns-in_err-judge_filter-clause-filtered c =
 pub take_filter-requires : goal.take_filter-requires
 take_filter-requires c = let k = nothing-needs _ _ _ _ _ (sym c.in_ok-judge_filter.ensures.number) in record { ids = k.0; attrs = (k.1, k.2) }
 
-pub returns-in-None-clause-filtered : goal.returns-in-None-clause-filtered
-returns-in-None-clause-filtered c =
-    let q = sym c.in_ok-judge_filter.ensures.number in
-    done-is _ _ _ q (nothing_left _ _ _ _ _ q _ (rw c.in-None.is at c.in_ok-judge_filter.ensures.drawn) c.take_filter.ensures)
-
 pub returns-in-None-clause-done : goal.returns-in-None-clause-done
 returns-in-None-clause-done c =
-    let q = sym c.in_ok-judge_filter.ensures.number in
-    nothing_left _ _ _ _ _ q _ (rw c.in-None.is at c.in_ok-judge_filter.ensures.drawn) c.take_filter.ensures
+    nothing_left _ _ _ _ _ (sym c.in_ok-judge_filter.ensures.number) _ (rw c.in-None.is at c.in_ok-judge_filter.ensures.drawn) c.take_filter.ensures
+
+pub returns-in-None-clause-filtered : goal.returns-in-None-clause-filtered
+returns-in-None-clause-filtered c = done-is _ _ _ (sym c.in_ok-judge_filter.ensures.number) (returns-in-None-clause-done c)
 
 pub draw-requires : goal.draw-requires
 draw-requires c =

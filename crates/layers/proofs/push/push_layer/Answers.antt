@@ -33,15 +33,12 @@ on_rows-requires c =
 pub open_layer-requires : goal.open_layer-requires
 open_layer-requires c = omega (arith, (ready _ _ _ _ _ (sym c.in_ok-bbox.ensures.number)).free)
 
-pub returns-clause-pushed : goal.returns-clause-pushed
-returns-clause-pushed c =
-    let r = ready _ _ _ _ _ (sym c.in_ok-bbox.ensures.number) in
-    done-is _ _ _ (sym c.in_ok-bbox.ensures.number)
-    (rw (c.put.ensures.table, c.put.ensures.opacities)
-    (after_is _ _ _ _ _ r _ c.in_ok-bbox.ensures.opening.bbox _ _ _ c.open_layer.ensures c.in_ok-bbox.ensures.opening.band (c.on_rows.ensures.rows ∙ ap lay (touch-each (bucket-tiles c.args.screen.now.width) _ _ _))))
-
 pub returns-clause-done : goal.returns-clause-done
 returns-clause-done c =
-    let r = ready _ _ _ _ _ (sym c.in_ok-bbox.ensures.number) in
+    let o = c.in_ok-bbox.ensures in
     rw (c.put.ensures.table, c.put.ensures.opacities)
-    (after_is _ _ _ _ _ r _ c.in_ok-bbox.ensures.opening.bbox _ _ _ c.open_layer.ensures c.in_ok-bbox.ensures.opening.band (c.on_rows.ensures.rows ∙ ap lay (touch-each (bucket-tiles c.args.screen.now.width) _ _ _)))
+    (after_is _ _ _ _ _ (ready _ _ _ _ _ (sym o.number)) _ o.opening.bbox _ _ _ c.open_layer.ensures o.opening.band
+    (c.on_rows.ensures.rows ∙ ap lay (touch-each (bucket-tiles c.args.screen.now.width) _ _ _)))
+
+pub returns-clause-pushed : goal.returns-clause-pushed
+returns-clause-pushed c = done-is _ _ _ (sym c.in_ok-bbox.ensures.number) (returns-clause-done c)

@@ -1,9 +1,8 @@
 -- A file's bytes. Assumes nothing.
-use Rattle.std.proofs.Common.{◌≡◌, refl, ap, ◌∙◌, Bool, true, false, ◌&&◌, ◌||◌, cond, List, ◌++◌, Option, None, Some, Result, Ok, Err, ℕ, ◌/◌, ◌%◌, ◌≤◌, arith, length, take, drop, leb, ltb, eqb, le-ltb, lt-ltb, leb-true, leb-false}
+use Rattle.std.proofs.Common.{◌≡◌, refl, ap, ◌∙◌, Bool, true, false, ◌&&◌, ◌||◌, cond, List, ◌++◌, Option, None, Some, Result, Err, ℕ, ◌/◌, ◌%◌, length, take, drop, leb, ltb, eqb, le-ltb, lt-ltb, leb-true, leb-false}
 use Rattle.sizes.specs.declared.answers.Refusal.{Refusal}
 use Rattle.sizes.specs.declared.answers.Refusal.TheVariants as refusal
 use Rattle.sizes.specs.Refusals.{number_of}
-use Rattle.rules.proofs.All.{both, never}
 use Rattle.rules.specs.Lists.{is_none}
 use Rattle.rules.specs.Setups.{Setup}
 use Rattle.rules.specs.Recording.{Recording, shape, sections}

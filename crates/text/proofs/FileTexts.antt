@@ -1,5 +1,5 @@
 -- What is shown of a screen, of a file, and of a refusal. Assumes nothing.
-use Rattle.std.proofs.Common.{◌≡◌, refl, sym, ap, ◌∙◌, Option, None, Some, Ok, Err, replicate, pos, ℤ, Float, Bool, true, false, cond, List, ℕ, ◌≤◌, ◌<◌, eqb, le-leb, eq-eqb, ne_eqb}
+use Rattle.std.proofs.Common.{◌≡◌, refl, sym, ap, ◌∙◌, Option, None, Some, Ok, Err, replicate, pos, ℤ, Float, Bool, true, false, List, ℕ, ◌≤◌, ◌<◌, eqb, le-leb, eq-eqb, ne_eqb}
 use lib.ListN.{length-replicate}
 use borrow.Author.Tests.{lt-leb}
 use Rattle.sizes.specs.declared.answers.Refusal.{Refusal}

@@ -8,7 +8,7 @@ use Rattle.screen.specs.Tables.{ScreenLent}
 use Rattle.file.specs.declared.recording.Recording.{Recording}
 use Rattle.file.specs.Held.{held, FitsIn, recording_of}
 use Rattle.file.proofs.Laws.{sound}
-use Rattle.walk.specs.Recorded.{recorded-in, recorded}
+use Rattle.walk.specs.Recorded.{recorded-in}
 use Rattle.walk.proofs.Accepted.{good-frame, records-judged}
 use Rattle.walk.proofs.Recordings.{as-said}
 use Rattle.walk.specs.Ready.{ReadyIn}

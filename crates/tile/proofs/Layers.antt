@@ -1,5 +1,5 @@
 -- A layer's steps, one after the other.
-use Rattle.std.proofs.Common.{ℕ, zero, suc, ◌-◌, ◌≤◌, ◌+◌, ◌*◌, arith, ◌≡◌, refl, ap, ◌∙◌, true, false, not, List, [], length, get_or, eqb, eq-eqb, ne_eqb}
+use Rattle.std.proofs.Common.{ℕ, zero, suc, ◌-◌, ◌≤◌, arith, ◌≡◌, refl, ap, ◌∙◌, true, false, not, [], length, get_or, eqb, eq-eqb, ne_eqb}
 use Rattle.rules.specs.Answers.{Answer, answer}
 use Rattle.rules.specs.Inputs.{needs-buffer}
 use Rattle.rules.specs.Recording.{Recording, LayerRec, layer-rec}

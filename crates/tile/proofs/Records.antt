@@ -1,5 +1,5 @@
 -- What a judged file's records are to the tile's steps: a draw's paint and segments, a layer's clip, a filter's dest box.
-use Rattle.std.proofs.Common.{ℕ, zero, suc, ◌+◌, ◌-◌, ◌*◌, ◌/◌, ◌≤◌, ◌<◌, arith, ◌≡◌, refl, ap, ◌∙◌, Bool, true, false, ◌&&◌, cond, List, [], ◌∷◌, Option, None, Some, length, get_or, take, drop, leb, ltb, eqb, leb-true, ltb-true, eq-eqb}
+use Rattle.std.proofs.Common.{ℕ, zero, suc, ◌-◌, ◌*◌, ◌/◌, ◌≤◌, ◌<◌, arith, ◌≡◌, refl, ap, ◌∙◌, Bool, true, false, ◌&&◌, cond, List, [], ◌∷◌, Option, None, Some, length, get_or, take, drop, leb, ltb, eqb, leb-true, ltb-true, eq-eqb}
 use Rattle.rules.specs.Lists.{every, slice}
 use Rattle.rules.specs.Boxes.{Box, by_4, bounded, good-box, good-dest}
 use Rattle.rules.specs.Blends.{good-blend}

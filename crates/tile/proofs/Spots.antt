@@ -1,5 +1,5 @@
 -- A tile of a good viewport's screen, and what its story goes by before the first step.
-use Rattle.std.proofs.Common.{ℕ, ◌+◌, ◌/◌, ◌≤◌, arith, ◌≡◌, refl, sym, Bool, true, false, ◌||◌, List, [], length, leb, leb-false}
+use Rattle.std.proofs.Common.{ℕ, ◌/◌, arith, ◌≡◌, refl, sym, Bool, true, false, ◌||◌, List, [], length, leb, leb-false}
 use Rattle.sizes.specs.Sizes.{most-layers, line-table}
 use Rattle.sizes.specs.declared.width.Width.{Width}
 use Rattle.sizes.specs.Widths.{bucket-tiles}

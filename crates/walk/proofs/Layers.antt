@@ -1,5 +1,5 @@
 -- A layer's steps, one after the other.
-use Rattle.std.proofs.Common.{ℕ, zero, suc, ◌-◌, ◌≤◌, ◌+◌, ◌*◌, arith, ◌≡◌, refl, sym, ap, ◌∙◌, true, not, List, [], get_or, eqb, eq-eqb, ne_eqb}
+use Rattle.std.proofs.Common.{ℕ, zero, suc, ◌-◌, arith, ◌≡◌, refl, sym, ap, ◌∙◌, true, not, [], get_or, eqb, eq-eqb, ne_eqb}
 use Rattle.rules.specs.Answers.{Answer, answer}
 use Rattle.rules.specs.Recording.{Recording, LayerRec, layer-rec}
 use Rattle.rules.specs.Plans.{a-push, a-pop}

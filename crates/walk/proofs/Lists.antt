@@ -1,5 +1,5 @@
 -- The words that say paints and segments, and the parts of a file's words that are lent for them.
-use Rattle.std.proofs.Common.{ℕ, zero, suc, ◌+◌, ◌-◌, ◌*◌, ◌/◌, ◌<◌, add_assoc, mul-zero, arith, ◌≡◌, refl, sym, ap, ◌∙◌, List, [], ◌∷◌, length, get_or, take, drop, length-take, length-drop, get_or-drop}
+use Rattle.std.proofs.Common.{ℕ, zero, suc, ◌+◌, ◌*◌, ◌/◌, add_assoc, mul-zero, arith, ◌≡◌, refl, sym, ◌∙◌, List, [], ◌∷◌, length, get_or, get_or-drop}
 use Rattle.rules.specs.Lists.{join}
 use Rattle.rules.specs.Inputs.{Paint}
 use Rattle.rules.specs.Segments.{Segment}

@@ -1,7 +1,6 @@
 -- The words that are lent hold the recording's paints and segments, so the call at the code's draw is the rules' fill of it.
 use Rattle.std.proofs.Common.{arith}
 use Rattle.file.specs.Held.{held}
-use Rattle.inputs.specs.Inputs.{draw-of}
 use Rattle.walk.proofs.Draws.{some-draw}
 use Rattle.walk.proofs.Lists.{paints-lent}
 use Rattle.tile.proofs.Said.{says}

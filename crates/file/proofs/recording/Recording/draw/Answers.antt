@@ -1,5 +1,4 @@
 use mathlib.Core.Path.{sym, ◌∙◌}
-use native.Mathlib.Omega.{arith}
 use borrow.Author.Rules.{rules}
 use Rattle.file.specs.Places.{draw_from, recorded}
 use Rattle.file.proofs.Eaches.{each_at}

@@ -1,9 +1,6 @@
 use Prim.Native.Nat.{◌*◌}
 use mathlib.Core.Path.{sym, ap, ◌∙◌}
-use lib.ListN.{length}
-use Rattle.std.specs.Prelude.{ℕ, List}
-use Rattle.file.specs.Each.{each}
-use Rattle.file.specs.Places.{paint_from, recorded}
+use Rattle.std.specs.Prelude.{ℕ}
 use Rattle.file.proofs.Reading.{reads, paints-width, paints-part}
 use Rattle.file.proofs.Heldness.{paint_count}
 use Rattle.file.proofs.recording.Recording.paints.Goals as goal

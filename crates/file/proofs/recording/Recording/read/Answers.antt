@@ -1,7 +1,4 @@
-use mathlib.Core.Path.{ap}
-use Rattle.std.specs.Prelude.{Some}
 use Rattle.std.proofs.lemmas.Result.{err_from_is_err_and}
-use Rattle.file.specs.Held.{recording_of}
 use Rattle.file.proofs.Laid.{good-form, bad-form}
 use Rattle.file.proofs.Reading.{reads}
 use Rattle.file.proofs.recording.Recording.read.Goals as goal

@@ -1,8 +1,6 @@
-use Prim.Native.Nat.{◌*◌}
-use mathlib.Core.Path.{sym, ap, ◌∙◌}
+use mathlib.Core.Path.{ap, ◌∙◌}
 use native.Mathlib.Omega.{arith}
-use lib.ListN.{length, length-take, length-drop}
-use Rattle.std.specs.Prelude.{ℕ, List}
+use lib.ListN.{length-take, length-drop}
 use Rattle.file.proofs.Reading.{reads}
 use Rattle.file.proofs.Laws.{segments-part}
 use Rattle.file.proofs.Heldness.{segment_count}

@@ -17,13 +17,14 @@ use Rattle.tile.proofs.story.tell_filter_layer.Goals as goal
 pub tell_picture-requires : goal.tell_picture-requires
 tell_picture-requires c =
     let ready = c.requires.ready in
-    let r = c.args.file.now in (
-      ready.spotted,
-      ready.bounded,
-      ready.low,
-      ready.room,
-      filter-dest (held r) (layer-of c.args.layer) c.requires.good c.requires.filter,
-    )
+    let r = c.args.file.now in
+    record {
+      spot = ready.spotted;
+      within = ready.bounded;
+      counts = ready.low;
+      lines = ready.room;
+      dest = filter-dest (held r) (layer-of c.args.layer) c.requires.good c.requires.filter;
+    }
 
 pub returns-then-not-needs_buffer-clause-told : goal.returns-then-not-needs_buffer-clause-told
 returns-then-not-needs_buffer-clause-told c =
@@ -58,13 +59,14 @@ returns-in_err-inner-clause-told c =
 pub tell_picture-requires-2 : goal.tell_picture-requires-2
 tell_picture-requires-2 c =
     let ready = c.requires.ready in
-    let r = c.args.file.now in (
-      ready.spotted,
-      c.in_ok-inner.ensures.opens.0,
-      c.in_ok-inner.ensures.low,
-      ready.room,
-      filter-dest (held r) (layer-of c.args.layer) c.requires.good c.requires.filter,
-    )
+    let r = c.args.file.now in
+    record {
+      spot = ready.spotted;
+      within = c.in_ok-inner.ensures.opens.0;
+      counts = c.in_ok-inner.ensures.low;
+      lines = ready.room;
+      dest = filter-dest (held r) (layer-of c.args.layer) c.requires.good c.requires.filter;
+    }
 
 pub returns-in_err-tell_picture-clause-told : goal.returns-in_err-tell_picture-clause-told
 returns-in_err-tell_picture-clause-told c =

@@ -61,8 +61,8 @@ module _ {g : FilterGiven} {s : Screen} {w : Words} {ps : List ℕ} {fs : List �
 
 -- where nothing is drawn
 module _ (g : FilterGiven) (s : Screen) (w : Words) (ps : List ℕ) (fs : List ℤ) (q : filter-number g (lent s w ps fs) ≡ 0) where
-  pub nothing-needs : ((s.next_draw_id ≤ 1048577) × (0 ≤ 1)) × (s.paint_attrs ≤ 1024) × (s.filter_paints ≤ 256)
-  nothing-needs = let k = bounds s (fit g s w ps fs (ready g s w ps fs q).zero).screen in ((k.ids, omega arith), k.paints, k.filters)
+  pub nothing-needs : (s.next_draw_id ≤ 1048577) × (s.paint_attrs ≤ 1024) × (s.filter_paints ≤ 256)
+  nothing-needs = let k = bounds s (fit g s w ps fs (ready g s w ps fs q).zero).screen in (k.ids, k.paints, k.filters)
 
   pub nothing_left : (x : Screen) → draws-nothing (filter-of g) (own-box g s) ≡ true
       → x ≡ counted s (s.next_draw_id + 0) (s.paint_attrs + 0) s.layer_attrs (s.filter_paints + 0) → lent x w ps fs ≡ after g (lent s w ps fs)

@@ -1,5 +1,5 @@
 -- Judged first; refused, nothing is written. Done, the rows of the box get the fill, the tables its paint and its attribute.
-use Rattle.std.proofs.Common.{sym}
+use Rattle.std.proofs.Common.{sym, arith}
 use Rattle.std.proofs.lemmas.Result.{err_from_is_err_and}
 use Rattle.sizes.proofs.Refusals.{not_done}
 use Rattle.layers.proofs.FilterLaws.{refused-is, done-is}
@@ -12,7 +12,7 @@ returns-in_err-judge_filter-clause-filtered c =
     rw (p.1, p.2) (refused-is _ _ _ c.in_err-judge_filter.ensures.number (not_done _))
 
 pub take_filter-requires : goal.take_filter-requires
-take_filter-requires c = let k = nothing-needs _ _ _ _ _ (sym c.in_ok-judge_filter.ensures.number) in record { ids = k.0; attrs = (k.1, k.2) }
+take_filter-requires c = let k = nothing-needs _ _ _ _ _ (sym c.in_ok-judge_filter.ensures.number) in record { ids = (k.0, omega arith); attrs = (k.1, k.2) }
 
 pub returns-in-None-clause-done : goal.returns-in-None-clause-done
 returns-in-None-clause-done c =

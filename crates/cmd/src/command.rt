@@ -40,16 +40,6 @@ impl SpanWord {
         self.0 % HALF_WORD
     }
 
-    /// The tiles that it names.
-    pub fn tiles(self) -> TileSpan
-        ensures { tiles result ≡ word-span self.0 }
-    {
-        TileSpan {
-            first: self.first(),
-            end: self.end(),
-        }
-    }
-
     /// Whether the two numbers are in order and the end is at most the limit.
     pub fn is_good(self, limit: u32) -> bool
         ensures { result ≡ good-span-word limit self.0 }
@@ -210,9 +200,19 @@ impl CmdWords {
         ensures { result ≡ fill-of self alpha }
     {
         Fill {
-            span: self.span.tiles(),
+            span: self.tiles(),
             alpha,
             attrs_idx: self.attrs_idx,
+        }
+    }
+
+    // The span of the span word.
+    fn tiles(self) -> TileSpan
+        ensures { tiles result ≡ word-span self.span.0 }
+    {
+        TileSpan {
+            first: self.span.first(),
+            end: self.span.end(),
         }
     }
 
@@ -237,7 +237,7 @@ impl CmdWords {
                 .then_some(RenderCmd::LayerFill(self.fill(Some(self.alpha)))),
             5 => self.is_bare().then_some(RenderCmd::PushBuf(None)),
             6 => (self.is_solid() && self.attrs_idx == 0).then_some(RenderCmd::PushBuf(Some(
-                self.span.tiles(),
+                self.tiles(),
             ))),
             7 => self.is_bare().then_some(RenderCmd::PopBuf),
             _ => None,

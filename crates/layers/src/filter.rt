@@ -35,9 +35,7 @@ impl FilterFill {
     fn is_good(self) -> bool
         ensures { result ≡ good-given (given_of self) }
     {
-        self.filter.is_good()
-            && self.paint_count as usize <= MOST_RECORDS
-            && self.panel < PANEL_END
+        self.filter.is_good() && self.paint_count as usize <= MOST_RECORDS && self.panel < PANEL_END
     }
 }
 

@@ -25,7 +25,7 @@ use sizes::{
 
 /// Where a filter layer is drawn, a box in pixels of the scene, and the pixel of its picture that comes to the box's corner (vello_common,
 /// FilterLayerPlacement).
-#[derive(Clone, Copy)]
+#[derive(Clone, Copy, Debug, PartialEq, Eq)]
 pub struct Placement {
     pub dest: Rect,
     pub source_x: u32,
@@ -34,7 +34,7 @@ pub struct Placement {
 
 /// What a filter layer draws: its placement; the picture's handle, counted from 0, or none; how many paints the paint list has, after which the filter paints
 /// are counted; the layer's panel.
-#[derive(Clone, Copy)]
+#[derive(Clone, Copy, Debug, PartialEq, Eq)]
 pub struct FilterFill {
     pub placement: Placement,
     pub pixmap: Option<u32>,

@@ -1,7 +1,6 @@
 -- What the program `rowlist` writes of a file's words is the text of the rules' `rowlist` of them. Assumes nothing.
-use Rattle.std.proofs.Common.{◌≡◌, refl, sym, ap, ◌∙◌, Bool, true, false, not, ◌&&◌, ◌||◌, cond, List, [], ◌∷◌, ◌++◌, append-nil, Option, None, Some, Result, Ok, Err, ℕ, ◌*◌, ◌%◌, ◌≤◌, arith, ltb, leb}
+use Rattle.std.proofs.Common.{◌≡◌, refl, sym, ap, ◌∙◌, Bool, true, false, not, ◌&&◌, ◌||◌, cond, List, [], ◌∷◌, ◌++◌, append-nil, Option, None, Some, Ok, Err, ℕ, ◌*◌, ◌≤◌, arith, ltb, leb}
 use Rattle.std.proofs.Common.{eqb, length, get_or, drop, get_or-drop, le-ltb, lt-ltb, leb-true, leb-false, eq-eqb, eqb-true}
-use Rattle.sizes.specs.declared.answers.Refusal.{Refusal}
 use Rattle.sizes.specs.declared.answers.Refusal.TheVariants as refusal
 use Rattle.sizes.specs.declared.width.Width.{Width}
 use Rattle.sizes.specs.Widths.{bucket-tiles}
@@ -19,7 +18,6 @@ use Rattle.rules.proofs.All.{never, and_left, and_right}
 use Rattle.screen.specs.declared.Screen as declared
 use Rattle.screen.specs.Judging.{good-tables, arenas, judged_reset}
 use Rattle.screen.specs.Tables.{Tables, lengths, ScreenLent, lent}
-use Rattle.screen.proofs.ScreenLaws.{few-buckets}
 use Rattle.refine_steps.specs.Sound.{Fitting}
 use Rattle.refine_steps.proofs.Refined.{Refines}
 use Rattle.refine_steps.proofs.Reset.{fresh-sound}

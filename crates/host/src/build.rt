@@ -16,10 +16,10 @@ use layers::{FilterFill, Placement, filter_fill, push_layer};
 use pop::pop_layer;
 use rect::Rect;
 use row::Rows;
-use screen::layers::{LayerProps, Layers};
+use screen::layers::{Clip, LayerProps, Layers};
 use screen::{Lent, reset};
 use walk::bucket_recording;
-use walk::read::props_at;
+use walk::read::{float_of, pattern_of};
 
 /// Rule 1: a fresh screen of a viewport, in pixels, in a setup. Words that ask for no setup are refused at once, by 2 or 4.
 #[unsafe(no_mangle)]
@@ -163,7 +163,6 @@ pub extern "C" fn coarse_fill(
 }
 
 // What a push is given; its clip is there if the flag is 1.
-#[tactic(auto, unfolding(file::specs::Places::layer_from, file::specs::Places::clip_from))]
 fn props_of(
     mix: u32,
     compose: u32,
@@ -181,13 +180,20 @@ fn props_of(
 ) -> LayerProps
     ensures { result ≡ props mix compose opacity mask flag (clip x0 y0 x1 y1 start «end» thread) panel }
 {
-    let layer = [
-        0, 0, 0, mix, compose, opacity, mask, flag, x0, y0, x1, y1, start, end, thread, 0, 0, 0, 0,
-        0, 0, 0,
-    ];
+    let bbox = Rect { x0, y0, x1, y1 };
+    let clip = Clip {
+        bbox,
+        start,
+        end,
+        thread,
+    };
     LayerProps {
+        blend: Blend { mix, compose },
+        opacity: float_of(opacity),
+        nan: pattern_of(opacity),
+        mask,
+        clip: if flag == 1 { Some(clip) } else { None },
         panel,
-        ..props_at(&layer, 0)
     }
 }
 

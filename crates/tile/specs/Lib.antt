@@ -1,5 +1,6 @@
 pub mod Telling
 pub mod Places
+pub mod Story
 pub mod Ready
 pub mod Reading
 pub mod Reasons

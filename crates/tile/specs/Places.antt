@@ -11,7 +11,7 @@ use Rattle.rules.specs.Inputs.{Props}
 use Rattle.rules.specs.Plans.{Layer, clip-box}
 use Rattle.rect.specs.Rects.{box_of, Small}
 use Rattle.segments.specs.Segs.{segs}
-use Rattle.screen.specs.declared.layers.Clip.{Clip}
+use Rattle.inputs.specs.declared.Clip.{Clip}
 use Rattle.tile.specs.declared.steps.Spot.{Spot}
 use Rattle.tile.specs.declared.steps.Within.{Within}
 use Rattle.tile.specs.declared.steps.Tale.{Tale}

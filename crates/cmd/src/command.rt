@@ -1,5 +1,5 @@
 //! Render commands (cmd.rs, RenderCmd), and the four words that stand for one.
-ghost use Rattle.std.specs.Prelude.{◌≡◌, ◌&&◌, ◌+◌, ◌*◌, ◌/◌, ◌%◌, ◌<◌, ◌≤◌, eqb, length, option_map};
+ghost use Rattle.std.specs.Prelude.{◌≡◌, ◌&&◌, ◌+◌, ◌*◌, ◌/◌, ◌%◌, ◌<◌, ◌≤◌, eqb, length, min, max, option_map};
 ghost use Rattle.sizes.specs.Sizes.{tile-end};
 ghost use Rattle.rules.specs.Spans.{span};
 ghost use Rattle.rules.specs.Commands.{span-word, fill-words, push-words, command_words};
@@ -38,6 +38,14 @@ impl SpanWord {
         ensures { result ≡ self.0 % 65536 }
     {
         self.0 % HALF_WORD
+    }
+
+    /// The least span that holds this one and that of two numbers more.
+    pub fn union(self, first: u32, end: u32) -> SpanWord
+        requires { Narrow (span first «end») }
+        ensures { result.0 ≡ span-word (span (min (self.0 / 65536) first) (max (self.0 % 65536) «end»)) }
+    {
+        SpanWord((self.0 / HALF_WORD).min(first) * HALF_WORD + (self.0 % HALF_WORD).max(end))
     }
 
     /// Whether the two numbers are in order and the end is at most the limit.

@@ -15,7 +15,7 @@ use sizes::{HANDLE_END, PANEL_END, THREAD_END};
 
 /// Segments start to end of a list, painted with the paint at a place of a paint list (record.rs, RecordedFill). The thread is that of their alpha values;
 /// `mask` is a handle, or 0 for none.
-#[derive(Clone, Copy)]
+#[derive(Clone, Copy, Debug, PartialEq, Eq)]
 pub struct Draw {
     pub thread: u32,
     pub start: usize,
@@ -27,7 +27,7 @@ pub struct Draw {
 }
 
 /// A layer's clip (vello_common, LayerClip): its box in pixels of the scene, the range of its segments in a list, the thread of its alpha values.
-#[derive(Clone, Copy)]
+#[derive(Clone, Copy, Debug, PartialEq, Eq)]
 pub struct Clip {
     pub bbox: Rect,
     pub start: u32,
@@ -37,7 +37,7 @@ pub struct Clip {
 
 /// What a filter layer draws: the picture's handle, counted from 0, or none; where, a box in pixels of the scene; the pixel of the picture that comes to the
 /// box's corner (vello_common, FilterLayerPlacement).
-#[derive(Clone, Copy)]
+#[derive(Clone, Copy, Debug, PartialEq, Eq)]
 pub struct Filter {
     pub pixmap: Option<u32>,
     pub dest: Rect,

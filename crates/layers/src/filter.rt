@@ -22,23 +22,8 @@ use sizes::{
     FILTER_TABLE, LAST_ID, MOST_ATTRS, MOST_FILTERS, MOST_RECORDS, PAINT_TABLE, PANEL_END,
 };
 
-<<<<<<< HEAD
 /// What a filter fill is given: what the filter layer draws; how many paints the paint list has, after which the filter paints are counted; the layer's panel.
-#[derive(Clone, Copy)]
-=======
-/// Where a filter layer is drawn, a box in pixels of the scene, and the pixel of its picture that comes to the box's corner (vello_common,
-/// FilterLayerPlacement).
 #[derive(Clone, Copy, Debug, PartialEq, Eq)]
-pub struct Placement {
-    pub dest: Rect,
-    pub source_x: u32,
-    pub source_y: u32,
-}
-
-/// What a filter layer draws: its placement; the picture's handle, counted from 0, or none; how many paints the paint list has, after which the filter paints
-/// are counted; the layer's panel.
-#[derive(Clone, Copy, Debug, PartialEq, Eq)]
->>>>>>> b3d321334a918e1acd3387129fec1d0d157fd024
 pub struct FilterFill {
     pub filter: Filter,
     pub paint_count: u32,

@@ -34,8 +34,7 @@ fn hull_word(tag: u32, span: u32, first: u32, end: u32) -> u32
     ensures { result ≡ hull_word tag span first «end» }
 {
     if tag == 6 {
-        let union = SpanWord(span);
-        SpanWord::of(union.first().min(first), union.end().max(end)).0
+        SpanWord(span).union(first, end).0
     } else {
         SpanWord::of(first, end).0
     }

@@ -10,7 +10,7 @@ use Rattle.rect.specs.declared.Rect.{Rect}
 use Rattle.rect.specs.Rects.{box_of}
 use Rattle.cmd.specs.Blends.{blend_of}
 use Rattle.segments.specs.Segs.{segs, segs-of}
-use Rattle.screen.specs.declared.layers.Clip.{Clip}
+use Rattle.inputs.specs.declared.Clip.{Clip}
 use Rattle.screen.specs.declared.layers.LayerProps.{LayerProps}
 use Rattle.screen.specs.Layers.{clip-of}
 use Rattle.tile.specs.declared.steps.Spot.{Spot}
@@ -19,7 +19,7 @@ use Rattle.tile.specs.declared.steps.Tale.{Tale}
 use Rattle.tile.specs.declared.steps.Stroke.{Stroke}
 use Rattle.tile.specs.Telling as tell
 use Rattle.tile.specs.Telling.{Telling, no-look}
-use Rattle.tile.specs.Places.{Holds, telling, opened_by, left_by}
+use Rattle.tile.specs.Places.{Holds, Says, telling, opened_by, left_by}
 
 -- what segments are to the tile: before the cut, one more, and some, cut to a clip box
 abbrev pub cover_at : Spot → tell.Look → Segment → tell.Look
@@ -49,7 +49,11 @@ pop_told s ls ws t = tell.tell-pop s.width (box_of s.viewport) s.row s.tile ls (
 abbrev pub filter_told : Spot → Filter → ℕ → Telling → Answer Telling
 filter_told s f q t = tell.tell-filter s.width (box_of s.viewport) s.row s.tile f q t
 
--- whatever layers are open, f says the number n and makes of the first counts and lines the second; refused, it leaves the first
+-- whatever layers are open, f says the number n, and makes of the first counts and lines the second
+abbrev pub SaysOf : Spot → Within → (Telling → Answer Telling) → ℕ → Tale → List ℕ → Tale → List ℕ → Type 0
+SaysOf s h f n t ws u vs = (ls : List Layer) → Holds (box_of s.viewport) h ls → Says (f (telling t ls ws)) n (telling u ls vs)
+
+-- .. and refused, it leaves the first
 abbrev pub Tells : Spot → Within → (Telling → Answer Telling) → ℕ → Tale → List ℕ → Tale → List ℕ → Type 0
 Tells s h f n t ws u vs = (ls : List Layer) → Holds (box_of s.viewport) h ls → answer n (telling u ls vs) ≡ f (telling t ls ws)
 

@@ -21,7 +21,7 @@ ghost use Rattle.tile.specs.Explained.{explained-as, reason_said, reason-told, t
 
 use crate::reason::{Asked, Reason, reason_of};
 use crate::steps::{Spot, Tale, Within};
-use crate::story::tell_nodes;
+use crate::story::{Teller, tell_nodes};
 use file::Recording;
 use rect::Rect;
 use screen::{Lent, Screen, Setup};
@@ -71,16 +71,8 @@ pub fn tell_tile(
         filters: 0,
         levels: 0,
     };
-    tell_nodes(
-        MOST_LAYERS,
-        &mut tale,
-        spot,
-        within,
-        file,
-        first,
-        end,
-        lines,
-    )?;
+    let teller = Teller { spot, file: *file };
+    tell_nodes(MOST_LAYERS, &mut tale, &teller, within, first, end, lines)?;
     Ok(tale)
 }
 

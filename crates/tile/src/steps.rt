@@ -142,7 +142,10 @@ pub fn tell_push(
     within: Within,
     props: LayerProps,
 ) -> Result<Within, Refusal>
-    requires { Spotted spot × Bounded within × Low tale.old × (all-good (clip-of props.clip) ≡ true) }
+    requires spot { Spotted spot }
+    requires within { Bounded within }
+    requires counts { Low tale.old }
+    requires clip { all-good (clip-of props.clip) ≡ true }
     ensures low { Low tale.new }
     ensures opens { Opens result within }
     ensures told { TellsPush spot within props result tale.old tale.new }
@@ -190,7 +193,13 @@ pub fn tell_pop(
     segments: &[u32],
     lines: &mut [u32],
 ) -> Result<(), Refusal>
-    requires { Spotted spot × Bounded within × Bounded outer × (within.«open» ≡ outer.«open» + 1) × Low tale.old × (length lines.old ≡ line-table) × ClipReady props.clip segments.now }
+    requires spot { Spotted spot }
+    requires within { Bounded within }
+    requires outer { Bounded outer }
+    requires inner { within.«open» ≡ outer.«open» + 1 }
+    requires counts { Low tale.old }
+    requires lines { length lines.old ≡ line-table }
+    requires clip { ClipReady props.clip segments.now }
     ensures low { Low tale.new }
     ensures told { TellsPop spot within outer props segments.now result tale.old lines.old tale.new lines.new }
 {

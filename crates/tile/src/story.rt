@@ -1,19 +1,17 @@
 //! The walk over a recording that tells the story of one tile (rule 2), in plain draw order: over a run of nodes, and over a layer, which call each other.
 //! Parts: callers have read the form, judged the records and chosen a tile of the screen.
-ghost use Rattle.std.specs.Prelude.{◌≡◌, true, List, ◌≤◌, ◌<◌, length, get_or};
+ghost use Rattle.std.specs.Prelude.{◌≡◌, true, ◌≤◌, ◌<◌, length, get_or};
 ghost use Rattle.sizes.specs.Sizes.{line-table};
 ghost use Rattle.sizes.specs.Refusals.{answer_number};
 ghost use Rattle.rules.specs.Inputs.{Draw as RuleDraw};
 ghost use Rattle.rules.specs.Boxes.{good-dest};
 ghost use Rattle.rules.specs.Recording.{good-layer-rec};
-ghost use Rattle.rules.specs.Plans.{Layer as RuleLayer};
-ghost use Rattle.rect.specs.Rects.{box_of};
 ghost use Rattle.file.specs.Records.{layer-of};
 ghost use Rattle.file.specs.Held.{held};
-ghost use Rattle.tile.specs.Telling.{tell-filter};
-ghost use Rattle.tile.specs.Places.{Spotted, Bounded, Holds, Low, Says, telling};
+ghost use Rattle.tile.specs.Places.{Spotted, Bounded, Low};
 ghost use Rattle.tile.specs.Story.{draw-told, draws-told, filter-layer-told, nodes-told, layer-told};
 ghost use Rattle.tile.specs.Ready.{TaleReady, Deep};
+ghost use Rattle.tile.specs.Named.{SaysOf, filter_told};
 
 use crate::steps::{Spot, Stroke, Tale, Within, tell_fill, tell_filter, tell_pop, tell_push};
 use file::{Layer, Recording};
@@ -21,29 +19,34 @@ use fill::is_eligible;
 use sizes::answers::Refusal;
 use walk::read::{needs_buffer, to_props};
 
+/// What is handed along over a recording: the tile that is told of, and the file.
+#[derive(Clone, Copy)]
+pub struct Teller<'a> {
+    pub spot: Spot,
+    pub file: Recording<'a>,
+}
+
 // What draw i says of the tile.
 fn tell_draw(
     tale: &mut Tale,
-    spot: Spot,
+    teller: &Teller<'_>,
     within: Within,
-    file: &Recording<'_>,
     i: usize,
     lines: &mut [u32],
 ) -> Result<(), Refusal>
-    requires ready { TaleReady file.now spot within tale.old lines.old }
-    requires there { i < length (held file.now).draws }
+    requires ready { TaleReady teller.now.file teller.now.spot within tale.old lines.old }
+    requires there { i < length (held teller.now.file).draws }
     ensures low { Low tale.new }
-    ensures told { (d : RuleDraw) (ls : List RuleLayer) → Holds (box_of spot.viewport) within ls
-        → Says (draw-told spot (held file.now) (get_or (held file.now).draws i d) (telling tale.old ls lines.old))
-        (answer_number result) (telling tale.new ls lines.new) }
+    ensures told { (d : RuleDraw) → SaysOf teller.now.spot within (draw-told teller.now.spot (held teller.now.file) (get_or (held teller.now.file).draws i d))
+        (answer_number result) tale.old lines.old tale.new lines.new }
 {
-    let draw = file.draw(i);
-    let eligible = is_eligible(within.open, file.paints(), draw);
+    let draw = teller.file.draw(i);
+    let eligible = is_eligible(within.open, teller.file.paints(), draw);
     tell_fill(
         tale,
-        spot,
+        teller.spot,
         within,
-        file.segments(),
+        teller.file.segments(),
         Stroke {
             start: draw.start,
             end: draw.end,
@@ -57,23 +60,21 @@ fn tell_draw(
 // The draws a to b, in order, up to the first that is refused.
 fn tell_draws(
     tale: &mut Tale,
-    spot: Spot,
+    teller: &Teller<'_>,
     within: Within,
-    file: &Recording<'_>,
     a: usize,
     b: usize,
     lines: &mut [u32],
 ) -> Result<(), Refusal>
-    requires ready { TaleReady file.now spot within tale.old lines.old }
+    requires ready { TaleReady teller.now.file teller.now.spot within tale.old lines.old }
     requires order { a ≤ b }
-    requires ends { b ≤ length (held file.now).draws }
+    requires ends { b ≤ length (held teller.now.file).draws }
     ensures low { Low tale.new }
-    ensures told { (ls : List RuleLayer) → Holds (box_of spot.viewport) within ls
-        → Says (draws-told spot (held file.now) a b (telling tale.old ls lines.old))
-        (answer_number result) (telling tale.new ls lines.new) }
+    ensures told { SaysOf teller.now.spot within (draws-told teller.now.spot (held teller.now.file) a b)
+        (answer_number result) tale.old lines.old tale.new lines.new }
 {
     for i in a..b {
-        tell_draw(tale, spot, within, file, i, lines)?;
+        tell_draw(tale, teller, within, i, lines)?;
     }
     Ok(())
 }
@@ -92,9 +93,8 @@ fn tell_picture(
     requires lines { length lines.old ≡ line-table }
     requires dest { good-dest (layer-of layer).filter.dest ≡ true }
     ensures low { Low tale.new }
-    ensures told { (ls : List RuleLayer) → Holds (box_of spot.viewport) within ls
-        → Says (tell-filter spot.width (box_of spot.viewport) spot.row spot.tile (layer-of layer).filter (layer-of layer).panel (telling tale.old ls lines.old))
-        (answer_number result) (telling tale.new ls lines.new) }
+    ensures told { SaysOf spot within (filter_told spot (layer-of layer).filter (layer-of layer).panel)
+        (answer_number result) tale.old lines.old tale.new lines.new }
 {
     let filter = layer.filter;
     tell_filter(
@@ -111,27 +111,33 @@ fn tell_picture(
 // A filter layer: its nodes are not walked. It is pushed and popped only if it needs a buffer.
 fn tell_filter_layer(
     tale: &mut Tale,
-    spot: Spot,
+    teller: &Teller<'_>,
     within: Within,
-    file: &Recording<'_>,
     layer: Layer,
     lines: &mut [u32],
 ) -> Result<(), Refusal>
-    requires ready { TaleReady file.now spot within tale.old lines.old }
-    requires good { good-layer-rec (held file.now) (layer-of layer) ≡ true }
+    requires ready { TaleReady teller.now.file teller.now.spot within tale.old lines.old }
+    requires good { good-layer-rec (held teller.now.file) (layer-of layer) ≡ true }
     requires filter { layer.kind ≡ 1 }
     ensures low { Low tale.new }
-    ensures told { (ls : List RuleLayer) → Holds (box_of spot.viewport) within ls
-        → Says (filter-layer-told spot (held file.now) (layer-of layer) (telling tale.old ls lines.old))
-        (answer_number result) (telling tale.new ls lines.new) }
+    ensures told { SaysOf teller.now.spot within (filter-layer-told teller.now.spot (held teller.now.file) (layer-of layer))
+        (answer_number result) tale.old lines.old tale.new lines.new }
 {
     let props = to_props(layer);
     if !needs_buffer(props) {
-        return tell_picture(tale, spot, within, layer, lines);
+        return tell_picture(tale, teller.spot, within, layer, lines);
     }
-    let inner = tell_push(tale, spot, within, props)?;
-    tell_picture(tale, spot, inner, layer, lines)?;
-    tell_pop(tale, spot, inner, within, props, file.segments(), lines)
+    let inner = tell_push(tale, teller.spot, within, props)?;
+    tell_picture(tale, teller.spot, inner, layer, lines)?;
+    tell_pop(
+        tale,
+        teller.spot,
+        inner,
+        within,
+        props,
+        teller.file.segments(),
+        lines,
+    )
 }
 
 /// Nodes a to b, each its draws and then its layer, up to the first step that is refused. Layers in them may be nested `depth` deep.
@@ -139,28 +145,26 @@ fn tell_filter_layer(
 pub fn tell_nodes(
     depth: u32,
     tale: &mut Tale,
-    spot: Spot,
+    teller: &Teller<'_>,
     within: Within,
-    file: &Recording<'_>,
     a: usize,
     b: usize,
     lines: &mut [u32],
 ) -> Result<(), Refusal>
-    requires ready { TaleReady file.now spot within tale.old lines.old }
+    requires ready { TaleReady teller.now.file teller.now.spot within tale.old lines.old }
     requires levels { Deep depth within }
     requires order { a ≤ b }
-    requires ends { b ≤ length (held file.now).nodes }
+    requires ends { b ≤ length (held teller.now.file).nodes }
     ensures low { Low tale.new }
-    ensures told { (ls : List RuleLayer) → Holds (box_of spot.viewport) within ls
-        → Says (nodes-told spot (held file.now) depth a b (telling tale.old ls lines.old))
-        (answer_number result) (telling tale.new ls lines.new) }
+    ensures told { SaysOf teller.now.spot within (nodes-told teller.now.spot (held teller.now.file) depth a b)
+        (answer_number result) tale.old lines.old tale.new lines.new }
 {
     for i in a..b {
-        let node = file.node(i);
+        let node = teller.file.node(i);
         let first = node.start as usize;
         let end = node.end as usize;
-        tell_draws(tale, spot, within, file, first, end, lines)?;
-        tell_layer(depth, tale, spot, within, file, node.layer, lines)?;
+        tell_draws(tale, teller, within, first, end, lines)?;
+        tell_layer(depth, tale, teller, within, node.layer, lines)?;
     }
     Ok(())
 }
@@ -171,31 +175,37 @@ pub fn tell_nodes(
 fn tell_layer(
     depth: u32,
     tale: &mut Tale,
-    spot: Spot,
+    teller: &Teller<'_>,
     within: Within,
-    file: &Recording<'_>,
     layer: u32,
     lines: &mut [u32],
 ) -> Result<(), Refusal>
-    requires ready { TaleReady file.now spot within tale.old lines.old }
+    requires ready { TaleReady teller.now.file teller.now.spot within tale.old lines.old }
     requires levels { Deep depth within }
-    requires named { layer ≤ length (held file.now).layers }
+    requires named { layer ≤ length (held teller.now.file).layers }
     ensures low { Low tale.new }
-    ensures told { (ls : List RuleLayer) → Holds (box_of spot.viewport) within ls
-        → Says (layer-told spot (held file.now) depth layer (telling tale.old ls lines.old))
-        (answer_number result) (telling tale.new ls lines.new) }
+    ensures told { SaysOf teller.now.spot within (layer-told teller.now.spot (held teller.now.file) depth layer)
+        (answer_number result) tale.old lines.old tale.new lines.new }
 {
     if layer == 0 {
         return Ok(());
     }
-    let record = file.layer((layer - 1) as usize);
+    let record = teller.file.layer((layer - 1) as usize);
     if record.kind != 0 {
-        return tell_filter_layer(tale, spot, within, file, record, lines);
+        return tell_filter_layer(tale, teller, within, record, lines);
     }
     let props = to_props(record);
-    let inner = tell_push(tale, spot, within, props)?;
+    let inner = tell_push(tale, teller.spot, within, props)?;
     let first = record.start as usize;
     let end = record.end as usize;
-    tell_nodes(depth - 1, tale, spot, inner, file, first, end, lines)?;
-    tell_pop(tale, spot, inner, within, props, file.segments(), lines)
+    tell_nodes(depth - 1, tale, teller, inner, first, end, lines)?;
+    tell_pop(
+        tale,
+        teller.spot,
+        inner,
+        within,
+        props,
+        teller.file.segments(),
+        lines,
+    )
 }

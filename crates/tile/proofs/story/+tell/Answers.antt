@@ -17,11 +17,11 @@ use Rattle.tile.proofs.Nodes.{all-walked, draws-refused, layer-refused, node-tur
 use Rattle.tile.proofs.story.+tell.Goals as goal
 
 pub tell_layer-returns-then-layer-eq0-clause-told : goal.tell_layer-returns-then-layer-eq0-clause-told
-tell_layer-returns-then-layer-eq0-clause-told t c = λ ls o. names-none _ (held c.args.file.now) _ _ _ c.if-layer-eq0.true
+tell_layer-returns-then-layer-eq0-clause-told t c = λ ls o. names-none _ (held c.args.teller.now.file) _ _ _ c.if-layer-eq0.true
 
 pub tell_layer-tell_filter_layer-requires : goal.tell_layer-tell_filter_layer-requires
 tell_layer-tell_filter_layer-requires t c =
-    let r = held c.args.file.now in
+    let r = held c.args.teller.now.file in
     let ready = c.requires.ready in
     let few : c.args.layer - 1 < length r.layers = omega arith in
     let fit = layer-fit r ready.walk.good _ few (c.layer-record.ensures _) in
@@ -30,43 +30,43 @@ tell_layer-tell_filter_layer-requires t c =
 pub tell_layer-returns-then-record-ne0-clause-told : goal.tell_layer-returns-then-record-ne0-clause-told
 tell_layer-returns-then-record-ne0-clause-told t c =
     let s = c.args in
-    let r = held s.file.now in
+    let r = held s.teller.now.file in
     let few : s.layer - 1 < length r.layers = omega arith in
     let y = layer-of c.layer-record.result in
     let fit = layer-fit r c.requires.ready.walk.good _ few (c.layer-record.ensures _) in
     let one : y.kind ≡ 1 = omega (arith, fit.kind) in
     λ ls o.
-    said-by (names-one s.spot r _ _ _ (c.layer-record.ensures _) c.if-layer-eq0.false ∙ as-filter s.spot _ y _ one _)
+    said-by (names-one s.teller.now.spot r _ _ _ (c.layer-record.ensures _) c.if-layer-eq0.false ∙ as-filter s.teller.now.spot _ y _ one _)
     (c.tell_filter_layer.ensures.told ls o)
 
 pub tell_layer-tell_push-requires : goal.tell_layer-tell_push-requires
 tell_layer-tell_push-requires t c =
-    let r = held c.args.file.now in
+    let r = held c.args.teller.now.file in
     let ready = c.requires.ready in
-    let few : c.args.layer - 1 < length r.layers = omega arith in (
-      ready.spotted,
-      ready.bounded,
-      ready.low,
-      good-told (layer-of c.layer-record.result) c.to_props-props.ensures.props r
-          (layer-good r ready.walk.good _ few (c.layer-record.ensures _)),
-    )
+    let few : c.args.layer - 1 < length r.layers = omega arith in
+    record {
+      spot = ready.spotted;
+      within = ready.bounded;
+      counts = ready.low;
+      clip = good-told (layer-of c.layer-record.result) c.to_props-props.ensures.props r (layer-good r ready.walk.good _ few (c.layer-record.ensures _));
+    }
 
 pub tell_layer-returns-in_err-inner-clause-told : goal.tell_layer-returns-in_err-inner-clause-told
 tell_layer-returns-in_err-inner-clause-told t c =
     let s = c.args in
-    let r = held s.file.now in
+    let r = held s.teller.now.file in
     let y = layer-of c.layer-record.result in
     let e = c.to_props-props.ensures.props in
     let p = err_from_is_err_and c.from_residual.result c.from_residual.ensures.1 in
     rw (p.1, p.2)
     (λ ls o.
-    said-by (names-one s.spot r _ _ _ (c.layer-record.ensures _) c.if-layer-eq0.false)
-    (unpushed s.spot _ y c.if-record-ne0.false _
-    (push-told s.spot _ _ (says (c.in_err-inner.ensures.told (props-of y) ls s.lines.now (blend-told y e) (clip-told y e) o))) _ (not_done _) _))
+    said-by (names-one s.teller.now.spot r _ _ _ (c.layer-record.ensures _) c.if-layer-eq0.false)
+    (unpushed s.teller.now.spot _ y c.if-record-ne0.false _
+    (push-told s.teller.now.spot _ _ (says (c.in_err-inner.ensures.told (props-of y) ls s.lines.now (blend-told y e) (clip-told y e) o))) _ (not_done _) _))
 
 pub tell_layer-tell_nodes-requires : goal.tell_layer-tell_nodes-requires
 tell_layer-tell_nodes-requires t c =
-    let r = held c.args.file.now in
+    let r = held c.args.teller.now.file in
     let ready = c.requires.ready in
     let few : c.args.layer - 1 < length r.layers = omega arith in
     let fit = layer-fit r ready.walk.good _ few (c.layer-record.ensures _) in
@@ -82,7 +82,7 @@ tell_layer-tell_nodes-requires t c =
 pub tell_layer-returns-in_err-tell_nodes-clause-told : goal.tell_layer-returns-in_err-tell_nodes-clause-told
 tell_layer-returns-in_err-tell_nodes-clause-told t c =
     let s = c.args in
-    let r = held s.file.now in
+    let r = held s.teller.now.file in
     let y = layer-of c.layer-record.result in
     let e = c.to_props-props.ensures.props in
     let pushed = c.in_ok-inner.ensures in
@@ -90,45 +90,47 @@ tell_layer-returns-in_err-tell_nodes-clause-told t c =
     let p = err_from_is_err_and c.from_residual-in_err-tell_nodes.result c.from_residual-in_err-tell_nodes.ensures.1 in
     rw (p.1, p.2)
     (λ ls o.
-    said-by (names-one s.spot r _ _ _ (c.layer-record.ensures _) c.if-layer-eq0.false)
-    (unwalked s.spot _ y c.if-record-ne0.false _
-    (push-told s.spot _ _ (says (pushed.told (props-of y) ls s.lines.now (blend-told y e) (clip-told y e) o))) _ left refl
-    (c.in_err-tell_nodes.ensures.told _ (holds-inside (box_of s.spot.viewport) (props-of y) s.within c.in_ok-inner.inner ls pushed.opens.1 o)) (not_done _) _))
+    said-by (names-one s.teller.now.spot r _ _ _ (c.layer-record.ensures _) c.if-layer-eq0.false)
+    (unwalked s.teller.now.spot _ y c.if-record-ne0.false _
+    (push-told s.teller.now.spot _ _ (says (pushed.told (props-of y) ls s.lines.now (blend-told y e) (clip-told y e) o))) _ left refl
+    (c.in_err-tell_nodes.ensures.told _ (holds-inside (box_of s.teller.now.spot.viewport) (props-of y) s.within c.in_ok-inner.inner ls pushed.opens.1 o)) (not_done _) _))
 
 pub tell_layer-tell_pop-requires : goal.tell_layer-tell_pop-requires
 tell_layer-tell_pop-requires t c =
-    let r = held c.args.file.now in
+    let r = held c.args.teller.now.file in
     let ready = c.requires.ready in
-    let few : c.args.layer - 1 < length r.layers = omega arith in (
-      ready.spotted,
-      c.in_ok-inner.ensures.opens.0,
-      ready.bounded,
-      c.in_ok-inner.ensures.opens.1,
-      c.in_ok-tell_nodes.ensures.low,
-      c.tell_nodes.auto.lines ∙ ready.room,
-      ready-told (layer-of c.layer-record.result) c.to_props-props.ensures.props r ready.walk.good _ c.segments.ensures.read c.segments.ensures.long
-          (layer-good r ready.walk.good _ few (c.layer-record.ensures _)),
-    )
+    let few : c.args.layer - 1 < length r.layers = omega arith in
+    record {
+      spot = ready.spotted;
+      within = c.in_ok-inner.ensures.opens.0;
+      outer = ready.bounded;
+      inner = c.in_ok-inner.ensures.opens.1;
+      counts = c.in_ok-tell_nodes.ensures.low;
+      lines = c.tell_nodes.auto.lines ∙ ready.room;
+      clip =
+          ready-told (layer-of c.layer-record.result) c.to_props-props.ensures.props r ready.walk.good _ c.segments.ensures.read c.segments.ensures.long
+          (layer-good r ready.walk.good _ few (c.layer-record.ensures _));
+    }
 
 pub tell_layer-returns-clause-told : goal.tell_layer-returns-clause-told
 tell_layer-returns-clause-told t c =
     let s = c.args in
-    let r = held s.file.now in
+    let r = held s.teller.now.file in
     let y = layer-of c.layer-record.result in
     let e = c.to_props-props.ensures.props in
     let pushed = c.in_ok-inner.ensures in
     let left : 1 ≤ s.depth = omega (arith, pushed.opens.1, pushed.opens.0.few) in
     λ ls o.
-    said-by (names-one s.spot r _ _ _ (c.layer-record.ensures _) c.if-layer-eq0.false)
-    (closed s.spot _ y c.if-record-ne0.false _
-    (push-told s.spot _ _ (says (pushed.told (props-of y) ls s.lines.now (blend-told y e) (clip-told y e) o))) _ left refl
-    (c.in_ok-tell_nodes.ensures.told _ (holds-inside (box_of s.spot.viewport) (props-of y) s.within c.in_ok-inner.inner ls pushed.opens.1 o)) refl
-    (pop-told s.spot _ _ c.segments.ensures.read _
+    said-by (names-one s.teller.now.spot r _ _ _ (c.layer-record.ensures _) c.if-layer-eq0.false)
+    (closed s.teller.now.spot _ y c.if-record-ne0.false _
+    (push-told s.teller.now.spot _ _ (says (pushed.told (props-of y) ls s.lines.now (blend-told y e) (clip-told y e) o))) _ left refl
+    (c.in_ok-tell_nodes.ensures.told _ (holds-inside (box_of s.teller.now.spot.viewport) (props-of y) s.within c.in_ok-inner.inner ls pushed.opens.1 o)) refl
+    (pop-told s.teller.now.spot _ _ c.segments.ensures.read _
     (says-left c.tell_pop.result _ (c.tell_pop.ensures.told (layer-in (props-of y) c.in_ok-inner.inner) ls (clip-told y e) (panel-told y e) refl o))))
 
 pub tell_nodes-tell_draws-requires : goal.tell_nodes-tell_draws-requires
 tell_nodes-tell_draws-requires t c =
-    let r = held c.args.file.now in
+    let r = held c.args.teller.now.file in
     let ready = c.requires.ready in
     let range = node-range r ready.walk.good c.loop-i.i (omega arith) (c.node-node.ensures _) in
     record {
@@ -139,14 +141,14 @@ tell_nodes-tell_draws-requires t c =
 
 pub tell_nodes-returns-in_err-tell_draws-clause-told : goal.tell_nodes-returns-in_err-tell_draws-clause-told
 tell_nodes-returns-in_err-tell_draws-clause-told t c =
-    let r = held c.args.file.now in
+    let r = held c.args.teller.now.file in
     let p = err_from_is_err_and c.from_residual.result c.from_residual.ensures.1 in
     rw (p.1, p.2)
-    (draws-refused c.args.spot r _ c.loop-i.invariant.1 c.loop-i-test.true c.requires.ends (node-of c.node-node.result) (c.node-node.ensures _) _ _ c.in_err-tell_draws.ensures.told (not_done _))
+    (draws-refused c.args.teller.now.spot r _ c.loop-i.invariant.1 c.loop-i-test.true c.requires.ends (node-of c.node-node.result) (c.node-node.ensures _) _ _ c.in_err-tell_draws.ensures.told (not_done _))
 
 pub tell_nodes-tell_layer-requires : goal.tell_nodes-tell_layer-requires
 tell_nodes-tell_layer-requires t c =
-    let r = held c.args.file.now in
+    let r = held c.args.teller.now.file in
     let ready = c.requires.ready in
     let range = node-range r ready.walk.good c.loop-i.i (omega arith) (c.node-node.ensures _) in (
       omega arith,
@@ -164,19 +166,19 @@ tell_nodes-tell_layer-requires t c =
 
 pub tell_nodes-returns-in_err-tell_layer-clause-told : goal.tell_nodes-returns-in_err-tell_layer-clause-told
 tell_nodes-returns-in_err-tell_layer-clause-told t c =
-    let r = held c.args.file.now in
+    let r = held c.args.teller.now.file in
     let p = err_from_is_err_and c.from_residual-in_err-tell_layer.result c.from_residual-in_err-tell_layer.ensures.1 in
     rw (p.1, p.2)
-    (layer-refused c.args.spot r _ c.loop-i.invariant.1 c.loop-i-test.true c.requires.ends (node-of c.node-node.result) (c.node-node.ensures _) _ _ c.in_ok-tell_draws.ensures.told refl
+    (layer-refused c.args.teller.now.spot r _ c.loop-i.invariant.1 c.loop-i-test.true c.requires.ends (node-of c.node-node.result) (c.node-node.ensures _) _ _ c.in_ok-tell_draws.ensures.told refl
     _ _ c.in_err-tell_layer.ensures.told (not_done _))
 
 pub tell_nodes-loop-i-preserved : goal.tell_nodes-loop-i-preserved
 tell_nodes-loop-i-preserved t c =
-    let r = held c.args.file.now in (
+    let r = held c.args.teller.now.file in (
       c.in_ok-tell_layer.ensures.low,
-      node-turned c.args.spot r _ c.loop-i.invariant.1 c.loop-i-test.true c.requires.ends (node-of c.node-node.result) (c.node-node.ensures _) _ _ c.in_ok-tell_draws.ensures.told refl
+      node-turned c.args.teller.now.spot r _ c.loop-i.invariant.1 c.loop-i-test.true c.requires.ends (node-of c.node-node.result) (c.node-node.ensures _) _ _ c.in_ok-tell_draws.ensures.told refl
           _ _ c.in_ok-tell_layer.ensures.told refl,
     )
 
 pub tell_nodes-returns-clause-told : goal.tell_nodes-returns-clause-told
-tell_nodes-returns-clause-told t c = all-walked _ (held c.args.file.now) _ c.loop-i.invariant.1 c.loop-i-test.false
+tell_nodes-returns-clause-told t c = all-walked _ (held c.args.teller.now.file) _ c.loop-i.invariant.1 c.loop-i-test.false

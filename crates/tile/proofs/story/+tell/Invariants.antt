@@ -18,5 +18,5 @@ decreases-tell_nodes l = 2 * l.depth + 1
 abbrev pub invariant-tell_nodes-loop-i : goal.invariant-tell_nodes-loop-i
 invariant-tell_nodes-loop-i l =
     Low l.tale
-    × Left (nodes l.spot (held l.file) l.depth l.b) (box_of l.spot.viewport) l.within
+    × Left (nodes l.teller.spot (held l.teller.file) l.depth l.b) (box_of l.teller.spot.viewport) l.within
     l.a (λ (ls : List Layer). telling l.initial.tale ls l.initial.lines) l.i (λ (ls : List Layer). telling l.tale ls l.lines)

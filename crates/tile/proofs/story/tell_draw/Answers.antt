@@ -10,7 +10,7 @@ use Rattle.tile.proofs.story.tell_draw.Goals as goal
 
 pub is_eligible-eligible-requires : goal.is_eligible-eligible-requires
 is_eligible-eligible-requires c =
-    let r = held c.args.file.now in
+    let r = held c.args.teller.now.file in
     let k = draw-is r c.requires.ready.walk.good c.args.i c.requires.there (c.draw-draw.ensures some-draw) in
     let paint = k.paint in
     let long = c.paints.ensures.long in
@@ -18,7 +18,7 @@ is_eligible-eligible-requires c =
 
 pub tell_fill-requires : goal.tell_fill-requires
 tell_fill-requires c =
-    let r = held c.args.file.now in
+    let r = held c.args.teller.now.file in
     let ready = c.requires.ready in
     let k = draw-is r ready.walk.good c.args.i c.requires.there (c.draw-draw.ensures some-draw) in
     let read = c.segments.ensures.read in
@@ -33,9 +33,9 @@ tell_fill-requires c =
 
 pub returns-clause-told : goal.returns-clause-told
 returns-clause-told c =
-    let r = held c.args.file.now in
+    let r = held c.args.teller.now.file in
     let k = draw-is r c.requires.ready.walk.good c.args.i c.requires.there (c.draw-draw.ensures some-draw) in
     λ d ls o.
     rw (← c.draw-draw.ensures d)
-    (draw-told c.args.spot r k _ _ (paints-lent r _ c.paints.ensures.read c.paints.ensures.long) c.segments.ensures.read c.segments.ensures.long c.args.within _ o
+    (draw-told c.args.teller.now.spot r k _ _ (paints-lent r _ c.paints.ensures.read c.paints.ensures.long) c.segments.ensures.read c.segments.ensures.long c.args.within _ o
     (says (rw c.is_eligible-eligible.ensures at (c.tell_fill.ensures.told ls o))))

@@ -7,7 +7,8 @@ use Rattle.tile.proofs.story.tell_picture.Goals as goal
 
 pub tell_filter-requires : goal.tell_filter-requires
 tell_filter-requires c =
-    let r = c.requires in record { spot = r.spot; within = r.within; counts = r.counts; lines = r.lines; dest = dest-small refl r.dest }
+    let r = c.requires in
+    record { spot = r.spot; within = r.within; counts = r.counts; lines = r.lines; dest = dest-small refl r.dest }
 
 pub returns-clause-told : goal.returns-clause-told
 returns-clause-told c =

@@ -49,7 +49,7 @@ pub same-command : (k l : RenderCmd) → command k ≡ command l → k ≡ l
 same-command k l h = sym (command-again k) ∙ ap un-command h ∙ command-again l
 
 un-words : List ℕ → CmdWords
-un-words ws = record { tag = get_or ws 0 0; span = get_or ws 1 0; alpha = get_or ws 2 0; attrs_idx = get_or ws 3 0 }
+un-words ws = record { tag = get_or ws 0 0; span = record { 0 = get_or ws 1 0 }; alpha = get_or ws 2 0; attrs_idx = get_or ws 3 0 }
 
 pub same-words : (v w : CmdWords) → words_of v ≡ words_of w → v ≡ w
 unfolding un-words
@@ -80,7 +80,7 @@ unfolding un-depth
 same-depth-fill f g h = ap un-depth h
 
 un-depth-words : List ℕ → DepthWords
-un-depth-words ws = record { span = get_or ws 0 0; attrs_idx = get_or ws 1 0 }
+un-depth-words ws = record { span = record { 0 = get_or ws 0 0 }; attrs_idx = get_or ws 1 0 }
 
 pub same-depth-words : (v w : DepthWords) → depth-words-of v ≡ depth-words-of w → v ≡ w
 unfolding un-depth-words

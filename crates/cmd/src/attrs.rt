@@ -11,7 +11,7 @@ use sizes::{
 
 /// Rule 3: what the commands of one draw share. `paint` is a place of the paint list, `mask` a handle or 0 for none, the origin the viewport's, in pixels. A
 /// filter fill adds one too (rule 11).
-#[derive(Clone, Copy)]
+#[derive(Clone, Copy, Debug, PartialEq, Eq)]
 pub struct PaintFillAttrs {
     pub paint: u32,
     pub blend: Blend,
@@ -24,7 +24,7 @@ pub struct PaintFillAttrs {
 }
 
 /// Rule 9: what the fills of a closing layer share. `nan` is the pattern of a NaN opacity, else 0; `thread_idx` the clip's thread, else 0.
-#[derive(Clone, Copy)]
+#[derive(Clone, Copy, Debug, PartialEq)]
 pub struct LayerFillAttrs {
     pub blend: Blend,
     pub opacity: f32,
@@ -36,7 +36,7 @@ pub struct LayerFillAttrs {
 }
 
 /// Rule 11: the paint of a filter fill, the handle of its picture. The shift, in pixels, is source minus destination, and may be negative.
-#[derive(Clone, Copy)]
+#[derive(Clone, Copy, Debug, PartialEq, Eq)]
 pub struct FilterPaint {
     pub pixmap: u32,
     pub shift_x: i32,

@@ -4,7 +4,7 @@ ghost use Rattle.rules.specs.Blends.{default-blend, is-default, good-blend, dest
 ghost use Rattle.cmd.specs.Blends.{blend_of};
 
 /// A mix and a compose by their numbers (peniko, BlendMode). Any two numbers are a `Blend`; `is_good` judges them.
-#[derive(Clone, Copy)]
+#[derive(Clone, Copy, Debug, PartialEq, Eq)]
 pub struct Blend {
     pub mix: u32,
     pub compose: u32,

@@ -1,17 +1,63 @@
 //! Render commands (cmd.rs, RenderCmd), and the four words that stand for one.
-ghost use Rattle.std.specs.Prelude.{◌≡◌, ◌&&◌, ◌<◌, ◌≤◌, eqb, option_map};
+ghost use Rattle.std.specs.Prelude.{◌≡◌, ◌&&◌, ◌+◌, ◌*◌, ◌/◌, ◌%◌, ◌<◌, ◌≤◌, eqb, length, min, max, option_map};
 ghost use Rattle.sizes.specs.Sizes.{tile-end};
 ghost use Rattle.rules.specs.Spans.{span};
 ghost use Rattle.rules.specs.Commands.{span-word, fill-words, push-words, command_words};
 ghost use Rattle.cmd.specs.Reading.{word-span, good-span-word, good-alpha};
 ghost use Rattle.span.specs.Spans.{tiles};
-ghost use Rattle.cmd.specs.Commands.{command, words_of, read-words, fill-of, Narrow, NarrowPush, NarrowCmd};
+ghost use Rattle.cmd.specs.Commands.{command, words_of, read-words, fill-of, cmd_at, put4, Narrow, NarrowPush, NarrowCmd};
 
 use sizes::{TILE_ALPHAS, TILE_END};
 use span::TileSpan;
 
+/// A span in one word: two numbers below 65,536, of tiles or of buckets, the first x 65,536 + the end.
+#[derive(Clone, Copy, Debug, PartialEq, Eq)]
+pub struct SpanWord(pub u32);
+
+// The numbers that half a word can hold.
+const HALF_WORD: u32 = 65536;
+
+impl SpanWord {
+    /// The word of two numbers.
+    pub fn of(first: u32, end: u32) -> SpanWord
+        requires { Narrow (span first «end») }
+        ensures { result.0 ≡ span-word (span first «end») }
+    {
+        SpanWord(first * HALF_WORD + end)
+    }
+
+    /// The first number.
+    pub fn first(self) -> u32
+        ensures { result ≡ self.0 / 65536 }
+    {
+        self.0 / HALF_WORD
+    }
+
+    /// The end.
+    pub fn end(self) -> u32
+        ensures { result ≡ self.0 % 65536 }
+    {
+        self.0 % HALF_WORD
+    }
+
+    /// The least span that holds this one and that of two numbers more.
+    pub fn union(self, first: u32, end: u32) -> SpanWord
+        requires { Narrow (span first «end») }
+        ensures { result.0 ≡ span-word (span (min (self.0 / 65536) first) (max (self.0 % 65536) «end»)) }
+    {
+        SpanWord((self.0 / HALF_WORD).min(first) * HALF_WORD + (self.0 % HALF_WORD).max(end))
+    }
+
+    /// Whether the two numbers are in order and the end is at most the limit.
+    pub fn is_good(self, limit: u32) -> bool
+        ensures { result ≡ good-span-word limit self.0 }
+    {
+        self.first() <= self.end() && self.end() <= limit
+    }
+}
+
 /// A span of a row's tiles, the alpha index of its first tile, if it has one, and the place of its attribute (cmd.rs, PaintFill and LayerFill).
-#[derive(Clone, Copy)]
+#[derive(Clone, Copy, Debug, PartialEq, Eq)]
 pub struct Fill {
     pub span: TileSpan,
     pub alpha: Option<u32>,
@@ -19,7 +65,7 @@ pub struct Fill {
 }
 
 /// A command of a row. `PaintFill` has a paint's attribute, `LayerFill` a layer's.
-#[derive(Clone, Copy)]
+#[derive(Clone, Copy, Debug, PartialEq, Eq)]
 pub enum RenderCmd {
     PaintFill(Fill),
     LayerFill(Fill),
@@ -31,27 +77,12 @@ pub enum RenderCmd {
 
 /// Tag (1 and 2 PaintFill solid and alpha, 3 and 4 LayerFill, 5 and 6 PushBuf without and with a span, 7 PopBuf), span word, alpha index and attribute, as they
 /// stand in a row. Unused words are 0.
-#[derive(Clone, Copy)]
+#[derive(Clone, Copy, Debug, PartialEq, Eq)]
 pub struct CmdWords {
     pub tag: u32,
-    pub span: u32,
+    pub span: SpanWord,
     pub alpha: u32,
     pub attrs_idx: u32,
-}
-
-/// Two numbers below 65,536, of tiles or of buckets, in one word: first x 65,536 + end.
-pub fn span_word(first: u32, end: u32) -> u32
-    requires { Narrow (span first «end») }
-    ensures { result ≡ span-word (span first «end») }
-{
-    first * 65536 + end
-}
-
-/// Whether the two numbers of a span word are in order and the end is at most the limit.
-pub fn good_span_word(limit: u32, word: u32) -> bool
-    ensures { result ≡ good-span-word limit word }
-{
-    word / 65536 <= word % 65536 && word % 65536 <= limit
 }
 
 impl Fill {
@@ -60,7 +91,7 @@ impl Fill {
         requires { Narrow (tiles self.span) × (tag ≤ 3) }
         ensures { words_of result ≡ fill-words tag (tiles self.span) self.alpha self.attrs_idx }
     {
-        let span = span_word(self.span.first, self.span.end);
+        let span = SpanWord::of(self.span.first, self.span.end);
         match self.alpha {
             None => CmdWords {
                 tag,
@@ -86,13 +117,13 @@ fn push_words(recorded: Option<TileSpan>) -> CmdWords
     match recorded {
         None => CmdWords {
             tag: 5,
-            span: 0,
+            span: SpanWord(0),
             alpha: 0,
             attrs_idx: 0,
         },
         Some(tiles) => CmdWords {
             tag: 6,
-            span: span_word(tiles.first, tiles.end),
+            span: SpanWord::of(tiles.first, tiles.end),
             alpha: 0,
             attrs_idx: 0,
         },
@@ -112,7 +143,7 @@ impl RenderCmd {
             RenderCmd::PushBuf(recorded) => push_words(recorded),
             RenderCmd::PopBuf => CmdWords {
                 tag: 7,
-                span: 0,
+                span: SpanWord(0),
                 alpha: 0,
                 attrs_idx: 0,
             },
@@ -121,29 +152,55 @@ impl RenderCmd {
 }
 
 impl CmdWords {
+    /// The words at place k of a row's commands.
+    pub fn at(render: &[u32], k: usize) -> CmdWords
+        requires { 4 * k + 4 ≤ length render.now }
+        ensures { result ≡ cmd_at render.now k }
+    {
+        let at = 4 * k;
+        CmdWords {
+            tag: render[at],
+            span: SpanWord(render[at + 1]),
+            alpha: render[at + 2],
+            attrs_idx: render[at + 3],
+        }
+    }
+
+    /// Written at place k of a row's commands.
+    pub fn put(self, render: &mut [u32], k: usize)
+        requires { 4 * k + 4 ≤ length render.old }
+        ensures { render.new ≡ put4 render.old k self.tag self.span.0 self.alpha self.attrs_idx }
+    {
+        let at = 4 * k;
+        render[at] = self.tag;
+        render[at + 1] = self.span.0;
+        render[at + 2] = self.alpha;
+        render[at + 3] = self.attrs_idx;
+    }
+
     // A span up to tile 8,192, and no alpha index.
     fn is_solid(self) -> bool
-        ensures { result ≡ (good-span-word tile-end self.span && eqb self.alpha 0) }
+        ensures { result ≡ (good-span-word tile-end self.span.0 && eqb self.alpha 0) }
     {
-        good_span_word(TILE_END, self.span) && self.alpha == 0
+        self.span.is_good(TILE_END) && self.alpha == 0
     }
 
     // Such a span, and an alpha index that can be moved over all of it.
     fn is_alpha(self) -> bool
-        ensures { result ≡ (good-span-word tile-end self.span && good-alpha self.alpha self.span) }
+        ensures { result ≡ (good-span-word tile-end self.span.0 && good-alpha self.alpha self.span.0) }
     {
-        good_span_word(TILE_END, self.span)
+        self.span.is_good(TILE_END)
             && self
                 .alpha
-                .checked_add(TILE_ALPHAS * (self.span % 65536 - self.span / 65536))
+                .checked_add(TILE_ALPHAS * (self.span.end() - self.span.first()))
                 .is_some()
     }
 
     // Nothing but the tag.
     fn is_bare(self) -> bool
-        ensures { result ≡ (eqb self.span 0 && eqb self.alpha 0 && eqb self.attrs_idx 0) }
+        ensures { result ≡ (eqb self.span.0 0 && eqb self.alpha 0 && eqb self.attrs_idx 0) }
     {
-        self.span == 0 && self.alpha == 0 && self.attrs_idx == 0
+        self.span.0 == 0 && self.alpha == 0 && self.attrs_idx == 0
     }
 
     // The fill of such words.
@@ -159,11 +216,11 @@ impl CmdWords {
 
     // The span of the span word.
     fn tiles(self) -> TileSpan
-        ensures { tiles result ≡ word-span self.span }
+        ensures { tiles result ≡ word-span self.span.0 }
     {
         TileSpan {
-            first: self.span / 65536,
-            end: self.span % 65536,
+            first: self.span.first(),
+            end: self.span.end(),
         }
     }
 

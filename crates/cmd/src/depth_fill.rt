@@ -1,24 +1,24 @@
 //! Depth fills (cmd.rs, DepthFill): whole depth buckets of one paint, and the two words that stand for one.
-ghost use Rattle.std.specs.Prelude.{◌≡◌, option_map};
+ghost use Rattle.std.specs.Prelude.{◌≡◌, ◌+◌, ◌*◌, ◌≤◌, length, option_map};
 ghost use Rattle.rules.specs.Commands.{depth-words};
 ghost use Rattle.span.specs.Spans.{buckets};
 ghost use Rattle.cmd.specs.Commands.{Narrow};
-ghost use Rattle.cmd.specs.DepthFills.{depth-fill, depth-words-of, read-depth-words};
+ghost use Rattle.cmd.specs.DepthFills.{depth-fill, depth-words-of, depth_words_at, read-depth-words};
 
-use crate::command::{good_span_word, span_word};
+use crate::command::SpanWord;
 use span::BucketRange;
 
 /// Whole buckets of a row, with the place of their paint attribute. They are painted before the commands, from the last to the first.
-#[derive(Clone, Copy)]
+#[derive(Clone, Copy, Debug, PartialEq, Eq)]
 pub struct DepthFill {
     pub buckets: BucketRange,
     pub attrs_idx: u32,
 }
 
 /// Span word of buckets, first x 65,536 + end, and attribute, as they stand in a row.
-#[derive(Clone, Copy)]
+#[derive(Clone, Copy, Debug, PartialEq, Eq)]
 pub struct DepthWords {
-    pub span: u32,
+    pub span: SpanWord,
     pub attrs_idx: u32,
 }
 
@@ -29,22 +29,34 @@ impl DepthFill {
         ensures { depth-words-of result ≡ depth-words (depth-fill self) }
     {
         DepthWords {
-            span: span_word(self.buckets.first, self.buckets.end),
+            span: SpanWord::of(self.buckets.first, self.buckets.end),
             attrs_idx: self.attrs_idx,
         }
     }
 }
 
 impl DepthWords {
+    /// The words at place k of a row's depth fills.
+    pub fn at(fills: &[u32], k: usize) -> DepthWords
+        requires { 2 * k + 2 ≤ length fills.now }
+        ensures { result ≡ depth_words_at fills.now k }
+    {
+        let at = 2 * k;
+        DepthWords {
+            span: SpanWord(fills[at]),
+            attrs_idx: fills[at + 1],
+        }
+    }
+
     /// The depth fill that the words stand for, in a row of `count` buckets, or none: its buckets are out of order or past the row.
     #[tactic(auto, unfolding(crate::specs::Reading::depth_fill_of))]
     pub fn read(self, count: u32) -> Option<DepthFill>
         ensures { option_map depth-fill result ≡ read-depth-words count self }
     {
-        good_span_word(count, self.span).then_some(DepthFill {
+        self.span.is_good(count).then_some(DepthFill {
             buckets: BucketRange {
-                first: self.span / 65536,
-                end: self.span % 65536,
+                first: self.span.first(),
+                end: self.span.end(),
             },
             attrs_idx: self.attrs_idx,
         })

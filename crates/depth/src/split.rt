@@ -11,7 +11,7 @@ use sizes::width::Width;
 use span::{BucketRange, TileSpan};
 
 /// The span itself where it covers no whole bucket; or its whole buckets, with the tiles before them and after them, where there are any.
-#[derive(Clone, Copy)]
+#[derive(Clone, Copy, Debug, PartialEq, Eq)]
 pub enum Split {
     Whole(TileSpan),
     Opaque {

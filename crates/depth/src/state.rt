@@ -9,7 +9,7 @@ use sizes::answers::Refusal;
 use span::TileSpan;
 
 /// The smallest span of tiles that holds a row's depth fills, if it has any, and the largest of their ids, else 0.
-#[derive(Clone, Copy)]
+#[derive(Clone, Copy, Debug, PartialEq, Eq)]
 pub struct DepthState {
     pub bounds: Option<TileSpan>,
     pub max_draw_id: u32,

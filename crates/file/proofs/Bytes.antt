@@ -1,6 +1,6 @@
 -- The words of a file's bytes: how the loop puts them, and that they are the rules'.
-use Rattle.std.proofs.Common.{ℕ, zero, suc, ◌+◌, ◌*◌, ◌/◌, ◌%◌, ◌≤◌, ◌<◌, zero-add, add_assoc, add-one, arith, ◌≡◌, refl, sym, ap, Bool, true, false, cond, List, [], ◌∷◌, ◌++◌, append_assoc, None}
-use Rattle.std.proofs.Common.{Some, option_map, length, get_or, take, drop, set, length-append, length-drop, drop-cons, get_or-drop, take_at, eqb, eq-eqb, ne_eqb}
+use Rattle.std.proofs.Common.{ℕ, zero, suc, ◌+◌, ◌*◌, ◌/◌, ◌%◌, ◌<◌, zero-add, add_assoc, add-one, arith, ◌≡◌, refl, sym, ap, Bool, true, false, cond, List, [], ◌∷◌, ◌++◌, append_assoc, None}
+use Rattle.std.proofs.Common.{Some, option_map, length, get_or, take, drop, set, drop-cons, get_or-drop, take_at, eqb, eq-eqb, ne_eqb}
 use lib.Seq.{set_at}
 use Rattle.rules.specs.Lines.{word_of, words_of}
 use Rattle.file.specs.Each.{each}

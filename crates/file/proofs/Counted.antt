@@ -14,7 +14,8 @@ use Rattle.rules.proofs.All.{both}
 use Rattle.file.proofs.Eaches.{each-length}
 use Rattle.file.proofs.Reading.{reads}
 use Rattle.file.specs.Counted.{paints-good, draws-good, layers-good, nodes-good, root-good, counted}
-use Rattle.file.specs.Judging.{draw_fields, clip_fields, clip_part, filter_part, layer_fields, node_fields}
+use Rattle.inputs.specs.Inputs.{draw_fields, clip_fields}
+use Rattle.file.specs.Judging.{clip_part, filter_part, layer_fields, node_fields}
 
 -- what a test says of every element, it says of each
 pub every-getD : {A : Type 0} (test : A → Bool) (xs : List A) (i : ℕ) (d : A) → i < length xs → every test xs ≡ true → test (get_or xs i d) ≡ true

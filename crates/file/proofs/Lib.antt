@@ -4,6 +4,7 @@ pub mod Laid
 pub mod Reading
 pub mod Counted
 pub mod Fields
+pub mod Heldness
 pub mod Laws
 pub mod Listed
 pub mod Orders

@@ -14,7 +14,8 @@ use Rattle.file.specs.Layouts.{Fits, sections_at}
 use Rattle.file.specs.Places.{draw_from, layer_from, recorded}
 use Rattle.rules.proofs.All.{both}
 use Rattle.file.proofs.Reading.{reads}
-use Rattle.file.specs.Judging.{draw_fields, clip_fields, clip_part, filter_part, layer_fields, draw_range, clip_range, draw_ordered, clip_ordered}
+use Rattle.inputs.specs.Inputs.{draw_fields, clip_fields}
+use Rattle.file.specs.Judging.{clip_part, filter_part, layer_fields, draw_range, clip_range, draw_ordered, clip_ordered}
 use Rattle.file.specs.Counted.{paints-good, segments-good, draws-good, layers-good, nodes-good, root-good, counted}
 use Rattle.file.proofs.Counted.{all-counted}
 use Rattle.file.proofs.Listed.{lent, lent-count, lent-segments}

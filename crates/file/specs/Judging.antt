@@ -1,35 +1,17 @@
 -- The rules' tests of a file's records, by the counts of its sections.
-use Rattle.std.specs.Prelude.{ℕ, ◌+◌, Bool, true, ◌&&◌, not, cond, List, [], ◌∷◌, get_or, leb, ltb, eqb}
+use Rattle.std.specs.Prelude.{ℕ, ◌+◌, Bool, true, ◌&&◌, not, cond, List, [], ◌∷◌, get_or, leb, eqb}
 use Rattle.rules.specs.Lists.{slice}
 use Rattle.rules.specs.Answers.{first_of, BadRecord, BadOrder}
 use Rattle.rules.specs.Boxes.{Box, box}
 use Rattle.rules.specs.Blends.{good-blend}
 use Rattle.rules.specs.Segments.{Segment, ordered}
 use Rattle.rules.specs.Spans.{good-range}
-use Rattle.rules.specs.Inputs.{Draw, draw-segments, Clip, good-clip, good-filter, good-handle, good-thread, good-panel}
+use Rattle.rules.specs.Inputs.{Draw, draw-segments, good-filter, good-handle, good-panel}
+use Rattle.inputs.specs.Inputs.{clip_fields}
 use Rattle.rules.specs.Recording.{Recording, LayerRec, Node, zero-clip, zero-filter, good-records, good-order}
-
-abbrev pub word_from : List ℕ → ℕ → ℕ
-word_from ws p = get_or ws p 0
 
 unfoldable pub box_from : List ℕ → ℕ → Box
 box_from ws p = box (get_or ws p 0) (get_or ws (p + 1) 0) (get_or ws (p + 2) 0) (get_or ws (p + 3) 0)
-
-abbrev pub is_zero : ℕ → Bool
-is_zero x = eqb x 0
-
--- a draw, its own paint's fields left out
-unfoldable pub draw_fields : ℕ → ℕ → Draw → Bool
-draw_fields paints segments d =
-    good-thread d.thread
-    && good-range d.start d.end segments
-    && ltb d.paint paints
-    && good-blend d.blend
-    && good-handle d.mask
-    && good-panel d.panel
-
-unfoldable pub clip_fields : ℕ → Clip → Bool
-clip_fields segments c = good-clip c && leb c.end segments
 
 unfoldable pub clip_part : ℕ → LayerRec → Bool
 clip_part segments l = cond (eqb l.flag 1) (clip_fields segments l.clip) (zero-clip l.clip)

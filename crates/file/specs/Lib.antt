@@ -4,3 +4,5 @@ pub mod Places
 pub mod Words
 pub mod Counted
 pub mod Judging
+pub mod Records
+pub mod Held

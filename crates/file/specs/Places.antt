@@ -4,6 +4,7 @@ use Rattle.rules.specs.Boxes.{box}
 use Rattle.rules.specs.Segments.{Segment}
 use Rattle.rules.specs.Inputs.{Paint, Draw, Clip, Filter}
 use Rattle.rules.specs.Recording.{LayerRec, Node, Recording, pixmap-of, no-panel}
+use Rattle.file.specs.declared.form.Section.{Section}
 use Rattle.file.specs.declared.form.Layout.{Layout}
 use Rattle.file.specs.Each.{each}
 
@@ -55,16 +56,33 @@ module _ (ws : List ℕ) (p : ℕ) where
   unfoldable pub node_from : Node
   node_from = record { start = get_or ws p 0; end = word 1; layer = word 2 }
 
+-- the records of a section
+module _ (ws : List ℕ) (s : Section) where
+  abbrev pub paints-at : List Paint
+  paints-at = each paint_from 4 ws s.at s.count
+
+  abbrev pub segments-at : List Segment
+  segments-at = each segment_from 5 ws s.at s.count
+
+  abbrev pub draws-at : List Draw
+  draws-at = each draw_from 7 ws s.at s.count
+
+  abbrev pub layers-at : List LayerRec
+  layers-at = each layer_from 22 ws s.at s.count
+
+  abbrev pub nodes-at : List Node
+  nodes-at = each node_from 3 ws s.at s.count
+
 -- the recording whose sections stand as the layout says
 unfoldable pub recorded : Layout → List ℕ → Recording
 recorded l ws =
     record {
       viewport = box (get_or ws 1 0) (get_or ws 2 0) (get_or ws 3 0) (get_or ws 4 0);
-      paints = each paint_from 4 ws l.paints.at l.paints.count;
-      segments = each segment_from 5 ws l.segments.at l.segments.count;
-      draws = each draw_from 7 ws l.draws.at l.draws.count;
-      layers = each layer_from 22 ws l.layers.at l.layers.count;
-      nodes = each node_from 3 ws l.nodes.at l.nodes.count;
+      paints = paints-at ws l.paints;
+      segments = segments-at ws l.segments;
+      draws = draws-at ws l.draws;
+      layers = layers-at ws l.layers;
+      nodes = nodes-at ws l.nodes;
       start = get_or ws l.root.at 0;
       end = get_or ws (l.root.at + 1) 0;
     }

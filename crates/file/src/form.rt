@@ -14,7 +14,10 @@ pub struct Section {
     pub count: usize,
 }
 
-/// The sections after the viewport, whose four words stand at place 1. The root has two words.
+/// Where the viewport's four words stand.
+pub const VIEWPORT: usize = 1;
+
+/// The sections after the viewport. The root has two words.
 #[derive(Clone, Copy)]
 pub struct Layout {
     pub paints: Section,

@@ -1,5 +1,12 @@
-//! A recording's file: its form (answer 3), its records and their order (answers 4 and 5). Parts of the recording call.
+//! A recording's file: its form (answer 3), its records and their order (answers 4 and 5). Parts of the recording call. Which word is which stands here alone:
+//! callers ask a `Recording` for its records by their numbers.
 #![tactic(auto)]
 
-pub mod form;
-pub mod judge;
+mod form;
+mod judge;
+mod recording;
+mod records;
+
+pub use form::words_of_bytes;
+pub use recording::Recording;
+pub use records::{Layer, Node};

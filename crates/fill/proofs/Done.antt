@@ -1,5 +1,5 @@
 -- What a fill's number 0 gives, and what a done fill leaves. Assumes nothing.
-use Rattle.std.proofs.Common.{◌≡◌, refl, sym, ap, ◌∙◌, Bool, true, false, cond, List, [], append-nil, ℕ, ◌+◌, ◌-◌, ◌*◌, ◌≤◌, ◌<◌, arith, ltb, eqb, length, drop, take-append-drop, drop_at, ne_eqb, ltb-true, ltb-false}
+use Rattle.std.proofs.Common.{◌≡◌, refl, sym, ap, ◌∙◌, Bool, true, false, cond, List, [], append-nil, ℕ, ◌+◌, ◌-◌, ◌*◌, ◌≤◌, ◌<◌, arith, ltb, eqb, length, drop, take-append-drop, drop_at, ltb-true, ltb-false}
 use Rattle.std.proofs.lemmas.Bool.Decides.{nat_tests}
 use lib.Seq.{drop-length}
 use Rattle.sizes.specs.Sizes.{paint-attr-size}
@@ -17,31 +17,33 @@ use Rattle.rules.specs.Steps.{do-puts, done, passes, refusal}
 use Rattle.cmd.specs.Attrs.{words-at, put-paint}
 use Rattle.cmd.specs.declared.attrs.PaintFillAttrs.{PaintFillAttrs}
 use Rattle.row.specs.Words.{Words, word, word-ops}
-use Rattle.row.specs.Arena.{sizes, lay}
-use Rattle.row.proofs.RowsLaws.{lay-cut}
-use Rattle.row.specs.Building.{rows_at, screen-at, good_rows, step_number}
+use Rattle.row.specs.Arena.{sizes, lay, count-rows}
+use Rattle.row.proofs.RowsLaws.{lay-cut, rows-counted}
+use Rattle.row.specs.Building.{screen-at, good_rows, step_number}
 use Rattle.rect.specs.Rects.{box_of}
 use Rattle.screen.specs.declared.Screen.{Screen}
 use Rattle.screen.specs.Screens.{frame-of, state-of, screen-after, counted}
 use Rattle.screen.proofs.ScreenLaws.{few_rows, same-layers, paint-count, layer-attr-count, filter-count}
+use Rattle.screen.proofs.Passed.{Passed}
 use Rattle.segments.specs.Segs as segs
 use Rattle.segments.specs.Segs.{segs-of}
 use Rattle.segments.proofs.Laws as listed
-use Rattle.fill.specs.Filling as filling
-use Rattle.fill.specs.Filling.{puts_of, FillReady}
-use Rattle.fill.specs.Tallies.{cuts-of}
+use Rattle.fill.specs.Filling.{FillReady}
 use Rattle.fill.proofs.Rising.{rising}
 use Rattle.fill.proofs.Judged.{all-landed, roomy-judged}
-use Rattle.fill.specs.declared.Draw.{Draw}
-use Rattle.fill.specs.Fills.{draw-of, paints-of, job_of, Passing, FillLent, lent, fill-plan, first-of-lent, fill_number, fill_done, filled}
+use Rattle.fill.specs.declared.rows.Job.{Job}
+use Rattle.fill.specs.Named.{job_rows, rows_after}
+use Rattle.inputs.specs.declared.Draw.{Draw}
+use Rattle.inputs.specs.Inputs.{draw-of}
+use Rattle.fill.specs.Fills.{paints-of, job_of, FillLent, lent, fill-plan, first-of-lent, fill_number, fill_done, filled}
 use Rattle.fill.proofs.Inputs.{GoodDraw, draw-facts}
 use Rattle.fill.proofs.Planned.{state-frame, state-next, plan-layers, plan-next, refused-bad, refused-are, puts-are, rows_are, attrs-same, attrs-more, full-attrs, paints-more, filters-same}
 use Rattle.fill.proofs.Numbers.{passing, long, rowed, good-are}
 
 module _ (l : FillLent) (ps ss : List ℕ) (d : Draw) where
-  -- what is refused alters nothing
-  pub refused : {n : ℕ} → n ≡ fill_number l ps ss d → (n ≡ 0 → ⊥) → answer n l ≡ filled l ps ss d
-  refused {n} e h = rw (← e, ne_eqb n 0 h)
+  -- what is done leaves what the rules' plan says
+  pub done-is : {m : FillLent} → 0 ≡ fill_number l ps ss d → m ≡ fill_done l ps ss d → answer 0 m ≡ filled l ps ss d
+  done-is e h = rw (← e, h)
 
 -- the number 0
 said-no : (f : ℕ) (g : Bool) (r : ℕ) → cond (eqb f Done) (cond g r BadRecord) f ≡ 0 → (f ≡ 0) × (g ≡ true) × (r ≡ 0)
@@ -139,7 +141,7 @@ module _ (l : FillLent) (ps ss : List ℕ) (d : Draw) (z : Zero l ps ss d) where
   good : GoodDraw ps ss d
   good = draw-facts ps ss d z.draw
 
-  fine : Passing l.screen
+  fine : Passed l.screen (length l.words.state) (length l.words.render) (length l.words.fills) (rows_of (box_of l.screen.viewport))
   fine = passing l ps ss d z.first
 
   screen-by : screen-after l.screen (fill-plan l.screen ps ss d)
@@ -166,11 +168,10 @@ module _ (l : FillLent) (ps ss : List ℕ) (d : Draw) (z : Zero l ps ss d) where
         let e : drop l.screen.paint_attrs (state-of l.screen).attrs.paints ≡ [] = ap (λ (n : ℕ). drop n (state-of l.screen).attrs.paints) (sym (paint-count l.screen)) ∙ drop-length (state-of l.screen).attrs.paints in
         rw (attrs-same l.screen ps ss d good u, e) (no_words l.paint-attrs (paint-attr-size * l.screen.paint_attrs))
 
-    pub done-empty : {s : Screen} → 0 ≡ fill_number l ps ss d
-        → s ≡ counted l.screen (l.screen.next_draw_id + 1) (l.screen.paint_attrs + 0) l.screen.layer_attrs l.screen.filter_paints
-        → answer 0 (lent s l.words l.paint-attrs) ≡ filled l ps ss d
+    pub done-empty : {s : Screen} → s ≡ counted l.screen (l.screen.next_draw_id + 1) (l.screen.paint_attrs + 0) l.screen.layer_attrs l.screen.filter_paints
+        → lent s l.words l.paint-attrs ≡ fill_done l ps ss d
     unfolding fill_done
-    done-empty e h = rw (h, ← e, screen-empty, words-empty, table_empty)
+    done-empty h = rw (h, screen-empty, words-empty, table_empty)
 
   -- with some: an attribute too, and what is put on rows
   module _ (u : d.start ≡ d.end → ⊥) where
@@ -188,10 +189,13 @@ module _ (l : FillLent) (ps ss : List ℕ) (d : Draw) (z : Zero l ps ss d) where
         go true e = ltb-true l.screen.paint_attrs 1024 e
         go false e = never (sym (full-attrs l.screen fine d (ltb-false l.screen.paint_attrs 1024 e)) ∙ (rw (attrs-more l.screen ps ss d good u) at z.attrs))
 
-    pub done-some : {s : Screen} {w : Words} {t : List ℕ} → 0 ≡ fill_number l ps ss d
-        → s ≡ counted l.screen (l.screen.next_draw_id + 1) (l.screen.paint_attrs + 1) l.screen.layer_attrs l.screen.filter_paints
-        → w ≡ lay (filling.done (job_of l.screen ps d) (puts_of (job_of l.screen ps d) (cuts-of (job_of l.screen ps d) ss d.start d.end)) (rows_at (frame-of l.screen) l.words))
-        → t ≡ put-paint l.paint-attrs l.screen.paint_attrs (attr-of l.screen d)
-        → answer 0 (lent s w t) ≡ filled l ps ss d
+    pub done-some : {s : Screen} {j : Job} {w : Words} {t : List ℕ} → s ≡ counted l.screen (l.screen.next_draw_id + 1) (l.screen.paint_attrs + 1) l.screen.layer_attrs l.screen.filter_paints
+        → j ≡ job_of l.screen ps d → w ≡ lay (rows_after j ss d.start d.end (job_rows j l.words.state l.words)) → t ≡ put-paint l.paint-attrs l.screen.paint_attrs (attr-of l.screen d)
+        → lent s w t ≡ fill_done l ps ss d
     unfolding fill_done
-    done-some e h i k = rw (h, i, k, ← e, screen-some, rows_are l.screen ps ss d good l.words fine, table-some)
+    done-some h q i k =
+        let drawn = rw (q, rows-counted l.words.state (rows_of (box_of l.screen.viewport)) fine.row_words) at i in
+        rw (h, drawn, k, screen-some, rows_are l.screen ps ss d good l.words fine, table-some)
+
+    pub rows-asked : {j : Job} → j ≡ job_of l.screen ps d → FillReady j (count-rows l.words.state) ss d.start d.end l.words
+    rows-asked q = rw (q, rows-counted l.words.state (rows_of (box_of l.screen.viewport)) fine.row_words) z.ready

@@ -17,7 +17,7 @@ use Rattle.rect.specs.Rects.{box_of}
 use Rattle.screen.specs.Screens.{good_clip, good_screen, state-of, screen-after, counted, fresh-screen}
 use Rattle.screen.specs.Judging.{judged}
 use Rattle.segments.specs.Segs.{seg-at, segs}
-use Rattle.fill.specs.declared.Draw.{Draw}
+use Rattle.inputs.specs.declared.Draw.{Draw}
 use Rattle.fill.specs.Fills.{paints, FillLent, lent, first_number, fill_number, fill_done, filled}
 
 abbrev viewport : Rect

@@ -16,7 +16,9 @@ use Rattle.fill.proofs.Runs.{at_most_one}
 use Rattle.row.specs.declared.room.Limits.{Limits}
 use Rattle.row.specs.Room.{record-at, Counted, hand_of, loaded, noted, added_to}
 use Rattle.row.proofs.RoomLaws.{good-small}
-use Rattle.fill.specs.Tallies.{Tally, job-adds, known, tallied, tally_cuts, verdict, cuts-of, none_yet, Rowed, list-number, marked_by, limits_of, stretched, counted_cut, hand_cuts}
+use Rattle.fill.specs.Filling.{cuts-of}
+use Rattle.fill.specs.Sure.{number_in}
+use Rattle.fill.specs.Tallies.{Tally, job-adds, known, tallied, tally_cuts, verdict, none_yet, Rowed, list-number, marked_by, limits_of, stretched, counted_cut, hand_cuts}
 use Rattle.fill.proofs.JudgeLaws.{turned, Fits, took-none, took-bad, took-good, tally-more, tally-stop, fits_after, lands}
 
 -- the number for an order that is kept if ok, and for rows that are full or deep
@@ -187,10 +189,6 @@ bad-either a = go (eqb a 4)
 all_told : (ok full deep : Bool) → code_of ok full deep ≡ list-number (cond ok 0 5) (cond full 10 (cond deep 11 0))
 all_told ok full deep = grind (arith, nat_tests)
 
--- the number of the segments from a to b
-abbrev whole : Job → List ℕ → List ℕ → ℕ → ℕ → ℕ
-whole j rows ws a b = list-number (judge-segments false (segs ws a (b - a))) (verdict (tally_cuts j rows none_yet (cuts-of j ws a b)))
-
 -- the pass over the segments from a to b, at segment i, after the segment s
 pub record Passing (j : Job) (n : ℕ) (rows ws : List ℕ) (a b : ℕ) (s : Segment) (h : Counted) (i : ℕ) : Type 0 where
   pub rowed : Rowed j n rows
@@ -243,14 +241,14 @@ module _ {j : Job} {n : ℕ} {rows ws : List ℕ} {a b : ℕ} {s : Segment} {h :
     unfolding tally_cuts
     rows_told = rw (segs-end ws i b l) at v.rest
 
-    pub told-at-last : h.code ≡ whole j rows ws a b
+    pub told-at-last : h.code ≡ number_in j rows ws a b
     told-at-last =
         v.holds.code ∙ all_told v.ok v.tally.full v.tally.deep
         ∙ ap (λ (x : ℕ). list-number x (cond v.tally.full 10 (cond v.tally.deep 11 0))) (order-told v.ok refl)
         ∙ ap (λ (y : ℕ). list-number (judge-segments false (segs ws a (b - a))) y) rows_told
 
   module _ {g : Segment} (l : i < b) (e : g ≡ seg-at ws i) where
-    pub bad-here : good-segment g ≡ false → 4 ≡ whole j rows ws a b
+    pub bad-here : good-segment g ≡ false → 4 ≡ number_in j rows ws a b
     bad-here q = ap (λ (x : ℕ). list-number x (verdict (tally_cuts j rows none_yet (cuts-of j ws a b)))) (list.bad-here v.place l e q)
 
     split-cuts : cuts-of j ws i b ≡ cut_in (origin j.scene) (bounds j.scene) g ++ cuts-of j ws (i + 1) b
@@ -260,7 +258,7 @@ module _ {j : Job} {n : ℕ} {rows ws : List ℕ} {a b : ℕ} {s : Segment} {h :
     on-a-row q k p = omega (arith, (lands j n rows g k v.rowed q p).0, v.rowed.few)
 
     module _ (q : good-segment g ≡ true) (f : Bool) {u : Counted} (m : u ≡ hand_cuts j rows (marked_by h f) (cut_in (origin j.scene) (bounds j.scene) g)) where
-      pub bad-record : u.code ≡ 4 → 4 ≡ whole j rows ws a b
+      pub bad-record : u.code ≡ 4 → 4 ≡ number_in j rows ws a b
       bad-record c =
           let o = marks j rows h v.ok v.tally v.holds f in
           let z = bad-cuts j rows (marked_by h f) (v.ok && f) v.tally o (cut_in (origin j.scene) (bounds j.scene) g) (at_most_one _ _ g) (on-a-row q) (rw m at c) in

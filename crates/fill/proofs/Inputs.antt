@@ -1,7 +1,7 @@
 -- The inputs of a fill: paints as words, and the scene of a judged screen. Assumes nothing.
 use Rattle.std.proofs.Common.{◌≡◌, refl, sym, ap, ◌∙◌, Bool, true, false, ◌&&◌, List, ℕ, zero, suc, ◌+◌, ◌*◌, ◌/◌, ◌≤◌, ◌<◌, arith, ltb, eqb, length, get_or, ltb-true}
 use Rattle.std.proofs.lemmas.Bool.Decides.{nat_tests}
-use Rattle.rules.specs.Boxes.{Box, scene-tiles}
+use Rattle.rules.specs.Boxes.{Box, good_viewport}
 use Rattle.rules.specs.Spans.{good-range}
 use Rattle.rules.specs.Blends.{good-blend, is-default}
 use Rattle.rules.specs.Plans.{eligible}
@@ -9,12 +9,14 @@ use Rattle.rules.specs.Inputs.{Paint, good-paint, good-handle, good-thread, good
 use Rattle.rect.specs.Rects.{box_of, Small}
 use Rattle.rect.proofs.Boxes.{small-viewport, view}
 use Rattle.screen.specs.declared.Screen.{Screen}
+use Rattle.screen.specs.Screens.{good_screen}
 use Rattle.screen.proofs.ScreenLaws.{clip, good-clip-of}
 use Rattle.segments.specs.declared.Scene.{Scene}
 use Rattle.segments.specs.Segs.{segs-of, SceneOf}
 use Rattle.segments.proofs.Laws.{segs-count}
-use Rattle.fill.specs.declared.Draw.{Draw}
-use Rattle.fill.specs.Fills.{draw-of, paint-at, paints, paints-of, good-fill-at, scene-at, Passing}
+use Rattle.inputs.specs.declared.Draw.{Draw}
+use Rattle.inputs.specs.Inputs.{draw-of, draw_fields}
+use Rattle.fill.specs.Fills.{paint-at, paints, paints-of, good-fill-at, scene-at}
 
 module _ (ws : List ℕ) where
   paints-length : (i k : ℕ) → length (paints ws i k) ≡ k
@@ -34,19 +36,33 @@ module _ (ws : List ℕ) where
   pub paint-there : (z : Paint) (x : ℕ) → x < length ws / 4 → get_or (paints-of ws) x z ≡ paint-at ws x
   paint-there z x h = there z 0 (length ws / 4) x x h (omega arith)
 
+-- a test that stands last may stand second
+moved : (a g y z w : Bool) → (a && y && z && w && g) ≡ (a && g && y && z && w)
+moved false g y z w = refl
+moved true true true true true = refl
+moved true true true true false = refl
+moved true true true false w = refl
+moved true true false z w = refl
+moved true false true true true = refl
+moved true false true true false = refl
+moved true false true false w = refl
+moved true false false z w = refl
+
 -- what a fill is told, at the words
 module _ (ps ss : List ℕ) (d : Draw) where
-  paint_at : (x y z w v b : Bool) → ltb d.paint (length ps / 4) ≡ b
-      → (x && b && good-paint (paint-at ps d.paint) && y && z && w) ≡ (x && b && good-paint (draw-paint (paints-of ps) (draw-of d)) && y && z && w)
-  paint_at x y z w v true e = rw (paint-there ps (record { opaque = 0; handle = 0 }) d.paint (ltb-true _ _ e))
-  paint_at true y z w v false e = refl
-  paint_at false y z w v false e = refl
+  -- the paint's own test stands last at the words, and after the paint's place in the rule
+  paint_at : (x y z w b : Bool) → ltb d.paint (length ps / 4) ≡ b
+      → (x && b && y && z && w && good-paint (paint-at ps d.paint)) ≡ (x && b && good-paint (draw-paint (paints-of ps) (draw-of d)) && y && z && w)
+  paint_at x y z w true e = rw (paint-there ps (record { opaque = 0; handle = 0 }) d.paint (ltb-true _ _ e)) (moved (x && true) _ y z w)
+  paint_at true y z w false e = refl
+  paint_at false y z w false e = refl
 
   fill_at : good-fill-at ps ss d ≡ good-fill (paints-of ps) (segs-of ss) (draw-of d)
+  unfolding draw_fields
   fill_at =
       rw (paints-count ps, segs-count ss)
       (ap (λ (t : Bool). few-paints (length ps / 4) && t)
-      (paint_at (good-thread d.thread && good-range d.start d.end (length ss / 5)) (good-blend (draw-of d).blend) (good-handle d.mask) (good-panel d.panel) true
+      (paint_at (good-thread d.thread && good-range d.start d.end (length ss / 5)) (good-blend (draw-of d).blend) (good-handle d.mask) (good-panel d.panel)
       (ltb d.paint (length ps / 4)) refl))
 
   pub fill-told : {r b : Bool} → r ≡ good-fill-at ps ss d → r ≡ b → good-fill (paints-of ps) (segs-of ss) (draw-of d) ≡ b
@@ -70,24 +86,18 @@ draw-facts ps ss d g =
 
 -- the scene
 pub scene-is : (v c : Box) (s : Scene) → SceneOf v c s → s ≡ scene-at v c
-unfolding scene-tiles
 scene-is v c s o =
     let x : s.x ≡ v.x0 = ap (λ (b : Box). b.x0) o.corner in
     let y : s.y ≡ v.y0 = ap (λ (b : Box). b.y0) o.corner in
-    let p : s.columns.first ≡ (v.x0 + c.x0) / 4 = ap (λ (b : Box). b.x0) o.area in
-    let q : s.rows.first ≡ (v.y0 + c.y0) / 4 = ap (λ (b : Box). b.y0) o.area in
-    let r : s.columns.end ≡ (v.x0 + c.x1) / 4 = ap (λ (b : Box). b.x1) o.area in
-    let t : s.rows.end ≡ (v.y0 + c.y1) / 4 = ap (λ (b : Box). b.y1) o.area in
-    rw (← p, ← q, ← r, ← t, ← x, ← y)
+    rw (← o.area, ← x, ← y)
 
 pub scene-of-it : (v c : Box) → SceneOf v c (scene-at v c)
-unfolding scene-tiles
 scene-of-it v c = record { corner = refl; area = refl }
 
-pub small-both : (s : Screen) → Passing s → Small (box_of s.viewport) × Small (box_of s.clip_bbox)
-small-both s o =
-    let v = view (box_of s.viewport) o.view in
-    let k = clip (box_of s.viewport) (box_of s.clip_bbox) s.layers o.view (good-clip-of s o.screen) in (
-      small-viewport (box_of s.viewport) o.view,
+pub small-both : (s : Screen) → good_viewport (box_of s.viewport) ≡ true → good_screen s ≡ true → Small (box_of s.viewport) × Small (box_of s.clip_bbox)
+small-both s g n =
+    let v = view (box_of s.viewport) g in
+    let k = clip (box_of s.viewport) (box_of s.clip_bbox) s.layers g (good-clip-of s n) in (
+      small-viewport (box_of s.viewport) g,
       record { left = k.left; top = k.top; right = omega (arith, k.right, v.wide); bottom = omega (arith, k.bottom, v.high) },
     )

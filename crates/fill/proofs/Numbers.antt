@@ -2,7 +2,7 @@
 use Rattle.std.proofs.Common.{◌≡◌, refl, sym, ◌∙◌, Bool, true, false, ◌||◌, cond, List, Option, None, Some, ℕ, ◌+◌, ◌-◌, ◌*◌, ◌≤◌, ◌<◌, arith, ltb, eqb, length, eq-eqb, ne_eqb, lt-ltb, le-ltb}
 use Rattle.std.proofs.lemmas.Bool.Decides.{nat_tests}
 use Rattle.sizes.specs.Sizes.{paint-attr-table}
-use Rattle.rules.specs.Boxes.{rows_of}
+use Rattle.rules.specs.Boxes.{rows_of, scene-tiles}
 use Rattle.rules.specs.Segments.{Segment, judge-segments}
 use Rattle.rules.specs.Inputs.{good-fill}
 use Rattle.rules.specs.Attributes.{attrs-full}
@@ -22,12 +22,13 @@ use Rattle.segments.proofs.Laws as listed
 use Rattle.segments.proofs.Laws.{scene-starts}
 use Rattle.fill.specs.Filling as filling
 use Rattle.row.proofs.RowsLaws.{rows-counted}
-use Rattle.fill.specs.Filling.{puts_of}
-use Rattle.fill.specs.Tallies.{Tally, tally_cuts, verdict, cuts-of, none_yet, Rowed, list-number}
+use Rattle.fill.specs.Filling.{puts_of, cuts-of}
+use Rattle.fill.specs.Tallies.{Tally, tally_cuts, verdict, none_yet, Rowed, list-number}
 use Rattle.fill.proofs.Rising.{rising}
 use Rattle.fill.proofs.Judged.{run, flags, verdict-any, verdict-is, all-landed}
-use Rattle.fill.specs.declared.Draw.{Draw}
-use Rattle.fill.specs.Fills.{draw-of, paints-of, job_of, Passing, FillLent, fill-plan, first_number, first-of-lent, fill_number}
+use Rattle.inputs.specs.declared.Draw.{Draw}
+use Rattle.inputs.specs.Inputs.{draw-of}
+use Rattle.fill.specs.Fills.{paints-of, job_of, FillLent, fill-plan, first_number, first-of-lent, fill_number}
 use Rattle.fill.proofs.Inputs.{GoodDraw, draw-facts, scene-of-it}
 use Rattle.fill.proofs.Planned.{good-unless, state-frame, plan-layers, plan-next, refused-bad, refused-are, puts-are, rows_are, attrs-same, attrs-more, not_full, full-attrs, room-for-one}
 
@@ -97,15 +98,16 @@ module _ (l : FillLent) (ps ss : List ℕ) (d : Draw) where
     pub bad-draw : good-fill (paints-of ps) (segs-of ss) (draw-of d) ≡ false → 4 ≡ fill_number l ps ss d
     bad-draw h = own-four (refused-bad l.screen ps ss d h)
 
-    pub passing : Passing l.screen
-    passing = let o = (right-lengths l ps ss z).0 in record { view = o.view; screen = o.screen }
+    pub passing : Passed l.screen (length l.words.state) (length l.words.render) (length l.words.fills) (rows_of (box_of l.screen.viewport))
+    passing = (right-lengths l ps ss z).0
 
     pub long : Long (sizes l.screen.c l.screen.d) (rows_of (box_of l.screen.viewport)) l.words
-    long = let o = (right-lengths l ps ss z).0 in record { state = o.row_words; render = o.render-words; fills = o.fill-words }
+    long = record { state = passing.row_words; render = passing.render-words; fills = passing.fill-words }
 
     pub rowed : Rowed (job_of l.screen ps d) (rows_of (box_of l.screen.viewport)) l.words.state
+    unfolding scene-tiles
     rowed =
-        let o = (right-lengths l ps ss z).0 in
+        let o = passing in
         let v = view (box_of l.screen.viewport) o.view in
         let k = clip (box_of l.screen.viewport) (box_of l.screen.clip_bbox) l.screen.layers o.view (good-clip-of l.screen o.screen) in
         record {

@@ -14,14 +14,15 @@ use Rattle.rect.specs.Rects.{box_of}
 use Rattle.screen.specs.declared.Screen.{Screen}
 use Rattle.screen.specs.Screens.{frame-of, state-of}
 use Rattle.screen.proofs.ScreenLaws.{bounds, clip-of, paint-count, layer-attr-count, filter-count, layer-count, none_open}
+use Rattle.screen.proofs.Passed.{Passed}
 use Rattle.segments.specs.Segs as segs
 use Rattle.segments.specs.Segs.{segs-of, origin}
 use Rattle.segments.proofs.Laws.{segs-slice, segs-first, segs-end, cut-in-scene}
 use Rattle.fill.specs.Filling as filling
-use Rattle.fill.specs.Filling.{puts_of}
-use Rattle.fill.specs.Tallies.{cuts-of}
-use Rattle.fill.specs.declared.Draw.{Draw}
-use Rattle.fill.specs.Fills.{draw-of, paints-of, job_of, Passing, fill-plan}
+use Rattle.fill.specs.Filling.{puts_of, cuts-of}
+use Rattle.inputs.specs.declared.Draw.{Draw}
+use Rattle.inputs.specs.Inputs.{draw-of}
+use Rattle.fill.specs.Fills.{paints-of, job_of, fill-plan}
 use Rattle.fill.proofs.Inputs.{GoodDraw, scene-of-it}
 
 -- a list that is not refused by 4 has good segments
@@ -68,13 +69,13 @@ module _ (s : Screen) (ps ss : List ℕ) (d : Draw) where
     unfolding plan-fill
     refused-are h = rw (h, own-are)
 
-    pub puts-are : Passing s → (fill-plan s ps ss d).puts ≡ puts_of (job_of s ps d) (cuts-of (job_of s ps d) ss d.start d.end)
+    pub puts-are : {a b c n : ℕ} → Passed s a b c n → (fill-plan s ps ss d).puts ≡ puts_of (job_of s ps d) (cuts-of (job_of s ps d) ss d.start d.end)
     unfolding plan-fill
     puts-are o =
         rw (none_open s, paint-count s, own-are, clip-of s o.screen, state-frame s, state-next s)
         (ap (draw-puts (job_of s ps d).eligible s.paint_attrs s.next_draw_id) (same-cuts s ps d (segs.segs ss d.start (d.end - d.start))))
 
-    pub rows_are : (w : Words) → Passing s → (done Words word-ops (fill-plan s ps ss d) (screen-at (state-of s) w)).rows
+    pub rows_are : {a b c n : ℕ} (w : Words) → Passed s a b c n → (done Words word-ops (fill-plan s ps ss d) (screen-at (state-of s) w)).rows
         ≡ filling.done (job_of s ps d) (puts_of (job_of s ps d) (cuts-of (job_of s ps d) ss d.start d.end)) (rows_at (frame-of s) w)
     unfolding done
     rows_are w o = rw (plan-layers, layer-count s, puts-are o, state-frame s)
@@ -95,7 +96,7 @@ module _ (s : Screen) (ps ss : List ℕ) (d : Draw) where
     attrs-more h = rw (some-own h)
 
 -- answer 9
-module _ (s : Screen) (o : Passing s) where
+module _ (s : Screen) {a b c n : ℕ} (o : Passed s a b c n) where
   pub not_full : attrs-full (state-of s).attrs ≡ false
   not_full =
       let b = bounds s o.screen in

@@ -26,7 +26,7 @@ use Rattle.segments.specs.Segs.{seg-at, segs, origin, bounds}
 use Rattle.segments.proofs.Laws.{segs-end, segs-first, good-first, good-rest, landed}
 use Rattle.segments.proofs.Cutting.{left_in}
 use Rattle.fill.specs.declared.rows.Job.{Job}
-use Rattle.fill.specs.Filling.{draws, puts_of, puts, done, draw-all, cuts-in, run_of, OnRow, Roomy, one_more, FillReady, RunReady}
+use Rattle.fill.specs.Filling.{draws, puts_of, puts, done, draw-all, cuts-of, run_of, OnRow, Roomy, one_more, FillReady, RunReady}
 use Rattle.fill.proofs.RowsLaws.{puts-join, done-append, room-one, room-more, Filling}
 
 -- what is left of a segment
@@ -151,14 +151,14 @@ module _ (ws : List ℕ) where
       go false e f = f (eqb-false a i e)
 
 module _ (j : Job) (ws : List ℕ) where
-  cuts-parts : (a t b : ℕ) → a ≤ t → t ≤ b → cuts-in j ws a b ≡ cuts-in j ws a t ++ cuts-in j ws t b
+  cuts-parts : (a t b : ℕ) → a ≤ t → t ≤ b → cuts-of j ws a b ≡ cuts-of j ws a t ++ cuts-of j ws t b
   cuts-parts a t b h g = rw (segs-parts ws a t b h g) (join-append (cut_in (origin j.scene) (bounds j.scene)) (segs ws a (t - a)) (segs ws t (b - t)))
 
-  cuts-one : (i : ℕ) → cuts-in j ws i (i + 1) ≡ cut_in (origin j.scene) (bounds j.scene) (seg-at ws i) ++ []
+  cuts-one : (i : ℕ) → cuts-of j ws i (i + 1) ≡ cut_in (origin j.scene) (bounds j.scene) (seg-at ws i) ++ []
   cuts-one i = rw (segs-one ws i)
 
   -- those of a row stand on one row of the screen
-  on_one : (k a b row : ℕ) → b ≤ a + k → OnRow ws row a b → AllOn (row - j.scene.y / 4) (cuts-in j ws a b)
+  on_one : (k a b row : ℕ) → b ≤ a + k → OnRow ws row a b → AllOn (row - j.scene.y / 4) (cuts-of j ws a b)
   on_one zero a b row h o = rw (segs-end ws a b (omega arith)) nil
   on_one (suc k) a b row h o = go (ltb a b) refl (λ g. on_one k (a + 1) b row (omega arith) (λ i p q. o i (omega arith) q))
     where
@@ -167,7 +167,7 @@ module _ (j : Job) (ws : List ℕ) where
       own g (c ∷ []) e l = cons ((piece (origin j.scene) (bounds j.scene) (seg-at ws a) c e).row ∙ ap (λ (x : ℕ). x - j.scene.y / 4) (o a (omega arith) g)) nil
       own g (c ∷ d ∷ ks) e l = absurd (omega arith)
 
-      go : (t : Bool) → ltb a b ≡ t → (a < b → AllOn (row - j.scene.y / 4) (cuts-in j ws (a + 1) b)) → AllOn (row - j.scene.y / 4) (cuts-in j ws a b)
+      go : (t : Bool) → ltb a b ≡ t → (a < b → AllOn (row - j.scene.y / 4) (cuts-of j ws (a + 1) b)) → AllOn (row - j.scene.y / 4) (cuts-of j ws a b)
       go true e f =
           let g = ltb-true a b e in
           rw (segs-first ws a b g) (all_append (own g (cut_in (origin j.scene) (bounds j.scene) (seg-at ws a)) refl (at_most_one _ _ (seg-at ws a))) (f g))
@@ -177,7 +177,7 @@ module _ (j : Job) (ws : List ℕ) where
   module _ (a i : ℕ) (h : a ≤ i) (w : Words) where
     run_more : run_of j ws a (i + 1) w ≡ draw-all j (cut_in (origin j.scene) (bounds j.scene) (seg-at ws i)) (run_of j ws a i w)
     run_more =
-        rw (cuts-parts a i (i + 1) h (omega arith), cuts-one i, draw-append j (cuts-in j ws a i) (cut_in (origin j.scene) (bounds j.scene) (seg-at ws i) ++ []) w)
+        rw (cuts-parts a i (i + 1) h (omega arith), cuts-one i, draw-append j (cuts-of j ws a i) (cut_in (origin j.scene) (bounds j.scene) (seg-at ws i) ++ []) w)
         (draw-append j (cut_in (origin j.scene) (bounds j.scene) (seg-at ws i)) [] (run_of j ws a i w))
 
     run-nothing : [] ≡ cut_in (origin j.scene) (bounds j.scene) (seg-at ws i) → run_of j ws a (i + 1) w ≡ run_of j ws a i w
@@ -238,7 +238,7 @@ module _ {j : Job} {ws : List ℕ} {row a b : ℕ} {w : Words} (v : RunReady j w
   same-run : (t : ℕ) → a < t → run_of j ws a t (ensured j.layers w) ≡ run_of j ws a t w
   same-run t h =
       rw (cuts-parts j ws a (a + 1) t (omega arith) (omega arith), cuts-one j ws a, ← v.left)
-      (ap (draw-all j (cuts-in j ws (a + 1) t)) (drawn-layered j v.first first-index w there))
+      (ap (draw-all j (cuts-of j ws (a + 1) t)) (drawn-layered j v.first first-index w there))
 
   layered-ready : RunReady j ws row a b (ensured j.layers w)
   layered-ready =
@@ -278,7 +278,7 @@ set-off {j} {ws} {row} {a} {b} {w} {u} v e =
 
 module _ {j : Job} {ws : List ℕ} {row a b : ℕ} {w₀ : Words} {i : ℕ} {w : Words} (v : Running j ws row a b w₀ i w) where
   run_sound : Sound w₀ w
-  run_sound = let o = own_room v.ready in rw v.is (draw-sound j v.ready.layers (cuts-in j ws a i) w₀ o.state o.levels)
+  run_sound = let o = own_room v.ready in rw v.is (draw-sound j v.ready.layers (cuts-of j ws a i) w₀ o.state o.levels)
 
   -- where the run ends, it has begun
   pub row-left : ((seg-at ws i).row ≡ row → ⊥) → a < i
@@ -333,7 +333,7 @@ run-done {j} {ws} {row} {a} {b} {w} {u} {i} {x} v e r h = (h, r.stop, r.same, r.
 -- on the whole screen
 module _ {j : Job} {n : ℕ} {ws : List ℕ} {a b : ℕ} {w : Words} (v : FillReady j n ws a b w) (h : a < b) where
   split-puts : (t : ℕ) → a ≤ t → t ≤ b → puts j ws a (b - a) ≡ puts j ws a (t - a) ++ puts j ws t (b - t)
-  split-puts t p q = rw (cuts-parts j ws a t b p q) (puts-join j (cuts-in j ws a t) (cuts-in j ws t b))
+  split-puts t p q = rw (cuts-parts j ws a t b p q) (puts-join j (cuts-of j ws a t) (cuts-of j ws t b))
 
   module _ (k : Cut) (e : k ∷ [] ≡ cut_in (origin j.scene) (bounds j.scene) (seg-at ws a)) where
     its-row : k.row ≡ (seg-at ws a).row - j.scene.y / 4
@@ -344,17 +344,17 @@ module _ {j : Job} {n : ℕ} {ws : List ℕ} {a b : ℕ} {w : Words} (v : FillRe
         let l = landed (origin j.scene) (bounds j.scene) (seg-at ws a) k (good-first ws a b h v.good) v.fits.starts e in
         omega (arith, l.row, v.fits.bottom)
 
-    on-it : {t : ℕ} → OnRow ws (seg-at ws a).row a t → AllOn k.row (cuts-in j ws a t)
+    on-it : {t : ℕ} → OnRow ws (seg-at ws a).row a t → AllOn k.row (cuts-of j ws a t)
     on-it {t} o = rw its-row (on_one j ws t a t (seg-at ws a).row (omega arith) o)
 
     -- a run's puts are one change of its row
     pub run-puts : (t : ℕ) → OnRow ws (seg-at ws a).row a t → (rs : List Words) → done j (puts j ws a (t - a)) rs ≡ change (run_of j ws a t) k.row rs
     run-puts t o rs = one-change j k.row (on-it o) rs
 
-    first-put : (t : ℕ) → a < t → (ks : List Cut) → ks ≡ cuts-in j ws a t → {rs ts : List Words} → Roomy (puts_of j ks) rs ts → Room (get_or rs k.row nowhere) (get_or ts k.row nowhere)
+    first-put : (t : ℕ) → a < t → (ks : List Cut) → ks ≡ cuts-of j ws a t → {rs ts : List Words} → Roomy (puts_of j ks) rs ts → Room (get_or rs k.row nowhere) (get_or ts k.row nowhere)
     unfolding draw-puts
     first-put t p ks q {rs} {ts} m =
-        let z : k ∷ cuts-in j ws (a + 1) t ≡ cuts-in j ws a t = rw (cuts-parts j ws a (a + 1) t (omega arith) (omega arith), cuts-one j ws a, ← e) in
+        let z : k ∷ cuts-of j ws (a + 1) t ≡ cuts-of j ws a t = rw (cuts-parts j ws a (a + 1) t (omega arith) (omega arith), cuts-one j ws a, ← e) in
         go (rw (q ∙ sym z) at m)
       where
         go : {ps : List Put} {q : Put} → Roomy (q ∷ ps) rs ts → Room (get_or rs q.row nowhere) (get_or ts q.row nowhere)
@@ -365,7 +365,7 @@ module _ {j : Job} {n : ℕ} {ws : List ℕ} {a b : ℕ} {w : Words} (v : FillRe
         let rs = cut (sizes j.c j.d) n w in
         let m = room-one j v.fits.layers (puts j ws a (t - a)) (puts j ws t (b - t)) (cut (sizes j.c j.d) n w) (rw (split-puts t (omega arith) q) at v.room) in
         rw (run-puts t o (cut (sizes j.c j.d) n w), change-same (run_of j ws a t) k.row (cut (sizes j.c j.d) n w) nowhere (rw (cut-length (sizes j.c j.d) n w) row-there))
-        at (first-put t p (cuts-in j ws a t) refl m)
+        at (first-put t p (cuts-of j ws a t) refl m)
 
     pub run-ready : ((seg-at ws a).kind ≡ 0 → ⊥) → RunReady j ws (seg-at ws a).row a b (get_or (cut (sizes j.c j.d) n w) k.row nowhere)
     run-ready x =
@@ -386,7 +386,7 @@ module _ {j : Job} {n : ℕ} {ws : List ℕ} {a b : ℕ} {w : Words} (v : FillRe
     pub run-grows : (t : ℕ) → a < t → t ≤ b → OnRow ws (seg-at ws a).row a t → Grown (get_or (cut (sizes j.c j.d) n w) k.row nowhere) (run_of j ws a t (get_or (cut (sizes j.c j.d) n w) k.row nowhere))
     run-grows t p q o =
         let r = run_room t p q o in
-        (draw-sound j v.fits.layers (cuts-in j ws a t) (get_or (cut (sizes j.c j.d) n w) k.row nowhere) r.state r.levels).grown
+        (draw-sound j v.fits.layers (cuts-of j ws a t) (get_or (cut (sizes j.c j.d) n w) k.row nowhere) r.state r.levels).grown
 
     -- its row lent by its place, and back
     module _ {row : ℕ} (q : row ≡ (seg-at ws a).row) {p : Place} (s : Stands j.c j.d k.row p) where

@@ -14,7 +14,8 @@ use Rattle.segments.proofs.Judging as list
 use Rattle.segments.proofs.Judging.{AtPlace}
 use Rattle.fill.specs.declared.rows.Job.{Job}
 use Rattle.fill.proofs.Runs.{piece, at_most_one}
-use Rattle.fill.specs.Tallies.{Tally, added, job-adds, known, stored, tallied, tally_cuts, verdict, cuts-of, none_yet, Rowed}
+use Rattle.fill.specs.Filling.{cuts-of}
+use Rattle.fill.specs.Tallies.{Tally, added, job-adds, known, stored, tallied, tally_cuts, verdict, none_yet, Rowed}
 use Rattle.fill.specs.Sure.{Roomed, RoomAt, number_in}
 use Rattle.fill.proofs.JudgeLaws.{few-commands, few-depths, added-alpha, added-plain, turned, took-none, took-good, tally-more}
 use Rattle.fill.proofs.Hands.{nowhere, first-follows, none_before}

@@ -1,10 +1,10 @@
 -- The doing half of a fill: the rules' puts at rows of words, and what the judging half has shown.
 use Rattle.std.specs.Prelude.{ℕ, ◌+◌, ◌-◌, ◌*◌, ◌/◌, ◌≤◌, ◌<◌, ◌≡◌, true, List, [], ◌∷◌, get_or, length}
 use Rattle.std.specs.Prelude.{Option}
-use Rattle.sizes.specs.Sizes.{most-layers}
+use Rattle.sizes.specs.Sizes.{most-layers, tile-height}
 use Rattle.rules.specs.Lists.{join, every}
 use Rattle.rules.specs.Spans.{Span}
-use Rattle.rules.specs.Segments.{Cut, cut_in, good-segment}
+use Rattle.rules.specs.Segments.{Segment, Cut, cut_in, good-segment}
 use Rattle.rules.specs.Plans.{Put, draw-puts}
 use Rattle.rules.specs.Steps.{do-puts}
 use Rattle.sizes.specs.Widths.{bucket-tiles}
@@ -13,6 +13,14 @@ use Rattle.row.specs.Acts.{drawn}
 use Rattle.row.specs.Arena.{nowhere, sizes, cut, Arenas}
 use Rattle.segments.specs.Segs.{seg-at, segs, origin, bounds, Starts}
 use Rattle.fill.specs.declared.rows.Job.{Job}
+
+-- rule 4: what is left of a segment in the job's clip box
+abbrev pub cut_for : Job → Segment → List Cut
+cut_for j g = cut_in (origin j.scene) (bounds j.scene) g
+
+-- .. of the segments from a to b
+abbrev pub cuts-of : Job → List ℕ → ℕ → ℕ → List Cut
+cuts-of j ws a b = join (cut_for j) (segs ws a (b - a))
 
 -- rules 5 to 7 on one row
 abbrev pub draws : Job → Span → Option ℕ → Words → Words
@@ -24,11 +32,11 @@ puts_of j ks = draw-puts j.eligible j.attr j.id ks
 
 -- what segment i puts on rows
 abbrev pub one-put : Job → List ℕ → ℕ → List Put
-one-put j ws i = puts_of j (cut_in (origin j.scene) (bounds j.scene) (seg-at ws i))
+one-put j ws i = puts_of j (cut_for j (seg-at ws i))
 
 -- what k segments from i on put on rows
 abbrev pub puts : Job → List ℕ → ℕ → ℕ → List Put
-puts j ws i k = puts_of j (join (cut_in (origin j.scene) (bounds j.scene)) (segs ws i k))
+puts j ws i k = puts_of j (join (cut_for j) (segs ws i k))
 
 abbrev pub done : Job → List Put → List Words → List Words
 done j ps rs = do-puts Words word-ops (bucket-tiles j.width) j.layers ps rs
@@ -38,13 +46,9 @@ abbrev pub draw-all : Job → List Cut → Words → Words
 draw-all j [] w = w
 draw-all j (k ∷ ks) w = draw-all j ks (draws j k.stretch.tiles k.stretch.alpha w)
 
--- what is left of the segments from a to b
-abbrev pub cuts-in : Job → List ℕ → ℕ → ℕ → List Cut
-cuts-in j ws a b = join (cut_in (origin j.scene) (bounds j.scene)) (segs ws a (b - a))
-
--- those of one row, on its words
+-- what is left of the segments from a to b, which stand on one row, on its words
 abbrev pub run_of : Job → List ℕ → ℕ → ℕ → Words → Words
-run_of j ws a b w = draw-all j (cuts-in j ws a b) w
+run_of j ws a b w = draw-all j (cuts-of j ws a b) w
 
 -- the segments from a to b stand on a row
 abbrev pub OnRow : List ℕ → ℕ → ℕ → ℕ → Type 0
@@ -60,7 +64,7 @@ pub record Fits (j : Job) (n : ℕ) (w : Words) : Type 0 where
   pub arenas : Arenas j.c j.d n w
   pub layers : j.layers ≤ most-layers
   pub starts : Starts (origin j.scene) (bounds j.scene)
-  pub bottom : j.scene.rows.end ≤ j.scene.y / 4 + n
+  pub bottom : j.scene.rows.end ≤ j.scene.y / tile-height + n
 
 -- what the judging half has shown of the segments from a to b
 pub record FillReady (j : Job) (n : ℕ) (ws : List ℕ) (a b : ℕ) (w : Words) : Type 0 where
@@ -80,5 +84,5 @@ pub record RunReady (j : Job) (ws : List ℕ) (row a b : ℕ) (w : Words) : Type
   pub here : (seg-at ws a).row ≡ row
   pub index : (seg-at ws a).kind ≡ 0 → ⊥
   pub first : Cut
-  pub left : first ∷ [] ≡ cut_in (origin j.scene) (bounds j.scene) (seg-at ws a)
+  pub left : first ∷ [] ≡ cut_for j (seg-at ws a)
   pub room : (t : ℕ) → a < t → t ≤ b → OnRow ws row a t → Room w (run_of j ws a t w)

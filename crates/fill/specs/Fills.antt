@@ -1,41 +1,26 @@
 -- A fill at a screen's words: its number, and every lent word afterwards.
-use Rattle.std.specs.Prelude.{ℕ, zero, suc, ◌+◌, ◌*◌, ◌/◌, ◌%◌, ◌≡◌, Bool, true, ◌&&◌, cond, List, [], ◌∷◌, eqb, get_or, length, drop, ltb}
+use Rattle.std.specs.Prelude.{ℕ, zero, suc, ◌+◌, ◌*◌, ◌/◌, ◌%◌, Bool, ◌&&◌, cond, List, [], ◌∷◌, eqb, get_or, length, drop}
 use Rattle.sizes.specs.Sizes.{paint-attr-size, paint-attr-table}
 use Rattle.rules.specs.Lists.{join}
 use Rattle.rules.specs.Answers.{Answer, settle, Done, BadRecord}
-use Rattle.rules.specs.Boxes.{Box, good_viewport}
-use Rattle.rules.specs.Blends.{good-blend}
-use Rattle.rules.specs.Spans.{good-range}
-use Rattle.rules.specs.Inputs.{Paint, draw-paint, good-thread, good-paint, good-handle, good-panel, few-paints}
-use Rattle.rules.specs.Inputs as rule
+use Rattle.rules.specs.Boxes.{Box, scene-tiles}
+use Rattle.rules.specs.Inputs.{Paint, draw-paint, good-paint, few-paints}
 use Rattle.screen.specs.Attributes.{paint-attr-words}
 use Rattle.rules.specs.Plans.{Plan, eligible, plan-fill}
 use Rattle.rules.specs.Steps.{done}
-use Rattle.cmd.specs.Blends.{blend_of}
 use Rattle.cmd.specs.Attrs.{words-at}
 use Rattle.row.specs.Words.{Words, word-ops}
 use Rattle.row.specs.Arena.{lay}
 use Rattle.row.specs.Building.{screen-at, good_rows, step_number}
 use Rattle.rect.specs.Rects.{box_of}
 use Rattle.screen.specs.declared.Screen.{Screen}
-use Rattle.screen.specs.Screens.{frame-of, state-of, screen-after, good_screen}
+use Rattle.screen.specs.Screens.{frame-of, state-of, screen-after}
 use Rattle.screen.specs.Judging.{judged}
 use Rattle.segments.specs.declared.Scene.{Scene}
 use Rattle.segments.specs.Segs.{segs-of}
 use Rattle.fill.specs.declared.rows.Job.{Job}
-use Rattle.fill.specs.declared.Draw.{Draw}
-
-abbrev pub draw-of : Draw → rule.Draw
-draw-of d =
-    record {
-      thread = d.thread;
-      start = d.start;
-      end = d.end;
-      paint = d.paint;
-      blend = blend_of d.blend;
-      mask = d.mask;
-      panel = d.panel;
-    }
+use Rattle.inputs.specs.declared.Draw.{Draw}
+use Rattle.inputs.specs.Inputs.{draw_fields, draw-of}
 
 -- paint i of the words, four each: flag, handle, and two shifts that no rule reads
 abbrev pub paint-at : List ℕ → ℕ → Paint
@@ -51,26 +36,20 @@ paints-of ws = paints ws 0 (length ws / 4)
 
 -- answer 4 for what a fill is told, at the words
 abbrev pub good-draw-at : List ℕ → List ℕ → Draw → Bool
-good-draw-at ps ss d =
-    good-thread d.thread
-    && good-range d.start d.end (length ss / 5)
-    && ltb d.paint (length ps / 4)
-    && good-paint (paint-at ps d.paint)
-    && good-blend (blend_of d.blend)
-    && good-handle d.mask
-    && good-panel d.panel
+good-draw-at ps ss d = draw_fields (length ps / 4) (length ss / 5) (draw-of d) && good-paint (paint-at ps d.paint)
 
 abbrev pub good-fill-at : List ℕ → List ℕ → Draw → Bool
 good-fill-at ps ss d = few-paints (length ps / 4) && good-draw-at ps ss d
 
--- the scene of the viewport v and the clip box c
+-- the scene of the viewport v and the clip box c, which is the one that `SceneOf` tells of
 abbrev pub scene-at : Box → Box → Scene
 scene-at v c =
+    let t = scene-tiles v c in
     record {
       x = v.x0;
       y = v.y0;
-      columns = record { first = (v.x0 + c.x0) / 4; end = (v.x0 + c.x1) / 4 };
-      rows = record { first = (v.y0 + c.y0) / 4; end = (v.y0 + c.y1) / 4 };
+      columns = record { first = t.x0; end = t.x1 };
+      rows = record { first = t.y0; end = t.y1 };
     }
 
 -- what stays the same over a fill's segments
@@ -86,11 +65,6 @@ job_of s ps d =
       id = s.next_draw_id;
       width = s.width;
     }
-
--- a screen that is judged: its numbers are good
-pub record Passing (s : Screen) : Type 0 where
-  pub view : good_viewport (box_of s.viewport) ≡ true
-  pub screen : good_screen s ≡ true
 
 -- a screen and the words that a fill writes
 pub record FillLent : Type 0 where

@@ -1,23 +1,50 @@
--- A fill's rows and what it does to them, by the code's own values: what the contracts of this crate say in one word.
-use Rattle.std.specs.Prelude.{ℕ, List}
-use Rattle.span.specs.Spans.{tiles}
-use Rattle.segments.specs.declared.Placed.{Placed}
-use Rattle.row.specs.Words.{Words, Room}
-use Rattle.row.specs.Arena.{sizes, cut}
+-- A fill's rows and segments, by the code's own values: what the contracts of this crate say in one word.
+use Rattle.std.specs.Prelude.{ℕ, ◌+◌, ◌-◌, ◌*◌, ◌≤◌, ◌≡◌, true, List, length}
+use Rattle.rules.specs.Segments.{good-segment}
+use Rattle.rules.specs.Plans.{Put}
+use Rattle.row.specs.Words.{Words}
+use Rattle.row.specs.declared.rows.Rows.{Rows}
+use Rattle.row.specs.Rows.{all-held}
+use Rattle.row.specs.Arena.{sizes, cut, count-rows}
+use Rattle.screen.specs.declared.Screen.{Screen}
+use Rattle.segments.specs.Segs.{seg-at}
 use Rattle.fill.specs.declared.rows.Job.{Job}
-use Rattle.fill.specs.Filling.{draws, one-put, done, Roomy}
+use Rattle.fill.specs.Filling.{puts, done, Roomy}
+use Rattle.fill.specs.Fills.{FillLent, lent}
+use Rattle.fill.specs.Tallies.{Rowed}
 
--- n rows of a screen, cut out of the words that hold them
-abbrev pub job_rows : Job → ℕ → Words → List Words
-job_rows j n w = cut (sizes j.c j.d) n w
+-- a screen and the words that a fill writes, as they are lent
+abbrev pub lent_of : Screen → Rows → List ℕ → FillLent
+lent_of s r table = lent s (all-held r) table
 
--- what a cut segment makes of its row's words, and that the row has room for it
-abbrev pub draws_placed : Job → Placed → Words → Words
-draws_placed j p w = draws j (tiles p.stretch.tiles) p.stretch.alpha w
+-- the rows whose records are s, as the words hold them
+abbrev pub job_rows : Job → List ℕ → Words → List Words
+job_rows j s w = cut (sizes j.c j.d) (count-rows s) w
 
-abbrev pub RoomToDraw : Job → Placed → Words → Type 0
-RoomToDraw j p w = Room w (draws_placed j p w)
+-- .. as they are lent
+abbrev pub held_rows : Job → Rows → List Words
+held_rows j r = job_rows j r.state.now (all-held r)
 
--- the rows have room for what segment i makes of them
-abbrev pub RoomToPut : Job → List ℕ → ℕ → List Words → Type 0
-RoomToPut j ws i rs = Roomy (one-put j ws i) rs (done j (one-put j ws i) rs)
+-- .. after the segments from a to b were drawn on them
+abbrev pub rows_after : Job → List ℕ → ℕ → ℕ → List Words → List Words
+rows_after j ws a b rs = done j (puts j ws a (b - a)) rs
+
+-- each row that is put on has room for what all the puts make of it
+abbrev pub RoomFor : Job → List Put → List Words → Type 0
+RoomFor j ps rs = Roomy ps rs (done j ps rs)
+
+-- the records are those of a screen's rows, and the job's numbers are in their bounds
+abbrev pub RecordsOf : Job → List ℕ → Type 0
+RecordsOf j rows = Rowed j (count-rows rows) rows
+
+-- the segments before b are in the list
+abbrev pub InList : List ℕ → ℕ → Type 0
+InList ws b = 5 * b ≤ length ws
+
+-- segment i is there, and good
+abbrev pub GoodAt : List ℕ → ℕ → Type 0
+GoodAt ws i = (5 * i + 5 ≤ length ws) × (good-segment (seg-at ws i) ≡ true)
+
+-- segment i has alpha values
+abbrev pub NotSolid : List ℕ → ℕ → Type 0
+NotSolid ws i = (seg-at ws i).kind ≡ 0 → ⊥

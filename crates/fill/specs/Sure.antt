@@ -1,12 +1,13 @@
 -- What a sure look finds: room on a row for the most that its segments can come to.
 use Rattle.std.specs.Prelude.{ℕ, ◌+◌, ◌-◌, ◌/◌, ◌≤◌, ◌<◌, ◌≡◌, true, false, List, get_or}
-use Rattle.sizes.specs.Sizes.{renders-at, depths-at, levels-at}
+use Rattle.sizes.specs.Sizes.{tile-height, renders-at, depths-at, levels-at}
 use Rattle.rules.specs.Segments.{judge-segments}
 use Rattle.row.specs.Building.{good_row}
 use Rattle.row.specs.Room.{record-at}
 use Rattle.segments.specs.Segs.{segs}
 use Rattle.fill.specs.declared.rows.Job.{Job}
-use Rattle.fill.specs.Tallies.{tally_cuts, verdict, cuts-of, none_yet, list-number}
+use Rattle.fill.specs.Filling.{cuts-of}
+use Rattle.fill.specs.Tallies.{tally_cuts, verdict, none_yet, list-number}
 
 -- n among m segments, which a usize can count
 pub record Few (m n : ℕ) : Type 0 where
@@ -21,7 +22,7 @@ pub record Roomed (j : Job) (s : List ℕ) (m n : ℕ) : Type 0 where
 
 -- .. if row r is one of the scene's
 abbrev pub RoomAt : Job → List ℕ → ℕ → ℕ → ℕ → Type 0
-RoomAt j rows r m n = j.scene.rows.first ≤ r → r < j.scene.rows.end → Roomed j (record-at rows (r - j.scene.y / 4)) m n
+RoomAt j rows r m n = j.scene.rows.first ≤ r → r < j.scene.rows.end → Roomed j (record-at rows (r - j.scene.y / tile-height)) m n
 
 -- the number of the segments from a to b
 abbrev pub number_in : Job → List ℕ → List ℕ → ℕ → ℕ → ℕ

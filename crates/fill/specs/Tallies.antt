@@ -1,24 +1,25 @@
 -- A running tally over the cut segments of a list: the counts of the row at hand, loaded from its record when the row changes.
-use Rattle.std.specs.Prelude.{ℕ, ◌+◌, ◌-◌, ◌*◌, ◌/◌, ◌≤◌, ◌≡◌, Bool, false, ◌||◌, cond, List, [], ◌∷◌, ltb, eqb, get_or, length}
+use Rattle.std.specs.Prelude.{ℕ, ◌+◌, ◌*◌, ◌/◌, ◌≤◌, ◌≡◌, Bool, true, false, ◌||◌, cond, List, [], ◌∷◌, ltb, eqb, get_or, length}
 use Rattle.std.specs.Prelude.{Option, None, Some, Result, Ok, Err}
-use Rattle.sizes.specs.Sizes.{tile-end, most-layers, most-room, most-rows, row-size, renders-at, depths-at, levels-at}
-use Rattle.rules.specs.Lists.{join}
+use Rattle.sizes.specs.Sizes.{tile-end, tile-height, most-layers, most-room, most-rows, row-size, renders-at, depths-at, levels-at}
 use Rattle.rules.specs.Answers.{Done, BadRecord, BadOrder, FullRow, FullDepth}
 use Rattle.rules.specs.Spans.{Span}
-use Rattle.rules.specs.Segments.{Cut, cut_in}
+use Rattle.rules.specs.Segments.{Cut}
 use Rattle.rules.specs.Plans.{draw-act}
 use Rattle.rules.specs.Steps.{do-act}
 use Rattle.sizes.specs.Widths.{bucket-tiles}
 use Rattle.row.specs.Counts as count
 use Rattle.row.specs.Counts.{counts, count-ops}
 use Rattle.row.specs.Building.{good_row}
-use Rattle.segments.specs.Segs.{segs, origin, bounds, Starts}
+use Rattle.segments.specs.Segs.{origin, bounds, Starts}
 use Rattle.fill.specs.declared.rows.Job.{Job}
 use Rattle.row.specs.declared.room.Limits.{Limits}
 use Rattle.row.specs.declared.room.Hand.{Hand}
 use Rattle.sizes.specs.declared.answers.Refusal.{Refusal}
 use Rattle.sizes.specs.declared.answers.Refusal.TheVariants as refusal
-use Rattle.row.specs.Room.{record-at, limits, Counted, hand_of, at-hand, loaded, added_to}
+use Rattle.row.specs.declared.room.Fault.{Fault}
+use Rattle.sizes.specs.Refusals.{number_of}
+use Rattle.row.specs.Room.{record-at, limits, Counted, hand_of, at-hand, loaded, added_to, fault_number}
 
 -- the counts of the row at hand, and whether a row has passed its room so far
 pub record Tally : Type 0 where
@@ -75,10 +76,6 @@ abbrev pub verdict : Option Tally → ℕ
 verdict None = BadRecord
 verdict (Some t) = cond t.full FullRow (cond t.deep FullDepth Done)
 
--- what is left of the segments from a to b
-abbrev pub cuts-of : Job → List ℕ → ℕ → ℕ → List Cut
-cuts-of j ws a b = join (cut_in (origin j.scene) (bounds j.scene)) (segs ws a (b - a))
-
 -- no row at hand: 8,192 is no row
 abbrev pub none_yet : Tally
 none_yet = record { row = tile-end; renders = 0; depths = 0; levels = 0; full = false; deep = false }
@@ -89,13 +86,22 @@ pub record Rowed (j : Job) (n : ℕ) (rows : List ℕ) : Type 0 where
   pub d : j.d ≤ most-room
   pub layers : j.layers ≤ most-layers
   pub starts : Starts (origin j.scene) (bounds j.scene)
-  pub bottom : j.scene.rows.end ≤ j.scene.y / 4 + n
+  pub bottom : j.scene.rows.end ≤ j.scene.y / tile-height + n
   pub long : length rows ≡ n * row-size
   pub few : n ≤ most-rows
 
 -- the number of a list and of its rows: 4 for either, then the list's, then the rows'
 abbrev pub list-number : ℕ → ℕ → ℕ
 list-number a v = cond (eqb a BadRecord) BadRecord (cond (eqb v BadRecord) BadRecord (cond (eqb a Done) v a))
+
+-- answers that come before those of ids and attributes
+abbrev pub early : ℕ → Bool
+early n = eqb n BadRecord || eqb n BadOrder
+
+-- what judging a list gives, n being its number: 4 or 5 at once, or what was found, which waits
+abbrev pub Listed : ℕ → Result Fault Refusal → Type 0
+Listed n (Ok f) = (fault_number f ≡ n) × (early n ≡ false)
+Listed n (Err x) = (number_of x ≡ n) × (early n ≡ true)
 
 -- the same hand, and 5 from here on unless the order is kept
 abbrev pub marked_by : Counted → Bool → Counted

@@ -1,16 +1,17 @@
-//! Judging a fill's segments and the rows that they come to (answers 4, 5, 10 and 11), in one pass, before anything is done: by a sure look,
-//! and exactly where that look is not sure. Parts.
-ghost use Rattle.std.specs.Prelude.{◌≡◌, true, false, ◌-◌, ◌*◌, ◌≤◌, ◌<◌, length};
-ghost use Rattle.sizes.specs.Sizes.{tile-end, most-layers, most-room, row-size};
-ghost use Rattle.sizes.specs.Refusals.{answer_number};
-ghost use Rattle.rules.specs.Segments.{cut_in, good-segment, judge-segments};
+//! Judging a fill's segments and the rows that they come to (BadRecord, BadOrder, FullRow and FullDepth), in one pass, before anything is done: by a sure look,
+//! and exactly where that look is not sure.
+ghost use Rattle.std.specs.Prelude.{◌≡◌, true, ◌≤◌, ◌<◌, length};
+ghost use Rattle.sizes.specs.Sizes.{most-layers, most-room, row-size};
+ghost use Rattle.rules.specs.Segments.{good-segment};
 ghost use Rattle.span.specs.Spans.{tiles};
 ghost use Rattle.sizes.specs.Widths.{bucket-tiles};
 ghost use Rattle.row.specs.Counts.{counts};
-ghost use Rattle.segments.specs.Segs.{segs, segment-of, origin, bounds};
-ghost use Rattle.row.specs.Arena.{count-rows};
-ghost use Rattle.row.specs.Room.{at-hand, Low};
-ghost use Rattle.fill.specs.Tallies.{edge_count, added, tally_cuts, verdict, cuts-of, none_yet, marked_by, limits_of, hand_cuts, Took, list-number, Rowed};
+ghost use Rattle.segments.specs.Segs.{segment-of};
+ghost use Rattle.row.specs.Cmds.{Short};
+ghost use Rattle.row.specs.Room.{at-hand, Low, Told};
+ghost use Rattle.fill.specs.Tallies.{edge_count, added, marked_by, limits_of, hand_cuts, Took, Listed};
+ghost use Rattle.fill.specs.Filling.{cut_for};
+ghost use Rattle.fill.specs.Named.{RecordsOf, InList};
 ghost use Rattle.fill.specs.Sure.{Few, Roomed, RoomAt, number_in};
 
 use crate::rows::Job;
@@ -21,7 +22,7 @@ use row::room::{Counts, Fault, Hand, Limits, NO_ROW, ONE_COMMAND, turn_to};
 use segments::{NO_SEGMENT, Segment, place, segment_at};
 use sizes::answers::Refusal;
 use sizes::width::Width;
-use sizes::{DEPTHS, LEVELS, RENDERS, ROW, TILE_ALPHAS, TILE_END};
+use sizes::{DEPTHS, LEVELS, RENDERS, ROW, SEGMENT, TILE_ALPHAS, TILE_END, TILE_HEIGHT};
 use span::Stretch;
 
 // One piece, if there are tiles from first to end.
@@ -33,7 +34,7 @@ fn edge(first: u32, end: u32) -> usize
 
 // What a stretch becomes, on a row that has its layers.
 fn added_by(eligible: bool, stretch: Stretch, width: Width) -> Counts
-    requires { (stretch.tiles.first ≤ tile-end) × (stretch.tiles.«end» ≤ tile-end) }
+    requires { Short (tiles stretch.tiles) }
     ensures { counts result.renders result.depths 0 ≡ added (bucket-tiles width) eligible (tiles stretch.tiles) stretch.alpha }
 {
     if is_unsplit(eligible, stretch.alpha) {
@@ -52,7 +53,7 @@ fn added_by(eligible: bool, stretch: Stretch, width: Width) -> Counts
     }
 }
 
-// BadOrder, 5, is found from here on, unless the order is kept.
+// BadOrder is found from here on, unless the order is kept.
 fn mark(hand: Hand, follows: bool) -> Hand
     ensures { at-hand result ≡ marked_by (at-hand hand) follows }
 {
@@ -76,11 +77,13 @@ fn limits_of(job: Job) -> Limits
     }
 }
 
-// One more good segment: BadRecord, 4, where it gets on a row whose record is bad.
+// One more good segment: BadRecord where it gets on a row whose record is bad.
 #[inline(never)]
 fn judge_segment(rows: &[u32], job: Job, hand: Hand, segment: Segment) -> Result<Hand, Refusal>
-    requires { Rowed job (count-rows rows.now) rows.now × (good-segment (segment-of segment) ≡ true) × Low (at-hand hand) }
-    ensures { Took (hand_cuts job rows.now (at-hand hand) (cut_in (origin job.scene) (bounds job.scene) (segment-of segment))) result }
+    requires rows { RecordsOf job rows.now }
+    requires segment { good-segment (segment-of segment) ≡ true }
+    requires hand { Low (at-hand hand) }
+    ensures { Took (hand_cuts job rows.now (at-hand hand) (cut_for job (segment-of segment))) result }
 {
     let Some(placed) = place(segment, job.scene) else {
         return Ok(hand);
@@ -94,10 +97,20 @@ fn judge_segment(rows: &[u32], job: Job, hand: Hand, segment: Segment) -> Result
     Ok(turned.add(limits, more))
 }
 
-// One by one: 4 for a bad segment or for the bad record of a row that gets one, then 5 for their order, then 10, then 11.
-fn judge_each(rows: &[u32], list: &[u32], start: usize, end: usize, job: Job) -> Result<(), Refusal>
-    requires { Rowed job (count-rows rows.now) rows.now × (start ≤ «end») × (5 * «end» ≤ length list.now) }
-    ensures { answer_number result ≡ list-number (judge-segments false (segs list.now start («end» - start))) (verdict (tally_cuts job rows.now none_yet (cuts-of job list.now start «end»))) }
+// One by one: BadRecord for a bad segment or for the bad record of a row that gets one, at once; else BadOrder, FullRow or FullDepth, if found. Out of line:
+// in line its numbers take the registers of the loop that draws.
+#[inline(never)]
+fn judge_each(
+    rows: &[u32],
+    list: &[u32],
+    start: usize,
+    end: usize,
+    job: Job,
+) -> Result<Fault, Refusal>
+    requires rows { RecordsOf job rows.now }
+    requires range { start ≤ «end» }
+    requires list { InList list.now «end» }
+    ensures { Told (number_in job rows.now list.now start «end») result }
 {
     let mut last = NO_SEGMENT;
     let mut hand = NO_ROW;
@@ -109,13 +122,16 @@ fn judge_each(rows: &[u32], list: &[u32], start: usize, end: usize, job: Job) ->
         hand = judge_segment(rows, job, mark(hand, last.precedes(next)), next)?;
         last = next;
     }
-    hand.found.answer()
+    Ok(hand.found)
 }
 
 // The row's record is good, with room for the most that so many segments come to: a command each, and for each of the `split` solid ones that
 // may be split a command and a depth fill more.
 fn has_room(state: &[u32], job: Job, segments: usize, split: usize) -> bool
-    requires { (length state.now ≡ row-size) × (job.c ≤ most-room) × (job.d ≤ most-room) × (job.layers ≤ most-layers) × Few segments split }
+    requires words { length state.now ≡ row-size }
+    requires room { (job.c ≤ most-room) × (job.d ≤ most-room) }
+    requires layers { job.layers ≤ most-layers }
+    requires few { Few segments split }
     ensures { result ≡ true → Roomed job state.now segments split }
 {
     if !is_good_row(state, job.c, job.d, job.layers) {
@@ -128,30 +144,33 @@ fn has_room(state: &[u32], job: Job, segments: usize, split: usize) -> bool
 
 // The same of a row of the scene, by its number there; of any other row nothing is asked.
 fn has_room_at(rows: &[u32], job: Job, row: u32, segments: usize, split: usize) -> bool
-    requires { Rowed job (count-rows rows.now) rows.now × Few segments split }
+    requires rows { RecordsOf job rows.now }
+    requires few { Few segments split }
     ensures { result ≡ true → RoomAt job rows.now row segments split }
 {
     if job.scene.rows.end <= row || row < job.scene.rows.first {
         return true;
     }
-    let state = part(rows, ROW, (row - job.scene.y / 4) as usize);
+    let state = part(rows, ROW, (row - job.scene.y / TILE_HEIGHT) as usize);
     has_room(state, job, segments, split)
 }
 
 // Yes only where the exact number is 0: rows rise, each segment is good and in order, and each row has room for the most that its segments come
 // to, looked at once for all of them.
 fn is_sure(rows: &[u32], list: &[u32], start: usize, end: usize, job: Job) -> bool
-    requires { Rowed job (count-rows rows.now) rows.now × (start < «end») × (5 * «end» ≤ length list.now) }
+    requires rows { RecordsOf job rows.now }
+    requires range { start < «end» }
+    requires list { InList list.now «end» }
     ensures { result ≡ true → number_in job rows.now list.now start «end» ≡ 0 }
 {
     let weight: usize = if job.eligible { 1 } else { 0 };
-    let mut row = list[5 * start + 1];
+    let mut row = list[SEGMENT * start + 1];
     let mut from = start;
     let mut edge: u32 = 0;
     let mut split: usize = 0;
     let mut i = start;
     while i < end {
-        let at = 5 * i;
+        let at = SEGMENT * i;
         let here = list[at + 1];
         if here != row {
             if here < row || !has_room_at(rows, job, row, i - from, split) {
@@ -186,19 +205,25 @@ fn is_sure(rows: &[u32], list: &[u32], start: usize, end: usize, job: Job) -> bo
     row < TILE_END && has_room_at(rows, job, row, i - from, split)
 }
 
-/// The segments from start to end of a list: 4 for a bad one or for the bad record of a row that gets one, then 5 for their order, then 10, then 11.
+/// The segments from start to end of a list: BadRecord for a bad one or for the bad record of a row that gets one, then BadOrder, at once; else what was found
+/// of the rows, whether one passes C, or D.
 pub fn judge_list(
     rows: &[u32],
     list: &[u32],
     start: usize,
     end: usize,
     job: Job,
-) -> Result<(), Refusal>
-    requires { Rowed job (count-rows rows.now) rows.now × (start ≤ «end») × (5 * «end» ≤ length list.now) }
-    ensures { answer_number result ≡ list-number (judge-segments false (segs list.now start («end» - start))) (verdict (tally_cuts job rows.now none_yet (cuts-of job list.now start «end»))) }
+) -> Result<Fault, Refusal>
+    requires rows { RecordsOf job rows.now }
+    requires range { start ≤ «end» }
+    requires list { InList list.now «end» }
+    ensures { Listed (number_in job rows.now list.now start «end») result }
 {
     if start < end && is_sure(rows, list, start, end, job) {
-        return Ok(());
+        return Ok(Fault::Nothing);
     }
-    judge_each(rows, list, start, end, job)
+    match judge_each(rows, list, start, end, job)? {
+        Fault::BadOrder => Err(Refusal::BadOrder),
+        fault => Ok(fault),
+    }
 }

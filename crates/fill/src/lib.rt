@@ -2,76 +2,54 @@
 //! story of a tile.
 #![tactic(auto)]
 
-ghost use Rattle.std.specs.Prelude.{◌≡◌, ◌||◌, ◌+◌, ◌/◌, ◌≤◌, ◌<◌, eqb, length};
-ghost use Rattle.sizes.specs.Sizes.{most-attrs, last-id};
+ghost use Rattle.std.specs.Prelude.{◌≡◌, true, ◌/◌, ◌<◌, eqb, length, IfOk, OnOk, OnErr};
 ghost use Rattle.sizes.specs.Refusals.{answer_number};
-ghost use Rattle.rules.specs.Answers.{answer, BadRecord, BadOrder};
+ghost use Rattle.rules.specs.Answers.{answer};
+ghost use Rattle.rules.specs.Boxes.{good_viewport};
 ghost use Rattle.rules.specs.Inputs.{good-paint, draw-paint};
-ghost use Rattle.rules.specs.Spans.{good-range};
 ghost use Rattle.rules.specs.Plans.{eligible};
-ghost use Rattle.row.specs.Rows.{all-held, SameRows};
-ghost use Rattle.screen.specs.Screens.{counted};
-ghost use Rattle.fill.specs.Fills.{draw-of, paint-at, paints-of, good-draw-at, good-fill-at, job_of, lent, first_number, fill_number, filled, Passing};
+ghost use Rattle.rect.specs.Rects.{box_of};
+ghost use Rattle.row.specs.Rows.{SameRows};
+ghost use Rattle.screen.specs.Screens.{good_screen};
+ghost use Rattle.inputs.specs.Inputs.{draw-of};
+ghost use Rattle.fill.specs.Fills.{paint-at, paints-of, good-draw-at, good-fill-at, job_of, first-of-lent, fill_number, fill_done, filled};
+ghost use Rattle.fill.specs.Named.{lent_of};
 
 use crate::judge::judge_list;
 use crate::rows::{Job, fill_rows};
 use cmd::attrs::{PaintFillAttrs, put_paint_attrs};
-use cmd::blend::Blend;
+use inputs::Draw;
 use row::Rows;
 use screen::{Screen, judge_screen};
 use segments::scene_of;
 use sizes::answers::Refusal;
-use sizes::{HANDLE_END, LAST_ID, MOST_ATTRS, MOST_RECORDS, PAINT_TABLE, PANEL_END, THREAD_END};
+use sizes::{HANDLE_END, LAST_ID, MOST_ATTRS, MOST_RECORDS, PAINT, PAINT_TABLE, SEGMENT};
 
 pub mod judge;
 pub mod rows;
-
-/// Segments start to end of a list, painted with the paint at a place of a paint list (record.rs, RecordedFill). The thread is that of their alpha values;
-/// `mask` is a handle, or 0 for none.
-#[derive(Clone, Copy)]
-pub struct Draw {
-    pub thread: u32,
-    pub start: usize,
-    pub end: usize,
-    pub paint: u32,
-    pub blend: Blend,
-    pub mask: u32,
-    pub panel: u32,
-}
-
-// A range of a list of `count`.
-fn is_range(start: usize, end: usize, count: usize) -> bool
-    ensures { result ≡ good-range start «end» count }
-{
-    start <= end && end <= count
-}
 
 // Whether a paint's opaque flag and handle are in their bounds.
 fn is_good_paint(paints: &[u32], paint: usize) -> bool
     requires { paint < length paints.now / 4 }
     ensures { result ≡ good-paint (paint-at paints.now paint) }
 {
-    paints[4 * paint] <= 1 && paints[4 * paint + 1] < HANDLE_END
+    paints[PAINT * paint] <= 1 && paints[PAINT * paint + 1] < HANDLE_END
 }
 
 // The draw's own fields, and the paint that it names (answer 4).
+#[tactic(auto, unfolding(inputs::specs::Inputs::draw_fields))]
 fn is_good_draw(paints: &[u32], segments: &[u32], draw: Draw) -> bool
     ensures { result ≡ good-draw-at paints.now segments.now draw }
 {
-    draw.thread < THREAD_END
-        && is_range(draw.start, draw.end, segments.len() / 5)
-        && (draw.paint as usize) < paints.len() / 4
+    draw.is_good(paints.len() / PAINT, segments.len() / SEGMENT)
         && is_good_paint(paints, draw.paint as usize)
-        && draw.blend.is_good()
-        && draw.mask < HANDLE_END
-        && draw.panel < PANEL_END
 }
 
 // The same, and how many paints are lent (answer 4).
 fn is_good_fill(paints: &[u32], segments: &[u32], draw: Draw) -> bool
     ensures { result ≡ good-fill-at paints.now segments.now draw }
 {
-    paints.len() / 4 <= MOST_RECORDS && is_good_draw(paints, segments, draw)
+    paints.len() / PAINT <= MOST_RECORDS && is_good_draw(paints, segments, draw)
 }
 
 /// Rule 6: whether the solid segments of a draw may become depth fills. No layer is open, the blend is the default, there is no mask, and the paint is opaque.
@@ -80,12 +58,17 @@ pub fn is_eligible(layers: u32, paints: &[u32], draw: Draw) -> bool
     requires { draw.paint < length paints.now / 4 }
     ensures { result ≡ eligible (eqb layers 0) (draw-paint (paints-of paints.now) (draw-of draw)) (draw-of draw) }
 {
-    layers == 0 && draw.blend.is_default() && draw.mask == 0 && paints[4 * draw.paint as usize] == 1
+    layers == 0
+        && draw.blend.is_default()
+        && draw.mask == 0
+        && paints[PAINT * draw.paint as usize] == 1
 }
 
 // What the segments of the draw have in common.
 fn job_of(screen: Screen, paints: &[u32], draw: Draw) -> Job
-    requires { Passing screen × (draw.paint < length paints.now / 4) }
+    requires viewport { good_viewport (box_of screen.viewport) ≡ true }
+    requires numbers { good_screen screen ≡ true }
+    requires paint { draw.paint < length paints.now / 4 }
     ensures { result ≡ job_of screen paints.now draw }
 {
     Job {
@@ -100,34 +83,34 @@ fn job_of(screen: Screen, paints: &[u32], draw: Draw) -> Job
     }
 }
 
-// What the screen and the lengths of what is lent say: 2, then 1, then 4.
+// What the screen and the lengths of what is lent say: BadViewport, then BadArena, then BadRecord.
 #[tactic(auto, unfolding(crate::specs::Fills::first_number))]
 fn judge_lent(
     screen: Screen,
-    rows: usize,
-    render: usize,
-    fills: usize,
-    table: usize,
-    paints: usize,
-    segments: usize,
+    rows: &Rows<'_>,
+    paint_attrs: &[u32],
+    paints: &[u32],
+    segments: &[u32],
 ) -> Result<(), Refusal>
-    ensures { answer_number result ≡ first_number screen rows render fills table paints segments }
+    ensures { answer_number result ≡ first-of-lent (lent_of screen rows.now paint_attrs.now) paints.now segments.now }
 {
-    judge_screen(screen, rows, render, fills)?;
-    if table != PAINT_TABLE || paints % 4 != 0 || segments % 5 != 0 {
+    judge_screen(
+        screen,
+        rows.state.len(),
+        rows.render.len(),
+        rows.fills.len(),
+    )?;
+    if paint_attrs.len() != PAINT_TABLE
+        || paints.len() % PAINT != 0
+        || segments.len() % SEGMENT != 0
+    {
         return Err(Refusal::BadRecord);
     }
     Ok(())
 }
 
-// Whether a list's answer, 4 or 5, comes before those of ids and attributes, 8 and 9.
-fn comes_first(judged: Result<(), Refusal>) -> bool
-    ensures { result ≡ (eqb (answer_number judged) BadRecord || eqb (answer_number judged) BadOrder) }
-{
-    matches!(judged, Err(Refusal::BadRecord | Refusal::BadOrder))
-}
-
-// A fill, before anything is done: 2, 1, 4, 5, 8, 9 if there is a segment, 10, 11.
+// A fill, before anything is done: BadViewport, BadArena, BadRecord, BadOrder, Ids, FullAttrs if there is a segment, FullRow, FullDepth, in this order. It
+// gives what its segments have in common.
 fn judge_fill(
     screen: Screen,
     rows: &Rows<'_>,
@@ -135,50 +118,32 @@ fn judge_fill(
     paints: &[u32],
     segments: &[u32],
     draw: Draw,
-) -> Result<(), Refusal>
-    ensures { answer_number result ≡ fill_number (lent screen (all-held rows.now) paint_attrs.now) paints.now segments.now draw }
+) -> Result<Job, Refusal>
+    ensures job { IfOk result (λ j. j ≡ job_of screen paints.now draw) }
+    ensures number { answer_number result
+        ≡ fill_number (lent_of screen rows.now paint_attrs.now) paints.now segments.now draw }
 {
-    judge_lent(
-        screen,
-        rows.state.len(),
-        rows.render.len(),
-        rows.fills.len(),
-        paint_attrs.len(),
-        paints.len(),
-        segments.len(),
-    )?;
+    judge_lent(screen, rows, paint_attrs, paints, segments)?;
     if !is_good_fill(paints, segments, draw) {
         return Err(Refusal::BadRecord);
     }
     let job = job_of(screen, paints, draw);
-    let listed = judge_list(rows.state, segments, draw.start, draw.end, job);
-    if comes_first(listed) {
-        return listed;
-    }
+    let fault = judge_list(rows.state, segments, draw.start, draw.end, job)?;
     if LAST_ID < screen.next_draw_id {
         return Err(Refusal::Ids);
     }
     if draw.start == draw.end {
-        return Ok(());
+        return Ok(job);
     }
     if MOST_ATTRS <= screen.paint_attrs {
         return Err(Refusal::FullAttrs);
     }
-    listed
+    fault.answer()?;
+    Ok(job)
 }
 
-// A fill takes an id, and `more` attributes; it ends painting.
-fn take(screen: &mut Screen, more: u32)
-    requires { (screen.old.next_draw_id ≤ last-id) × (screen.old.paint_attrs ≤ most-attrs) × (more ≤ 1) }
-    ensures { screen.new ≡ counted screen.old (screen.old.next_draw_id + 1) (screen.old.paint_attrs + more) screen.old.layer_attrs screen.old.filter_paints }
-{
-    screen.next_draw_id += 1;
-    screen.paint_attrs += more;
-    screen.painting = false;
-}
-
-/// Rules 3 to 7. The lists are lent as words, four a paint and five a segment. BadViewport, BadArena, BadRecord, BadOrder, Ids, FullAttrs, FullRow or FullDepth:
-/// refused, the screen and every lent word stay.
+/// Rules 3 to 7. The lists are lent as words, PAINT a paint and SEGMENT a segment. BadViewport, BadArena, BadRecord, BadOrder, Ids, FullAttrs, FullRow or
+/// FullDepth: refused, the screen and every lent word stay. What is done is what the rules' `plan-fill` says.
 pub fn fill(
     screen: &mut Screen,
     rows: &mut Rows<'_>,
@@ -188,12 +153,18 @@ pub fn fill(
     draw: Draw,
 ) -> Result<(), Refusal>
     ensures same { SameRows rows.old rows.new }
-    ensures filled { answer (answer_number result) (lent screen.new (all-held rows.new) paint_attrs.new)
-        ≡ filled (lent screen.old (all-held rows.old) paint_attrs.old) paints.now segments.now draw }
+    ensures refused { answer_number result
+        ≡ fill_number (lent_of screen.old rows.old paint_attrs.old) paints.now segments.now draw }
+    ensures unchanged { OnErr result
+        (lent_of screen.new rows.new paint_attrs.new ≡ lent_of screen.old rows.old paint_attrs.old) }
+    ensures done { OnOk result (lent_of screen.new rows.new paint_attrs.new
+        ≡ fill_done (lent_of screen.old rows.old paint_attrs.old) paints.now segments.now draw) }
+    ensures filled { answer (answer_number result) (lent_of screen.new rows.new paint_attrs.new)
+        ≡ filled (lent_of screen.old rows.old paint_attrs.old) paints.now segments.now draw }
 {
-    judge_fill(*screen, rows, paint_attrs, paints, segments, draw)?;
+    let job = judge_fill(*screen, rows, paint_attrs, paints, segments, draw)?;
     if draw.start == draw.end {
-        take(screen, 0);
+        screen.take_fill(0);
         return Ok(());
     }
     let attrs = PaintFillAttrs {
@@ -206,9 +177,8 @@ pub fn fill(
         origin_y: screen.viewport.y0,
         panel: draw.panel,
     };
-    let job = job_of(*screen, paints, draw);
     put_paint_attrs(paint_attrs, screen.paint_attrs as usize, attrs);
     fill_rows(rows, segments, draw.start, draw.end, job);
-    take(screen, 1);
+    screen.take_fill(1);
     Ok(())
 }

@@ -27,7 +27,7 @@ use Rattle.screen.specs.declared.Lengths.{Lengths}
 use Rattle.screen.specs.Judging as judging
 use Rattle.screen.specs.Judging.{judged, good-tables, judged_reset}
 use Rattle.screen.specs.Tables.{lengths, ScreenLent, reset_to}
-use Rattle.fill.specs.declared.Draw.{Draw}
+use Rattle.inputs.specs.declared.Draw.{Draw}
 use Rattle.fill.specs.Fills as fills
 use Rattle.fill.specs.Fills.{filled}
 use Rattle.screen.specs.declared.layers.LayerProps.{LayerProps}

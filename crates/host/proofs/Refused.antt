@@ -11,7 +11,7 @@ use Rattle.screen.specs.declared.Screen.{Screen}
 use Rattle.screen.specs.Screens.{fresh-screen}
 use Rattle.screen.specs.Judging.{judged_reset}
 use Rattle.screen.specs.Tables.{Tables, lent, lengths, zeros, zeroed, reset_to}
-use Rattle.fill.specs.declared.Draw.{Draw}
+use Rattle.inputs.specs.declared.Draw.{Draw}
 use Rattle.fill.specs.Fills as fills
 use Rattle.fill.specs.Fills.{filled}
 use Rattle.screen.specs.declared.layers.LayerProps.{LayerProps}

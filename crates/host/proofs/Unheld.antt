@@ -11,7 +11,7 @@ use Rattle.screen.specs.declared.Screen.{Screen}
 use Rattle.screen.specs.Judging.{judged, arenas}
 use Rattle.screen.specs.Tables.{Tables, lengths, lent, reset_to}
 use Rattle.walk.specs.Recorded.{recorded}
-use Rattle.fill.specs.declared.Draw.{Draw}
+use Rattle.inputs.specs.declared.Draw.{Draw}
 use Rattle.fill.specs.Fills as fills
 use Rattle.fill.specs.Fills.{filled}
 use Rattle.screen.specs.declared.layers.LayerProps.{LayerProps}

@@ -12,7 +12,7 @@ use Rattle.rect.specs.Rects.{box_of}
 use Rattle.row.specs.Words.{Words}
 use Rattle.screen.specs.Tables.{Tables, ScreenLent, lent, reset_to}
 use Rattle.walk.specs.Recorded.{recorded}
-use Rattle.fill.specs.declared.Draw.{Draw}
+use Rattle.inputs.specs.declared.Draw.{Draw}
 use Rattle.fill.specs.Fills as fills
 use Rattle.fill.specs.Fills.{filled}
 use Rattle.screen.specs.declared.layers.LayerProps.{LayerProps}
@@ -20,7 +20,7 @@ use Rattle.layers.specs.Push as push
 use Rattle.layers.specs.Push.{pushed}
 use Rattle.pop.specs.Pop as pop
 use Rattle.pop.specs.Pop.{popped}
-use Rattle.layers.specs.declared.filter.Placement.{Placement}
+use Rattle.inputs.specs.declared.Filter.{Filter}
 use Rattle.layers.specs.Filter as filter
 use Rattle.layers.specs.Filter.{FilterGiven, filtered}
 use Rattle.walk.specs.Reading.{props_in}
@@ -102,8 +102,8 @@ abbrev pub picture : ℕ → ℕ → Option ℕ
 picture flag handle = cond (eqb flag 1) (Some handle) None
 
 -- the rows, the paint attributes and the filter paints; a flag that is neither 0 nor 1 is refused
-abbrev pub placement : Rect → ℕ → ℕ → Placement
-placement dest x y = record { dest = dest; source_x = x; source_y = y }
+abbrev pub filter-in : Rect → ℕ → ℕ → Option ℕ → Filter
+filter-in dest x y m = record { pixmap = m; dest = dest; source_x = x; source_y = y }
 
 abbrev pub filter-left : Answer filter.FilterLent → Answer (List ℕ × Words × List ℕ × List ℤ)
 filter-left a = answer a.number (screen-words a.value.screen, a.value.words, a.value.paint-attrs, a.value.filter-paints)

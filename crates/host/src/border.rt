@@ -12,8 +12,7 @@ ghost use Rattle.host.specs.State.{refused_at};
 ghost use Rattle.host.specs.Border.{arenas-in, arenas_number, file_number, unasked_number};
 
 use crate::state::{before_4, screen_at};
-use file::form::read_form;
-use file::judge::box_at;
+use file::Recording;
 use paint::Stored;
 use paint::canvas::judge::{judge_begin, judge_runs, judge_skip, judge_step};
 use rect::Rect;
@@ -60,8 +59,8 @@ pub fn refuse_reset(state: &[u32], viewport: Rect, setup: Setup, lent: &Lent<'_>
 fn judge_file(file: &[u32], setup: Setup, lent: &Lent<'_>) -> Result<(), Refusal>
     ensures { answer_number result ≡ file_number file.now (setup-of setup) (arenas-in lent.now) }
 {
-    read_form(file)?;
-    judge_arenas(box_at(file, 1), setup, lent)
+    let recording = Recording::read(file)?;
+    judge_arenas(recording.viewport(), setup, lent)
 }
 
 /// The number of a recording, or of a question about one: 3, 2 or 1 as it would answer, else 4.
@@ -79,7 +78,7 @@ pub fn refuse_recording(state: &[u32], file: &[u32], setup: Setup, lent: &Lent<'
 pub fn refuse_setup(file: &[u32], refusal: Refusal) -> u32
     ensures { result ≡ unasked_number file.now refusal }
 {
-    match read_form(file) {
+    match Recording::read(file) {
         Ok(_) => refusal.number(),
         Err(form) => form.number(),
     }

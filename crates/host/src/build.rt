@@ -6,20 +6,21 @@ ghost use Rattle.screen.specs.Tables.{tables};
 ghost use Rattle.pop.specs.Pop.{lent};
 ghost use Rattle.layers.specs.Filter.{given};
 ghost use Rattle.host.specs.State.{rect};
-ghost use Rattle.host.specs.Building.{reset_call, recording_call, draw, fill_call, clip, props, push_call, pop_call, placement, picture, filter_call};
+ghost use Rattle.host.specs.Building.{reset_call, recording_call, draw, fill_call, clip, props, push_call, pop_call, filter-in, picture, filter_call};
 
 use crate::border::{refuse_build, refuse_recording, refuse_reset, refuse_setup};
 use crate::state::{SetupWords, leave, put_screen, read_setup, screen_of};
 use cmd::blend::Blend;
-use fill::{Draw, fill};
-use layers::{FilterFill, Placement, filter_fill, push_layer};
+use fill::fill;
+use inputs::{Draw, Filter};
+use layers::{FilterFill, filter_fill, push_layer};
 use pop::pop_layer;
 use rect::Rect;
 use row::Rows;
-use screen::layers::{LayerProps, Layers};
+use screen::layers::{Clip, LayerProps, Layers};
 use screen::{Lent, reset};
 use walk::bucket_recording;
-use walk::read::props_at;
+use walk::read::{float_of, pattern_of};
 
 /// Rule 1: a fresh screen of a viewport, in pixels, in a setup. Words that ask for no setup are refused at once, by 2 or 4.
 #[unsafe(no_mangle)]
@@ -163,7 +164,6 @@ pub extern "C" fn coarse_fill(
 }
 
 // What a push is given; its clip is there if the flag is 1.
-#[tactic(auto, unfolding(file::specs::Places::layer_from, file::specs::Places::clip_from))]
 fn props_of(
     mix: u32,
     compose: u32,
@@ -181,13 +181,20 @@ fn props_of(
 ) -> LayerProps
     ensures { result ≡ props mix compose opacity mask flag (clip x0 y0 x1 y1 start «end» thread) panel }
 {
-    let layer = [
-        0, 0, 0, mix, compose, opacity, mask, flag, x0, y0, x1, y1, start, end, thread, 0, 0, 0, 0,
-        0, 0, 0,
-    ];
+    let bbox = Rect { x0, y0, x1, y1 };
+    let clip = Clip {
+        bbox,
+        start,
+        end,
+        thread,
+    };
     LayerProps {
+        blend: Blend { mix, compose },
+        opacity: float_of(opacity),
+        nan: pattern_of(opacity),
+        mask,
+        clip: if flag == 1 { Some(clip) } else { None },
         panel,
-        ..props_at(&layer, 0)
     }
 }
 
@@ -300,7 +307,7 @@ pub extern "C" fn coarse_filter_fill(
     panel: u32,
 ) -> u32
     ensures { answer result (state.new, words rows.new render.new fills.new, paint_attrs.new, filter_paints.new)
-        ≡ filter_call has_pixmap (given (placement (rect x0 y0 x1 y1) source_x source_y) (picture has_pixmap pixmap) paint_count panel) state.old (words rows.old render.old fills.old) paint_attrs.old filter_paints.old }
+        ≡ filter_call has_pixmap (given (filter-in (rect x0 y0 x1 y1) source_x source_y (picture has_pixmap pixmap)) paint_count panel) state.old (words rows.old render.old fills.old) paint_attrs.old filter_paints.old }
 {
     let mut rows = Rows {
         state: rows,
@@ -311,12 +318,12 @@ pub extern "C" fn coarse_filter_fill(
         return refuse_build(state, &rows);
     };
     let layer = FilterFill {
-        placement: Placement {
+        filter: Filter {
+            pixmap: pixmap_of(has_pixmap, pixmap),
             dest: Rect { x0, y0, x1, y1 },
             source_x,
             source_y,
         },
-        pixmap: pixmap_of(has_pixmap, pixmap),
         paint_count,
         panel,
     };

@@ -33,13 +33,13 @@ use Rattle.screen.specs.Screens.{frame-of, state-of, screen-after, good_screen, 
 use Rattle.screen.specs.Judging.{judged}
 use Rattle.rect.proofs.Boxes.{view}
 use Rattle.screen.proofs.ScreenLaws.{bounds, clip, good-clip-of, clip-of, same-layers, paint-count, layer-attr-count, filter-count, layer-count}
-use Rattle.screen.proofs.Passed.{Passed, passed}
+use Rattle.screen.proofs.Passed.{passed}
 use Rattle.row.specs.Room.{rows_told}
 use Rattle.layers.specs.Band.{band_number, each, OnRows}
 use Rattle.layers.proofs.RowsLaws.{puts-each}
 use Rattle.layers.proofs.Numbers.{band-answer, band-step, band-room, paint-adds, run-told}
 use Rattle.std.proofs.lemmas.Bool.Decides.{nat_tests}
-use Rattle.layers.proofs.Passing.{passed-whole, rows-within, either}
+use Rattle.layers.proofs.Passing.{PassedOn, passed-whole, rows-within, either}
 use Rattle.layers.specs.Filter.{FilterGiven, filter-of, good-given, paint-from, attrs-of, FilterLent, lent, plan-of, filter-number, filter-paint-words, after, filtered, own-box}
 
 frame_is : (s : Screen) → (state-of s).frame ≡ frame-of s
@@ -119,10 +119,10 @@ module _ (s : Screen) (k : good_screen s ≡ true) where
 -- the box lies on the screen
 module _ (g : FilterGiven) (s : Screen) (k : good_screen s ≡ true) (v : good_viewport (box_of s.viewport) ≡ true) where
   pub box-bottom : (own-box g s).y1 ≤ height (box_of s.viewport)
-  box-bottom = omega (arith, min-le_right (g.placement.dest.y1 - s.viewport.y0) s.clip_bbox.y1, (clip (box_of s.viewport) (box_of s.clip_bbox) s.layers v (good-clip-of s k)).bottom)
+  box-bottom = omega (arith, min-le_right (g.filter.dest.y1 - s.viewport.y0) s.clip_bbox.y1, (clip (box_of s.viewport) (box_of s.clip_bbox) s.layers v (good-clip-of s k)).bottom)
 
   box-right : (own-box g s).x1 ≤ width (box_of s.viewport)
-  box-right = omega (arith, min-le_right (g.placement.dest.x1 - s.viewport.x0) s.clip_bbox.x1, (clip (box_of s.viewport) (box_of s.clip_bbox) s.layers v (good-clip-of s k)).right)
+  box-right = omega (arith, min-le_right (g.filter.dest.x1 - s.viewport.x0) s.clip_bbox.x1, (clip (box_of s.viewport) (box_of s.clip_bbox) s.layers v (good-clip-of s k)).right)
 
   pub run-within : ((own-box g s).y1 + 3) / 4 ≤ rows_of (box_of s.viewport)
   run-within = rows-within (box_of s.viewport) v (own-box g s).y1 box-bottom
@@ -169,7 +169,7 @@ module _ (g : FilterGiven) (s : Screen) (w : Words) (ps : List ℕ) (fs : List �
 
   module _ (z : judged-at s w ≡ 0) where
     -- the screen's own facts
-    pub fit : Passed s (length w.state) (length w.render) (length w.fills) (rows_of (box_of s.viewport))
+    pub fit : PassedOn s w
     fit = passed s (length w.state) (length w.render) (length w.fills) z
 
     pub whole : Whole (frame-of s) w
@@ -250,7 +250,7 @@ module _ (g : FilterGiven) (s : Screen) (w : Words) (ps : List ℕ) (fs : List �
 
 -- the box and the rows that the code finds
 module _ (g : FilterGiven) (s : Screen) (w : Words) (z : judged-at s w ≡ 0) (b : Rect) (e : box_of b ≡ own-box g s) where
-  ok : Passed s (length w.state) (length w.render) (length w.fills) (rows_of (box_of s.viewport))
+  ok : PassedOn s w
   ok = passed s (length w.state) (length w.render) (length w.fills) z
 
   top-is : b.y0 ≡ (own-box g s).y0
@@ -258,10 +258,6 @@ module _ (g : FilterGiven) (s : Screen) (w : Words) (z : judged-at s w ≡ 0) (b
 
   bottom-is : b.y1 ≡ (own-box g s).y1
   bottom-is = ap (λ (x : Box). x.y1) e
-
-  pub bottom-small : b.y1 ≤ 32768
-  bottom-small =
-      omega (arith, bottom-is, box-bottom g s ok.screen ok.view, (view (box_of s.viewport) ok.view).high)
 
   pub rows-asked : (s.layers ≤ 16) × (s.c ≤ 1024) × ((b.y1 + 3) / 4 ≤ 512) × ((b.y1 + 3) / 4 * 54 ≤ length w.state)
   rows-asked =
@@ -275,17 +271,17 @@ handle-small (Some h) q = ltb-true _ _ q
 
 -- what was given, judged good
 pub record Sound (g : FilterGiven) : Type 0 where
-  pub pixmap : unwrap_or g.pixmap 0 < 2147483648
-  pub left : g.placement.dest.x0 ≤ 32768
-  pub top : g.placement.dest.y0 ≤ 32768
-  pub across : g.placement.source_x ≤ 32768
-  pub down : g.placement.source_y ≤ 32768
+  pub pixmap : unwrap_or g.filter.pixmap 0 < 2147483648
+  pub left : g.filter.dest.x0 ≤ 32768
+  pub top : g.filter.dest.y0 ≤ 32768
+  pub across : g.filter.source_x ≤ 32768
+  pub down : g.filter.source_y ≤ 32768
   pub count : g.count ≤ 4096
 
 pub sound : (g : FilterGiven) → good-given g ≡ true → Sound g
 sound g h =
     let f = filter-of g in
-    let a = good-pixmap g.pixmap in
+    let a = good-pixmap g.filter.pixmap in
     let b = good-dest f.dest in
     let c = leb f.source-x 32768 in
     let d = leb f.source-y 32768 in
@@ -296,7 +292,7 @@ sound g h =
     let h4 = both a b h3.0 in
     let k = dest-facts f h1.0 in
     record {
-      pixmap = handle-small g.pixmap h4.0;
+      pixmap = handle-small g.filter.pixmap h4.0;
       left = omega (arith, k.across, k.right);
       top = omega (arith, k.down, k.bottom);
       across = leb-true _ _ h3.1;
@@ -316,7 +312,7 @@ pub record Free (g : FilterGiven) (s : Screen) (w : Words) : Type 0 where
   pub id : s.next_draw_id < 1048577
   pub attr : s.paint_attrs < 1024
   pub paint : s.filter_paints < 256
-  pub on : OnRows s s.layers (acted (bucket-tiles s.width) s.layers (own-act g s)) ((own-box g s).y0 / 4) (((own-box g s).y1 + 3) / 4) w
+  pub on : OnRows s (acted (bucket-tiles s.width) s.layers (own-act g s)) ((own-box g s).y0 / 4) (((own-box g s).y1 + 3) / 4) w
 
 module _ (g : FilterGiven) (s : Screen) (w : Words) (ps : List ℕ) (fs : List ℤ) (q : filter-number g (lent s w ps fs) ≡ 0) where
   zero : judged-at s w ≡ 0
@@ -351,7 +347,7 @@ module _ (g : FilterGiven) (s : Screen) (w : Words) (ps : List ℕ) (fs : List �
     short =
         let f = fit g s w ps fs ready.zero in
         let b = own-box g s in
-        let e = (neither (is_none g.pixmap) (empty-box b) d).1 in
+        let e = (neither (is_none g.filter.pixmap) (empty-box b) d).1 in
         let l = leb-false b.x1 b.x0 (neither (leb b.x1 b.x0) (leb b.y1 b.y0) e).0 in
         let r = box-right g s f.screen f.view in
         let v = (view (box_of s.viewport) f.view).wide in
@@ -418,14 +414,14 @@ module _ (g : FilterGiven) (s : Screen) (w : Words) (ps : List ℕ) (fs : List �
     drawn-attr = rw (drop_at (state-of s).attrs.paints _ s.paint_attrs (paint-count s), filter-count s, next-is s, frame_is s)
 
     drawn-paint : join filter-paint-words (drop s.filter_paints drawn.attrs.filters)
-        ≡ pos 0 ∷ pos (unwrap_or g.pixmap 0) ∷ sub_ℕ g.placement.source_x g.placement.dest.x0 ∷ sub_ℕ g.placement.source_y g.placement.dest.y0 ∷ []
+        ≡ pos 0 ∷ pos (unwrap_or g.filter.pixmap 0) ∷ sub_ℕ g.filter.source_x g.filter.dest.x0 ∷ sub_ℕ g.filter.source_y g.filter.dest.y0 ∷ []
     unfolding plan-filter-in
     drawn-paint = rw (drop_at (state-of s).attrs.filters _ s.filter_paints (filter-count s))
 
     pub after-drawn : (x : Screen) (ws : Words) (t : Span) (b : Rect) → box_of b ≡ own-box g s → t ≡ span_of (box_of b)
         → x ≡ counted s (s.next_draw_id + 1) (s.paint_attrs + 1) s.layer_attrs (s.filter_paints + 1)
         → ws ≡ lay (each (acted (bucket-tiles s.width) s.layers (paint t None s.paint_attrs)) (range (b.y0 / 4) ((b.y1 + 3) / 4)) (rows_at (frame-of s) w))
-        → lent x ws (put-paint ps s.paint_attrs (attrs-of s g.count g.panel)) (put-filter fs s.filter_paints (paint-from g.placement.dest g.placement.source_x g.placement.source_y (unwrap_or g.pixmap 0))) ≡ after g (lent s w ps fs)
+        → lent x ws (put-paint ps s.paint_attrs (attrs-of s g.count g.panel)) (put-filter fs s.filter_paints (paint-from g.filter.dest g.filter.source_x g.filter.source_y (unwrap_or g.filter.pixmap 0))) ≡ after g (lent s w ps fs)
     unfolding after
     after-drawn x ws t b e f h i =
         rw (
@@ -448,7 +444,7 @@ told-by g s b t e h = sym (ap (λ (x : Box). draws-nothing (filter-of g) x) e) �
 -- what painting its rows asks
 pub paint-asked : (g : FilterGiven) (s : Screen) (w : Words) (ps : List ℕ) (fs : List ℤ) (q : filter-number g (lent s w ps fs) ≡ 0) (d : draws-nothing (filter-of g) (own-box g s) ≡ false)
     (b : Rect) (t : Span) → box_of b ≡ own-box g s → t ≡ span_of (box_of b)
-    → Short t × OnRows s s.layers (acted (bucket-tiles s.width) s.layers (paint t None s.paint_attrs)) (b.y0 / 4) ((b.y1 + 3) / 4) w
+    → Short t × OnRows s (acted (bucket-tiles s.width) s.layers (paint t None s.paint_attrs)) (b.y0 / 4) ((b.y1 + 3) / 4) w
 paint-asked g s w ps fs q d b t e f =
     let z = (ready g s w ps fs q).zero in
     rw (f ∙ ap span_of e, top-is g s w z b e, bottom-is g s w z b e) (short g s w ps fs q d, (free g s w ps fs q d).on)

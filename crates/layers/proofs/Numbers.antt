@@ -202,13 +202,12 @@ module _ (s : Screen) (w : Words) (o : Whole (frame-of s) w) (a : Act) (x b : �
 
   -- where the number is 0, each row has room
   module _ (n : ℕ) (few : n ≤ 16) (layers : s.layers ≤ 16) (ad : Adding s.layers (acted (bucket-tiles s.width) n a)) where
-    room_of : (g f : Bool) → good-run ≡ g → full-run ≡ f → told g f ≡ 0 → OnRows s n (acted (bucket-tiles s.width) n a) x b w
+    room_of : (g f : Bool) → good-run ≡ g → full-run ≡ f → told g f ≡ 0 → OnRows s (acted (bucket-tiles s.width) n a) x b w
     room_of true true p q z = absurd (omega arith)
     room_of false f p q z = absurd (omega arith)
     room_of true false p q z =
         record {
           whole = o;
-          layers = few;
           within = m;
           room = λ i g k.
               let h : i < rows_of (box_of s.viewport) = omega arith in
@@ -228,7 +227,7 @@ module _ (s : Screen) (w : Words) (o : Whole (frame-of s) w) (a : Act) (x b : �
               };
         }
 
-    pub band-room : run-number ≡ 0 → OnRows s n (acted (bucket-tiles s.width) n a) x b w
+    pub band-room : run-number ≡ 0 → OnRows s (acted (bucket-tiles s.width) n a) x b w
     unfolding band_number rows_told
     band-room z = room_of good-run full-run refl refl z
 

@@ -10,7 +10,11 @@ use Rattle.rect.proofs.Boxes.{view}
 use Rattle.screen.proofs.ScreenLaws.{few_rows}
 use Rattle.screen.proofs.Passed.{Passed}
 
-pub passed-whole : (s : Screen) (w : Words) → Passed s (length w.state) (length w.render) (length w.fills) (rows_of (box_of s.viewport)) → Whole (frame-of s) w
+-- a screen that was judged good with the words w
+abbrev pub PassedOn : Screen → Words → Type 0
+PassedOn s w = Passed s (length w.state) (length w.render) (length w.fills) (rows_of (box_of s.viewport))
+
+pub passed-whole : (s : Screen) (w : Words) → PassedOn s w → Whole (frame-of s) w
 passed-whole s w p =
     record {
       rows = few_rows (box_of s.viewport) p.view;

@@ -21,27 +21,26 @@ use Rattle.row.specs.Building.{Whole, rows_at, screen-at, good_rows, step_number
 use Rattle.rect.specs.declared.Rect.{Rect}
 use Rattle.rect.specs.Rects.{box_of}
 use Rattle.screen.specs.declared.Screen.{Screen}
-use Rattle.screen.specs.Screens.{frame-of, state-of, screen-after, good_screen}
+use Rattle.screen.specs.Screens.{frame-of, state-of, screen-after, opened, good_screen}
 use Rattle.screen.specs.Judging.{judged}
-use Rattle.rect.proofs.Boxes.{view}
 use Rattle.screen.proofs.ScreenLaws.{bounds, clip, good-clip-of, clip-of, paint-count, layer-attr-count, filter-count, layer-count}
-use Rattle.screen.proofs.Passed.{Passed, passed}
+use Rattle.screen.proofs.Passed.{passed}
 use Rattle.screen.specs.declared.layers.LayerProps.{LayerProps}
 use Rattle.screen.specs.Layers.{clip-of as clip-in, props-of, good-pattern, good-given, layer-of, layer-words}
 use Rattle.layers.specs.Band.{band_number, each, OnRows}
 use Rattle.layers.proofs.RowsLaws.{puts-each}
 use Rattle.layers.proofs.Numbers.{Adding, band-answer, band-step, band-room, touch-adds, run-told}
 use Rattle.std.proofs.lemmas.Bool.Decides.{nat_tests}
-use Rattle.layers.proofs.Passing.{passed-whole, rows-within, either}
-use Rattle.layers.specs.declared.push.Run.{Run}
-use Rattle.layers.specs.Push.{PushLent, lent, plan-of, push-number, after, pushed, no_run, box-run, touch_run, on-layer}
+use Rattle.layers.proofs.Passing.{PassedOn, passed-whole, rows-within, either}
+use Rattle.std.specs.declared.ops.Range.{Range}
+use Rattle.layers.specs.Push.{PushLent, lent, plan-of, push-number, after, pushed, no_rows, box-rows, touch_rows}
 
 -- the new layer's box, and the rows that it touches at once
 abbrev pub own-box : LayerProps → Screen → Box
 own-box p s = layer-box (box_of s.viewport) (box_of s.clip_bbox) (clip-in p.clip)
 
-abbrev pub own-run : LayerProps → Screen → Run
-own-run p s = touch_run p.blend.compose (own-box p s)
+abbrev pub own-rows : LayerProps → Screen → Range ℕ
+own-rows p s = touch_rows p.blend.compose (own-box p s)
 
 frame_is : (s : Screen) → (state-of s).frame ≡ frame-of s
 unfolding state-of
@@ -70,12 +69,12 @@ module _ (p : LayerProps) (s : Screen) (g : good_screen s ≡ true) where
       let b = bounds s g in
       rw (paint-count s, layer-attr-count s, filter-count s, le-ltb _ _ b.paints, le-ltb _ _ b.layer-attrs, le-ltb _ _ b.filters)
 
-  run-puts : (t : Bool) (b : Box) → cond t (map (on touch) (rows_in b)) [] ≡ map (on touch) (range (cond t (box-run b) no_run).a (cond t (box-run b) no_run).b)
+  run-puts : (t : Bool) (b : Box) → cond t (map (on touch) (rows_in b)) [] ≡ map (on touch) (range (cond t (box-rows b) no_rows).start (cond t (box-rows b) no_rows).end)
   run-puts true b = refl
   run-puts false b = refl
 
-  plan-puts : (plan-of p s).puts ≡ map (on touch) (range (own-run p s).a (own-run p s).b)
-  unfolding plan-push touch_run
+  plan-puts : (plan-of p s).puts ≡ map (on touch) (range (own-rows p s).start (own-rows p s).end)
+  unfolding plan-push touch_rows
   plan-puts = rw (clip-of s g, frame_is s) (run-puts (destructive p.blend.compose && not (empty-box (own-box p s))) (own-box p s))
 
   plan-fine : good-props (props-of p) ≡ true → (plan-of p s).refused ≡ 0
@@ -94,12 +93,12 @@ module _ (p : LayerProps) (s : Screen) (g : good_screen s ≡ true) (v : good_vi
   pub box-bottom : (own-box p s).y1 ≤ height (box_of s.viewport)
   box-bottom = own-bottom (box_of s.viewport) (box_of s.clip_bbox) (clip-in p.clip) (height (box_of s.viewport)) (clip (box_of s.viewport) (box_of s.clip_bbox) s.layers v (good-clip-of s g)).bottom
 
-  run-bottom : (t : Bool) (b : Box) → b.y1 ≤ height (box_of s.viewport) → (cond t (box-run b) no_run).b ≤ rows_of (box_of s.viewport)
+  run-bottom : (t : Bool) (b : Box) → b.y1 ≤ height (box_of s.viewport) → (cond t (box-rows b) no_rows).end ≤ rows_of (box_of s.viewport)
   run-bottom true b h = rows-within (box_of s.viewport) v b.y1 h
   run-bottom false b h = omega arith
 
-  pub run-within : (own-run p s).b ≤ rows_of (box_of s.viewport)
-  unfolding touch_run
+  pub run-within : (own-rows p s).end ≤ rows_of (box_of s.viewport)
+  unfolding touch_rows
   run-within = run-bottom (destructive p.blend.compose && not (empty-box (own-box p s))) (own-box p s) box-bottom
 
 -- the number
@@ -117,7 +116,7 @@ all-right a b c k n e = (grind (arith, nat_tests), grind (arith, nat_tests), gri
 
 module _ (p : LayerProps) (s : Screen) (w : Words) (ls : List ℕ) (os : List Float) where
   abbrev pub rows-number : ℕ
-  rows-number = band_number s.c s.d s.layers w.state (range (own-run p s).a (own-run p s).b)
+  rows-number = band_number s.c s.d s.layers w.state (range (own-rows p s).start (own-rows p s).end)
 
   -- what is told once the screen's own numbers are good
   abbrev pub told : ℕ
@@ -127,7 +126,7 @@ module _ (p : LayerProps) (s : Screen) (w : Words) (ls : List ℕ) (os : List Fl
 
   module _ (z : judged-at s w ≡ 0) where
     -- the screen's own facts
-    pub fit : Passed s (length w.state) (length w.render) (length w.fills) (rows_of (box_of s.viewport))
+    pub fit : PassedOn s w
     fit = passed s (length w.state) (length w.render) (length w.fills) z
 
     pub whole : Whole (frame-of s) w
@@ -143,7 +142,7 @@ module _ (p : LayerProps) (s : Screen) (w : Words) (ls : List ℕ) (os : List Fl
     unfolding band-answer
     band-is h =
         let b = bounds s fit.screen in
-        band-step s w whole touch (own-run p s).a (own-run p s).b (run-within p s fit.screen fit.view) (plan-of p s)
+        band-step s w whole touch (own-rows p s).start (own-rows p s).end (run-within p s fit.screen fit.view) (plan-of p s)
         (plan-fine p s fit.screen h) (plan-puts p s fit.screen) (plan-adds p s fit.screen)
         ∙ rw (plan-deep p s fit.screen, plan-next p s fit.screen, le-ltb 1048577 s.next_draw_id b.ids, plan-attrs p s fit.screen)
 
@@ -159,7 +158,7 @@ module _ (p : LayerProps) (s : Screen) (w : Words) (ls : List ℕ) (os : List Fl
     unfolding push-number step_number
     good-way h =
         let b = band-is h in
-        let t = run-told s.c s.d s.layers w.state (range (own-run p s).a (own-run p s).b) in
+        let t = run-told s.c s.d s.layers w.state (range (own-rows p s).start (own-rows p s).end) in
         grind (arith, nat_tests)
 
     pub tests : push-number p (lent s w ls os) ≡ told
@@ -167,26 +166,21 @@ module _ (p : LayerProps) (s : Screen) (w : Words) (ls : List ℕ) (os : List Fl
 
 -- the box and the rows that the code finds
 module _ (p : LayerProps) (s : Screen) (w : Words) (z : judged-at s w ≡ 0) (b : Rect) (e : box_of b ≡ own-box p s) where
-  ok : Passed s (length w.state) (length w.render) (length w.fills) (rows_of (box_of s.viewport))
+  ok : PassedOn s w
   ok = passed s (length w.state) (length w.render) (length w.fills) z
 
-  pub bottom-small : b.y1 ≤ 32768
-  bottom-small =
-      let h : b.y1 ≡ (own-box p s).y1 = ap (λ (x : Box). x.y1) e in
-      omega (arith, box-bottom p s ok.screen ok.view, (view (box_of s.viewport) ok.view).high)
+  module _ (r : Range ℕ) (f : r ≡ touch_rows p.blend.compose (box_of b)) where
+    pub rows_is : r ≡ own-rows p s
+    rows_is = f ∙ ap (touch_rows p.blend.compose) e
 
-  module _ (r : Run) (f : r ≡ touch_run p.blend.compose (box_of b)) where
-    pub run_is : r ≡ own-run p s
-    run_is = f ∙ ap (touch_run p.blend.compose) e
-
-    pub rows-asked : (s.layers ≤ 16) × (s.c ≤ 1024) × (r.b ≤ 512) × (r.b * 54 ≤ length w.state)
+    pub rows-asked : (s.layers ≤ 16) × (s.c ≤ 1024) × (r.end ≤ 512) × (r.end * 54 ≤ length w.state)
     rows-asked =
-        let h : r.b ≤ rows_of (box_of s.viewport) = rw run_is (run-within p s ok.screen ok.view) in
+        let h : r.end ≤ rows_of (box_of s.viewport) = rw rows_is (run-within p s ok.screen ok.view) in
         let o = passed-whole s w ok in
         ((bounds s ok.screen).deep, o.c, omega (arith, o.rows), omega (arith, ok.row_words))
 
-    pub number-of-rows : (k : ℕ) → k ≡ band_number s.c s.d s.layers w.state (range r.a r.b) → k ≡ band_number s.c s.d s.layers w.state (range (own-run p s).a (own-run p s).b)
-    number-of-rows k h = rw run_is at h
+    pub number-of-rows : (k : ℕ) → k ≡ band_number s.c s.d s.layers w.state (range r.start r.end) → k ≡ band_number s.c s.d s.layers w.state (range (own-rows p s).start (own-rows p s).end)
+    number-of-rows k h = rw rows_is at h
 
 -- what a push judged 0 may rely on
 pub record PushReady (p : LayerProps) (s : Screen) (w : Words) (ls : List ℕ) (os : List Float) : Type 0 where
@@ -194,7 +188,7 @@ pub record PushReady (p : LayerProps) (s : Screen) (w : Words) (ls : List ℕ) (
   pub layers : length ls ≡ open-layer-table
   pub opacities : length os ≡ opacity-count
   pub free : s.layers < 16
-  pub on : OnRows s (s.layers + 1) (acted (bucket-tiles s.width) (s.layers + 1) touch) (own-run p s).a (own-run p s).b w
+  pub on : OnRows s (acted (bucket-tiles s.width) (s.layers + 1) touch) (own-rows p s).start (own-rows p s).end w
 
 module _ (p : LayerProps) (s : Screen) (w : Words) (ls : List ℕ) (os : List Float) (q : push-number p (lent s w ls os) ≡ 0) where
   zero : judged-at s w ≡ 0
@@ -211,7 +205,7 @@ module _ (p : LayerProps) (s : Screen) (w : Words) (ls : List ℕ) (os : List Fl
         opacities = eqb-true _ _ t.1;
         free = omega (arith, t.2);
         on =
-            band-room s w (passed-whole s w f) touch (own-run p s).a (own-run p s).b (run-within p s f.screen f.view) (s.layers + 1) (omega (arith, t.2))
+            band-room s w (passed-whole s w f) touch (own-rows p s).start (own-rows p s).end (run-within p s f.screen f.view) (s.layers + 1) (omega (arith, t.2))
             (omega (arith, t.2)) (touch-adds _ s.layers (omega (arith, t.2))) t.3;
       }
 
@@ -224,20 +218,20 @@ module _ (p : LayerProps) (s : Screen) (w : Words) (ls : List ℕ) (os : List Fl
   unfolding plan-push
   plan-counts = (paint-count s, layer-attr-count s, filter-count s)
 
-  screen-is : screen-after s (plan-of p s) ≡ on-layer s b
+  screen-is : screen-after s (plan-of p s) ≡ opened s b
   unfolding screen-after
   screen-is = rw (plan-deep p s ok-screen, plan-layers p s ok-screen, ← e, plan-next p s ok-screen, plan-counts.0, plan-counts.1, plan-counts.2)
 
-  rows_are : (done Words word-ops (plan-of p s) (screen-at (state-of s) w)).rows ≡ each (acted (bucket-tiles s.width) (s.layers + 1) touch) (range (own-run p s).a (own-run p s).b) (rows_at (frame-of s) w)
+  rows_are : (done Words word-ops (plan-of p s) (screen-at (state-of s) w)).rows ≡ each (acted (bucket-tiles s.width) (s.layers + 1) touch) (range (own-rows p s).start (own-rows p s).end) (rows_at (frame-of s) w)
   unfolding done
-  rows_are = rw (plan-deep p s ok-screen, plan-puts p s ok-screen, frame_is s) (puts-each _ (s.layers + 1) touch (range (own-run p s).a (own-run p s).b) (rows_at (frame-of s) w))
+  rows_are = rw (plan-deep p s ok-screen, plan-puts p s ok-screen, frame_is s) (puts-each _ (s.layers + 1) touch (range (own-rows p s).start (own-rows p s).end) (rows_at (frame-of s) w))
 
-  pub after_is : (x : Screen) (ws : Words) (r : Run) → x ≡ on-layer s b → r ≡ touch_run p.blend.compose (box_of b)
-      → ws ≡ lay (each (acted (bucket-tiles s.width) (s.layers + 1) touch) (range r.a r.b) (rows_at (frame-of s) w))
+  pub after_is : (x : Screen) (ws : Words) (r : Range ℕ) → x ≡ opened s b → r ≡ touch_rows p.blend.compose (box_of b)
+      → ws ≡ lay (each (acted (bucket-tiles s.width) (s.layers + 1) touch) (range r.start r.end) (rows_at (frame-of s) w))
       → lent x ws (words-at ls (open-layer-size * s.layers) (layer-words (layer-of p b) p.nan)) (set os s.layers p.opacity) ≡ after p (lent s w ls os)
   unfolding after
   after_is x ws r f g h =
-      rw (screen-is, rows_are, plan-layers p s ok-screen, f, h, run_is p s w y.zero b e r g, ← e)
+      rw (screen-is, rows_are, plan-layers p s ok-screen, f, h, rows_is p s w y.zero b e r g, ← e)
 
 -- the call
 module _ (p : LayerProps) (l : PushLent) where

@@ -1,15 +1,16 @@
 -- Something done on each row of a run. Assumes nothing.
-use Rattle.std.proofs.Common.{◌≡◌, refl, sym, ap, ◌∙◌, Bool, true, false, List, [], ◌∷◌, map, ℕ, zero, suc, ◌+◌, ◌-◌, ◌≤◌, ◌<◌, arith, eqb, length, get_or, eqb-true}
+use Rattle.std.proofs.Common.{◌≡◌, refl, sym, ap, ◌∙◌, Bool, true, false, List, [], ◌∷◌, map, None, ℕ, zero, suc, ◌+◌, ◌-◌, ◌≤◌, ◌<◌, arith, eqb, length, get_or, eqb-true}
 use borrow.Author.Tests.{eqb-false}
 use Rattle.rules.specs.Lists.{change, count-from, range}
 use Rattle.rules.specs.Boxes.{rows_of}
-use Rattle.rules.specs.Commands.{Command}
-use Rattle.rules.specs.Plans.{Act, on}
+use Rattle.rules.specs.Spans.{Span}
+use Rattle.rules.specs.Commands.{Command, paint-fill}
+use Rattle.rules.specs.Plans.{Act, on, touch, paint}
 use Rattle.rules.specs.Steps.{do-act, do-puts}
 use Rattle.rules.proofs.laws.Changes.{change-length, change-same, change-else}
 use Rattle.row.specs.Words.{Words, words, put_command, word-ops, Room, Grown}
 use Rattle.row.proofs.WordsLaws.{room-first}
-use Rattle.row.specs.Arena.{nowhere, sizes, lay, Long}
+use Rattle.row.specs.Arena.{nowhere, sizes, lay, Long, Ready}
 use Rattle.row.proofs.RowsLaws.{lay-cut}
 use Rattle.row.specs.Acts.{acted, ensured}
 use Rattle.row.proofs.ActsLaws.{Sound, ensured-sound, cmd-sound, acted-sound, layers-then}
@@ -17,9 +18,7 @@ use Rattle.rect.specs.Rects.{box_of}
 use Rattle.screen.specs.declared.Screen.{Screen}
 use Rattle.row.specs.Building.{rows_at}
 use Rattle.screen.specs.Screens.{frame-of}
-use Rattle.layers.specs.declared.rows.Act.{Act as RunAct}
-use Rattle.layers.specs.declared.rows.Act.TheVariants.{Touch, Paint}
-use Rattle.layers.specs.Band.{each, act-of, act-on, OnRow, OnRows}
+use Rattle.layers.specs.Band.{each, OnRows}
 
 module _ (f : Words → Words) where
   pub each-length : (rs : List ℕ) (ws : List Words) → length (each f rs ws) ≡ length ws
@@ -51,8 +50,8 @@ puts-each v n a [] ws = refl
 puts-each v n a (r ∷ rs) ws = puts-each v n a rs (change (acted v n a) r ws)
 
 -- a loop over the rows a to b, at row r
-pub record Banding (s : Screen) (n : ℕ) (f : Words → Words) (a b : ℕ) (w₀ : Words) (r : ℕ) (w : Words) : Type 0 where
-  pub on : OnRows s n f r b w
+pub record Banding (s : Screen) (f : Words → Words) (a b : ℕ) (w₀ : Words) (r : ℕ) (w : Words) : Type 0 where
+  pub on : OnRows s f r b w
   pub rest : each f (range r b) (rows_at (frame-of s) w) ≡ each f (range a b) (rows_at (frame-of s) w₀)
 
 one_less : (b r : ℕ) → r < b → b - r ≡ suc (b - (r + 1))
@@ -64,33 +63,28 @@ none_left b r h = omega arith
 next : (r : ℕ) → suc r ≡ r + 1
 next r = omega arith
 
-module _ {s : Screen} {n : ℕ} {f : Words → Words} {a b : ℕ} {w₀ : Words} {r : ℕ} {w : Words} (v : Banding s n f a b w₀ r w) where
+module _ {s : Screen} {f : Words → Words} {a b : ℕ} {w₀ : Words} {r : ℕ} {w : Words} (v : Banding s f a b w₀ r w) where
   pub band-end : b ≤ r → w ≡ lay (each f (range a b) (rows_at (frame-of s) w₀))
   unfolding each
   band-end h =
       let e : rows_at (frame-of s) w ≡ each f (range a b) (rows_at (frame-of s) w₀) = rw (none_left b r h) at v.rest in
       sym (lay-cut (sizes s.c s.d) (rows_of (box_of s.viewport)) w v.on.whole.long) ∙ ap lay e
 
-  pub band_row : r < b → OnRow s n f r w
-  band_row h = record { whole = v.on.whole; layers = v.on.layers; within = omega (arith, v.on.within); room = v.on.room r (omega arith) h }
+  pub band_row : (P : Words → Type 0) → ((u : Words) → P u) → r < b → Ready s.c s.d (rows_of (box_of s.viewport)) r P f w
+  band_row P p h = record { arenas = v.on.whole; within = omega (arith, v.on.within); asked = p _; room = v.on.room r (omega arith) h }
 
-  pub band-again : r < b → (u : Words) → Long (sizes s.c s.d) (rows_of (box_of s.viewport)) u → rows_at (frame-of s) u ≡ change f r (rows_at (frame-of s) w) → Banding s n f a b w₀ (r + 1) u
+  pub band-again : r < b → (u : Words) → Long (sizes s.c s.d) (rows_of (box_of s.viewport)) u → rows_at (frame-of s) u ≡ change f r (rows_at (frame-of s) w) → Banding s f a b w₀ (r + 1) u
   unfolding each
   band-again h u l e =
       record {
         on =
             record {
               whole = record { rows = v.on.whole.rows; c = v.on.whole.c; d = v.on.whole.d; long = l };
-              layers = v.on.layers;
               within = v.on.within;
               room = λ i g k. rw (e, change-else f r i (rows_at (frame-of s) w) nowhere (λ q. omega arith)) (v.on.room i (omega arith) k);
             };
         rest = rw (e, ← next r) (rw (one_less b r h, ← next r) at v.rest);
       }
-
--- an act grows a row that has room for it
-pub act-grows : (v n : ℕ) (a : Act) (w : Words) → n ≤ 16 → Room w (acted v n a w) → Grown w (acted v n a w)
-act-grows v n a w m r = (acted-sound v n w r.state r.levels m a).grown
 
 -- the words that come back from a call are as many
 pub long_after : (s : Screen) (w : Words) (x y z : List ℕ) → Long (sizes s.c s.d) (rows_of (box_of s.viewport)) w
@@ -98,11 +92,30 @@ pub long_after : (s : Screen) (w : Words) (x y z : List ℕ) → Long (sizes s.c
     → Long (sizes s.c s.d) (rows_of (box_of s.viewport)) (words x y z)
 long_after s w x y z l p q r = record { state = p ∙ l.state; render = q ∙ l.render; fills = r ∙ l.fills }
 
--- an act of a run is the rules' act at any width
-pub act-on-is : (v n : ℕ) (a : RunAct) (w : Words) → acted v n (act-of a) w ≡ act-on n a w
+-- the rules' acts are what the code's make, at any width
+pub touch-on : (s : Screen) (v n : ℕ) {a b : ℕ} {w : Words} → OnRows s (acted v n touch) a b w → OnRows s (λ (u : Words). ensured n u) a b w
 unfolding do-act
-act-on-is v n Touch w = refl
-act-on-is v n (Paint s i) w = refl
+touch-on s v n o = o
+
+pub touch-each : (v n : ℕ) (rs : List ℕ) (ws : List Words) → each (λ (u : Words). ensured n u) rs ws ≡ each (acted v n touch) rs ws
+unfolding do-act
+touch-each v n rs ws = refl
+
+pub plain-on : (s : Screen) (v n i : ℕ) (t : Span) {a b : ℕ} {w : Words} → OnRows s (acted v n (paint t None i)) a b w → OnRows s (λ (u : Words). put_command (paint-fill t None i) (ensured n u)) a b w
+unfolding do-act
+plain-on s v n i t o = o
+
+pub plain-each : (v n i : ℕ) (t : Span) (rs : List ℕ) (ws : List Words) → each (λ (u : Words). put_command (paint-fill t None i) (ensured n u)) rs ws ≡ each (acted v n (paint t None i)) rs ws
+unfolding do-act
+plain-each v n i t rs ws = refl
+
+-- an act grows a row that has room for it
+pub touch-grows : (n : ℕ) (w : Words) → n ≤ 16 → Room w (ensured n w) → Grown w (ensured n w)
+touch-grows n w m r = (ensured-sound n w m r.state r.levels).grown
+
+pub plain-grows : (n i : ℕ) (t : Span) (w : Words) → n ≤ 16 → Room w (put_command (paint-fill t None i) (ensured n w)) → Grown w (put_command (paint-fill t None i) (ensured n w))
+unfolding do-act
+plain-grows n i t w m r = (acted-sound 0 n w r.state r.levels m (paint t None i)).grown
 
 -- a row with room for a command after its layers has room for its layers
 pub layers_room : (n : ℕ) (c : Command) (w : Words) → n ≤ 16 → Room w (put_command c (ensured n w)) → Room w (ensured n w)

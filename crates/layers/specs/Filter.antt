@@ -1,6 +1,6 @@
 -- A filter fill at a screen's words: its number, and every lent word afterwards (rule 11).
 use Rattle.std.specs.Prelude.{ℕ, ◌+◌, ◌*◌, ◌≡◌, Bool, false, ◌&&◌, cond, List, [], ◌∷◌, length, drop, eqb, ℤ, pos}
-use Rattle.std.specs.Prelude.{Option}
+use Rattle.std.specs.Prelude.{Option, None, Some, true}
 use Rattle.std.proofs.Math.IntN.{sub_ℕ}
 use Rattle.sizes.specs.Sizes.{paint-attr-size, paint-attr-table, filter-paint-size, filter-paint-table}
 use Rattle.rules.specs.Lists.{join}
@@ -16,36 +16,32 @@ use Rattle.cmd.specs.declared.attrs.FilterPaint as cmd
 use Rattle.cmd.specs.declared.attrs.PaintFillAttrs.{PaintFillAttrs}
 use Rattle.row.specs.Words.{Words, word-ops}
 use Rattle.row.specs.Arena.{lay}
+use Rattle.row.specs.declared.rows.Rows.{Rows}
+use Rattle.row.specs.Rows.{all-held}
 use Rattle.row.specs.Building.{rows_at, screen-at, good_rows, step_number}
 use Rattle.rect.specs.declared.Rect.{Rect}
 use Rattle.rect.specs.Rects.{box_of}
 use Rattle.screen.specs.declared.Screen.{Screen}
 use Rattle.screen.specs.Screens.{frame-of, state-of, screen-after}
 use Rattle.screen.specs.Judging.{judged}
-use Rattle.layers.specs.declared.filter.Placement.{Placement}
+use Rattle.inputs.specs.declared.Filter as code
+use Rattle.inputs.specs.Inputs as inputs
 use Rattle.layers.specs.declared.filter.FilterFill.{FilterFill}
 
--- what a filter fill is given: placement, a picture's handle or none, the paint list's length, its layer's panel
+-- what a filter fill is given: what the layer draws, the paint list's length, its layer's panel
 pub record FilterGiven : Type 0 where
-  pub placement : Placement
-  pub pixmap : Option ℕ
+  pub filter : code.Filter
   pub count : ℕ
   pub panel : ℕ
 
-abbrev pub given : Placement → Option ℕ → ℕ → ℕ → FilterGiven
-given p m n q = record { placement = p; pixmap = m; count = n; panel = q }
+abbrev pub given : code.Filter → ℕ → ℕ → FilterGiven
+given f n q = record { filter = f; count = n; panel = q }
 
 abbrev pub given_of : FilterFill → FilterGiven
-given_of f = given f.placement f.pixmap f.paint_count f.panel
+given_of f = given f.filter f.paint_count f.panel
 
 abbrev pub filter-of : FilterGiven → Filter
-filter-of g =
-    record {
-      pixmap = g.pixmap;
-      dest = box_of g.placement.dest;
-      source-x = g.placement.source_x;
-      source-y = g.placement.source_y;
-    }
+filter-of g = inputs.filter-of g.filter
 
 abbrev pub good-given : FilterGiven → Bool
 good-given g = good-filter-fill g.count (filter-of g) g.panel
@@ -76,6 +72,10 @@ pub record FilterLent : Type 0 where
 
 abbrev pub lent : Screen → Words → List ℕ → List ℤ → FilterLent
 lent s w ps fs = record { screen = s; words = w; paint-attrs = ps; filter-paints = fs }
+
+-- the same, of what is lent
+abbrev pub lent_of : Screen → Rows → List ℕ → List ℤ → FilterLent
+lent_of s r ps fs = lent s (all-held r) ps fs
 
 -- the rules' filter fill
 abbrev pub plan-of : FilterGiven → Screen → Plan
@@ -113,6 +113,11 @@ filtered g l = settle (filter-number g l) l (after g l)
 -- the box that is drawn
 abbrev pub own-box : FilterGiven → Screen → Box
 own-box g s = filter-box (box_of s.viewport) (box_of s.clip_bbox) (filter-of g)
+
+-- what judging finds: the box that is drawn, or that nothing is
+abbrev pub Draws : FilterGiven → Screen → Option Rect → Type 0
+Draws g s None = draws-nothing (filter-of g) (own-box g s) ≡ true
+Draws g s (Some b) = (box_of b ≡ own-box g s) × (draws-nothing (filter-of g) (box_of b) ≡ false)
 
 -- judged 0, and something is drawn
 pub record Drawing (g : FilterGiven) (l : FilterLent) (b : Rect) : Type 0 where

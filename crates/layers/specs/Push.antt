@@ -1,22 +1,26 @@
 -- A push at a screen's words: its number, and every lent word afterwards (rule 8).
-use Rattle.std.specs.Prelude.{ℕ, ◌+◌, ◌*◌, ◌/◌, false, ◌&&◌, not, cond, List, [], ◌∷◌, length, set, eqb, Float}
+use Rattle.std.specs.Prelude.{◌≡◌, ℕ, ◌+◌, ◌*◌, ◌/◌, ◌&&◌, not, cond, List, [], ◌∷◌, length, set, eqb, Float}
 use Rattle.sizes.specs.Sizes.{open-layer-size, open-layer-table, opacity-count}
 use Rattle.rules.specs.Answers.{Answer, Done, BadRecord, settle}
 use Rattle.rules.specs.Boxes.{Box, empty-box}
 use Rattle.rules.specs.Blends.{destructive}
-use Rattle.rules.specs.Plans.{Layer, Plan, plan-push}
+use Rattle.rules.specs.Plans.{Layer, Plan, plan-push, layer-box}
 use Rattle.rules.specs.Steps.{done}
 use Rattle.cmd.specs.Attrs.{words-at}
 use Rattle.row.specs.Words.{Words, word-ops}
 use Rattle.row.specs.Arena.{lay}
 use Rattle.row.specs.Building.{rows_at, screen-at, good_rows, step_number}
-use Rattle.rect.specs.declared.Rect.{Rect}
 use Rattle.screen.specs.declared.Screen.{Screen}
-use Rattle.screen.specs.Screens.{frame-of, state-of, screen-in, screen-after}
+use Rattle.screen.specs.Screens.{frame-of, state-of, screen-after}
 use Rattle.screen.specs.Judging.{judged}
 use Rattle.screen.specs.declared.layers.LayerProps.{LayerProps}
-use Rattle.screen.specs.Layers.{props-of, good-pattern, layer-words, no_words}
-use Rattle.layers.specs.declared.push.Run.{Run}
+use Rattle.screen.specs.Layers.{clip-of, props-of, good-pattern, layer-words, no_words}
+use Rattle.std.specs.declared.ops.Range.{Range}
+use Rattle.row.specs.declared.rows.Rows.{Rows}
+use Rattle.row.specs.Rows.{all-held}
+use Rattle.screen.specs.declared.layers.Layers.{Layers}
+use Rattle.layers.specs.declared.push.Opening.{Opening}
+use Rattle.rect.specs.Rects.{box_of}
 
 -- a screen and what a push is lent of its words
 pub record PushLent : Type 0 where
@@ -27,6 +31,10 @@ pub record PushLent : Type 0 where
 
 abbrev pub lent : Screen → Words → List ℕ → List Float → PushLent
 lent s w ls os = record { screen = s; words = w; layers = ls; opacities = os }
+
+-- the same, of what is lent
+abbrev pub lent_of : Screen → Rows → Layers → PushLent
+lent_of s r ls = lent s (all-held r) ls.table.now ls.opacities.now
 
 -- the rules' push
 abbrev pub plan-of : LayerProps → Screen → Plan
@@ -62,15 +70,16 @@ unfoldable pub pushed : LayerProps → PushLent → Answer PushLent
 pushed p l = settle (push-number p l) l (after p l)
 
 -- the code's parts: the rows of a box, if the compose code is destructive and the box not empty
-abbrev pub no_run : Run
-no_run = record { a = 0; b = 0 }
+abbrev pub no_rows : Range ℕ
+no_rows = record { start = 0; end = 0 }
 
-abbrev pub box-run : Box → Run
-box-run b = record { a = b.y0 / 4; b = (b.y1 + 3) / 4 }
+abbrev pub box-rows : Box → Range ℕ
+box-rows b = record { start = b.y0 / 4; end = (b.y1 + 3) / 4 }
 
-unfoldable pub touch_run : ℕ → Box → Run
-touch_run c b = cond (destructive c && not (empty-box b)) (box-run b) no_run
+unfoldable pub touch_rows : ℕ → Box → Range ℕ
+touch_rows c b = cond (destructive c && not (empty-box b)) (box-rows b) no_rows
 
-abbrev pub on-layer : Screen → Rect → Screen
-on-layer s b =
-    screen-in (frame-of s) b s.next_draw_id s.paint_attrs s.layer_attrs s.filter_paints (s.layers + 1) false
+-- rule 8: where a layer opens, its own box and the rows that it touches at once
+pub record Opens (s : Screen) (p : LayerProps) (o : Opening) : Type 0 where
+  pub bbox : box_of o.bbox ≡ layer-box (box_of s.viewport) (box_of s.clip_bbox) (clip-of p.clip)
+  pub band : o.band ≡ touch_rows p.blend.compose (box_of o.bbox)

@@ -1,17 +1,16 @@
 -- Commands that one look settles, one after the other. Assumes nothing.
-use Rattle.std.proofs.Common.{◌≡◌, refl, ◌∙◌, List, [], ◌∷◌, append_assoc, ℕ, ◌+◌, ◌-◌, ◌*◌, ◌≤◌, ◌<◌, arith, length, drop, take-append-drop, length-drop, drop-drop, lt-ltb, le-ltb}
+use Rattle.std.proofs.Common.{◌≡◌, refl, sym, ◌∙◌, List, [], ◌∷◌, append_assoc, ℕ, ◌+◌, ◌-◌, ◌*◌, ◌≤◌, ◌<◌, arith, length, drop, length-drop, drop-drop, lt-ltb, le-ltb}
 use Rattle.sizes.specs.Sizes.{piece-size}
 use Rattle.rules.specs.Attributes.{Attrs}
-use Rattle.rules.specs.Lists.{join}
-use Rattle.rules.specs.Spans.{Span}
 use Rattle.cmd.specs.Attrs.{words-at}
 use Rattle.cmd.proofs.Tables.{length_at}
 use Rattle.paint.specs.Summaries.{summary-at}
-use Rattle.paint.specs.Painting.{word, StepOut, out, listed, next-step, painted-row}
+use Rattle.paint.specs.Painting.{word, StepOut, next-step, painted-row}
 use Rattle.paint.specs.Running.{one_more, run, own-step}
-use Rattle.paint.specs.Kinds.{runs-met, run-words, whole_words, step-to, Said, Calm, Place, place, stands, Reaches}
+use Rattle.cmd.specs.Commands.{cmd_at}
+use Rattle.paint.specs.Kinds.{step-to, Gives, Calm, Place, place, stands, Reaches}
 use Rattle.paint.proofs.WholeRuns.{more}
-use Rattle.paint.proofs.Putting.{length_runs}
+use Rattle.paint.proofs.Putting.{words-none}
 
 -- any step
 module _ (step : List ℕ → List ℕ → List ℕ → StepOut) (D : List ℕ) (d : ℕ) where
@@ -60,7 +59,7 @@ module _ (v : ℕ) (a : Attrs) (s re fi D : List ℕ) (c : Calm s re fi) where
     one-back = omega arith
 
     taken : (l : List ℕ) → steps D ((d + at) ∷ m ∷ []) l
-        ≡ step-to v a (summary-at s) D m (word re (4 * at)) (word re (4 * at + 1)) (word re (4 * at + 2)) (word re (4 * at + 3)) (d + at) ((d + at) ∷ m ∷ []) l
+        ≡ step-to v a (summary-at s) D m (cmd_at re at) (d + at) ((d + at) ∷ m ∷ []) l
     unfolding painted-row next-step
     taken l =
         rw (
@@ -74,74 +73,26 @@ module _ (v : ℕ) (a : Attrs) (s re fi D : List ℕ) (c : Calm s re fi) where
           lt-ltb at (word s 0) h,
         )
 
-  module _ (start : Place) (at n m : ℕ) (l : List ℕ) (z : Reaches steps D d start (place at n m l)) (h : at < word s 0) (r stop id panel : ℕ)
-      (q : Said v a (summary-at s) D m (word re (4 * at)) (word re (4 * at + 1)) (word re (4 * at + 2)) (word re (4 * at + 3)) r stop id panel) where
-    abbrev piece : List ℕ
-    piece = whole_words (word re (4 * at)) (word re (4 * at + 3)) (word re (4 * at + 1)) (word re (4 * at + 2)) m panel
-
+  -- a command whose step gives k pieces, with the words ws, and nesting j
+  module _ (start : Place) (at n m : ℕ) (l : List ℕ) (z : Reaches steps D d start (place at n m l)) (h : at < word s 0) (k : ℕ) (ws : List ℕ) (j : ℕ)
+      (g : Gives v a (summary-at s) D m (cmd_at re at) k ws j) (long : length ws ≡ piece-size * k) (shallow : j ≤ 16) (room : piece-size * (n + k) ≤ length l) where
     one_up : d + at + 1 ≡ d + (at + 1)
     one_up = omega arith
 
-    no_more : n + 0 ≡ n
-    no_more = omega arith
-
-    -- a step without a piece
-    bare_step : (j : ℕ) → steps D ((d + at) ∷ m ∷ []) (drop (piece-size * n) l) ≡ out (listed 0) D ((d + at + 1) ∷ j ∷ []) (drop (piece-size * n) l)
-        → one_more steps (stands D d (place at n m l)) ≡ stands D d (place (at + 1) n j l)
+    given : one_more steps (stands D d (place at n m l)) ≡ stands D d (place (at + 1) (n + k) j (words-at l (piece-size * n) ws))
     unfolding one_more
-    bare_step j e = rw (e, no_more, take-append-drop (piece-size * n) l, one_up)
+    given =
+        let o = taken at m h z.shallow (drop (piece-size * n) l) ∙ g.step (d + at) ((d + at) ∷ m ∷ []) (drop (piece-size * n) l) (rw length-drop (omega arith)) in
+        rw (o, one_up, drop-drop (length ws) (piece-size * n) l, append_assoc)
 
-    bare-reach : (j : ℕ) → j ≤ 16 → steps D ((d + at) ∷ m ∷ []) (drop (piece-size * n) l) ≡ out (listed 0) D ((d + at + 1) ∷ j ∷ []) (drop (piece-size * n) l)
-        → Reaches steps D d start (place (at + 1) n j l)
-    bare-reach j g e = reach-more steps D d start (place at n m l) z (place (at + 1) n j l) refl (bare_step j e) g z.few refl
+    pub on_given : (l' : List ℕ) → l' ≡ words-at l (piece-size * n) ws → Reaches steps D d start (place (at + 1) (n + k) j l')
+    on_given l' i =
+        let e : length (words-at l (piece-size * n) ws) ≡ length l = length_at l (piece-size * n) ws (rw long (omega arith)) in
+        rw i (reach-more steps D d start (place at n m l) z (place (at + 1) (n + k) j (words-at l (piece-size * n) ws)) refl given shallow (rw e (omega arith)) e)
 
-    pub on-hidden : r ≡ 2 → Reaches steps D d start (place (at + 1) n m l)
-    on-hidden e = bare-reach m z.shallow (taken at m h z.shallow (drop (piece-size * n) l) ∙ q.hidden e (d + at) _ _)
-
-    pub on-pushed : r ≡ 3 → Reaches steps D d start (place (at + 1) n (m + 1) l)
-    on-pushed e =
-        let o = q.pushed e in
-        bare-reach (m + 1) (omega (arith, o.0)) (taken at m h z.shallow (drop (piece-size * n) l) ∙ o.1 (d + at) _ _)
-
-    pub on-popped : r ≡ 4 → Reaches steps D d start (place (at + 1) n (m - 1) l)
-    on-popped e =
-        let o = q.popped e in
-        bare-reach (m - 1) (omega (arith, z.shallow)) (taken at m h z.shallow (drop (piece-size * n) l) ∙ o.1 (d + at) _ _)
-
-    -- a piece
-    module _ (room : piece-size * n + piece-size ≤ length l) where
-      left-room : piece-size ≤ length (drop (piece-size * n) l)
-      left-room = rw length-drop (omega arith)
-
-      piece-step : r ≡ 1 → one_more steps (stands D d (place at n m l)) ≡ stands D d (place (at + 1) (n + 1) m (words-at l (piece-size * n) piece))
-      unfolding one_more
-      piece-step e =
-          let o = taken at m h z.shallow (drop (piece-size * n) l) ∙ q.whole e (d + at) ((d + at) ∷ m ∷ []) (drop (piece-size * n) l) left-room in
-          rw (o, one_up, drop-drop piece-size (piece-size * n) l, append_assoc)
-
-      pub on-whole : r ≡ 1 → (l' : List ℕ) → l' ≡ words-at l (piece-size * n) piece → Reaches steps D d start (place (at + 1) (n + 1) m l')
-      on-whole e l' i =
-          let k : length (words-at l (piece-size * n) piece) ≡ length l = length_at l (piece-size * n) piece (omega arith) in
-          rw i (reach-more steps D d start (place at n m l) z (place (at + 1) (n + 1) m (words-at l (piece-size * n) piece)) refl (piece-step e) z.shallow (rw k (omega arith)) k)
-
-    -- the pieces of a fill that is shown in part
-    abbrev found : List Span
-    found = runs-met v D id (word re (4 * at + 1))
-
-    abbrev words : List ℕ
-    words = join (run-words v (word re (4 * at)) (word re (4 * at + 3)) (word re (4 * at + 1)) (word re (4 * at + 2)) m panel) found
-
-    module _ (room : piece-size * (n + length found) ≤ length l) where
-      words_long : length words ≡ piece-size * length found
-      words_long = length_runs v (word re (4 * at)) (word re (4 * at + 3)) (word re (4 * at + 1)) (word re (4 * at + 2)) m panel found
-
-      runs-step : 4 < r → one_more steps (stands D d (place at n m l)) ≡ stands D d (place (at + 1) (n + length found) m (words-at l (piece-size * n) words))
-      unfolding one_more
-      runs-step e =
-          let o = taken at m h z.shallow (drop (piece-size * n) l) ∙ (q.partly e).pieces (d + at) ((d + at) ∷ m ∷ []) (drop (piece-size * n) l) (rw length-drop (omega arith)) in
-          rw (o, one_up, drop-drop (length words) (piece-size * n) l, append_assoc)
-
-      pub on-partly : 4 < r → (l' : List ℕ) → l' ≡ words-at l (piece-size * n) words → Reaches steps D d start (place (at + 1) (n + length found) m l')
-      on-partly e l' i =
-          let k : length (words-at l (piece-size * n) words) ≡ length l = length_at l (piece-size * n) words (rw words_long (omega arith)) in
-          rw i (reach-more steps D d start (place at n m l) z (place (at + 1) (n + length found) m (words-at l (piece-size * n) words)) refl (runs-step e) z.shallow (rw k (omega arith)) k)
+  -- .. none
+  pub on_bare : (start : Place) (at n m : ℕ) (l : List ℕ) → Reaches steps D d start (place at n m l) → at < word s 0
+      → (j : ℕ) → j ≤ 16 → Gives v a (summary-at s) D m (cmd_at re at) 0 [] j → Reaches steps D d start (place (at + 1) n j l)
+  on_bare start at n m l z h j i g =
+      let e : n + 0 ≡ n = omega arith in
+      (rw e at (on_given start at n m l z h 0 [] j g refl i (omega (arith, z.few)) l (sym (words-none l (piece-size * n)))))

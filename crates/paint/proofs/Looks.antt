@@ -1,5 +1,5 @@
 -- What one look shows of a fill. Assumes nothing.
-use Rattle.std.proofs.Common.{◌≡◌, refl, ◌∙◌, true, false, List, [], ◌∷◌, map, ℕ, ◌+◌, ◌-◌, ◌*◌, ◌/◌, ◌%◌, ◌≤◌, ◌<◌, min, max, arith, length, get_or, eqb, lt-ltb, le-leb}
+use Rattle.std.proofs.Common.{◌≡◌, ◌∙◌, true, false, List, [], ◌∷◌, map, ℕ, ◌+◌, ◌-◌, ◌*◌, ◌/◌, ◌%◌, ◌≤◌, ◌<◌, min, max, arith, length, get_or, lt-ltb, le-leb}
 use borrow.Author.Tests.{lt-leb}
 use Rattle.rules.specs.Spans.{Span, span, common}
 use Rattle.rules.specs.Depth.{Summary, can_skip, is-visible, runs-in, tiles-of, runs, visible-runs}
@@ -9,7 +9,8 @@ use Rattle.rules.proofs.laws.Widths.{each, raised-least, lowered-most}
 use Rattle.cmd.specs.Reading.{word-span}
 use Rattle.depth.proofs.Searching.{runs-end, runs_closed, Reached, reach-first, reach-closed, reach-end}
 use Rattle.paint.specs.Summaries.{shown_runs}
-use Rattle.paint.specs.Kinds.{good-index, Fills, low-met, high-met, runs-met, SeenTo, HiddenTo, Looked, FillSaid}
+use Rattle.cmd.specs.declared.command.CmdWords.{CmdWords}
+use Rattle.paint.specs.Kinds.{good-index, low-met, high-met, tiles-met, SeenTo, HiddenTo, Looked, Shows}
 
 -- buckets looked at one by one
 module _ (D : List ℕ) (id a e : ℕ) where
@@ -102,72 +103,52 @@ module _ (v : ℕ) (u : Summary) (D : List ℕ) (id : ℕ) (s : Span) (h : s.fir
 tiles-there : (w : Width) (g n : ℕ) → (g + (bucket-tiles w - 1)) / bucket-tiles w ≤ n → g ≤ bucket-tiles w * n
 tiles-there w g n h = each (λ w. (g + (w - 1)) / w ≤ n → g ≤ w * n) (λ h. omega arith) (λ h. omega arith) (λ h. omega arith) w h
 
--- .. of a fill in order, whose buckets end at e and are there
-module _ (width : Width) (u : Summary) (D : List ℕ) (id t w x : ℕ) (h : w / 65536 < w % 65536) (g : w % 65536 ≤ 8192)
-    (i : good-index t x (w % 65536 - w / 65536) ≡ true) (e : ℕ) (q : e ≡ high-met (bucket-tiles width) w) (f : e ≤ length D) where
-  fills : Fills t w x
-  fills = record { low = omega arith; high = g; index = i }
+-- a fill in order, whose buckets end at e and are there
+pub record Meets (width : Width) (D : List ℕ) (c : CmdWords) (e : ℕ) : Type 0 where
+  pub some : c.span.0 / 65536 < c.span.0 % 65536
+  pub short : c.span.0 % 65536 ≤ 8192
+  pub index : good-index c.tag c.alpha (c.span.0 % 65536 - c.span.0 / 65536) ≡ true
+  pub last : e ≡ high-met (bucket-tiles width) c.span.0
+  pub fits : e ≤ length D
 
-  there : w % 65536 ≤ bucket-tiles width * length D
-  there = tiles-there width (w % 65536) (length D) (rw q at f)
+module _ (width : Width) (u : Summary) (D : List ℕ) (id : ℕ) (c : CmdWords) (e : ℕ) (o : Meets width D c e) where
+  there : c.span.0 % 65536 ≤ bucket-tiles width * length D
+  there = tiles-there width (c.span.0 % 65536) (length D) (rw o.last at o.fits)
 
-  whole-said : shown_runs (bucket-tiles width) u D id (word-span w) ≡ word-span w ∷ [] → FillSaid (bucket-tiles width) u D id t w x 1 0 0
-  whole-said z =
-      record {
-        no-push = λ z. omega arith;
-        no-pop = λ z. omega arith;
-        good = λ z. fills;
-        whole = λ _. z;
-        hidden = λ z. absurd (omega arith);
-        partly = λ z. absurd (omega arith);
-      }
+  -- these runs of it are shown
+  abbrev Shown : List Span → Type 0
+  Shown rs = Shows (bucket-tiles width) u D id c rs
 
-  pub clear-said : true ≡ can_skip u (word-span w) id → FillSaid (bucket-tiles width) u D id t w x 1 0 0
-  clear-said z = whole-said (clear_whole (bucket-tiles width) u D id (word-span w) h there z)
+  shown : (rs : List Span) → shown_runs (bucket-tiles width) u D id (word-span c.span.0) ≡ rs → Shown rs
+  shown rs z = record { good = record { low = omega (arith, o.some); high = o.short; index = o.index }; runs = z }
 
-  -- .. and start at a
-  module _ (a : ℕ) (p : a ≡ low-met (bucket-tiles width) w) where
-    module _ (n : can_skip u (word-span w) id ≡ false) where
-      abbrev met : List Span
-      met = runs-in (is-visible id) D (span a e)
+  pub clear_shown : true ≡ can_skip u (word-span c.span.0) id → Shown (word-span c.span.0 ∷ [])
+  clear_shown z = shown _ (clear_whole (bucket-tiles width) u D id (word-span c.span.0) o.some there z)
 
-      pub all_seen : met ≡ span a e ∷ [] → FillSaid (bucket-tiles width) u D id t w x 1 0 0
-      all_seen z = whole-said (searched (bucket-tiles width) u D id (word-span w) h there n _ (met-seen width D id (w / 65536) (w % 65536) h (rw (p, q) at z)))
+  module _ (n : can_skip u (word-span c.span.0) id ≡ false) (a : ℕ) (p : a ≡ low-met (bucket-tiles width) c.span.0) where
+    abbrev met : List Span
+    met = runs-in (is-visible id) D (span a e)
 
-      pub all-hidden : met ≡ [] → FillSaid (bucket-tiles width) u D id t w x 2 0 0
-      all-hidden z =
-          let none = searched (bucket-tiles width) u D id (word-span w) h there n _ (met-hidden width D id (w / 65536) (w % 65536) h (rw (p, q) at z)) in
-          record {
-            no-push = λ z. omega arith;
-            no-pop = λ z. omega arith;
-            good = λ z. fills;
-            whole = λ z. absurd (omega arith);
-            hidden = λ _. none;
-            partly = λ z. absurd (omega arith);
-          }
+    searched-for : (rs : List Span) → visible-runs (bucket-tiles width) D id (word-span c.span.0) ≡ rs → Shown rs
+    searched-for rs z = shown rs (searched (bucket-tiles width) u D id (word-span c.span.0) o.some there n rs z)
 
-      -- .. of one that is shown in part, where the look stopped
-      module _ (stop : ℕ) (m : stop < e) where
-        cut-runs : shown_runs (bucket-tiles width) u D id (word-span w) ≡ map (λ (r : Span). common (word-span w) (tiles-of (bucket-tiles width) r)) (runs-met (bucket-tiles width) D id w)
-        cut-runs = searched (bucket-tiles width) u D id (word-span w) h there n _ (met_runs width D id (w / 65536) (w % 65536) h)
+    pub all_seen : met ≡ span a e ∷ [] → Shown (word-span c.span.0 ∷ [])
+    all_seen z = searched-for _ (met-seen width D id _ _ o.some (rw (p, o.last) at z))
 
-        part-said : (kind : ℕ) → 4 < kind → Looked (bucket-tiles width) D id w (eqb kind 5) stop → FillSaid (bucket-tiles width) u D id t w x kind stop id
-        part-said kind l r =
-            record {
-              no-push = λ z. omega arith;
-              no-pop = λ z. omega arith;
-              good = λ z. fills;
-              whole = λ z. absurd (omega arith);
-              hidden = λ z. absurd (omega arith);
-              partly = λ z. (cut-runs, r, refl);
-            }
+    pub all-hidden : met ≡ [] → Shown []
+    all-hidden z = searched-for _ (met-hidden width D id _ _ o.some (rw (p, o.last) at z))
 
-        pub some-seen : SeenTo D id a e stop → FillSaid (bucket-tiles width) u D id t w x 5 stop id
-        some-seen r =
-            let o = rw (p, q) at r in
-            part-said 5 (omega arith) (record { past = o.past; within = rw q at m; fits = rw q at f; found = o.found; other = r.other m })
+    -- .. of one that is shown in part, where the look stopped
+    module _ (stop : ℕ) (m : stop < e) where
+      cut-shown : Shown (tiles-met (bucket-tiles width) D id c.span.0)
+      cut-shown = searched-for _ (met_runs width D id _ _ o.some)
 
-        pub some-hidden : HiddenTo D id a e stop → FillSaid (bucket-tiles width) u D id t w x 6 stop id
-        some-hidden r =
-            let o = rw (p, q) at r in
-            part-said 6 (omega arith) (record { past = o.past; within = rw q at m; fits = rw q at f; found = o.found; other = r.other m })
+      pub some-seen : SeenTo D id a e stop → Looked (bucket-tiles width) D id c.span.0 true stop × Shown (tiles-met (bucket-tiles width) D id c.span.0)
+      some-seen r =
+          let z = rw (p, o.last) at r in
+          (record { past = z.past; within = rw o.last at m; fits = rw o.last at o.fits; found = z.found; other = r.other m }, cut-shown)
+
+      pub some-hidden : HiddenTo D id a e stop → Looked (bucket-tiles width) D id c.span.0 false stop × Shown (tiles-met (bucket-tiles width) D id c.span.0)
+      some-hidden r =
+          let z = rw (p, o.last) at r in
+          (record { past = z.past; within = rw o.last at m; fits = rw o.last at o.fits; found = z.found; other = r.other m }, cut-shown)

@@ -7,6 +7,7 @@ use Rattle.rules.specs.Lists.{join}
 use Rattle.rules.specs.Spans.{Span, span}
 use Rattle.rules.specs.Depth.{is-visible, runs-in}
 use Rattle.cmd.specs.Attrs.{words-at}
+use Rattle.cmd.specs.declared.command.CmdWords.{CmdWords}
 use Rattle.cmd.proofs.Tables.{length_at}
 use Rattle.depth.proofs.Searching.{runs_closed, runs-end}
 use Rattle.paint.specs.Kinds.{low-met, high-met, run-words, SeenTo}
@@ -35,16 +36,16 @@ module _ (xs : List ℕ) (at : ℕ) (vs ws : List ℕ) (h : at + length vs ≤ l
 pub words-none : (xs : List ℕ) (at : ℕ) → words-at xs at [] ≡ xs
 words-none xs at = let e : at + 0 ≡ at = omega arith in rw (append-nil, e, take-append-drop at xs)
 
-pub length_runs : (v t i w x m p : ℕ) (rs : List Span) → length (join (run-words v t i w x m p) rs) ≡ piece-size * length rs
-length_runs v t i w x m p [] = refl
-length_runs v t i w x m p (r ∷ rs) = let h = length_runs v t i w x m p rs in omega arith
+pub length_runs : (v : ℕ) (c : CmdWords) (m p : ℕ) (rs : List Span) → length (join (run-words v c m p) rs) ≡ piece-size * length rs
+length_runs v c m p [] = refl
+length_runs v c m p (r ∷ rs) = let h = length_runs v c m p rs in omega arith
 
-module _ (D : List ℕ) (id hi v t i w x m p start k : ℕ) (l₀ : List ℕ) where
+module _ (D : List ℕ) (id hi v : ℕ) (c : CmdWords) (m p start k : ℕ) (l₀ : List ℕ) where
   abbrev runs : ℕ → List Span
   runs at = runs-in (is-visible id) D (span at hi)
 
   abbrev words : ℕ → List ℕ
-  words at = join (run-words v t i w x m p) (runs at)
+  words at = join (run-words v c m p) (runs at)
 
   -- the runs up to bucket `at` are in the list l, n pieces with those before, and those from there on are still to come
   pub record Put (at n : ℕ) (l : List ℕ) : Type 0 where
@@ -60,14 +61,14 @@ module _ (D : List ℕ) (id hi v t i w x m p start k : ℕ) (l₀ : List ℕ) wh
       pub put_room : piece-size * n + piece-size ≤ length l
       put_room = omega (arith, s.count, s.kept, ap length e)
 
-      pub put_more : (l' : List ℕ) → l' ≡ words-at l (piece-size * n) (run-words v t i w x m p r) → Put j (n + 1) l'
+      pub put_more : (l' : List ℕ) → l' ≡ words-at l (piece-size * n) (run-words v c m p r) → Put j (n + 1) l'
       put_more l' q =
           let next_place : piece-size * (n + 1) ≡ piece-size * n + piece-size = omega arith in
-          let long : length (words-at l (piece-size * n) (run-words v t i w x m p r)) ≡ length l = length_at l (piece-size * n) (run-words v t i w x m p r) put_room in
+          let long : length (words-at l (piece-size * n) (run-words v c m p r)) ≡ length l = length_at l (piece-size * n) (run-words v c m p r) put_room in
           rw q (record {
             kept = long ∙ s.kept;
             count = omega (arith, s.count, ap length e);
-            rest = rw next_place (words-on l (piece-size * n) (run-words v t i w x m p r) (words j) put_room ∙ (rw e at s.rest));
+            rest = rw next_place (words-on l (piece-size * n) (run-words v c m p r) (words j) put_room ∙ (rw e at s.rest));
           })
 
     pub put_end : runs at ≡ [] → (n ≡ k + length (runs start)) × (l ≡ words-at l₀ (piece-size * k) (words start))
@@ -76,10 +77,10 @@ module _ (D : List ℕ) (id hi v t i w x m p start k : ℕ) (l₀ : List ℕ) wh
 -- the first run of a fill that is shown in part
 module _ (c : Cut) (D : List ℕ) (stop : ℕ) where
   abbrev low : ℕ
-  low = low-met (bucket-tiles c.width) c.words.span
+  low = low-met (bucket-tiles c.width) c.words.span.0
 
   abbrev high : ℕ
-  high = high-met (bucket-tiles c.width) c.words.span
+  high = high-met (bucket-tiles c.width) c.words.span.0
 
   pub first_seen : (seen : Bool) → seen ≡ true → LookedCut c D seen stop → (a : ℕ) → a ≡ low → FirstRun c D (record { first = a; end = stop })
   first_seen seen h o a e =
@@ -106,16 +107,16 @@ module _ (c : Cut) (D : List ℕ) (stop : ℕ) where
 -- a fill's pieces, from bucket `start` on after k pieces
 abbrev pub PutCut : Cut → List ℕ → ℕ → ℕ → List ℕ → ℕ → ℕ → List ℕ → Type 0
 PutCut c D start k l₀ at n l =
-    Put D c.mark.id (high-met (bucket-tiles c.width) c.words.span) (bucket-tiles c.width) c.words.tag c.words.attrs_idx c.words.span c.words.alpha c.nesting c.mark.panel start k l₀ at n l
+    Put D c.mark.id (high-met (bucket-tiles c.width) c.words.span.0) (bucket-tiles c.width) c.words c.nesting c.mark.panel start k l₀ at n l
 
 -- the runs of a fill from a bucket on
 abbrev pub runs_from : Cut → List ℕ → ℕ → List Span
-runs_from c D at = runs-in (is-visible c.mark.id) D (span at (high-met (bucket-tiles c.width) c.words.span))
+runs_from c D at = runs-in (is-visible c.mark.id) D (span at (high-met (bucket-tiles c.width) c.words.span.0))
 
 module _ (c : Cut) (D : List ℕ) (k : ℕ) (l₀ : List ℕ) (room : piece-size * (k + length (met c D)) ≤ length l₀) (r : Run) (f : FirstRun c D r)
     (k₁ : ℕ) (e : k₁ ≡ k + 1) (l₁ : List ℕ) (q : l₁ ≡ words-at l₀ (piece-size * k) (cut_words c (span r.first r.end))) where
   first_put : PutCut c D (low c D 0) k l₀ (r.end + 1) k₁ l₁
-  first_put = rw e (put_more _ _ _ _ _ _ _ _ _ _ _ _ _ _ _ _ (put_first _ _ _ _ _ _ _ _ _ _ _ _ _) room (span r.first r.end) (r.end + 1) f.runs l₁ q)
+  first_put = rw e (put_more _ _ _ _ _ _ _ _ _ _ _ _ _ (put_first _ _ _ _ _ _ _ _ _ _) room (span r.first r.end) (r.end + 1) f.runs l₁ q)
 
   pub room_left : piece-size * (k₁ + length (runs_from c D (r.end + 1))) ≤ length l₁
   room_left = omega (arith, first_put.count, first_put.kept, room)
@@ -123,5 +124,5 @@ module _ (c : Cut) (D : List ℕ) (k : ℕ) (l₀ : List ℕ) (room : piece-size
   pub all_put : (from n : ℕ) (l : List ℕ) → PutCut c D (r.end + 1) k₁ l₁ from n l → runs_from c D from ≡ []
       → (n ≡ k + length (met c D)) × (l ≡ words-at l₀ (piece-size * k) (join (cut_words c) (met c D)))
   all_put from n l s none =
-      let o = put_end _ _ _ _ _ _ _ _ _ _ _ _ _ _ _ _ s none in
+      let o = put_end _ _ _ _ _ _ _ _ _ _ _ _ _ s none in
       (o.0 ∙ first_put.count, o.1 ∙ first_put.rest)

@@ -1,12 +1,14 @@
 -- What is said of a command, and what its step then leaves. Assumes nothing.
-use Rattle.std.proofs.Common.{◌≡◌, refl, sym, ap, ◌∙◌, Bool, true, false, List, [], ◌∷◌, ◌++◌, map, ◌⊎◌, inl, inr, Option, None, Some, ℕ, zero, suc, ◌+◌, ◌-◌, ◌*◌, ◌/◌, ◌%◌, ◌≤◌, ◌<◌, arith, length, lt-ltb, le-ltb, le-leb, eqb-true, eq-eqb}
+use Rattle.std.proofs.Common.{◌≡◌, refl, sym, ap, ◌∙◌, Bool, true, false, ◌&&◌, eqb, List, [], ◌∷◌, ◌++◌, map, ◌⊎◌, inl, inr, Option, None, Some, ℕ, zero, suc, ◌+◌, ◌-◌, ◌*◌, ◌/◌, ◌%◌, ◌≤◌, ◌<◌, arith, length, lt-ltb, le-ltb, le-leb, eqb-true, eq-eqb}
 use lib.ListN.{length-map}
 use Rattle.sizes.specs.Sizes.{piece-size}
 use Rattle.rules.specs.Lists.{join}
 use Rattle.rules.specs.Spans.{Span, common, moved}
 use Rattle.rules.specs.Depth.{Summary, tiles-of}
 use Rattle.rules.specs.Commands.{paint-fill, layer-fill, push-buf, pop-buf}
-use Rattle.cmd.specs.Reading.{word-span, good-span-word, good-alpha, command_of}
+use Rattle.cmd.specs.Reading.{word-span, good-span-word, good-alpha}
+use Rattle.cmd.specs.Commands.{read-words}
+use Rattle.cmd.specs.declared.command.CmdWords.{CmdWords}
 use Rattle.rules.specs.Attributes.{Attrs}
 use Rattle.rules.specs.Painting as rules
 use Rattle.rules.specs.Painting.{Painter, fill-piece, paint-command}
@@ -21,7 +23,7 @@ use Rattle.paint.specs.Reading.{paint_mark, layer_mark}
 use Rattle.paint.proofs.Judging.{if_some}
 use Rattle.paint.specs.Rows.{mark_in}
 use Rattle.paint.proofs.Steps.{bare}
-use Rattle.paint.specs.Kinds.{good-index, Fills, runs-met, run-words, whole_words, FillSaid, Said}
+use Rattle.paint.specs.Kinds.{good-index, Fills, Looked, Shows, runs-met, tiles-met, run-words, whole_words, Gives, GivesPart}
 
 -- where the painting of a row stands
 abbrev at-step : List ℕ → ℕ → ℕ → Painter
@@ -31,106 +33,101 @@ stay : (a : Option ℕ) (n : ℕ) → moved a (n - n) ≡ a
 stay None n = refl
 stay (Some a) n = ap Some (omega arith)
 
+-- the words of a fill
+abbrev fill-words : Bool → Option ℕ → ℕ → ℕ → CmdWords
+fill-words layer a w i = record { tag = tag_of layer a; span = record { 0 = w }; alpha = index_of a; attrs_idx = i }
+
 -- at v tiles a bucket
 module _ (v : ℕ) (attrs : Attrs) (u : Summary) (D : List ℕ) (m : ℕ) where
-  -- a fill that is shown whole, or not at all
-  module _ (layer : Bool) (a : Option ℕ) (w i id p q : ℕ) (P l : List ℕ) where
-    fill-whole : shown_runs v u D id (word-span w) ≡ word-span w ∷ [] → piece-size ≤ length l
-        → settled (Some (fill-shown v attrs u layer id i p (word-span w) a (at-step D q m))) D P l
-        ≡ out (listed 1) D ((q + 1) ∷ m ∷ []) (over (whole_words (tag_of layer a) i w (index_of a) m p) l)
-    unfolding fill-shown settled
-    fill-whole e h = rw (e, stay a (w / 65536), le-ltb (length l / piece-size) 1 (omega arith))
-
-    fill-hidden : shown_runs v u D id (word-span w) ≡ []
-        → settled (Some (fill-shown v attrs u layer id i p (word-span w) a (at-step D q m))) D P l ≡ out (listed 0) D ((q + 1) ∷ m ∷ []) l
-    unfolding fill-shown
-    fill-hidden e = rw e (sym (bare D P l false (at-step D (q + 1) m) refl))
+  -- a fill that is shown whole
+  fill-whole : (layer : Bool) (a : Option ℕ) (w i id p q : ℕ) (P l : List ℕ) → shown_runs v u D id (word-span w) ≡ word-span w ∷ [] → piece-size * 1 ≤ length l
+      → settled (Some (fill-shown v attrs u layer id i p (word-span w) a (at-step D q m))) D P l
+      ≡ out (listed 1) D ((q + 1) ∷ m ∷ []) (over (whole_words (fill-words layer a w i) m p) l)
+  unfolding fill-shown settled
+  fill-whole layer a w i id p q P l e h = rw (e, stay a (w / 65536), le-ltb (length l / piece-size) 1 (omega arith))
 
   -- the pieces of a fill's runs
-  module _ (w i p : ℕ) where
+  module _ (layer : Bool) (a : Option ℕ) (w i p : ℕ) where
     piece-same : (layer : Bool) (a : Option ℕ) (r : Span)
-        → piece-words (fill-piece v attrs layer i p (word-span w) a m (common (word-span w) (tiles-of v r))) ≡ run-words v (tag_of layer a) i w (index_of a) m p r
+        → piece-words (fill-piece v attrs layer i p (word-span w) a m (common (word-span w) (tiles-of v r))) ≡ run-words v (fill-words layer a w i) m p r
     piece-same false None r = refl
     piece-same false (Some y) r = refl
     piece-same true None r = refl
     piece-same true (Some y) r = refl
 
-    pieces-same : (layer : Bool) (a : Option ℕ) (rs : List Span)
+    pieces-same : (rs : List Span)
         → join piece-words (map (fill-piece v attrs layer i p (word-span w) a m) (map (λ (r : Span). common (word-span w) (tiles-of v r)) rs))
-        ≡ join (run-words v (tag_of layer a) i w (index_of a) m p) rs
-    pieces-same layer a [] = refl
-    pieces-same layer a (r ∷ rs) =
+        ≡ join (run-words v (fill-words layer a w i) m p) rs
+    pieces-same [] = refl
+    pieces-same (r ∷ rs) =
         let cut : List Span = map (λ (q : Span). common (word-span w) (tiles-of v q)) rs in
         ap (λ (ws : List ℕ). ws ++ join piece-words (map (fill-piece v attrs layer i p (word-span w) a m) cut)) (piece-same layer a r)
-        ∙ ap (λ (ws : List ℕ). run-words v (tag_of layer a) i w (index_of a) m p r ++ ws) (pieces-same layer a rs)
+        ∙ ap (λ (ws : List ℕ). run-words v (fill-words layer a w i) m p r ++ ws) (pieces-same rs)
 
-    fill-runs : (layer : Bool) (a : Option ℕ) (id q : ℕ) (P l : List ℕ) (rs : List Span)
+    fill-runs : (id q : ℕ) (P l : List ℕ) (rs : List Span)
         → shown_runs v u D id (word-span w) ≡ map (λ (r : Span). common (word-span w) (tiles-of v r)) rs → piece-size * length rs ≤ length l
         → settled (Some (fill-shown v attrs u layer id i p (word-span w) a (at-step D q m))) D P l
-        ≡ out (listed (length rs)) D ((q + 1) ∷ m ∷ []) (over (join (run-words v (tag_of layer a) i w (index_of a) m p) rs) l)
+        ≡ out (listed (length rs)) D ((q + 1) ∷ m ∷ []) (over (join (run-words v (fill-words layer a w i) m p) rs) l)
     unfolding fill-shown settled
-    fill-runs layer a id q P l rs e h =
+    fill-runs id q P l rs e h =
         let n : length (map (fill-piece v attrs layer i p (word-span w) a m) (map (λ (r : Span). common (word-span w) (tiles-of v r)) rs)) ≡ length rs = rw (length-map, length-map) in
-        rw (e, n, le-ltb (length l / piece-size) (length rs) (omega arith), pieces-same layer a rs)
+        rw (e, n, le-ltb (length l / piece-size) (length rs) (omega arith), pieces-same rs)
 
-  module _ (t w x i : ℕ) where
+  module _ (c : CmdWords) where
     -- buffers
-    said_push : (c : Option Span) → m < 16 → command_of t w x i ≡ Some (push-buf c) → Said v attrs u D m t w x i 3 0 0 0
+    gives-push : (s : Option Span) → m < 16 → read-words c ≡ Some (push-buf s) → Gives v attrs u D m c 0 [] (m + 1)
     unfolding command-step command-shown paint-command
-    said_push c h e =
-        record {
-          whole = λ z. absurd (omega arith);
-          hidden = λ z. absurd (omega arith);
-          pushed = λ z. (h, λ q P l. rw (e, lt-ltb m 16 h) (sym (bare D P l false (at-step D (q + 1) (m + 1)) refl)));
-          popped = λ z. absurd (omega arith);
-          partly = λ z. absurd (omega arith);
-        }
+    gives-push s h e = record { step = λ q P l k. rw (e, lt-ltb m 16 h) (sym (bare D P l false (at-step D (q + 1) (m + 1)) refl)) }
 
-    said_pop : 0 < m → command_of t w x i ≡ Some pop-buf → Said v attrs u D m t w x i 4 0 0 0
+    gives-pop : 0 < m → read-words c ≡ Some pop-buf → Gives v attrs u D m c 0 [] (m - 1)
     unfolding command-step command-shown paint-command
-    said_pop h e =
-        record {
-          whole = λ z. absurd (omega arith);
-          hidden = λ z. absurd (omega arith);
-          pushed = λ z. absurd (omega arith);
-          popped = λ z. (h, λ q P l. rw (e, lt-ltb 0 m h) (sym (bare D P l false (at-step D (q + 1) (m - 1)) refl)));
-          partly = λ z. absurd (omega arith);
-        }
+    gives-pop h e = record { step = λ q P l k. rw (e, lt-ltb 0 m h) (sym (bare D P l false (at-step D (q + 1) (m - 1)) refl)) }
 
-    module _ (ex : x ≡ 0) (ei : i ≡ 0) where
-      pub push-bare : t ≡ 5 → w ≡ 0 → m < 16 → Said v attrs u D m t w x i 3 0 0 0
-      push-bare et ew h = said_push None h (sym (tag-5 t w x i true et (rw (eq-eqb _ _ ew, eq-eqb _ _ ex, eq-eqb _ _ ei))))
+    module _ (ex : c.alpha ≡ 0) (ei : c.attrs_idx ≡ 0) where
+      pub push-bare : c.tag ≡ 5 → c.span.0 ≡ 0 → m < 16 → (m < 16) × Gives v attrs u D m c 0 [] (m + 1)
+      push-bare et ew h = (h, gives-push None h (sym (tag-5 _ _ _ _ true et (rw (eq-eqb _ _ ew, eq-eqb _ _ ex, eq-eqb _ _ ei)))))
 
-      pub push-tiles : t ≡ 6 → good-span-word 8192 w ≡ true → m < 16 → Said v attrs u D m t w x i 3 0 0 0
+      pub push-tiles : c.tag ≡ 6 → good-span-word 8192 c.span.0 ≡ true → m < 16 → (m < 16) × Gives v attrs u D m c 0 [] (m + 1)
       push-tiles et g h =
-          said_push (Some (word-span w)) h (sym (tag-6 t w x i true true et (rw (g, eq-eqb _ _ ex)) (eq-eqb _ _ ei)))
+          (h, gives-push (Some (word-span c.span.0)) h (sym (tag-6 _ _ _ _ true true et (rw (g, eq-eqb _ _ ex)) (eq-eqb _ _ ei))))
 
-      pub pop-bare : t ≡ 7 → w ≡ 0 → 0 < m → Said v attrs u D m t w x i 4 0 0 0
-      pop-bare et ew h = said_pop h (sym (tag-7 t w x i true et (rw (eq-eqb _ _ ew, eq-eqb _ _ ex, eq-eqb _ _ ei))))
+      pub pop-bare : c.tag ≡ 7 → c.span.0 ≡ 0 → 0 < m → (0 < m) × Gives v attrs u D m c 0 [] (m - 1)
+      pop-bare et ew h = (h, gives-pop h (sym (tag-7 _ _ _ _ true et (rw (eq-eqb _ _ ew, eq-eqb _ _ ex, eq-eqb _ _ ei)))))
 
-    -- a fill of either kind
-    from_fill : (layer : Bool) (a : Option ℕ) (id p r stop j : ℕ) → FillSaid v u D id t w x r stop j
-        → (0 < r
-        → ((q : ℕ) → command-step v attrs u (at-step D q m) (command_of t w x i) ≡ Some (fill-shown v attrs u layer id i p (word-span w) a (at-step D q m)))
-        × (tag_of layer a ≡ t)
-        × (index_of a ≡ x))
-        → Said v attrs u D m t w x i r stop j p
-    from_fill layer a id p r stop j f g =
-        record {
-          whole = λ z q P l h. let o = g (omega arith) in
-              ap (λ (c : Option rules.Painted). settled c D P l) (o.0 q) ∙ fill-whole layer a w i id p q P l (f.whole z) h ∙ rw (o.1, o.2);
-          hidden = λ z q P l. let o = g (omega arith) in
-              ap (λ (c : Option rules.Painted). settled c D P l) (o.0 q) ∙ fill-hidden layer a w i id p q P l (f.hidden z);
-          pushed = λ z. absurd (f.no-push z);
-          popped = λ z. absurd (f.no-pop z);
-          partly = λ z. let o = g (omega arith) in let h = f.partly z in
-              rw h.2 (record {
-                looked = h.1;
-                good = f.good (omega arith);
-                pieces = λ q P l k.
-                    ap (λ (c : Option rules.Painted). settled c D P l) (o.0 q) ∙ fill-runs w i p layer a id q P l (runs-met v D id w) h.0 k ∙ rw (o.1, o.2);
-              });
-        }
+    -- the words' step is that of a fill, with this id and panel
+    pub record FillStep (k : Mark) : Type 0 where
+      pub layer : Bool
+      pub index : Option ℕ
+      pub same : fill-words layer index c.span.0 c.attrs_idx ≡ c
+      pub step : (q : ℕ) → command-step v attrs u (at-step D q m) (read-words c)
+          ≡ Some (fill-shown v attrs u layer k.id c.attrs_idx k.panel (word-span c.span.0) index (at-step D q m))
+
+    module _ (k : Mark) (f : FillStep k) where
+      pub gives-whole : Shows v u D k.id c (word-span c.span.0 ∷ []) → Gives v attrs u D m c 1 (whole_words c m k.panel) m
+      gives-whole s =
+          record {
+            step = λ q P l h.
+                ap (λ (o : Option rules.Painted). settled o D P l) (f.step q)
+                ∙ fill-whole f.layer f.index c.span.0 c.attrs_idx k.id k.panel q P l s.runs h
+                ∙ ap (λ (e : CmdWords). out (listed 1) D ((q + 1) ∷ m ∷ []) (over (whole_words e m k.panel) l)) f.same;
+          }
+
+      gives-runs : (rs : List Span) → Shows v u D k.id c (map (λ (r : Span). common (word-span c.span.0) (tiles-of v r)) rs)
+          → Gives v attrs u D m c (length rs) (join (run-words v c m k.panel) rs) m
+      gives-runs rs s =
+          record {
+            step = λ q P l h.
+                ap (λ (o : Option rules.Painted). settled o D P l) (f.step q)
+                ∙ fill-runs f.layer f.index c.span.0 c.attrs_idx k.panel k.id q P l rs s.runs h
+                ∙ ap (λ (e : CmdWords). out (listed (length rs)) D ((q + 1) ∷ m ∷ []) (over (join (run-words v e m k.panel) rs) l)) f.same;
+          }
+
+      pub gives-none : Shows v u D k.id c [] → Gives v attrs u D m c 0 [] m
+      gives-none = gives-runs []
+
+      pub gives_part : (seen : Bool) (stop : ℕ) → Looked v D k.id c.span.0 seen stop × Shows v u D k.id c (tiles-met v D k.id c.span.0)
+          → GivesPart v attrs u D m c (record { seen = seen; stop = stop; mark = k })
+      gives_part seen stop (o, s) = record { looked = o; good = s.good; gives = gives-runs (runs-met v D k.id c.span.0) s }
 
 -- the four tags
 four : (t : ℕ) → 0 < t → t ≤ 4 → (t ≡ 1) ⊎ ((t ≡ 2) ⊎ ((t ≡ 3) ⊎ (t ≡ 4)))
@@ -141,60 +138,45 @@ four (suc (suc (suc zero))) h g = inr (inr (inl refl))
 four (suc (suc (suc (suc zero)))) h g = inr (inr (inr refl))
 four (suc (suc (suc (suc (suc t))))) h g = absurd (omega arith)
 
-module _ (t w x : ℕ) (f : Fills t w x) where
-  good-word : good-span-word 8192 w ≡ true
+module _ (c : CmdWords) (f : Fills c) where
+  good-word : good-span-word 8192 c.span.0 ≡ true
   good-word = and_both _ _ (le-leb _ _ f.low) (le-leb _ _ f.high)
 
-  solid : t % 2 ≡ 1 → x ≡ 0
-  solid e = let i : good-index t x (w % 65536 - w / 65536) ≡ true = f.index in eqb-true x 0 (rw e at i)
+  solid : c.tag % 2 ≡ 1 → c.alpha ≡ 0
+  solid e = let i : good-index c.tag c.alpha (c.span.0 % 65536 - c.span.0 / 65536) ≡ true = f.index in eqb-true c.alpha 0 (rw e at i)
 
-  alpha : t % 2 ≡ 0 → good-alpha x w ≡ true
-  alpha e = let i : good-index t x (w % 65536 - w / 65536) ≡ true = f.index in (rw e at i)
+  alpha : c.tag % 2 ≡ 0 → good-alpha c.alpha c.span.0 ≡ true
+  alpha e = let i : good-index c.tag c.alpha (c.span.0 % 65536 - c.span.0 / 65536) ≡ true = f.index in (rw e at i)
 
-module _ (v : ℕ) (attrs : Attrs) (u : Summary) (D : List ℕ) (m t w x i r stop j : ℕ) (k : Mark) (f : FillSaid v u D k.id t w x r stop j) where
-  -- of a paint
-  module _ (g : paint_mark attrs i ≡ Some k) where
-    paint-step : (a : Option ℕ) → command_of t w x i ≡ Some (paint-fill (word-span w) a i) → (q : ℕ)
-        → command-step v attrs u (at-step D q m) (command_of t w x i) ≡ Some (fill-shown v attrs u false k.id i k.panel (word-span w) a (at-step D q m))
-    unfolding command-step command-shown
-    paint-step a e q = let o = if_some (good-paint attrs i) _ k g in rw (e, o.1, o.0)
+  solid-word : c.tag % 2 ≡ 1 → (good-span-word 8192 c.span.0 && eqb c.alpha 0) ≡ true
+  solid-word e = and_both _ _ good-word (eq-eqb _ _ (solid e))
 
-    said-1 : t ≡ 1 → Said v attrs u D m t w x i r stop j k.panel
-    said-1 e =
-        from_fill v attrs u D m t w x i false None k.id k.panel r stop j f
-        (λ h. let c = f.good h in let z = solid t w x c (rw e) in
-        (paint-step None (sym (tag-1 t w x i true e (and_both _ _ (good-word t w x c) (eq-eqb _ _ z)))), sym e, sym z))
+  alpha-word : c.tag % 2 ≡ 0 → (good-span-word 8192 c.span.0 && good-alpha c.alpha c.span.0) ≡ true
+  alpha-word e = and_both _ _ good-word (alpha e)
 
-    said-2 : t ≡ 2 → Said v attrs u D m t w x i r stop j k.panel
-    said-2 e =
-        from_fill v attrs u D m t w x i false (Some x) k.id k.panel r stop j f
-        (λ h. let c = f.good h in
-        (paint-step (Some x) (sym (tag-2 t w x i true e (and_both _ _ (good-word t w x c) (alpha t w x c (rw e))))), sym e, refl))
+module _ (v : ℕ) (attrs : Attrs) (u : Summary) (D : List ℕ) (m : ℕ) (c : CmdWords) (k : Mark) (f : Fills c) where
+  -- of a paint, and of a layer
+  paint-step : paint_mark attrs c.attrs_idx ≡ Some k → (a : Option ℕ) → read-words c ≡ Some (paint-fill (word-span c.span.0) a c.attrs_idx) → (q : ℕ)
+      → command-step v attrs u (at-step D q m) (read-words c)
+      ≡ Some (fill-shown v attrs u false k.id c.attrs_idx k.panel (word-span c.span.0) a (at-step D q m))
+  unfolding command-step command-shown
+  paint-step g a e q = let o = if_some (good-paint attrs c.attrs_idx) _ k g in rw (e, o.1, o.0)
 
-  -- of a layer
-  module _ (g : layer_mark attrs i ≡ Some k) where
-    layer-step : (a : Option ℕ) → command_of t w x i ≡ Some (layer-fill (word-span w) a i) → (q : ℕ)
-        → command-step v attrs u (at-step D q m) (command_of t w x i) ≡ Some (fill-shown v attrs u true k.id i k.panel (word-span w) a (at-step D q m))
-    unfolding command-step command-shown
-    layer-step a e q = let o = if_some (good-layer attrs i) _ k g in rw (e, o.1, o.0)
+  layer-step : layer_mark attrs c.attrs_idx ≡ Some k → (a : Option ℕ) → read-words c ≡ Some (layer-fill (word-span c.span.0) a c.attrs_idx) → (q : ℕ)
+      → command-step v attrs u (at-step D q m) (read-words c)
+      ≡ Some (fill-shown v attrs u true k.id c.attrs_idx k.panel (word-span c.span.0) a (at-step D q m))
+  unfolding command-step command-shown
+  layer-step g a e q = let o = if_some (good-layer attrs c.attrs_idx) _ k g in rw (e, o.1, o.0)
 
-    said-3 : t ≡ 3 → Said v attrs u D m t w x i r stop j k.panel
-    said-3 e =
-        from_fill v attrs u D m t w x i true None k.id k.panel r stop j f
-        (λ h. let c = f.good h in let z = solid t w x c (rw e) in
-        (layer-step None (sym (tag-3 t w x i true e (and_both _ _ (good-word t w x c) (eq-eqb _ _ z)))), sym e, sym z))
-
-    said-4 : t ≡ 4 → Said v attrs u D m t w x i r stop j k.panel
-    said-4 e =
-        from_fill v attrs u D m t w x i true (Some x) k.id k.panel r stop j f
-        (λ h. let c = f.good h in
-        (layer-step (Some x) (sym (tag-4 t w x i true e (and_both _ _ (good-word t w x c) (alpha t w x c (rw e))))), sym e, refl))
-
-  pub said_fill : 0 < t → t ≤ 4 → mark_in attrs t i ≡ Some k → Said v attrs u D m t w x i r stop j k.panel
-  said_fill h c g = go (four t h c)
+  pub fill_step : 0 < c.tag → c.tag ≤ 4 → mark_in attrs c.tag c.attrs_idx ≡ Some k → FillStep v attrs u D m c k
+  fill_step h g i = go (four c.tag h g)
     where
-      go : (t ≡ 1) ⊎ ((t ≡ 2) ⊎ ((t ≡ 3) ⊎ (t ≡ 4))) → Said v attrs u D m t w x i r stop j k.panel
-      go (inl e) = said-1 (rw e at g) e
-      go (inr (inl e)) = said-2 (rw e at g) e
-      go (inr (inr (inl e))) = said-3 (rw e at g) e
-      go (inr (inr (inr e))) = said-4 (rw e at g) e
+      go : (c.tag ≡ 1) ⊎ ((c.tag ≡ 2) ⊎ ((c.tag ≡ 3) ⊎ (c.tag ≡ 4))) → FillStep v attrs u D m c k
+      go (inl e) =
+          record { layer = false; index = None; same = rw (← e, ← solid c f (rw e)); step = paint-step (rw e at i) None (sym (tag-1 _ _ _ _ true e (solid-word c f (rw e)))) }
+      go (inr (inl e)) =
+          record { layer = false; index = Some c.alpha; same = rw (← e); step = paint-step (rw e at i) (Some c.alpha) (sym (tag-2 _ _ _ _ true e (alpha-word c f (rw e)))) }
+      go (inr (inr (inl e))) =
+          record { layer = true; index = None; same = rw (← e, ← solid c f (rw e)); step = layer-step (rw e at i) None (sym (tag-3 _ _ _ _ true e (solid-word c f (rw e)))) }
+      go (inr (inr (inr e))) =
+          record { layer = true; index = Some c.alpha; same = rw (← e); step = layer-step (rw e at i) (Some c.alpha) (sym (tag-4 _ _ _ _ true e (alpha-word c f (rw e)))) }

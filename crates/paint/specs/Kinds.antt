@@ -5,7 +5,10 @@ use Rattle.sizes.specs.Sizes.{tile-end, tile-alphas, most-layers, piece-size}
 use Rattle.rules.specs.Lists.{join}
 use Rattle.rules.specs.Spans.{Span, span, common}
 use Rattle.rules.specs.Depth.{Summary, is-visible, runs-in, tiles-of}
-use Rattle.cmd.specs.Reading.{word-span, command_of}
+use Rattle.cmd.specs.Reading.{word-span}
+use Rattle.cmd.specs.Commands.{read-words}
+use Rattle.cmd.specs.declared.command.CmdWords.{CmdWords}
+use Rattle.paint.specs.declared.whole.reading.Partly.{Partly}
 use Rattle.rules.specs.Attributes.{Attrs}
 use Rattle.depth.specs.Listing.{over}
 use Rattle.paint.specs.Summaries.{good-summary, shown_runs}
@@ -21,10 +24,10 @@ abbrev pub good-index : ℕ → ℕ → ℕ → Bool
 good-index t x n = cond (eqb (t % 2) 1) (eqb x 0) (ltb (x + tile-alphas * n) 4294967296)
 
 -- a fill's words in order
-pub record Fills (t w x : ℕ) : Type 0 where
-  pub low : w / 65536 ≤ w % 65536
-  pub high : w % 65536 ≤ tile-end
-  pub index : good-index t x (w % 65536 - w / 65536) ≡ true
+pub record Fills (c : CmdWords) : Type 0 where
+  pub low : c.span.0 / 65536 ≤ c.span.0 % 65536
+  pub high : c.span.0 % 65536 ≤ tile-end
+  pub index : good-index c.tag c.alpha (c.span.0 % 65536 - c.span.0 / 65536) ≡ true
 
 -- at v tiles a bucket: the first bucket that a span word's tiles meet, and the end of those, and the runs that the id shows of them
 abbrev pub low-met : ℕ → ℕ → ℕ
@@ -58,50 +61,44 @@ pub record Looked (v : ℕ) (D : List ℕ) (id w : ℕ) (seen : Bool) (stop : �
   pub found : runs-met v D id w ≡ cond seen (span (low-met v w) stop ∷ runs-in (is-visible id) D (span stop (high-met v w))) (runs-in (is-visible id) D (span stop (high-met v w)))
   pub other : is-visible id (word D stop) ≡ not seen
 
--- what is said of a fill: 1 all of it is shown, 2 nothing of it, 5 and 6 what the look has seen of one that is shown in part; 0 says nothing
-pub record FillSaid (v : ℕ) (u : Summary) (D : List ℕ) (id t w x kind stop j : ℕ) : Type 0 where
-  pub no-push : kind ≡ 3 → ⊥
-  pub no-pop : kind ≡ 4 → ⊥
-  pub good : 0 < kind → Fills t w x
-  pub whole : kind ≡ 1 → shown_runs v u D id (word-span w) ≡ word-span w ∷ []
-  pub hidden : kind ≡ 2 → shown_runs v u D id (word-span w) ≡ []
-  pub partly : 4 < kind → (shown_runs v u D id (word-span w) ≡ map (λ (r : Span). common (word-span w) (tiles-of v r)) (runs-met v D id w)) × Looked v D id w (eqb kind 5) stop × (j ≡ id)
+-- .. and those runs, cut to the fill's tiles
+abbrev pub tiles-met : ℕ → List ℕ → ℕ → ℕ → List Span
+tiles-met v D id w = map (λ (r : Span). common (word-span w) (tiles-of v r)) (runs-met v D id w)
+
+-- a fill in order, of whose tiles these runs are shown for the id
+pub record Shows (v : ℕ) (u : Summary) (D : List ℕ) (id : ℕ) (c : CmdWords) (rs : List Span) : Type 0 where
+  pub good : Fills c
+  pub runs : shown_runs v u D id (word-span c.span.0) ≡ rs
 
 -- an alpha index, so many tiles further; a solid fill has none
 abbrev pub moved-index : ℕ → ℕ → ℕ → ℕ
 moved-index t x n = cond (eqb (t % 2) 1) x (x + tile-alphas * n)
 
--- the words of a fill's run, cut to its tiles; p: the panel
-abbrev pub run-words : ℕ → ℕ → ℕ → ℕ → ℕ → ℕ → ℕ → Span → List ℕ
-run-words v t i w x m p r =
-    let c = common (word-span w) (tiles-of v r) in
-    t ∷ i ∷ c.first ∷ c.end ∷ moved-index t x (c.first - w / 65536) ∷ m ∷ p ∷ []
+-- the words of a fill's run, cut to its tiles, at nesting m; p: the panel
+abbrev pub run-words : ℕ → CmdWords → ℕ → ℕ → Span → List ℕ
+run-words v c m p r =
+    let t = common (word-span c.span.0) (tiles-of v r) in
+    c.tag ∷ c.attrs_idx ∷ t.first ∷ t.end ∷ moved-index c.tag c.alpha (t.first - c.span.0 / 65536) ∷ m ∷ p ∷ []
 
 -- .. and of all of a fill
-abbrev pub whole_words : ℕ → ℕ → ℕ → ℕ → ℕ → ℕ → List ℕ
-whole_words t i w x m p = t ∷ i ∷ (w / 65536) ∷ (w % 65536) ∷ x ∷ m ∷ p ∷ []
+abbrev pub whole_words : CmdWords → ℕ → ℕ → List ℕ
+whole_words c m p = c.tag ∷ c.attrs_idx ∷ (c.span.0 / 65536) ∷ (c.span.0 % 65536) ∷ c.alpha ∷ m ∷ p ∷ []
 
--- at v tiles a bucket
-module _ (v : ℕ) (attrs : Attrs) (u : Summary) (D : List ℕ) (m t w x i : ℕ) where
-  -- the step of four words at nesting m, after q steps
+-- at v tiles a bucket, over the depth words D, at nesting m
+module _ (v : ℕ) (attrs : Attrs) (u : Summary) (D : List ℕ) (m : ℕ) (c : CmdWords) where
+  -- the step of a command's words, after q steps
   abbrev pub step-to : ℕ → List ℕ → List ℕ → StepOut
-  step-to q P l = settled (command-step v attrs u (record { buckets = D; steps = q; nesting = m }) (command_of t w x i)) D P l
+  step-to q P l = settled (command-step v attrs u (record { buckets = D; steps = q; nesting = m }) (read-words c)) D P l
+
+  -- the step gives n pieces, with these words, and nesting j
+  pub record Gives (n : ℕ) (ws : List ℕ) (j : ℕ) : Type 0 where
+    pub step : (q : ℕ) (P l : List ℕ) → piece-size * n ≤ length l → step-to q P l ≡ out (listed n) D ((q + 1) ∷ j ∷ []) (over ws l)
 
   -- a fill that is shown in part: what the look has seen of it, and its pieces
-  pub record PartSaid (seen : Bool) (stop id panel : ℕ) : Type 0 where
-    pub looked : Looked v D id w seen stop
-    pub good : Fills t w x
-    pub pieces : (q : ℕ) (P l : List ℕ) → piece-size * length (runs-met v D id w) ≤ length l
-        → step-to q P l ≡ out (listed (length (runs-met v D id w))) D ((q + 1) ∷ m ∷ []) (over (join (run-words v t i w x m panel) (runs-met v D id w)) l)
-
-  -- what is said of a command: 1 one piece with all of the fill, 2 no piece, 3 nesting up, 4 nesting down, 5 and 6 a fill that is shown in part; 0 says nothing
-  pub record Said (kind stop id panel : ℕ) : Type 0 where
-    pub whole : kind ≡ 1 → (q : ℕ) (P l : List ℕ) → piece-size ≤ length l
-        → step-to q P l ≡ out (listed 1) D ((q + 1) ∷ m ∷ []) (over (whole_words t i w x m panel) l)
-    pub hidden : kind ≡ 2 → (q : ℕ) (P l : List ℕ) → step-to q P l ≡ out (listed 0) D ((q + 1) ∷ m ∷ []) l
-    pub pushed : kind ≡ 3 → (m < most-layers) × ((q : ℕ) (P l : List ℕ) → step-to q P l ≡ out (listed 0) D ((q + 1) ∷ (m + 1) ∷ []) l)
-    pub popped : kind ≡ 4 → (0 < m) × ((q : ℕ) (P l : List ℕ) → step-to q P l ≡ out (listed 0) D ((q + 1) ∷ (m - 1) ∷ []) l)
-    pub partly : 4 < kind → PartSaid (eqb kind 5) stop id panel
+  pub record GivesPart (q : Partly) : Type 0 where
+    pub looked : Looked v D q.mark.id c.span.0 q.seen q.stop
+    pub good : Fills c
+    pub gives : Gives (length (runs-met v D q.mark.id c.span.0)) (join (run-words v c m q.mark.panel) (runs-met v D q.mark.id c.span.0)) m
 
 -- a row's counts have room, and its summary is in order
 pub record Calm (s re fi : List ℕ) : Type 0 where

@@ -1,5 +1,5 @@
 -- What a host lends for painting, and what a fill gives, by the code's own values: what the contracts of this crate say in one word.
-use Rattle.std.specs.Prelude.{ℕ, ◌+◌, Bool, List, map}
+use Rattle.std.specs.Prelude.{ℕ, ◌+◌, ◌<◌, ◌≡◌, Bool, List, length, map}
 use Rattle.sizes.specs.Widths.{bucket-tiles}
 use Rattle.rules.specs.Attributes.{Attrs, no-attrs}
 use Rattle.rules.specs.Depth.{write-runs, written}
@@ -14,7 +14,12 @@ use Rattle.paint.specs.declared.command.reading.Row.{Row}
 use Rattle.paint.specs.declared.command.marks.Mark.{Mark}
 use Rattle.paint.specs.Summaries.{summary-at}
 use Rattle.paint.specs.Painting.{word, attrs-at, painter-at, fill-shown, RowLent, lent}
-use Rattle.paint.specs.Stepping.{Attributes, attributes}
+use Rattle.paint.specs.Stepping.{Attributes, attributes, StepReady}
+use Rattle.paint.specs.Judging.{wide}
+
+-- a row's two painting words, that can count one step more
+abbrev pub CanStep : List ℕ → Type 0
+CanStep p = (length p ≡ 2) × (word p 0 < 4294967295)
 
 -- the stored words, with the depth words, painting's words and the list
 abbrev pub row_lent : Stored → List ℕ → List ℕ → List ℕ → RowLent
@@ -26,6 +31,10 @@ row_attrs s = attributes s.paint_attrs.now s.layer_attrs.now
 
 abbrev pub used_attrs : Screen → Stored → Attrs
 used_attrs c s = attrs-at s.paint_attrs.now c.paint_attrs s.layer_attrs.now c.layer_attrs
+
+-- the parts of row r lie within the words that are lent, and the tables are whole
+abbrev pub RowReady : Screen → ℕ → Stored → List ℕ → List ℕ → List ℕ → Type 0
+RowReady c r s d p l = StepReady (wide c) c.c c.d c.paint_attrs c.layer_attrs r (row_attrs s) (row_lent s d p l)
 
 -- what a depth fill gives, and what a paint's or a layer's fill does, in a row
 abbrev pub depth_painted : ℕ → DepthFill → Mark → List ℕ → List ℕ → rules.Painted

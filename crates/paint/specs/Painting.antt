@@ -9,7 +9,9 @@ use Rattle.rules.specs.Spans.{Span}
 use Rattle.rules.specs.Inputs.{good-panel}
 use Rattle.rules.specs.Depth.{Summary}
 use Rattle.rules.specs.Commands.{Command, paint-fill, layer-fill, push-buf, pop-buf, DepthFill}
-use Rattle.cmd.specs.Reading.{command_of, depth_fill_of, only_if}
+use Rattle.cmd.specs.Reading.{only_if}
+use Rattle.cmd.specs.Commands.{cmd_at, read-words}
+use Rattle.cmd.specs.DepthFills.{depth_words_at, read-depth-words}
 use Rattle.rules.specs.Attributes.{PaintAttr, LayerAttr, Attrs}
 use Rattle.rules.specs.Painting as rules
 use Rattle.rules.specs.Painting.{Painter, paint-id, paint-panel, layer-id, layer-panel, gives, fill-piece, paint-depth, paint-command}
@@ -111,10 +113,10 @@ module _ (v : ℕ) (attrs : Attrs) where
 
 -- the depth fill at place k, in a row of n buckets, and the command at place k, if words stand for them
 abbrev pub depth-fill-at : ℕ → List ℕ → ℕ → Option DepthFill
-depth-fill-at n ws k = depth_fill_of n (word ws (2 * k)) (word ws (2 * k + 1))
+depth-fill-at n ws k = read-depth-words n (depth_words_at ws k)
 
 abbrev pub command-at : List ℕ → ℕ → Option Command
-command-at ws k = command_of (word ws (4 * k)) (word ws (4 * k + 1)) (word ws (4 * k + 2)) (word ws (4 * k + 3))
+command-at ws k = read-words (cmd_at ws k)
 
 -- counts above the room, a nesting above 16, more steps than there are, a summary out of bounds
 abbrev pub bad-row : RowLent → Bool

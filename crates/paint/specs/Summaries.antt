@@ -1,13 +1,10 @@
 -- A row's depth summary as its record has it, and what it spares a fill.
 use Rattle.std.specs.Prelude.{ℕ, ◌+◌, ◌*◌, ◌≤◌, ◌<◌, Bool, ◌&&◌, cond, List, [], ◌∷◌, length, get_or, leb, ltb, eqb}
 use Rattle.std.specs.Prelude.{Option, None, Some}
-use Rattle.sizes.specs.Sizes.{tile-end, last-id, first-at, end-at, largest-at}
+use Rattle.sizes.specs.Sizes.{first-at, end-at, largest-at}
+pub use Rattle.row.specs.Building.{good-summary}
 use Rattle.rules.specs.Spans.{Span, span}
 use Rattle.rules.specs.Depth.{Summary, can_skip, visible-runs}
-
--- in order, up to tile 8,192, the id one that a draw can have taken
-abbrev pub good-summary : List ℕ → Bool
-good-summary s = leb (get_or s first-at 0) (get_or s end-at 0) && leb (get_or s end-at 0) tile-end && leb (get_or s largest-at 0) last-id
 
 -- words 2 to 4: the union's first tile and end, the largest id; 0 says that there is no union
 abbrev pub summary-at : List ℕ → Summary

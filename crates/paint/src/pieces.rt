@@ -8,11 +8,12 @@ ghost use Rattle.span.specs.Spans.{Moves};
 ghost use Rattle.cmd.specs.Attrs.{words-at};
 ghost use Rattle.paint.specs.Pieces.{tag_of, words_of, piece-words, brush-piece, Fits, run_at, runs-at, laid};
 ghost use Rattle.paint.specs.Answers.{word, painted_of, listed, advanced};
+ghost use Rattle.paint.specs.Named.{CanStep};
 
 use sizes::PIECE;
 
 /// What a step has painted. finished: no step was left. pieces: how many stand in the list.
-#[derive(Clone, Copy)]
+#[derive(Clone, Copy, Debug, PartialEq, Eq)]
 pub struct Stepped {
     pub finished: bool,
     pub pieces: usize,
@@ -21,7 +22,7 @@ pub struct Stepped {
 /// A step is done: in the row's two words, one step more and the nesting after it; and so many pieces in the list.
 #[tactic(auto, using(crate::proofs::Two::two_both))]
 pub fn advance(painting: &mut [u32], nesting: u32, pieces: usize) -> Stepped
-    requires { (length painting.old ≡ 2) × (word painting.old 0 < 4294967295) }
+    requires { CanStep painting.old }
     ensures { advanced (painted_of (Ok result)) painting.new ≡ advanced (listed pieces) ((word painting.old 0 + 1) ∷ nesting ∷ []) }
 {
     painting[0] += 1;
@@ -34,7 +35,7 @@ pub fn advance(painting: &mut [u32], nesting: u32, pieces: usize) -> Stepped
 
 /// A piece as it stands in the list. `tag`: 1 and 2 paint, solid and alpha, 3 and 4 layer; tiles from `first` to `end`; `alpha`: its alpha index, or 0.
 /// `nesting`: how many buffers are open.
-#[derive(Clone, Copy)]
+#[derive(Clone, Copy, Debug, PartialEq, Eq)]
 pub struct PieceWords {
     pub tag: u32,
     pub attrs_idx: u32,
@@ -113,7 +114,7 @@ fn tag(layer: bool, alpha: Option<u32>) -> u32
 }
 
 /// What the pieces of one step have in common. `first` is the tile that the alpha index belongs to.
-#[derive(Clone, Copy)]
+#[derive(Clone, Copy, Debug, PartialEq, Eq)]
 pub struct Brush {
     pub layer: bool,
     pub attrs_idx: u32,
@@ -126,7 +127,8 @@ pub struct Brush {
 impl Brush {
     // The piece over the tiles a to b.
     fn piece(self, a: u32, b: u32) -> PieceWords
-        requires { (self.first ≤ a) × Moves self.alpha (a - self.first) }
+        requires begun { self.first ≤ a }
+        requires moves { Moves self.alpha (a - self.first) }
         ensures { words_of result ≡ piece-words (brush-piece self (span a b)) }
     {
         let alpha = span::moved(self.alpha, a - self.first);
@@ -144,7 +146,8 @@ impl Brush {
 
 /// The n runs at the list's start, two words each, in units of `width` tiles, become n pieces in their place, from the last to the first.
 pub fn spread(list: &mut [u32], n: usize, width: u32, brush: Brush)
-    requires { (piece-size * n ≤ length list.old) × ((k : ℕ) → k < n → Fits width brush (run_at list.old k)) }
+    requires room { piece-size * n ≤ length list.old }
+    requires runs { (k : ℕ) → k < n → Fits width brush (run_at list.old k) }
     ensures { list.new ≡ laid (map (λ (r : Span). brush-piece brush (tiles-of width r)) (runs-at n list.old)) list.old }
 {
     let mut left = n;

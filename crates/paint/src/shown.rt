@@ -4,4 +4,4 @@ pub mod runs;
 pub mod summary;
 
 pub use runs::shown_runs;
-pub use summary::{is_good_summary, summary_of};
+pub use summary::summary_of;

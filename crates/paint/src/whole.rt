@@ -5,8 +5,8 @@ ghost use Rattle.sizes.specs.Widths.{bucket-tiles};
 ghost use Rattle.paint.specs.Answers.{painted_of};
 ghost use Rattle.paint.specs.Painting.{out};
 ghost use Rattle.paint.specs.Judging.{wide};
-ghost use Rattle.paint.specs.Stepping.{StepReady, stepped};
-ghost use Rattle.paint.specs.Named.{row_lent, row_attrs, used_attrs};
+ghost use Rattle.paint.specs.Stepping.{stepped};
+ghost use Rattle.paint.specs.Named.{RowReady, row_lent, row_attrs, used_attrs};
 ghost use Rattle.paint.specs.Running.{most, row-run, row-painted};
 
 use crate::canvas::judge::judge_step;
@@ -15,14 +15,17 @@ use crate::command::{Attributes, Row};
 use crate::whole::run::run_row;
 use row::part;
 use screen::Screen;
-use sizes::ROW;
 use sizes::answers::Refusal;
+use sizes::{MOST_ROOM, ROW};
 
 pub mod ends;
 pub mod pieces;
 pub mod plain;
 pub mod reading;
 pub mod run;
+
+/// No row has more steps: C, D and the one that finds nothing left.
+const MOST_STEPS: usize = 2 * MOST_ROOM as usize + 1;
 
 // At most `limit` steps of a row that is there, painting having begun: the row's own parts are handed on.
 fn row_part(
@@ -34,7 +37,8 @@ fn row_part(
     list: &mut [u32],
     limit: usize,
 ) -> Result<Stepped, Refusal>
-    requires { (limit ≤ most) × StepReady (wide screen) screen.c screen.d screen.paint_attrs screen.layer_attrs row (row_attrs stored.now) (row_lent stored.now depth.old painting.old list.old) }
+    requires limit { limit ≤ most }
+    requires ready { RowReady screen row stored.now depth.old painting.old list.old }
     ensures { out (painted_of result) depth.new painting.new list.new
         ≡ row-run (bucket-tiles screen.width) limit (used_attrs screen stored.now) (wide screen) screen.c screen.d row (row_lent stored.now depth.old painting.old list.old) }
 {
@@ -80,7 +84,7 @@ pub fn paint_step(
 }
 
 /// The row's next steps, one after the other, until one is refused or the row is finished; refused where the first step is. The pieces stand one after the other
-/// in the list. finished: no step is left. At most 2,049 steps, which no row passes: C, D and the one that finds nothing left.
+/// in the list. finished: no step is left. At most MOST_STEPS, which no row passes.
 pub fn paint_row(
     screen: Screen,
     row: usize,
@@ -93,5 +97,5 @@ pub fn paint_row(
         ≡ row-painted screen row (row_attrs stored.now) (row_lent stored.now depth.old painting.old list.old) }
 {
     judge_step(screen, row, stored, depth.len(), painting.len())?;
-    row_part(screen, row, stored, depth, painting, list, 2049)
+    row_part(screen, row, stored, depth, painting, list, MOST_STEPS)
 }

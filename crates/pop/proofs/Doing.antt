@@ -12,7 +12,7 @@ use Rattle.row.specs.Words.{Words, word-ops}
 use Rattle.row.specs.Cmds.{Short}
 use Rattle.row.specs.Arena.{lay}
 use Rattle.rect.specs.declared.Rect.{Rect}
-use Rattle.rect.specs.Rects.{box_of, Small}
+use Rattle.rect.specs.Rects.{box_of}
 use Rattle.rect.proofs.Boxes as boxes
 use Rattle.rect.proofs.Boxes.{small-viewport}
 use Rattle.span.specs.declared.TileSpan.{TileSpan}
@@ -20,7 +20,7 @@ use Rattle.span.specs.Spans.{tiles}
 use Rattle.screen.specs.declared.Screen as code
 use Rattle.screen.specs.Screens.{frame-of}
 use Rattle.segments.specs.declared.Scene.{Scene}
-use Rattle.segments.specs.Segs.{segs, origin, bounds, SceneOf}
+use Rattle.segments.specs.Segs.{segs, origin, bounds as scene-bounds, SceneOf}
 use Rattle.segments.proofs.Laws.{scene-starts, judged as judged-list}
 use Rattle.row.specs.Building.{rows_at, Whole, screen-at}
 use Rattle.screen.specs.declared.layers.OpenLayer.{OpenLayer}
@@ -30,8 +30,11 @@ use Rattle.pop.specs.Closing.{touched-in, good-pops, full_by, runs-full, done-pu
 use Rattle.pop.proofs.Running.{cuts-sorted}
 use Rattle.pop.specs.Pop.{lent, layers-in, state-in, pop-plan, Judged, closing-puts, words-after}
 use Rattle.pop.proofs.Ready.{Closeable, Fits, fits, full-plain, full-clip, ready-fill, ready-puts, ready-pop, closed-words}
-use Rattle.pop.proofs.Numbers.{Screened, screened, layers-length, open-first, plan-is, plain-closeable, clip-closeable, number-plain, number-long, number-clip, cuts-is, Passed, late-zero}
-use Rattle.pop.proofs.Opening.{OwnBox, own-facts, Ranged, layer-facts, last_row, own-span, own-small}
+use Rattle.pop.proofs.Numbers.{layers-length, open-first, plan-is, plain-closeable, clip-closeable, number-plain, number-long, number-clip, cuts-is, Cleared, late-zero}
+use Rattle.screen.proofs.ScreenLaws.{bounds}
+use Rattle.screen.proofs.Passed.{passed}
+use Rattle.layers.proofs.Passing.{PassedOn, passed-whole}
+use Rattle.pop.proofs.Opening.{OwnBox, own-facts, Ranged, layer-facts, last_row, own-span}
 
 -- the rows can be closed and popped, and an id and an attribute are left
 pub record Set (s : code.Screen) (t ws : List ℕ) (w : Words) : Type 0 where
@@ -41,8 +44,14 @@ pub record Set (s : code.Screen) (t ws : List ℕ) (w : Words) : Type 0 where
   pub attrs : s.layer_attrs < 1024
 
 module _ {s : code.Screen} {t ws : List ℕ} {w : Words} (j : Judged s t ws w) where
-  pub seen : Screened s w
-  seen = screened s w j.screen
+  pub seen : PassedOn s w
+  seen = passed s (length w.state) (length w.render) (length w.fills) j.screen
+
+  pub deep : s.layers ≤ 16
+  deep = (bounds s seen.screen).deep
+
+  pub whole : Whole (frame-of s) w
+  whole = passed-whole s w seen
 
   abbrev layer : Layer
   layer = layer-at t (s.layers - 1)
@@ -73,11 +82,6 @@ module _ {s : code.Screen} {t ws : List ℕ} {w : Words} (j : Judged s t ws w) w
   pub short-span : Short (span_of (layer-at t (s.layers - 1)).bounds)
   short-span = own-span own-box (boxes.view view seen.view).wide
 
-  pub small-boxes : Small (box_of s.viewport) × Small (clip-box (box_of s.viewport) (layers-in t (s.layers - 1)))
-  small-boxes =
-      let f = boxes.view view seen.view in
-      (small-viewport view seen.view, own-small (own-facts view parent tests.2) f.wide f.high)
-
   -- without a clip
   module _ (c : (layer-at t (s.layers - 1)).props.clip ≡ None) where
     pub plain-puts : closing-puts s t ws w ≡ map (on (close (span_of (layer-at t (s.layers - 1)).bounds) None s.layer_attrs)) xs
@@ -105,7 +109,7 @@ module _ {s : code.Screen} {t ws : List ℕ} {w : Words} (j : Judged s t ws w) w
 
     module _ (d : Scene) (e : SceneOf (box_of s.viewport) (clip-box (box_of s.viewport) (layers-in t (s.layers - 1))) d) where
       abbrev ks : List Cut
-      ks = join (cut_in (origin d) (bounds d)) (segs ws (clip-in t (s.layers - 1)).start ((clip-in t (s.layers - 1)).end - (clip-in t (s.layers - 1)).start))
+      ks = join (cut_in (origin d) (scene-bounds d)) (segs ws (clip-in t (s.layers - 1)).start ((clip-in t (s.layers - 1)).end - (clip-in t (s.layers - 1)).start))
 
       pub scene-puts : closing-puts s t ws w ≡ close-puts s.layer_attrs xs ks
       unfolding closing
@@ -113,16 +117,16 @@ module _ {s : code.Screen} {t ws : List ℕ} {w : Words} (j : Judged s t ws w) w
           rw c
           (ap (close-puts s.layer_attrs xs) (sym (cuts-is s (lent w t [] []) ws j.some seen bottom (clip-in t (s.layers - 1)) c ranged.range clip-within d e)))
 
-      passed : Passed (good-pops s.c s.d s.layers (rows_at (frame-of s) w) (rows_in layer.bounds))
+      cleared : Cleared (good-pops s.c s.d s.layers (rows_at (frame-of s) w) (rows_in layer.bounds))
           (judge-segments false (segs ws (clip-in t (s.layers - 1)).start ((clip-in t (s.layers - 1)).end - (clip-in t (s.layers - 1)).start))) s.next_draw_id s.layer_attrs
           (full_by s.c 1 (rows_at (frame-of s) w) xs || runs-full s.c xs (rows_at (frame-of s) w) 0 0 ks)
-      passed = late-zero _ _ _ _ _ (number-clip s (lent w t [] []) ws j.some seen bottom (clip-in t (s.layers - 1)) c ranged.range clip-within d e ∙ j.rows)
+      cleared = late-zero _ _ _ _ _ (number-clip s (lent w t [] []) ws j.some seen bottom (clip-in t (s.layers - 1)) c ranged.range clip-within d e ∙ j.rows)
 
       clip-set : Set s t ws w
       clip-set =
-          let p = passed in
+          let p = cleared in
           let v = clip-closeable s (lent w t [] []) ws j.some seen bottom p.good s.layer_attrs ks in
-          let o = cuts-sorted (origin d) (bounds d) (segs ws (clip-in t (s.layers - 1)).start ((clip-in t (s.layers - 1)).end - (clip-in t (s.layers - 1)).start)) (judged-list _ p.listed).order in
+          let o = cuts-sorted (origin d) (scene-bounds d) (segs ws (clip-in t (s.layers - 1)).start ((clip-in t (s.layers - 1)).end - (clip-in t (s.layers - 1)).start)) (judged-list _ p.listed).order in
           record {
             rows = rw scene-puts v;
             room = rw scene-puts (fits (frame-of s) s.layers (layer.bounds.y0 / 4) ((layer.bounds.y1 + 3) / 4) (close-puts s.layer_attrs xs ks) w (full-clip v s.layer_attrs ks o refl ∙ p.room));
@@ -181,7 +185,7 @@ module _ {s : code.Screen} {t ws : List ℕ} {w : Words} (j : Judged s t ws w) w
       pub plain-requires : Whole (frame-of s) w × (b ≤ rows_of (box_of s.viewport)) × Short (tiles p)
           × Each (Fillable (tiles p) None s.layer_attrs) (rows_at (frame-of s) w) (touched-in s.layers (rows_at (frame-of s) w) (range a b))
       plain-requires =
-          (seen.whole, b-bottom, subst Short (sym span-is) short-span, rw (a-is, b-is) (ready-fill ready.rows ready.room (tiles p) None s.layer_attrs))
+          (whole, b-bottom, subst Short (sym span-is) short-span, rw (a-is, b-is) (ready-fill ready.rows ready.room (tiles p) None s.layer_attrs))
 
       pub plain_done : {rs : List Words} → rs ≡ done-puts (bucket-tiles s.width) (s.layers - 1) (map (on (close (tiles p) None s.layer_attrs)) (touched-in s.layers (rows_at (frame-of s) w) (range a b))) (rows_at (frame-of s) w)
           → rs ≡ done-puts (bucket-tiles s.width) (s.layers - 1) (closing-puts s t ws w) (rows_at (frame-of s) w)
@@ -208,13 +212,13 @@ module _ {s : code.Screen} {t ws : List ℕ} {w : Words} (j : Judged s t ws w) w
       clip-requires =
           rw (a-is, b-is, start_is, end_is)
           (record {
-            whole = seen.whole;
-            layers = seen.bounds.deep;
+            whole = whole;
+            layers = deep;
             bottom = bottom;
             starts = scene-starts k;
             before = ranged.range;
             within = omega (arith, clip-within a-clip);
-            good = (judged-list _ (passed a-clip d scene-is).listed).good;
+            good = (judged-list _ (cleared a-clip d scene-is).listed).good;
             room = clip-room;
           })
 

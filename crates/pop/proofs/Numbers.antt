@@ -5,7 +5,7 @@ use borrow.Author.Tests.{lt-leb}
 use Rattle.sizes.specs.Widths.{bucket-tiles}
 use Rattle.rules.specs.Lists.{some_of, join, slice}
 use Rattle.rules.specs.Answers.{first_of}
-use Rattle.rules.specs.Boxes.{Box, rows_of, rows_in, span_of, good_viewport, scene-tiles}
+use Rattle.rules.specs.Boxes.{Box, rows_of, rows_in, span_of, scene-tiles}
 use Rattle.rules.specs.Spans.{Span}
 use Rattle.rules.specs.Segments.{Segment, ordered, judge-segments, Cut, cut_in, cuts}
 use Rattle.rules.specs.Inputs.{Clip}
@@ -19,13 +19,12 @@ use Rattle.rect.specs.Rects.{box_of}
 use Rattle.screen.specs.declared.Screen as code
 use Rattle.screen.specs.Screens.{frame-of, state-of}
 use Rattle.screen.specs.Judging.{judged}
-use Rattle.screen.proofs.ScreenLaws.{Bounds, bounds, paint-count, layer-attr-count, filter-count}
-use Rattle.screen.proofs.Passed.{passed}
-use Rattle.layers.proofs.Passing.{passed-whole}
+use Rattle.screen.proofs.ScreenLaws.{bounds, paint-count, layer-attr-count, filter-count}
+use Rattle.layers.proofs.Passing.{PassedOn, passed-whole}
 use Rattle.segments.specs.declared.Scene.{Scene}
 use Rattle.segments.specs.Segs.{segs, segs-of, origin, bounds as scene-bounds, SceneOf}
 use Rattle.segments.proofs.Laws.{segs-slice, segs-count, cut-in-scene, judged as judged-list}
-use Rattle.row.specs.Building.{rows_at, Whole, screen-at, step_number}
+use Rattle.row.specs.Building.{rows_at, screen-at, step_number}
 use Rattle.screen.specs.Layers.{layer-at, open_at, good_layer, good_own_box}
 use Rattle.pop.specs.Closing.{touched-in, good-pops, full_by, runs-full, done-puts}
 use Rattle.pop.proofs.Closed.{Close, closing as a-closing, members}
@@ -35,17 +34,6 @@ use Rattle.pop.proofs.Clipping.{close-all, close-in}
 use Rattle.pop.specs.Pop.{PopLent, lent, layers-in, own-rows, good-open, good_lengths, late, first, state-in, pop-plan, number-after, number, Judged}
 use Rattle.std.proofs.lemmas.Bool.Decides.{nat_tests}
 use Rattle.pop.proofs.Ready.{Closeable, all-fine, full_is, deep_is, full-plain, full-clip}
-
--- 2, 1 and 4 are not given: a good viewport, the words of its rows, good counts
-pub record Screened (s : code.Screen) (w : Words) : Type 0 where
-  pub view : good_viewport (box_of s.viewport) ≡ true
-  pub whole : Whole (frame-of s) w
-  pub bounds : Bounds s
-
-pub screened : (s : code.Screen) (w : Words) → judged s (length w.state) (length w.render) (length w.fills) ≡ 0 → Screened s w
-screened s w e =
-    let p = passed s (length w.state) (length w.render) (length w.fills) e in
-    record { view = p.view; whole = passed-whole s w p; bounds = bounds s p.screen }
 
 -- the innermost of n open layers
 module _ (t : List ℕ) where
@@ -132,7 +120,7 @@ module _ (p : Plan) (scr : Screen Words) (next a : ℕ) (few : length p.layers �
       go false i = refl
 
 -- a pop's plan, with a layer open
-module _ (s : code.Screen) (l : PopLent) (ws : List ℕ) (low : 1 ≤ s.layers) (o : Screened s l.words) where
+module _ (s : code.Screen) (l : PopLent) (ws : List ℕ) (low : 1 ≤ s.layers) (o : PassedOn s l.words) where
   abbrev layer : Layer
   layer = layer-at l.layers (s.layers - 1)
 
@@ -168,11 +156,11 @@ module _ (s : code.Screen) (l : PopLent) (ws : List ℕ) (low : 1 ≤ s.layers) 
 
   attrs-is : attrs-full (with-layer (state-in s l.layers) layer.props) ≡ leb 1024 s.layer_attrs
   attrs-is =
-      rw (paint-count s, filter-count s, length-append, layer-attr-count s, le-ltb 1024 s.paint_attrs o.bounds.paints, le-ltb 256 s.filter_paints o.bounds.filters)
+      rw (paint-count s, filter-count s, length-append, layer-attr-count s, le-ltb 1024 s.paint_attrs (bounds s o.screen).paints, le-ltb 256 s.filter_paints (bounds s o.screen).filters)
       (or-end (ltb 1024 (s.layer_attrs + 1)) ∙ one-attr s.layer_attrs)
 
   few-left : length (layers-in l.layers (s.layers - 1)) ≤ 16
-  few-left = rw (layers-length l.layers (s.layers - 1)) (omega (arith, o.bounds.deep))
+  few-left = rw (layers-length l.layers (s.layers - 1)) (omega (arith, (bounds s o.screen).deep))
 
   number-late : (full : Bool)
       → (good ≡ true → listed ≡ 0 → passes Words word-ops (word 0) s.c puts (done-puts (bucket-tiles s.width) (length (layers-in l.layers (s.layers - 1))) puts rs) ≡ full)
@@ -193,16 +181,16 @@ module _ (s : code.Screen) (l : PopLent) (ws : List ℕ) (low : 1 ≤ s.layers) 
     end_row = ((layer-at l.layers (s.layers - 1)).bounds.y1 + 3) / 4
 
     low_rows : All (λ (x : ℕ). x < length rs) xs
-    low_rows = touched-inside o.whole top end_row s.layers bottom
+    low_rows = touched-inside (passed-whole s l.words o) top end_row s.layers bottom
 
     module _ (y : good ≡ true) where
       -- without a clip
       pub plain-closeable : (t : Span) (i : ℕ) → Closeable (frame-of s) s.layers top end_row (map (on (close t None i)) xs) l.words
       plain-closeable t i =
           record {
-            whole = o.whole;
+            whole = passed-whole s l.words o;
             low = low;
-            deep = o.bounds.deep;
+            deep = (bounds s o.screen).deep;
             bottom = bottom;
             fine = all-fine s.c s.d s.layers low rs (rows_in layer.bounds) y;
             closes = all-over (on (close t None i)) (λ (x : ℕ) (h : x < length rs). one x h) low_rows;
@@ -216,9 +204,9 @@ module _ (s : code.Screen) (l : PopLent) (ws : List ℕ) (low : 1 ≤ s.layers) 
       pub clip-closeable : (i : ℕ) (ks : List Cut) → Closeable (frame-of s) s.layers top end_row (close-puts i xs ks) l.words
       clip-closeable i ks =
           record {
-            whole = o.whole;
+            whole = passed-whole s l.words o;
             low = low;
-            deep = o.bounds.deep;
+            deep = (bounds s o.screen).deep;
             bottom = bottom;
             fine = all-fine s.c s.d s.layers low rs (rows_in layer.bounds) y;
             closes = close-all i xs (length rs) low_rows ks;
@@ -289,14 +277,15 @@ module _ (s : code.Screen) (l : PopLent) (ws : List ℕ) (low : 1 ≤ s.layers) 
               (λ y z. let v = clip-closeable y s.layer_attrs ks in
               rw puts-scene (deep_is v (length (layers-in l.layers (s.layers - 1)))))
 
-pub record Passed (g : Bool) (r n a : ℕ) (f : Bool) : Type 0 where
+-- what a number 0 says
+pub record Cleared (g : Bool) (r n a : ℕ) (f : Bool) : Type 0 where
   pub good : g ≡ true
   pub listed : r ≡ 0
   pub ids : n ≤ 1048576
   pub attrs : a < 1024
   pub room : f ≡ false
 
-pub late-zero : (good : Bool) (listed next attrs : ℕ) (full : Bool) → late good listed next attrs full ≡ 0 → Passed good listed next attrs full
+pub late-zero : (good : Bool) (listed next attrs : ℕ) (full : Bool) → late good listed next attrs full ≡ 0 → Cleared good listed next attrs full
 unfolding late
 late-zero g r n a f z = record { good = grind (arith, nat_tests); listed = grind (arith, nat_tests); ids = grind (arith, nat_tests); attrs = grind (arith, nat_tests); room = grind (arith, nat_tests) }
 

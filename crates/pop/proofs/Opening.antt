@@ -23,7 +23,8 @@ use Rattle.screen.proofs.LayersLaws.{without-clip, has-clip}
 use Rattle.pop.specs.Closing.{touched-in, good-pops, full_by, runs-full}
 use Rattle.pop.proofs.Judging.{not-true, not-false}
 use Rattle.pop.specs.Pop.{lent, layers-in, good-open, late, number-after}
-use Rattle.pop.proofs.Numbers.{Screened, layers-first, open-first, number-plain, number-long, number-clip}
+use Rattle.layers.proofs.Passing.{PassedOn}
+use Rattle.pop.proofs.Numbers.{layers-first, open-first, number-plain, number-long, number-clip}
 
 -- an open layer's box, as facts
 pub record OwnBox (v b : Box) : Type 0 where
@@ -72,7 +73,7 @@ module _ (v : Box) (t : List ℕ) (n : ℕ) where
       rw (layers-first t (n - 1) (omega arith)) (ap box_of (e ∙ ap (box_in t) z))
 
 -- the layer y and the parent's box q as the code has read them
-module _ (s : code.Screen) (w : Words) (t ws : List ℕ) (low : 1 ≤ s.layers) (o : Screened s w) (y : OpenLayer) (e : y ≡ open_at t (s.layers - 1)) (q : Rect)
+module _ (s : code.Screen) (w : Words) (t ws : List ℕ) (low : 1 ≤ s.layers) (o : PassedOn s w) (y : OpenLayer) (e : y ≡ open_at t (s.layers - 1)) (q : Rect)
     (p : box_of q ≡ clip-box (box_of s.viewport) (layers-in t (s.layers - 1))) where
   abbrev view : Box
   view = box_of s.viewport

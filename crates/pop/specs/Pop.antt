@@ -1,6 +1,6 @@
 -- A pop (rules 9 and 10) on a screen's words, the tables that are lent to it, and a list of segments' words: its number, and what stands
 -- afterwards. The plan, and what it does to rows, are the rules'.
-use Rattle.std.specs.Prelude.{ℕ, zero, suc, ◌+◌, ◌-◌, ◌*◌, ◌%◌, ◌≤◌, Bool, true, ◌&&◌, not, cond, ◌≡◌, List, [], ◌∷◌, length, get_or, set, drop, leb, ltb, eqb, Float}
+use Rattle.std.specs.Prelude.{ℕ, zero, suc, ◌+◌, ◌-◌, ◌*◌, ◌%◌, ◌/◌, ◌≤◌, Bool, true, ◌&&◌, not, cond, ◌≡◌, List, [], ◌∷◌, length, get_or, set, drop, leb, ltb, eqb, Float, Option, None, Some}
 use Rattle.std.specs.Float.{nan}
 use Rattle.sizes.specs.Sizes.{most-layers, most-attrs, last-id, open-layer-size, open-layer-table, opacity-count, layer-attr-size, layer-attr-table}
 use Rattle.rules.specs.Lists.{join}
@@ -15,7 +15,10 @@ use Rattle.row.specs.Arena.{lay}
 use Rattle.cmd.specs.declared.attrs.LayerFillAttrs.{LayerFillAttrs}
 use Rattle.cmd.specs.Attrs.{words-at, layer-tables, put-layer}
 use Rattle.rect.specs.Rects.{box_of}
-use Rattle.segments.specs.Segs.{segs-of}
+use Rattle.segments.specs.Segs.{segs-of, SceneOf}
+use Rattle.rect.specs.declared.Rect.{Rect}
+use Rattle.pop.specs.declared.rows.ClipPath.{ClipPath}
+use Rattle.pop.specs.declared.judge.Closing.{Closing}
 use Rattle.screen.specs.declared.Screen.{Screen}
 use Rattle.screen.specs.Screens.{frame-of, state-of, screen-after}
 use Rattle.screen.specs.Judging.{judged}
@@ -116,9 +119,12 @@ module _ (s : Screen) (l : PopLent) (ws : List ℕ) where
       (set (set l.opacities (most-layers + s.layer_attrs) (get_or l.opacities (s.layers - 1) nan)) (s.layers - 1) float-0)
       (words-at l.attrs (layer-attr-size * s.layer_attrs) new-words)
 
+  abbrev pub after : PopOut
+  after = out Done (screen-after s pop-plan) lent-after
+
   -- a pop: done, or refused by its number with nothing changed
   unfoldable pub popped : PopOut
-  popped = cond (eqb number Done) (out Done (screen-after s pop-plan) lent-after) (out number s l)
+  popped = cond (eqb number Done) after (out number s l)
 
 -- what the doing half requires: nothing is refused. Opacities and attributes are not read here
 pub record Judged (s : Screen) (t ws : List ℕ) (w : Words) : Type 0 where
@@ -127,6 +133,19 @@ pub record Judged (s : Screen) (t ws : List ℕ) (w : Words) : Type 0 where
   pub some : 1 ≤ s.layers
   pub layer : good-open (box_of s.viewport) t s.layers ≡ true
   pub rows : number-after s (lent w t [] []) ws Done ≡ Done
+
+-- the clip of a closing layer, as its flag says: the segments of its range, cut to its parent's box
+abbrev pub ClipOf : Screen → OpenLayer → Rect → Option ClipPath → Type 0
+ClipOf s y q None = y.flag ≡ 0
+ClipOf s y q (Some p) = (y.flag ≡ 0 → ⊥) × (p.start ≡ y.start) × (p.«end» ≡ y.«end») × SceneOf (box_of s.viewport) (box_of q) p.scene
+
+-- how the innermost layer of the table closes
+pub record Closes (s : Screen) (t : List ℕ) (c : Closing) : Type 0 where
+  pub layer : c.layer ≡ open_at t (s.layers - 1)
+  pub parent : box_of c.parent ≡ clip-box (box_of s.viewport) (layers-in t (s.layers - 1))
+  pub first : c.band.start ≡ c.layer.bbox.y0 / 4
+  pub last : c.band.«end» ≡ (c.layer.bbox.y1 + 3) / 4
+  pub clip : ClipOf s c.layer c.parent c.clip
 
 -- rule 9: the closing LayerFills of the innermost layer
 abbrev pub closing-puts : Screen → List ℕ → List ℕ → Words → List Put

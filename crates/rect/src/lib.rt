@@ -2,18 +2,20 @@
 //! snapping.
 #![tactic(auto)]
 
-ghost use Rattle.std.specs.Prelude.{◌≡◌, ◌≤◌};
-ghost use Rattle.rules.specs.Boxes.{width, height, empty-box, meet, to-local, bounded, good-dest, good-box, good_viewport, whole, span_of, box};
+ghost use Rattle.std.specs.Prelude.{◌≡◌, ◌≤◌, ◌+◌, ◌/◌};
+ghost use Rattle.rules.specs.Boxes.{width, height, empty-box, meet, to-local, bounded, good-dest, good-box, good_viewport, whole, span_of, rows_in, box};
+ghost use Rattle.rules.specs.Lists.{range};
 ghost use Rattle.rules.specs.Setups.{snapped, viewport-in};
 ghost use Rattle.span.specs.Spans.{tiles};
 ghost use Rattle.rect.specs.Rects.{box_of, mode_of, seen};
 
 use sizes::answers::Refusal;
-use sizes::{MOST_HEIGHT, MOST_WIDTH};
+use sizes::{MOST_HEIGHT, MOST_WIDTH, SCENE_END, TILE_HEIGHT, TILE_WIDTH};
 use span::TileSpan;
+use std::ops::Range;
 
 /// From a left and a top edge to a right and a bottom edge, in pixels; the ends are not in it.
-#[derive(Clone, Copy, PartialEq, Eq)]
+#[derive(Clone, Copy, Debug, PartialEq, Eq)]
 pub struct Rect {
     pub x0: u32,
     pub y0: u32,
@@ -22,7 +24,7 @@ pub struct Rect {
 }
 
 /// How a viewport is read: `Exact`, as it is given, or `Snapping`, carried outward to the edges of tiles (rule 1).
-#[derive(Clone, Copy)]
+#[derive(Clone, Copy, Debug, PartialEq, Eq)]
 pub enum Mode {
     Exact,
     Snapping,
@@ -86,21 +88,21 @@ impl Rect {
     pub fn is_bounded(self) -> bool
         ensures { result ≡ bounded (box_of self) }
     {
-        self.x0 <= self.x1 && self.y0 <= self.y1 && self.x1 <= 32768 && self.y1 <= 32768
+        self.x0 <= self.x1 && self.y0 <= self.y1 && self.x1 <= SCENE_END && self.y1 <= SCENE_END
     }
 
     /// A filter's dest box: bounded, x in whole tiles; y is free.
     pub fn is_good_dest(self) -> bool
         ensures { result ≡ good-dest (box_of self) }
     {
-        self.x0 % 4 == 0 && self.x1 % 4 == 0 && self.is_bounded()
+        self.x0 % TILE_WIDTH == 0 && self.x1 % TILE_WIDTH == 0 && self.is_bounded()
     }
 
     /// A clip's box: bounded, in whole tiles.
     pub fn is_good(self) -> bool
         ensures { result ≡ good-box (box_of self) }
     {
-        self.y0 % 4 == 0 && self.y1 % 4 == 0 && self.is_good_dest()
+        self.y0 % TILE_HEIGHT == 0 && self.y1 % TILE_HEIGHT == 0 && self.is_good_dest()
     }
 
     /// The bounds of a viewport (docs/RULES.md, Measures): a good box of at most 4,096 x 2,048 pixels.
@@ -117,10 +119,10 @@ impl Rect {
         ensures { box_of result ≡ snapped (box_of self) }
     {
         Rect {
-            x0: 4 * (self.x0 / 4),
-            y0: 4 * (self.y0 / 4),
-            x1: 4 * ((self.x1 + 3) / 4),
-            y1: 4 * ((self.y1 + 3) / 4),
+            x0: self.x0 / TILE_WIDTH * TILE_WIDTH,
+            y0: self.y0 / TILE_HEIGHT * TILE_HEIGHT,
+            x1: (self.x1 + TILE_WIDTH - 1) / TILE_WIDTH * TILE_WIDTH,
+            y1: (self.y1 + TILE_HEIGHT - 1) / TILE_HEIGHT * TILE_HEIGHT,
         }
     }
 
@@ -130,7 +132,7 @@ impl Rect {
     {
         match mode {
             Mode::Exact => self.viewport(),
-            Mode::Snapping if self.x1 <= 32768 && self.y1 <= 32768 => {
+            Mode::Snapping if self.x1 <= SCENE_END && self.y1 <= SCENE_END => {
                 self.snap_to_tile_coordinates().viewport()
             }
             Mode::Snapping => Err(Refusal::BadViewport),
@@ -164,8 +166,23 @@ impl Rect {
     pub fn bbox_span(self) -> TileSpan
         ensures { tiles result ≡ span_of (box_of self) }
     {
-        let first = self.x0 / 4;
-        let end = if self.is_empty() { first } else { self.x1 / 4 };
+        let first = self.x0 / TILE_WIDTH;
+        let end = if self.is_empty() {
+            first
+        } else {
+            self.x1 / TILE_WIDTH
+        };
         TileSpan { first, end }
+    }
+
+    /// The rows of tiles that it touches, from the first to the one past the last.
+    pub fn rows(self) -> Range<usize>
+        ensures first { result.start ≡ self.y0 / 4 }
+        ensures last { result.end ≡ (self.y1 + 3) / 4 }
+        ensures rows { range result.start result.end ≡ rows_in (box_of self) }
+    {
+        let first = self.y0 / TILE_HEIGHT;
+        let end = (self.y1 as usize + 3) / TILE_HEIGHT as usize;
+        first as usize..end
     }
 }

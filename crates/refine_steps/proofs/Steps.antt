@@ -29,7 +29,7 @@ use Rattle.screen.specs.Layers.{props-of, clip-of, layer-words}
 use Rattle.screen.proofs.LayersLaws.{words-length}
 use Rattle.walk.specs.Reading.{pattern_of, draw_in, clip_in, props_in}
 use Rattle.walk.proofs.Given.{pattern-good}
-use Rattle.walk.specs.Steps.{placement_in, fill-part, fill-into, push-part, push-into, filter-part, filter-into, with_value, call_at}
+use Rattle.walk.specs.Steps.{filter_in, fill-part, fill-into, push-part, push-into, filter-part, filter-into, with_value, call_at}
 use Rattle.walk.proofs.Lists.{paints-words-length, segments-words-length, paints-said, segments-said}
 use Rattle.refine_steps.specs.Sound.{Sound}
 use Rattle.refine_steps.specs.Lent.{table, open-words, layers-words, layers-opacities, attr-opacity, screen-of, lent_of, answer-of}
@@ -117,14 +117,14 @@ module _ (s : rule.Screen Row) (h : Sound s) (b : Bool) (de pa : List ℕ) where
     unfolding lent_of
     filter-first = rw (judged-done s h b, eq-eqb _ _ paints-long, eq-eqb _ _ filters-long)
 
-    filter-is : filter-number (given (placement_in f) f.pixmap count q) (filter-part (lent_of s b de pa)) ≡ refusal Row row-ops filter-plan (done Row row-ops filter-plan s)
+    filter-is : filter-number (given (filter_in f) count q) (filter-part (lent_of s b de pa)) ≡ refusal Row row-ops filter-plan (done Row row-ops filter-plan s)
     unfolding filter-number lent_of
     filter-is =
         step_is s h b (plan-filter count f q (state-of (screen-of st b))) filter-plan (filter_alike st b count f q) filter-ok
         (filter.first-number (filter-part (lent_of s b de pa))) filter-first
 
     filter-after : refusal Row row-ops filter-plan (done Row row-ops filter-plan s) ≡ Done
-        → filter-into (lent_of s b de pa).tables (filter.after (given (placement_in f) f.pixmap count q) (filter-part (lent_of s b de pa))) ≡ lent_of (done Row row-ops filter-plan s) false de pa
+        → filter-into (lent_of s b de pa).tables (filter.after (given (filter_in f) count q) (filter-part (lent_of s b de pa))) ≡ lent_of (done Row row-ops filter-plan s) false de pa
     unfolding filter.after lent_of done
     filter-after e =
         let a = filter_alike st b count f q in
@@ -141,8 +141,8 @@ module _ (s : rule.Screen Row) (h : Sound s) (b : Bool) (de pa : List ℕ) where
     pub filter-stepped : call_at (a-filter count f q) (lent_of s b de pa) ≡ answer-of (call Row row-ops (a-filter count f q) s) b de pa
     unfolding call_at filtered call perform plan
     filter-stepped =
-        settled (filter-into (lent_of s b de pa).tables) (filter-number (given (placement_in f) f.pixmap count q) (filter-part (lent_of s b de pa))) (refusal Row row-ops filter-plan (done Row row-ops filter-plan s))
-        (filter-part (lent_of s b de pa)) (filter.after (given (placement_in f) f.pixmap count q) (filter-part (lent_of s b de pa))) s (done Row row-ops filter-plan s) b de pa filter-is refl filter-after
+        settled (filter-into (lent_of s b de pa).tables) (filter-number (given (filter_in f) count q) (filter-part (lent_of s b de pa))) (refusal Row row-ops filter-plan (done Row row-ops filter-plan s))
+        (filter-part (lent_of s b de pa)) (filter.after (given (filter_in f) count q) (filter-part (lent_of s b de pa))) s (done Row row-ops filter-plan s) b de pa filter-is refl filter-after
 
   -- a fill
   module _ (ps : List Paint) (ss : List Segment) (d : Draw) where

@@ -1,7 +1,6 @@
 -- What the program `rowlist` writes of a file's words is the text of the rules' `rowlist` of them. Assumes nothing.
-use Rattle.std.proofs.Common.{◌≡◌, refl, sym, ap, ◌∙◌, Bool, true, false, not, ◌&&◌, ◌||◌, cond, List, [], ◌∷◌, ◌++◌, append-nil, Option, None, Some, Result, Ok, Err, ℕ, ◌*◌, ◌%◌, ◌≤◌, arith, ltb, leb}
+use Rattle.std.proofs.Common.{◌≡◌, refl, sym, ap, ◌∙◌, Bool, true, false, not, ◌&&◌, ◌||◌, cond, List, [], ◌∷◌, ◌++◌, append-nil, Option, None, Some, Ok, Err, ℕ, ◌*◌, ◌≤◌, arith, ltb, leb}
 use Rattle.std.proofs.Common.{eqb, length, get_or, drop, get_or-drop, le-ltb, lt-ltb, leb-true, leb-false, eq-eqb, eqb-true}
-use Rattle.sizes.specs.declared.answers.Refusal.{Refusal}
 use Rattle.sizes.specs.declared.answers.Refusal.TheVariants as refusal
 use Rattle.sizes.specs.declared.width.Width.{Width}
 use Rattle.sizes.specs.Widths.{bucket-tiles}
@@ -19,7 +18,6 @@ use Rattle.rules.proofs.All.{never, and_left, and_right}
 use Rattle.screen.specs.declared.Screen as declared
 use Rattle.screen.specs.Judging.{good-tables, arenas, judged_reset}
 use Rattle.screen.specs.Tables.{Tables, lengths, ScreenLent, lent}
-use Rattle.screen.proofs.ScreenLaws.{few-buckets}
 use Rattle.refine_steps.specs.Sound.{Fitting}
 use Rattle.refine_steps.proofs.Refined.{Refines}
 use Rattle.refine_steps.proofs.Reset.{fresh-sound}
@@ -27,14 +25,14 @@ use Rattle.refine_paint.proofs.Kept.{reset-fair}
 use Rattle.refine_file.specs.Played.{place, Plays, Outcome, unaltered, made}
 use Rattle.refine_file.proofs.Laws.{file-plays}
 use Rattle.walk.specs.Recorded.{recorded}
-use Rattle.file.specs.Layouts.{layout, formed, form_of, sections_at}
+use Rattle.file.specs.Layouts.{layout, form_of, sections_at}
 use Rattle.file.specs.Words.{words-in}
 use Rattle.file.proofs.Laid.{good-form}
 use Rattle.file.proofs.Reading.{viewport-is}
-use Rattle.file.specs.Judging.{box_from}
+use Rattle.file.specs.Held.{recording_of}
 use Rattle.text.specs.Listed.{listed, written, text_of}
 use Rattle.text.specs.declared.recording.Size.{Size}
-use Rattle.text.specs.Files.{Showed, file-text, shows-as, nothing, refusing, shown-as, showing, FileOut, file-out, answered, recording-text, frame_at, size, sized-if, sized, size_of, good-bytes, file-size, Usual, Exact, blank, sized-text, bytes-text}
+use Rattle.text.specs.Files.{Showed, file-text, shows-as, nothing, refusing, shown-as, showing, FileOut, file-out, answered, recording-text, size, sized-if, sized, size_of, good-bytes, file-size, Usual, Exact, blank, sized-text, bytes-text}
 use Rattle.text.proofs.FileTexts.{blank_exact}
 use Rattle.text.proofs.Bytes.{by-file}
 use Rattle.refine_text.proofs.Lengths.{line-few, lines-few, rows_few}
@@ -228,10 +226,6 @@ module _ (q : Setup) (u : Usual q) (ws : List ℕ) (bs : List ℕ) (room : 26425
         let x : ss ≡ sections_at (layout ws) ws = some_same (sym e ∙ g.same) in
         rw x (viewport-is (layout ws) ws g.fits)
 
-    view : box_from ws 1 ≡ r.viewport
-    unfolding box_from
-    view = sym at_words
-
     place_view : box-at ws 1 ≡ r.viewport
     place_view = rw (get_or-drop 1 ws 0 0, get_or-drop 1 ws 1 0, get_or-drop 1 ws 2 0, get_or-drop 1 ws 3 0) (sym at_words)
 
@@ -347,21 +341,21 @@ module _ (q : Setup) (u : Usual q) (ws : List ℕ) (bs : List ℕ) (room : 26425
 
   -- What is printed of a file's words, with room for the longest text: the number and the text of the rules' lines.
   pub words-print : Prints (rowlist-screen q ws) bs (sized-text (size_of ws q) ws q bs)
-  unfolding size_of form_of play
+  unfolding size_of play
   words-print = go (sections shape ws) refl
     where
-      go : (o : Option (List (List (List ℕ)))) → sections shape ws ≡ o → Prints (played-of o) bs (sized-text (sized (formed o (layout ws)) (frame_at ws q)) ws q bs)
+      go : (o : Option (List (List (List ℕ)))) → sections shape ws ≡ o → Prints (played-of o) bs (sized-text (sized (recording_of o) q) ws q bs)
       go None e = refused-prints bs room (answer BadForm old) 3 nothing refl refl
-      go (Some ss) e = rw (view ss e) (printed-by-size ss e _ refl)
+      go (Some ss) e = printed-by-size ss e _ refl
 
   -- .. and what is left beside it, in tables of its screen's lengths, is the rules' screen, where it is not refused.
   pub words-leave : {z : Size} → Ok z ≡ size_of ws q → (t : Tables) → Exact z t → Leaves (rowlist-screen q ws) z bs (recording-text ws q t bs)
-  unfolding size_of form_of play
+  unfolding size_of play
   words-leave {z} i t k = go (sections shape ws) refl i
     where
-      go : (o : Option (List (List (List ℕ)))) → sections shape ws ≡ o → Ok z ≡ sized (formed o (layout ws)) (frame_at ws q) → Leaves (played-of o) z bs (recording-text ws q t bs)
+      go : (o : Option (List (List (List ℕ)))) → sections shape ws ≡ o → Ok z ≡ sized (recording_of o) q → Leaves (played-of o) z bs (recording-text ws q t bs)
       go None e j = cc
-      go (Some ss) e j = by_size ss e _ refl (rw (view ss e) at j) t k
+      go (Some ss) e j = by_size ss e _ refl j t k
 
 -- `rowlist`: a file's bytes, with room lent as the program has it. What `file_text` writes is the text of the rules' `rowlist` of the bytes.
 module _ (q : Setup) (u : Usual q) (fs : List ℕ) (bs : List ℕ) (room : 264256 ≤ length bs) where

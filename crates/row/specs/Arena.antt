@@ -1,8 +1,8 @@
 -- A screen's lent words as a list of rows, and back. A whole arena is a `Words` too.
-use Rattle.std.specs.Prelude.{ℕ, zero, suc, ◌+◌, ◌*◌, ◌/◌, ◌≤◌, ◌≡◌, List, [], ◌∷◌, ◌++◌, length, take, drop}
+use Rattle.std.specs.Prelude.{ℕ, zero, suc, ◌+◌, ◌*◌, ◌/◌, ◌≤◌, ◌<◌, ◌≡◌, List, [], ◌∷◌, ◌++◌, length, take, drop, get_or}
 use borrow.Rule.Slice.PartMut.{put_mid}
 use Rattle.sizes.specs.Sizes.{most-room, most-rows, last-id, row-size}
-use Rattle.row.specs.Words.{Words, words}
+use Rattle.row.specs.Words.{Words, words, Room}
 use Rattle.row.specs.declared.rows.Place.{Place}
 
 -- a row past the last
@@ -74,3 +74,10 @@ pub record Stands (c d r : ℕ) (p : Place) : Type 0 where
   pub z0 : p.z0 ≡ r * (2 * d)
   pub z1 : p.z1 ≡ p.z0 + 2 * d
   pub low : (p.x1 ≤ 27648) × (p.y1 ≤ 2097152) × (p.z1 ≤ last-id)
+
+-- row r of n is there; what f makes of it has room, and P holds of it
+pub record Ready (c d n r : ℕ) (P : Words → Type 0) (f : Words → Words) (w : Words) : Type 0 where
+  pub arenas : Arenas c d n w
+  pub within : r < n
+  pub asked : P (get_or (cut (sizes c d) n w) r nowhere)
+  pub room : Room (get_or (cut (sizes c d) n w) r nowhere) (f (get_or (cut (sizes c d) n w) r nowhere))

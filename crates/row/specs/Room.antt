@@ -65,6 +65,11 @@ abbrev pub Turned : Limits → List ℕ → ℕ → ℕ → Result Hand Refusal 
 Turned l s n r (Ok h) = (good_row l.c l.d l.layers s ≡ true) × (at-hand h ≡ loaded l s n r) × Low (at-hand h)
 Turned l s n r (Err x) = (good_row l.c l.d l.layers s ≡ false) × (x ≡ refusal.BadRecord)
 
+-- what judging rows gives, n being their number: 4 at once, or what was found, which waits until a step has judged its ids and attributes
+abbrev pub Told : ℕ → Result Fault Refusal → Type 0
+Told n (Ok f) = fault_number f ≡ n
+Told n (Err x) = (x ≡ refusal.BadRecord) × (n ≡ BadRecord)
+
 -- the rows rs, n being the number of those before them: 4 for one that is not good, then 10 for one that is full
 unfoldable pub rows_told : (ℕ → Bool) → (ℕ → Bool) → ℕ → List ℕ → ℕ
 rows_told good full n rs = cond (every good rs) (cond (some_of full rs) FullRow n) BadRecord

@@ -9,6 +9,7 @@ use Rattle.rules.specs.Spans.{Span}
 use Rattle.rules.specs.Commands.{Command, command_words, DepthFill, depth-words}
 use Rattle.rules.specs.Depth.{tiles-of}
 use Rattle.rules.specs.Rows.{RowOps, adds}
+pub use Rattle.cmd.specs.Commands.{put4}
 
 -- the words of one row, or of all the rows of a screen
 pub record Words : Type 0 where
@@ -21,10 +22,6 @@ words s r f = record { state = s; render = r; fills = f }
 
 abbrev pub word : ℕ → Words → ℕ
 word i w = get_or w.state i 0
-
--- four words of a command at place n
-abbrev pub put4 : List ℕ → ℕ → ℕ → ℕ → ℕ → ℕ → List ℕ
-put4 l n a b x y = set (set (set (set l (4 * n) a) (4 * n + 1) b) (4 * n + 2) x) (4 * n + 3) y
 
 -- the span word of a union with the span f to e; only the tag 6 says that there is a union already
 unfoldable pub hull_word : ℕ → ℕ → ℕ → ℕ → ℕ

@@ -3,7 +3,7 @@ ghost use Rattle.std.specs.Prelude.{◌≡◌, ◌≤◌, ◌<◌, length};
 ghost use Rattle.sizes.specs.Sizes.{most-layers, row-size};
 ghost use Rattle.row.specs.Building.{good-union, good-level, good-summary, good_row};
 
-use cmd::command::good_span_word;
+use cmd::command::SpanWord;
 use sizes::{DEPTHS, END, FIRST, LARGEST, LAST_ID, LEVEL, LEVEL_BASE, LEVELS, RENDERS, TILE_END};
 
 // The tag and the span word of an open buffer's union.
@@ -13,7 +13,7 @@ fn is_good_union(tag: u32, span: u32) -> bool
     if tag == 5 {
         span == 0
     } else {
-        tag == 6 && good_span_word(TILE_END, span)
+        tag == 6 && SpanWord(span).is_good(TILE_END)
     }
 }
 
@@ -26,8 +26,8 @@ fn is_good_level(state: &[u32], k: u32) -> bool
     state[at] < state[RENDERS] && is_good_union(state[at + 1], state[at + 2])
 }
 
-// The depth summary is in order, up to tile 8,192, its id one that a draw can have taken.
-fn is_good_summary(state: &[u32]) -> bool
+/// Whether the depth summary of a row's record is in order, up to tile 8,192, its id one that a draw can have taken (answer 4).
+pub fn is_good_summary(state: &[u32]) -> bool
     requires { length state.now ≡ row-size }
     ensures { result ≡ good-summary state.now }
 {

@@ -2,6 +2,7 @@
 //! and what a step does to one (`acts`). Parts of the building steps: where a function asks something, its callers have judged it.
 #![tactic(auto)]
 
+pub mod act;
 pub mod acts;
 pub mod judge;
 pub mod room;

@@ -1,17 +1,19 @@
 //! One row over its own words (bucketer.rs, RowState). Parts: each function has a `requires`, which its callers have judged. They know one row and not its place
 //! on the screen.
-ghost use Rattle.std.specs.Prelude.{◌≡◌, ◌+◌, ◌*◌, ◌≤◌, ◌<◌, length, get_or, set};
+ghost use Rattle.std.specs.Prelude.{◌≡◌, ◌≤◌, ◌<◌, length, get_or};
 ghost use Rattle.sizes.specs.Sizes.{tile-end, most-layers, most-room, row-size, renders-at, levels-at};
 ghost use Rattle.rules.specs.Spans.{span};
 ghost use Rattle.rules.specs.Commands.{span-word, paint-fill, layer-fill};
 ghost use Rattle.cmd.specs.DepthFills.{depth-fill};
 ghost use Rattle.span.specs.Spans.{tiles, buckets};
 ghost use Rattle.sizes.specs.Widths.{bucket-tiles};
-ghost use Rattle.row.specs.Cmds.{Short};
-ghost use Rattle.row.specs.Words.{words, put4, hull_word, include_span, put_command, put_buf, end_buf, put_depth, Room, Ends};
+ghost use Rattle.cmd.specs.Commands.{command};
+ghost use Rattle.rules.specs.Rows.{adds};
+ghost use Rattle.row.specs.Cmds.{Short, ShortCmd};
+ghost use Rattle.row.specs.Words.{words, hull_word, include_span, include-adds, put_command, put_buf, end_buf, put_depth, Room, Ends};
 ghost use Rattle.row.specs.Row.{held, Same};
 
-use cmd::command::span_word;
+use cmd::command::{Fill, RenderCmd, SpanWord};
 use cmd::depth_fill::DepthFill;
 use sizes::width::Width;
 use sizes::{DEPTHS, END, FIRST, LARGEST, LEVEL, LEVEL_BASE, LEVELS, RENDERS};
@@ -32,9 +34,9 @@ fn hull_word(tag: u32, span: u32, first: u32, end: u32) -> u32
     ensures { result ≡ hull_word tag span first «end» }
 {
     if tag == 6 {
-        (span / 65536).min(first) * 65536 + (span % 65536).max(end)
+        SpanWord(span).union(first, end).0
     } else {
-        first * 65536 + end
+        SpanWord::of(first, end).0
     }
 }
 
@@ -55,68 +57,48 @@ fn include_current_span(state: &mut [u32], first: u32, end: u32)
     state[at + 2] = hull_word(tag, span, first, end);
 }
 
-// The four words of command n.
-fn put_four(s: &mut [u32], n: u32, a: u32, b: u32, x: u32, y: u32)
-    requires { 4 * n + 4 ≤ length s.old }
-    ensures { s.new ≡ put4 s.old n a b x y }
+// Rule 10: a fill's span counts for the innermost level; a buffer has none.
+fn include_fill(state: &mut [u32], cmd: RenderCmd)
+    requires { (length state.old ≡ row-size) × (get_or state.old levels-at 0 ≤ most-layers) × ShortCmd cmd }
+    ensures { state.new ≡ include-adds (adds (command cmd)) state.old }
 {
-    let at = 4 * n as usize;
-    s[at] = a;
-    s[at + 1] = b;
-    s[at + 2] = x;
-    s[at + 3] = y;
+    match cmd {
+        RenderCmd::PaintFill(fill) | RenderCmd::LayerFill(fill) => {
+            include_current_span(state, fill.span.first, fill.span.end);
+        }
+        RenderCmd::PushBuf(_) | RenderCmd::PopBuf => {}
+    }
 }
 
 impl Row<'_> {
-    // A fill by its words (push_cmd). Its span counts for the innermost level.
-    fn put_fill(&mut self, tag: u32, first: u32, end: u32, alpha: u32, attrs_idx: u32)
-        requires { (length self.old.state.now ≡ row-size) × (get_or self.old.state.now levels-at 0 ≤ most-layers) × (first ≤ tile-end) × («end» ≤ tile-end) × (4 * get_or self.old.state.now renders-at 0 + 4 ≤ length self.old.render.now) × (length self.old.render.now ≤ 4 * most-room) }
+    /// A command (push_cmd); a fill's span counts for the innermost level (rule 10).
+    #[tactic(auto, unfolding(crate::specs::Words::put_command))]
+    pub fn push_cmd(&mut self, cmd: RenderCmd)
+        requires { ShortCmd cmd × Room (held self.old) (put_command (command cmd) (held self.old)) }
         ensures same { Same self.old self.new }
-        ensures row { held self.new
-            ≡ words (set (include_span first «end» self.old.state.now) 0 (get_or self.old.state.now 0 0 + 1)) (put4 self.old.render.now (get_or self.old.state.now 0 0) tag (span-word (span first «end»)) alpha attrs_idx) self.old.fills.now }
+        ensures row { held self.new ≡ put_command (command cmd) (held self.old) }
     {
         let n = self.state[RENDERS];
-        include_current_span(self.state, first, end);
-        put_four(self.render, n, tag, span_word(first, end), alpha, attrs_idx);
+        include_fill(self.state, cmd);
+        cmd.words().put(self.render, n as usize);
         self.state[RENDERS] = n + 1;
     }
 
     /// A PaintFill of a span of tiles, with the place of its paint attribute (push_cmd).
-    #[tactic(auto, unfolding(crate::specs::Words::put_command, rules::specs::Commands::command_words))]
     pub fn push_paint(&mut self, span: TileSpan, alpha: Option<u32>, attrs_idx: u32)
         requires { Short (tiles span) × Room (held self.old) (put_command (paint-fill (tiles span) alpha attrs_idx) (held self.old)) }
         ensures same { Same self.old self.new }
         ensures row { held self.new ≡ put_command (paint-fill (tiles span) alpha attrs_idx) (held self.old) }
     {
-        match alpha {
-            None => {
-                self.put_fill(1, span.first, span.end, 0, attrs_idx);
-            }
-            Some(index) => {
-                self.put_fill(2, span.first, span.end, index, attrs_idx);
-            }
-        }
-    }
-
-    /// A closing LayerFill of a span of tiles, with the place of its layer attribute (push_cmd).
-    #[tactic(auto, unfolding(crate::specs::Words::put_command, rules::specs::Commands::command_words))]
-    pub fn push_closing(&mut self, span: TileSpan, alpha: Option<u32>, attrs_idx: u32)
-        requires { Short (tiles span) × Room (held self.old) (put_command (layer-fill (tiles span) alpha attrs_idx) (held self.old)) }
-        ensures same { Same self.old self.new }
-        ensures row { held self.new ≡ put_command (layer-fill (tiles span) alpha attrs_idx) (held self.old) }
-    {
-        match alpha {
-            None => {
-                self.put_fill(3, span.first, span.end, 0, attrs_idx);
-            }
-            Some(index) => {
-                self.put_fill(4, span.first, span.end, index, attrs_idx);
-            }
-        }
+        self.push_cmd(RenderCmd::PaintFill(Fill {
+            span,
+            alpha,
+            attrs_idx,
+        }));
     }
 
     /// Rule 5 (push_buf): a PushBuf, one level more. Its span is none so far.
-    #[tactic(auto, using(crate::proofs::WordsLaws::buf_room), unfolding(crate::specs::Words::put_buf))]
+    #[tactic(auto, using(crate::proofs::WordsLaws::buf_room), unfolding(crate::specs::Words::put_buf, rules::specs::Commands::command_words))]
     pub fn push_buf(&mut self)
         requires { (get_or self.old.state.now levels-at 0 < most-layers) × Room (held self.old) (put_buf (held self.old)) }
         ensures same { Same self.old self.new }
@@ -124,7 +106,9 @@ impl Row<'_> {
     {
         let n = self.state[RENDERS];
         let k = self.state[LEVELS] + 1;
-        put_four(self.render, n, 5, 0, 0, 0);
+        RenderCmd::PushBuf(None)
+            .words()
+            .put(self.render, n as usize);
         let at = LEVEL_BASE + LEVEL * k as usize;
         self.state[at] = n;
         self.state[at + 1] = 5;
@@ -134,7 +118,7 @@ impl Row<'_> {
     }
 
     /// Rules 9 and 10 (pop_buf): a PopBuf; the innermost level's PushBuf gets its span, and the level's words become 0.
-    #[tactic(auto, using(crate::proofs::WordsLaws::end_room), unfolding(crate::specs::Words::end_buf))]
+    #[tactic(auto, using(crate::proofs::WordsLaws::end_room), unfolding(crate::specs::Words::end_buf, rules::specs::Commands::command_words))]
     pub fn pop_buf(&mut self)
         requires { Ends (held self.old) × Room (held self.old) (end_buf (held self.old)) }
         ensures same { Same self.old self.new }
@@ -146,7 +130,7 @@ impl Row<'_> {
         let p = 4 * self.state[at] as usize;
         self.render[p] = self.state[at + 1];
         self.render[p + 1] = self.state[at + 2];
-        put_four(self.render, n, 7, 0, 0, 0);
+        RenderCmd::PopBuf.words().put(self.render, n as usize);
         self.state[at] = 0;
         self.state[at + 1] = 0;
         self.state[at + 2] = 0;
@@ -178,7 +162,7 @@ impl Row<'_> {
         self.state[LARGEST] = largest;
         self.state[DEPTHS] = n + 1;
         let at = 2 * n as usize;
-        self.fills[at] = two.span;
+        self.fills[at] = two.span.0;
         self.fills[at + 1] = two.attrs_idx;
     }
 }

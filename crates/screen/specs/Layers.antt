@@ -10,16 +10,17 @@ use Rattle.rules.specs.Inputs as rule
 use Rattle.rules.specs.Inputs.{Props, good-handle, good-thread, good-panel, good-props}
 use Rattle.rules.specs.Plans.{Layer}
 use Rattle.cmd.specs.Blends.{blend_of}
+use Rattle.inputs.specs.declared.Clip.{Clip}
+use Rattle.inputs.specs.Inputs as inputs
 use Rattle.rect.specs.declared.Rect.{Rect}
 use Rattle.rect.specs.Rects.{box_of}
-use Rattle.screen.specs.declared.layers.Clip.{Clip}
 use Rattle.screen.specs.declared.layers.LayerProps.{LayerProps}
 use Rattle.screen.specs.declared.layers.FlatClip.{FlatClip}
 use Rattle.screen.specs.declared.layers.OpenLayer.{OpenLayer}
 
 abbrev pub clip-of : Option Clip → Option rule.Clip
 clip-of None = None
-clip-of (Some c) = Some (record { bounds = box_of c.bbox; start = c.start; end = c.end; thread = c.thread })
+clip-of (Some c) = Some (inputs.clip-of c)
 
 -- the opacity is 0 here: it stands apart, as an f32
 abbrev pub props-of : LayerProps → Props

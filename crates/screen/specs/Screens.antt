@@ -1,5 +1,5 @@
 -- A screen's numbers: what it stands for among the rules, and which are good (answer 4).
-use Rattle.std.specs.Prelude.{ℕ, Bool, false, ◌&&◌, cond, length, replicate, leb, eqb, pos}
+use Rattle.std.specs.Prelude.{ℕ, ◌+◌, ◌-◌, Bool, false, ◌&&◌, cond, length, replicate, leb, eqb, pos}
 use Rattle.std.specs.Prelude.{None}
 use Rattle.sizes.specs.Sizes.{most-layers, most-attrs, most-filters}
 use Rattle.rules.specs.Boxes.{Box, width, height, by_4, whole}
@@ -95,6 +95,14 @@ screen-after s p =
 -- the screen with other counts and no painting, its layers and clip box as before
 abbrev pub counted : Screen → ℕ → ℕ → ℕ → ℕ → Screen
 counted s next paints layers filters = screen-in (frame-of s) s.clip_bbox next paints layers filters s.layers false
+
+-- rule 8: one more layer, whose own box is b
+abbrev pub opened : Screen → Rect → Screen
+opened s b = screen-in (frame-of s) b s.next_draw_id s.paint_attrs s.layer_attrs s.filter_paints (s.layers + 1) false
+
+-- rule 9: one layer less, whose parent's box is b; it took an id and an attribute
+abbrev pub closed : Screen → Rect → Screen
+closed s b = screen-in (frame-of s) b (s.next_draw_id + 1) s.paint_attrs (s.layer_attrs + 1) s.filter_paints (s.layers - 1) false
 
 -- rule 1
 abbrev pub fresh-screen : Frame → Screen

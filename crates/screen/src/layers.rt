@@ -10,20 +10,11 @@ ghost use Rattle.screen.specs.LentLayers.{SameLayers};
 ghost use Rattle.screen.specs.Layers.{clip-of, good-pattern, good-given, layer-of, clip-words, flat-words, layer-words, no_words, open_at, box_in, good_layer, good_own_box, no_opacity};
 
 use cmd::blend::Blend;
+pub use inputs::Clip;
 use rect::{NOWHERE, Rect};
 use sizes::{HANDLE_END, OPEN_LAYER, PANEL_END, THREAD_END};
 
-/// A layer's clip (vello_common, LayerClip): its box in pixels of the scene, the range of its segments in the list that the pop is lent, the thread of its alpha
-/// values.
-#[derive(Clone, Copy)]
-pub struct Clip {
-    pub bbox: Rect,
-    pub start: u32,
-    pub end: u32,
-    pub thread: u32,
-}
-
-/// What a push is given (vello_common, LayerProps). `nan` is the pattern of a NaN opacity, else 0; `mask` a handle, or 0 for none.
+/// What a push is given (vello_common, LayerProps). A clip's segments are those of the list that the pop is lent. `nan` is the pattern of a NaN opacity, else 0; `mask` a handle, or 0 for none.
 #[derive(Clone, Copy)]
 pub struct LayerProps {
     pub blend: Blend,
@@ -93,7 +84,7 @@ fn is_good_clip(clip: Option<Clip>) -> bool
 {
     match clip {
         None => true,
-        Some(c) => c.bbox.is_good() && c.start <= c.end && c.thread < THREAD_END,
+        Some(c) => c.is_good(),
     }
 }
 

@@ -2,15 +2,15 @@
 //! has the table of open layers.
 #![tactic(auto)]
 
-ghost use Rattle.std.specs.Prelude.{true, ◌≡◌, ◌≤◌};
-ghost use Rattle.sizes.specs.Sizes.{most-rows};
+ghost use Rattle.std.specs.Prelude.{true, ◌≡◌, ◌≤◌, ◌<◌, ◌+◌};
+ghost use Rattle.sizes.specs.Sizes.{most-rows, most-layers, most-attrs, most-filters, last-id};
 ghost use Rattle.sizes.specs.Widths.{bucket-tiles};
 ghost use Rattle.sizes.specs.Refusals.{answer_number};
 ghost use Rattle.rules.specs.Boxes.{good_viewport, rows_of, buckets-of};
 ghost use Rattle.rules.specs.Walk.{good-room};
 ghost use Rattle.rect.specs.Rects.{box_of};
 ghost use Rattle.screen.specs.declared.Screen.{Screen};
-ghost use Rattle.screen.specs.Screens.{in-tiles, good_clip, good_screen, frame, frame-of, fresh-screen};
+ghost use Rattle.screen.specs.Screens.{in-tiles, good_clip, good_screen, frame, frame-of, counted, opened, closed, fresh-screen};
 ghost use Rattle.screen.specs.Judging.{good-rooms, judged, good-fixed, judged_reset};
 ghost use Rattle.screen.specs.Tables.{lengths, zeroed, answer_of, reset_to};
 ghost use Rattle.screen.specs.Lent.{tables_in, whole, SameLent};
@@ -146,6 +146,53 @@ impl Screen {
             && self.filter_paints <= MOST_FILTERS
             && self.layers <= MOST_LAYERS
             && is_good_clip(self.viewport, self.clip_bbox, self.layers)
+    }
+
+    /// A fill takes an id, and `more` paint attributes; it ends painting.
+    pub fn take_fill(&mut self, more: u32)
+        requires ids { self.old.next_draw_id ≤ last-id }
+        requires attrs { (self.old.paint_attrs ≤ most-attrs) × (more ≤ 1) }
+        ensures { self.new ≡ counted self.old (self.old.next_draw_id + 1) (self.old.paint_attrs + more) self.old.layer_attrs self.old.filter_paints }
+    {
+        self.next_draw_id += 1;
+        self.paint_attrs += more;
+        self.painting = false;
+    }
+
+    /// A filter fill takes `more` of each, an id, a paint attribute and a filter paint; it ends painting.
+    pub fn take_filter(&mut self, more: u32)
+        requires ids { (self.old.next_draw_id ≤ last-id + 1) × (more ≤ 1) }
+        requires attrs { (self.old.paint_attrs ≤ most-attrs) × (self.old.filter_paints ≤ most-filters) }
+        ensures { self.new ≡ counted self.old (self.old.next_draw_id + more) (self.old.paint_attrs + more) self.old.layer_attrs (self.old.filter_paints + more) }
+    {
+        self.next_draw_id += more;
+        self.paint_attrs += more;
+        self.filter_paints += more;
+        self.painting = false;
+    }
+
+    /// One more layer is open, whose own box is given; it ends painting.
+    pub fn open_layer(&mut self, bbox: Rect)
+        requires { self.old.layers ≤ most-layers }
+        ensures { self.new ≡ opened self.old bbox }
+    {
+        self.clip_bbox = bbox;
+        self.layers += 1;
+        self.painting = false;
+    }
+
+    /// One layer less is open, whose parent's box is given; it took an id and a layer attribute, and it ends painting.
+    pub fn close_layer(&mut self, parent: Rect)
+        requires some { 1 ≤ self.old.layers }
+        requires ids { self.old.next_draw_id ≤ last-id }
+        requires attrs { self.old.layer_attrs < most-attrs }
+        ensures { self.new ≡ closed self.old parent }
+    {
+        self.clip_bbox = parent;
+        self.next_draw_id += 1;
+        self.layer_attrs += 1;
+        self.layers -= 1;
+        self.painting = false;
     }
 }
 

@@ -1,8 +1,8 @@
 -- Laws of refusals, for callers.
-use Rattle.std.proofs.Common.{◌≡◌, refl, sym, ap, ◌∙◌, cond, eqb, ℕ, arith, Result, Ok, Err}
+use Rattle.std.proofs.Common.{◌≡◌, refl, cond, eqb, ℕ, arith, Result, Ok, Err}
 use Rattle.sizes.specs.declared.answers.Refusal.{Refusal}
 use Rattle.sizes.specs.declared.answers.Refusal.TheVariants as refusal
-use Rattle.sizes.specs.Refusals.{number_of, answer_number}
+use Rattle.sizes.specs.Refusals.{number_of}
 
 -- no refusal is done
 pub not_done : (r : Refusal) → number_of r ≡ 0 → ⊥

@@ -15,6 +15,17 @@ tile-end = 8192
 abbrev pub bucket-end : ℕ
 bucket-end = tile-end / narrowest
 
+-- a tile in pixels: how wide and how high
+abbrev pub tile-width : ℕ
+tile-width = 4
+
+abbrev pub tile-height : ℕ
+tile-height = 4
+
+-- pixels of the scene: the ends of boxes are at most this
+abbrev pub scene-end : ℕ
+scene-end = tile-end * tile-width
+
 -- alpha values of one tile
 abbrev pub tile-alphas : ℕ
 tile-alphas = 16

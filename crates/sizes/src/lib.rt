@@ -1,12 +1,12 @@
-//! Sizes, limits, table lengths and places of fields by name, for code; `specs/Sizes` has the same for contracts, and the `tied_` functions tie the two.
+//! Sizes, limits, table lengths and places of fields by name, for code; `specs/Sizes` has the same for contracts, and `constants_hold` ties the two.
 //! `answers` has the refusals with their numbers, `width` the widths of a depth bucket.
 #![tactic(auto)]
 
 pub mod answers;
 pub mod width;
 
-ghost use Rattle.std.specs.Prelude.{◌≡◌, [], ◌∷◌};
-ghost use Rattle.sizes.specs.Sizes.{narrowest, tile-end, bucket-end, tile-alphas, most-width, most-height, most-rows, most-runs, most-room, most-layers, most-attrs, most-filters, thread-end, handle-end, last-id, panel-end, most-records, file-bytes};
+ghost use Rattle.std.specs.Prelude.{◌≡◌, ◌+◌, ◌*◌, ℕ};
+ghost use Rattle.sizes.specs.Sizes.{narrowest, tile-end, bucket-end, tile-width, tile-height, scene-end, tile-alphas, most-width, most-height, most-rows, most-runs, most-room, most-layers, most-attrs, most-filters, thread-end, handle-end, last-id, panel-end, most-records, file-bytes};
 ghost use Rattle.sizes.specs.Sizes.{renders-at, depths-at, first-at, end-at, largest-at, levels-at, level-at, row-size, open-layer-size, open-layer-table, paint-attr-size, paint-id-at, paint-panel-at, paint-attr-table, layer-attr-size, layer-id-at, layer-panel-at, layer-attr-table, filter-paint-size, filter-paint-table, opacity-count, piece-size, line-size, line-table, state-size};
 ghost use Rattle.sizes.specs.Sizes.{program-rows, program-buckets, program-room, program-render, program-fills, program-depth, program-records, program-painting};
 
@@ -19,6 +19,15 @@ pub const TILE_END: u32 = 8192;
 /// The end of a range of buckets is at most this at any width: the buckets up to TILE_END at the narrowest.
 pub const BUCKET_END: usize = TILE_END as usize / NARROWEST;
 
+/// Pixels that a tile is wide (vello_common, Tile::WIDTH).
+pub const TILE_WIDTH: u32 = 4;
+
+/// Pixels that a tile is high (vello_common, Tile::HEIGHT); a row of a screen is one tile high.
+pub const TILE_HEIGHT: u32 = 4;
+
+/// Pixels of the scene: the ends of boxes are at most this, as those of the tiles below TILE_END are.
+pub const SCENE_END: u32 = TILE_END * TILE_WIDTH;
+
 /// Alpha values of one tile: an alpha index moves by so many a tile.
 pub const TILE_ALPHAS: u32 = 16;
 
@@ -28,11 +37,11 @@ pub const MOST_WIDTH: u32 = 4096;
 /// Pixels that a viewport is high at most.
 pub const MOST_HEIGHT: u32 = 2048;
 
-/// Rows of tiles that a screen has at most: the highest viewport, 4 pixels a row.
-pub const MOST_ROWS: usize = 512;
+/// Rows of tiles that a screen has at most: the highest viewport.
+pub const MOST_ROWS: usize = (MOST_HEIGHT / TILE_HEIGHT) as usize;
 
 /// Runs that a row of a screen has at most: every second bucket of the widest viewport, at the narrowest width.
-pub const MOST_RUNS: usize = MOST_WIDTH as usize / 4 / NARROWEST / 2;
+pub const MOST_RUNS: usize = (MOST_WIDTH / TILE_WIDTH) as usize / NARROWEST / 2;
 
 /// C and D are at most this: render commands, and depth fills, that a row has room for.
 pub const MOST_ROOM: u32 = 1024;
@@ -165,7 +174,7 @@ pub const STATE: usize = 17;
 pub const PROGRAM_ROWS: usize = 32;
 
 /// .. buckets in a row at most, at the narrowest width.
-pub const PROGRAM_BUCKETS: usize = MOST_WIDTH as usize / 4 / NARROWEST;
+pub const PROGRAM_BUCKETS: usize = (MOST_WIDTH / TILE_WIDTH) as usize / NARROWEST;
 
 /// .. C and D.
 pub const PROGRAM_ROOM: u32 = 64;
@@ -191,85 +200,23 @@ pub const PROGRAM_RECORDS: usize = PROGRAM_ROWS * ROW;
 /// .. of what painting keeps of them: steps done and nesting.
 pub const PROGRAM_PAINTING: usize = PROGRAM_ROWS * 2;
 
-// The limits are those of the contracts.
-fn tied_limits() -> [usize; 18]
-    ensures { result ≡ narrowest ∷ tile-end ∷ bucket-end ∷ tile-alphas ∷ most-width ∷ most-height ∷ most-rows ∷ most-runs ∷ most-room ∷ most-layers ∷ most-attrs ∷ most-filters ∷ thread-end ∷ handle-end ∷ last-id ∷ panel-end ∷ most-records ∷ file-bytes ∷ [] }
-{
-    [
-        NARROWEST,
-        TILE_END as usize,
-        BUCKET_END,
-        TILE_ALPHAS as usize,
-        MOST_WIDTH as usize,
-        MOST_HEIGHT as usize,
-        MOST_ROWS,
-        MOST_RUNS,
-        MOST_ROOM as usize,
-        MOST_LAYERS as usize,
-        MOST_ATTRS as usize,
-        MOST_FILTERS as usize,
-        THREAD_END as usize,
-        HANDLE_END as usize,
-        LAST_ID as usize,
-        PANEL_END as usize,
-        MOST_RECORDS,
-        FILE_BYTES,
-    ]
-}
-
-// The words of a recording's records are those that docs/RULES.md has.
-fn tied_records() -> [usize; 5]
-    ensures { result ≡ 4 ∷ 5 ∷ 7 ∷ 22 ∷ 3 ∷ [] }
-{
-    [PAINT, SEGMENT, DRAW, LAYER, NODE]
-}
-
-// So are the words of rows and tables. A level's words stand from `level-at` on.
-fn tied_words() -> [usize; 26]
-    ensures { result ≡ renders-at ∷ depths-at ∷ first-at ∷ end-at ∷ largest-at ∷ levels-at ∷ level-at 0 ∷ level-at 1 ∷ row-size ∷ open-layer-size ∷ open-layer-table ∷ paint-attr-size ∷ paint-id-at ∷ paint-panel-at ∷ paint-attr-table ∷ layer-attr-size ∷ layer-id-at ∷ layer-panel-at ∷ layer-attr-table ∷ filter-paint-size ∷ filter-paint-table ∷ opacity-count ∷ piece-size ∷ line-size ∷ line-table ∷ state-size ∷ [] }
-{
-    [
-        RENDERS,
-        DEPTHS,
-        FIRST,
-        END,
-        LARGEST,
-        LEVELS,
-        LEVEL_BASE,
-        LEVEL_BASE + LEVEL,
-        ROW,
-        OPEN_LAYER,
-        OPEN_TABLE,
-        PAINT_ATTR,
-        PAINT_ID,
-        PAINT_PANEL,
-        PAINT_TABLE,
-        LAYER_ATTR,
-        LAYER_ID,
-        LAYER_PANEL,
-        LAYER_TABLE,
-        FILTER_PAINT,
-        FILTER_TABLE,
-        OPACITIES,
-        PIECE,
-        LINE,
-        LINE_TABLE,
-        STATE,
-    ]
-}
-
-// So are the programs' sizes.
-fn tied_programs() -> [usize; 8]
-    ensures { result ≡ program-rows ∷ program-buckets ∷ program-room ∷ program-render ∷ program-fills ∷ program-depth ∷ program-records ∷ program-painting ∷ [] }
-{
-    [
-        PROGRAM_ROWS,
-        PROGRAM_BUCKETS,
-        PROGRAM_ROOM as usize,
-        PROGRAM_RENDER,
-        PROGRAM_FILLS,
-        PROGRAM_DEPTH,
-        PROGRAM_RECORDS,
-        PROGRAM_PAINTING,
-    ]
-}
+// Each constant is the number that contracts call by the same name. It does nothing: what it promises is a theorem.
+fn constants_hold()
+    ensures tiles { (TILE_END ≡ tile-end) × (TILE_WIDTH ≡ tile-width) × (TILE_HEIGHT ≡ tile-height) × (TILE_ALPHAS ≡ tile-alphas) × (SCENE_END ≡ scene-end) }
+    ensures buckets { (NARROWEST ≡ narrowest) × (BUCKET_END ≡ bucket-end) × (MOST_RUNS ≡ most-runs) }
+    ensures screens { (MOST_WIDTH ≡ most-width) × (MOST_HEIGHT ≡ most-height) × (MOST_ROWS ≡ most-rows) × (MOST_ROOM ≡ most-room) }
+    ensures counts { (MOST_LAYERS ≡ most-layers) × (MOST_ATTRS ≡ most-attrs) × (MOST_FILTERS ≡ most-filters) × (MOST_RECORDS ≡ most-records) }
+    ensures ends { (THREAD_END ≡ thread-end) × (HANDLE_END ≡ handle-end) × (PANEL_END ≡ panel-end) × (LAST_ID ≡ last-id) }
+    ensures file { (FILE_BYTES ≡ file-bytes) × (PAINT ≡ 4) × (SEGMENT ≡ 5) × (DRAW ≡ 7) × (LAYER ≡ 22) × (NODE ≡ 3) }
+    ensures row { (RENDERS ≡ renders-at) × (DEPTHS ≡ depths-at) × (LEVELS ≡ levels-at) × (ROW ≡ row-size) }
+    ensures summary { (FIRST ≡ first-at) × (END ≡ end-at) × (LARGEST ≡ largest-at) }
+    ensures levels { (k : ℕ) → LEVEL_BASE + LEVEL * k ≡ level-at k }
+    ensures layers { (OPEN_LAYER ≡ open-layer-size) × (OPEN_TABLE ≡ open-layer-table) × (OPACITY_BASE ≡ most-layers) × (OPACITIES ≡ opacity-count) }
+    ensures paint_attrs { (PAINT_ATTR ≡ paint-attr-size) × (PAINT_ID ≡ paint-id-at) × (PAINT_PANEL ≡ paint-panel-at) × (PAINT_TABLE ≡ paint-attr-table) }
+    ensures layer_attrs { (LAYER_ATTR ≡ layer-attr-size) × (LAYER_ID ≡ layer-id-at) × (LAYER_PANEL ≡ layer-panel-at) × (LAYER_TABLE ≡ layer-attr-table) }
+    ensures filter_paints { (FILTER_PAINT ≡ filter-paint-size) × (FILTER_TABLE ≡ filter-paint-table) }
+    ensures results { (PIECE ≡ piece-size) × (LINE ≡ line-size) × (LINE_TABLE ≡ line-table) × (STATE ≡ state-size) }
+    ensures programs { (PROGRAM_ROWS ≡ program-rows) × (PROGRAM_BUCKETS ≡ program-buckets) × (PROGRAM_ROOM ≡ program-room) }
+    ensures tables { (PROGRAM_RENDER ≡ program-render) × (PROGRAM_FILLS ≡ program-fills) × (PROGRAM_DEPTH ≡ program-depth) }
+    ensures records { (PROGRAM_RECORDS ≡ program-records) × (PROGRAM_PAINTING ≡ program-painting) }
+{}

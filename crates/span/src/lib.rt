@@ -14,21 +14,21 @@ use sizes::width::Width;
 
 /// From a first tile to an end tile, which is not among them (span.rs, TileAlignedSpan). Laid out as in C: a host lends slices of it.
 #[repr(C)]
-#[derive(Clone, Copy)]
+#[derive(Clone, Copy, Debug, PartialEq, Eq)]
 pub struct TileSpan {
     pub first: u32,
     pub end: u32,
 }
 
 /// From a first depth bucket to an end bucket, which is not among them.
-#[derive(Clone, Copy)]
+#[derive(Clone, Copy, Debug, PartialEq, Eq)]
 pub struct BucketRange {
     pub first: u32,
     pub end: u32,
 }
 
 /// Tiles of one row, with the alpha index of the first of them, if the fill has one; a solid fill has none.
-#[derive(Clone, Copy)]
+#[derive(Clone, Copy, Debug, PartialEq, Eq)]
 pub struct Stretch {
     pub tiles: TileSpan,
     pub alpha: Option<u32>,

@@ -5,8 +5,8 @@ ghost use Rattle.test_calls.specs.Words.{Passes};
 
 use crate::tables::Table;
 use crate::words::Words;
-use fill::Draw;
-use layers::{FilterFill, Placement};
+use inputs::{Draw, Filter};
+use layers::FilterFill;
 use rect::{Mode, Rect};
 use screen::Setup;
 use screen::layers::{Clip, LayerProps};
@@ -175,8 +175,8 @@ fn read_filter_fill(words: &mut Words<'_>) -> FilterFill
     ensures { Passes words.old words.new }
 {
     FilterFill {
-        pixmap: read_pixmap(words),
-        placement: Placement {
+        filter: Filter {
+            pixmap: read_pixmap(words),
             dest: words.rect(),
             source_x: words.word(),
             source_y: words.word(),

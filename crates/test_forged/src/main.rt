@@ -6,7 +6,7 @@
 ghost use Rattle.std.specs.Prelude.{length};
 ghost use Rattle.std.specs.Iterator.{at_most};
 
-use file::form::words_of_bytes;
+use file::words_of_bytes;
 use std::process::ExitCode;
 use std::{fs, io};
 use test_calls::{Tables, Words, run, word_at};

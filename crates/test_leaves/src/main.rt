@@ -8,7 +8,7 @@ mod replay;
 mod words;
 
 use cases::{Case, Cases, Kind};
-use file::form::words_of_bytes;
+use file::words_of_bytes;
 use std::process::ExitCode;
 use std::{fs, io};
 

@@ -1,19 +1,16 @@
 -- A file's bytes. Assumes nothing.
-use Rattle.std.proofs.Common.{◌≡◌, refl, ap, ◌∙◌, Bool, true, false, ◌&&◌, ◌||◌, cond, List, ◌++◌, None, Some, Result, Ok, Err, ℕ, ◌/◌, ◌%◌, ◌≤◌, arith, length, take, drop, leb, ltb, eqb, le-ltb, lt-ltb, leb-true, leb-false}
+use Rattle.std.proofs.Common.{◌≡◌, refl, ap, ◌∙◌, Bool, true, false, ◌&&◌, ◌||◌, cond, List, ◌++◌, Option, None, Some, Result, Err, ℕ, ◌/◌, ◌%◌, length, take, drop, leb, ltb, eqb, le-ltb, lt-ltb, leb-true, leb-false}
 use Rattle.sizes.specs.declared.answers.Refusal.{Refusal}
 use Rattle.sizes.specs.declared.answers.Refusal.TheVariants as refusal
 use Rattle.sizes.specs.Refusals.{number_of}
-use Rattle.rules.proofs.All.{both, never}
 use Rattle.rules.specs.Lists.{is_none}
 use Rattle.rules.specs.Setups.{Setup}
-use Rattle.rules.specs.Recording.{shape, sections}
+use Rattle.rules.specs.Recording.{Recording, shape, sections}
 use Rattle.rules.specs.Lines.{words_of}
 use Rattle.rules.specs.Lines as rules
-use Rattle.file.specs.declared.form.Layout.{Layout}
-use Rattle.file.specs.Layouts.{form_of}
+use Rattle.file.specs.Held.{recording_of}
 use Rattle.file.specs.Words.{Filled, filled, filled-with, words-in}
 use Rattle.file.proofs.Bytes.{first-words, rules-words}
-use Rattle.file.proofs.Laid.{good-form, bad-form}
 use Rattle.text.specs.declared.recording.Size.{Size}
 use Rattle.text.specs.Files.{size_of, file-size, good-bytes, no-width-of, no-width-number}
 
@@ -49,13 +46,17 @@ module _ (fs ws : List ℕ) (g : good-bytes (length fs) ≡ true) {n : ℕ} {vs 
   size-read q e = rw g (rw words-read at e)
 
 -- Where the width asked for is none: the number of the words' form, and of the bytes.
-pub formless : (ws : List ℕ) {r : Refusal} → Err r ≡ form_of ws → number_of r ≡ no-width-of ws
+pub formless : (ws : List ℕ) {r : Refusal} → (r ≡ refusal.BadForm) × (sections shape ws ≡ None) → number_of r ≡ no-width-of ws
 unfolding no-width-of
-formless ws e = let p = bad-form ws e in rw (p.0, p.1)
+formless ws e = rw (e.0, e.1)
 
-pub well-formed : (ws : List ℕ) (l : Layout) → Ok l ≡ form_of ws → 2 ≡ no-width-of ws
+pub well-formed : (ws : List ℕ) {y : Recording} → recording_of (sections shape ws) ≡ Some y → 2 ≡ no-width-of ws
 unfolding no-width-of
-well-formed ws l e = rw (good-form ws l e).same
+well-formed ws {y} e = go (sections shape ws) e
+  where
+    go : (o : Option (List (List (List ℕ)))) → recording_of o ≡ Some y → ◌≡◌ {A = ℕ} 2 (cond (is_none o) 3 2)
+    go None i = cc
+    go (Some ss) i = refl
 
 -- bytes that are no words, or too many, are bad of form, and others have the form of their words
 either : (a b : Bool) → (a || b) ≡ elim a [ true ↦ true | false ↦ b ]

@@ -1,5 +1,5 @@
 -- What is shown of a screen, of a file, and of a refusal. Assumes nothing.
-use Rattle.std.proofs.Common.{◌≡◌, refl, sym, ap, ◌∙◌, Option, None, Some, Ok, Err, replicate, pos, ℤ, Float, Bool, true, false, cond, List, ℕ, ◌≤◌, ◌<◌, eqb, le-leb, eq-eqb, ne_eqb}
+use Rattle.std.proofs.Common.{◌≡◌, refl, sym, ap, ◌∙◌, Option, None, Some, Ok, Err, replicate, pos, ℤ, Float, Bool, true, false, List, ℕ, ◌≤◌, ◌<◌, eqb, le-leb, eq-eqb, ne_eqb}
 use lib.ListN.{length-replicate}
 use borrow.Author.Tests.{lt-leb}
 use Rattle.sizes.specs.declared.answers.Refusal.{Refusal}
@@ -9,7 +9,7 @@ use Rattle.sizes.specs.Widths.{bucket-tiles}
 use Rattle.rules.specs.Answers.{Answer, answer, settle}
 use Rattle.rules.specs.Boxes.{Box, good_viewport, rows_of, buckets-of}
 use Rattle.rules.specs.Setups.{Setup, frame, viewport-in}
-use Rattle.rules.specs.Recording.{shape, sections, recording}
+use Rattle.rules.specs.Recording.{Recording, shape, sections, recording}
 use Rattle.rules.specs.Walk.{go_on, ◌then◌}
 use Rattle.rect.specs.declared.Rect.{Rect}
 use Rattle.rect.specs.Rects.{box_of, seen}
@@ -23,15 +23,13 @@ use Rattle.screen.specs.Screens.{fresh-screen}
 use Rattle.screen.specs.Judging.{judged_reset}
 use Rattle.screen.specs.Tables.{Tables, tables, lengths, float-0, zeroed, ScreenLent, lent, reset_to}
 use Rattle.screen.proofs.ScreenLaws.{few-buckets}
-use Rattle.file.specs.declared.form.Layout.{Layout}
-use Rattle.file.specs.Layouts.{form_of}
-use Rattle.file.specs.Judging.{box_from}
+use Rattle.file.specs.Held.{recording_of}
 use Rattle.file.specs.Words.{words-in}
 use Rattle.walk.specs.Recorded.{played, recorded-in, of-sections, recorded}
 use Rattle.text.specs.Listed.{Listing, TextOut, text-out, listed, refused-listed}
 use Rattle.text.specs.declared.recording.Size.{Size}
 use Rattle.text.specs.Files.{nothing, Showed, shows-as, file-text, refusing, showing, file-out, FileOut, answered, recording-text}
-use Rattle.text.specs.Files.{frame_at, size, size_of, file-size, Exact, blank, bytes-text}
+use Rattle.text.specs.Files.{size, size_of, file-size, Exact, blank, bytes-text}
 
 module _ (n : ℕ) (s : Screen) (bs : List ℕ) {r : Listing} {cs : List ℕ} where
   pub refused_as : text-out r cs ≡ refused-listed n bs → shows-as (file-text n r.bytes s) cs ≡ refusing n s bs
@@ -63,18 +61,18 @@ module _ (ws : List ℕ) (q : Setup) (t : Tables) (bs : List ℕ) {o : Screen} (
 
 -- a file's size
 module _ (ws : List ℕ) (q : Setup) where
-  pub bad-form : {r : Refusal} → Err r ≡ form_of ws → Err r ≡ size_of ws q
+  pub bad-form : {r : Refusal} → (r ≡ refusal.BadForm) × (sections shape ws ≡ None) → Err r ≡ size_of ws q
   unfolding size_of
-  bad-form e = rw (← e)
+  bad-form e = rw (e.0, e.1)
 
-  module _ {l : Layout} (e : Ok l ≡ form_of ws) {b : Box} (i : b ≡ box_from ws 1) where
+  module _ {y : Recording} (e : recording_of (sections shape ws) ≡ Some y) {b : Box} (i : b ≡ y.viewport) where
     pub bad-viewport : {r : Refusal} → Err r ≡ seen (viewport-in q.mode b) → Err r ≡ size_of ws q
     unfolding size_of
-    bad-viewport h = let p = bad-seen _ _ h in rw (← e, ← i, p.0, p.1)
+    bad-viewport h = let p = bad-seen _ _ h in rw (e, ← i, p.0, p.1)
 
     -- of r, the viewport that the screen has
     module _ {r : Rect} (h : Ok r ≡ seen (viewport-in q.mode b)) where
-      held : box_of r ≡ (frame_at ws q).viewport
+      held : box_of r ≡ (frame q y.viewport).viewport
       held = ap box_of (good-seen _ _ h).1 ∙ ap (viewport-in q.mode) i
 
       is-good : good_viewport (box_of r) ≡ true
@@ -82,11 +80,11 @@ module _ (ws : List ℕ) (q : Setup) where
 
       pub many-rows : {m : ℕ} → m ≡ rows_of (box_of r) → 32 < m → Err refusal.BadViewport ≡ size_of ws q
       unfolding size_of
-      many-rows j g = rw (← e, ← held, is-good, lt-leb (rows_of (box_of r)) 32 (rw j at g))
+      many-rows j g = rw (e, ← held, is-good, lt-leb (rows_of (box_of r)) 32 (rw j at g))
 
       pub good-size : {m n : ℕ} → m ≡ rows_of (box_of r) → n ≡ buckets-of (bucket-tiles q.width) (box_of r) → m ≤ 32 → Ok (size m n) ≡ size_of ws q
       unfolding size_of
-      good-size j k g = rw (← e, ← held, is-good, le-leb (rows_of (box_of r)) 32 (rw j at g), j, k)
+      good-size j k g = rw (e, ← held, is-good, le-leb (rows_of (box_of r)) 32 (rw j at g), j, k)
 
       pub few : {n : ℕ} → n ≡ buckets-of (bucket-tiles q.width) (box_of r) → n ≤ 64
       few k = rw k (few-buckets (box_of r) is-good q.width)

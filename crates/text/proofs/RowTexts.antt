@@ -1,7 +1,6 @@
 -- What the public calls leave. Assumes nothing.
-use Rattle.std.proofs.Common.{◌≡◌, sym, ap, subst, ◌∙◌, Bool, true, false, List, [], ℕ, ◌*◌, ◌≤◌, ◌<◌, length, lt-ltb, le-ltb, eq-eqb, ne_eqb, leb-true, eqb-true}
-use Rattle.sizes.specs.Sizes.{most-attrs, most-filters, piece-size, paint-attr-table, layer-attr-table, opacity-count, filter-paint-table}
-use Rattle.rules.proofs.All.{both}
+use Rattle.std.proofs.Common.{◌≡◌, sym, ap, subst, ◌∙◌, Bool, true, false, List, [], ℕ, ◌*◌, ◌≤◌, ◌<◌, length, lt-ltb, le-ltb, eq-eqb, ne_eqb}
+use Rattle.sizes.specs.Sizes.{piece-size}
 use Rattle.screen.specs.declared.Screen.{Screen}
 use Rattle.text.specs.declared.Out.{Out}
 use Rattle.text.specs.Texts.{Writes}

@@ -1,5 +1,5 @@
 -- The text of a recording file: what `rowlist` prints of it, and what its words leave in the lent tables.
-use Rattle.std.specs.Prelude.{Result, Ok, Err, ℕ, ◌*◌, ◌%◌, ◌≡◌, Bool, true, false, ◌&&◌, cond, List, length, replicate, leb, eqb, pos}
+use Rattle.std.specs.Prelude.{Option, None, Some, Result, Ok, Err, ℕ, ◌*◌, ◌%◌, ◌≡◌, Bool, true, false, ◌&&◌, cond, List, length, replicate, leb, eqb, pos}
 use Rattle.sizes.specs.Sizes.{file-bytes, program-rows, program-room, row-size, open-layer-table, opacity-count, paint-attr-table, layer-attr-table, filter-paint-table}
 use Rattle.sizes.specs.declared.answers.Refusal.{Refusal}
 use Rattle.sizes.specs.declared.answers.Refusal.TheVariants as refusal
@@ -9,16 +9,14 @@ use Rattle.rules.specs.Lists.{is_none}
 use Rattle.rules.specs.Boxes.{good_viewport, rows_of}
 use Rattle.rules.specs.Plans.{Frame, buckets-across}
 use Rattle.rules.specs.Setups.{Setup, frame}
-use Rattle.rules.specs.Recording.{shape, sections}
+use Rattle.rules.specs.Recording.{Recording, shape, sections}
 use Rattle.rules.specs.Lines as rule
 use Rattle.row.specs.Words.{Words, words}
 use Rattle.screen.specs.declared.Screen.{Screen}
 use Rattle.screen.specs.Screens.{fresh-screen}
 use Rattle.screen.specs.Tables.{Tables, tables, float-0, ScreenLent, lent}
-use Rattle.file.specs.declared.form.Layout.{Layout}
-use Rattle.file.specs.Layouts.{form_of}
+use Rattle.file.specs.Held.{recording_of}
 use Rattle.file.specs.Words.{words-in}
-use Rattle.file.specs.Judging.{box_from}
 use Rattle.walk.specs.Recorded.{recorded}
 use Rattle.text.specs.Listed.{TextOut, listed, refused-listed}
 use Rattle.text.specs.declared.recording.FileText.{FileText}
@@ -83,9 +81,6 @@ unfoldable pub recording-text : List ℕ → Setup → Tables → List ℕ → F
 recording-text ws q t bs = answered (recorded ws q (lent nothing t)) bs
 
 -- The file's own size: 3 for its form, 2 for its viewport or more than 32 rows.
-abbrev pub frame_at : List ℕ → Setup → Frame
-frame_at ws q = frame q (box_from ws 1)
-
 abbrev pub size : ℕ → ℕ → Size
 size r b = record { rows = r; buckets = b }
 
@@ -93,12 +88,15 @@ abbrev pub sized-if : Bool → Frame → Result Size Refusal
 sized-if true f = Ok (size (rows_of f.viewport) (buckets-across f))
 sized-if false f = Err refusal.BadViewport
 
-abbrev pub sized : Result Layout Refusal → Frame → Result Size Refusal
-sized (Err r) f = Err r
-sized (Ok l) f = sized-if (good_viewport f.viewport && leb (rows_of f.viewport) program-rows) f
+abbrev pub is-shown : Frame → Bool
+is-shown f = good_viewport f.viewport && leb (rows_of f.viewport) program-rows
+
+abbrev pub sized : Option Recording → Setup → Result Size Refusal
+sized None q = Err refusal.BadForm
+sized (Some r) q = let f = frame q r.viewport in sized-if (is-shown f) f
 
 unfoldable pub size_of : List ℕ → Setup → Result Size Refusal
-size_of ws q = sized (form_of ws) (frame_at ws q)
+size_of ws q = sized (recording_of (sections shape ws)) q
 
 -- with 64 commands and 64 depth fills a row: what the programs ask
 pub record Usual (q : Setup) : Type 0 where

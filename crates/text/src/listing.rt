@@ -31,12 +31,7 @@ fn read_depth(fills: &[u32], k: usize, buckets: u32) -> Option<DepthFill>
     requires { 2 * k + 2 ≤ length fills.now }
     ensures { option_map depth-fill result ≡ depth-fill-at buckets fills.now k }
 {
-    let at = 2 * k;
-    let words = DepthWords {
-        span: fills[at],
-        attrs_idx: fills[at + 1],
-    };
-    words.read(buckets)
+    DepthWords::at(fills, k).read(buckets)
 }
 
 // The four words at place k.
@@ -44,14 +39,7 @@ fn read_command(render: &[u32], k: usize) -> Option<RenderCmd>
     requires { 4 * k + 4 ≤ length render.now }
     ensures { option_map command result ≡ command-at render.now k }
 {
-    let at = 4 * k;
-    let words = CmdWords {
-        tag: render[at],
-        span: render[at + 1],
-        alpha: render[at + 2],
-        attrs_idx: render[at + 3],
-    };
-    words.read()
+    CmdWords::at(render, k).read()
 }
 
 // Words stand for each of the first n depth fills.

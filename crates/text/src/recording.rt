@@ -9,8 +9,7 @@ ghost use Rattle.file.specs.Words.{words-in};
 ghost use Rattle.text.specs.Files.{nothing, showed, file-out, refusing, showing, recording-text, size_of, file-size, good-bytes, no-width-of, no-width-number};
 
 use crate::listing::{list_screen, refusal_line};
-use file::form::{read_form, words_of_bytes};
-use file::judge::box_at;
+use file::{Recording, words_of_bytes};
 use rect::NOWHERE;
 use row::Rows;
 use screen::{Lent, Screen, Setup, fresh};
@@ -93,8 +92,8 @@ pub fn size_of(file: &[u32], setup: Setup) -> Result<Size, Refusal>
     ensures value { result ≡ size_of file.now (setup-of setup) }
     ensures rows_le_program_rows { IfOk result (λ size. (size.rows ≤ program-rows) × (size.buckets ≤ program-buckets)) }
 {
-    read_form(file)?;
-    let viewport = box_at(file, 1).viewport_in(setup.mode)?;
+    let recording = Recording::read(file)?;
+    let viewport = recording.viewport().viewport_in(setup.mode)?;
     let screen = fresh(viewport, setup.c, setup.d, setup.width);
     let rows = screen.rows();
     if PROGRAM_ROWS < rows {
@@ -117,7 +116,7 @@ fn is_good_bytes(n: usize) -> bool
 fn no_width_of(words: &[u32]) -> Refusal
     ensures { number_of result ≡ no-width-of words.now }
 {
-    match read_form(words) {
+    match Recording::read(words) {
         Ok(_) => Refusal::BadViewport,
         Err(refusal) => refusal,
     }

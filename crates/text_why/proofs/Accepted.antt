@@ -1,6 +1,7 @@
 -- The words of an accepted recording: what is told of its tile is the rules' answer.
 use Rattle.std.proofs.Common.{◌≡◌, refl, sym, ap, ◌∙◌, Bool, true, false, not, ◌||◌, cond, List, [], ◌∷◌, Option, None, Some, Result, Ok, Err, ℕ, ◌+◌, arith, leb, ltb, eqb, eq-eqb, eqb-true}
 use Rattle.sizes.specs.declared.answers.Refusal.{Refusal}
+use Rattle.sizes.specs.declared.answers.Refusal.TheVariants as refusal
 use Rattle.sizes.specs.Refusals.{number_of}
 use Rattle.sizes.proofs.Refusals.{not_done}
 use Rattle.rules.specs.Answers.{Answer, answer, settle, first_of, Done, BadForm}
@@ -18,12 +19,7 @@ use Rattle.rules.specs.Logged.{walk-logged}
 use Rattle.rules_picture.proofs.Walked.{all-walks}
 use Rattle.rules_reason.specs.Reasons.{Asked, reason}
 use Rattle.rules_reason.specs.Answers.{Question, answer-lines, history, off-screen, tile-answer, refused-bytes, recording-answer, answer-in, why-words}
-use Rattle.file.specs.declared.form.Layout.{Layout}
-use Rattle.file.specs.Layouts.{form_of, sections_at}
-use Rattle.file.specs.Places.{recorded}
-use Rattle.file.proofs.Laid.{GoodForm, good-form, bad-form}
-use Rattle.file.proofs.Reading.{reads}
-use Rattle.walk.specs.Ready.{WalkReady}
+use Rattle.file.specs.Held.{recording_of}
 use Rattle.tile.specs.declared.steps.Tale.{Tale}
 use Rattle.tile.specs.Telling.{Telling, tell-at, nothing-told}
 use Rattle.tile.specs.Places.{Says, ToldTo}
@@ -127,33 +123,23 @@ module _ (u : Setup) (ws : List ℕ) (accepted : (rowlist-screen u ws).number �
   words-answer q = done-answer u (rowlist-screen u ws) (sections shape ws) row tile q accepted
 
   -- where there is no form the call has refused
-  pub formless : {r : Refusal} → Err r ≡ form_of ws → (q : Question) → why-words u ws row tile q ≡ refused-bytes (number_of r)
-  formless e q =
-      let b = bad-form ws e in
-      rw b.0 (words-answer q ∙ ap (λ (o : Option (List (List (List ℕ)))). answer-in u o row tile q) b.1)
+  pub formless : {x : Refusal} → (x ≡ refusal.BadForm) × (sections shape ws ≡ None) → (q : Question) → why-words u ws row tile q ≡ refused-bytes (number_of x)
+  formless b q = rw b.0 (words-answer q ∙ ap (λ (o : Option (List (List (List ℕ)))). answer-in u o row tile q) b.1)
 
-  module _ (l : Layout) (e : Ok l ≡ form_of ws) where
-    abbrev r : Recording
-    r = recorded l ws
-
+  module _ (r : Recording) (e : recording_of (sections shape ws) ≡ Some r) where
     -- the screen's frame
     abbrev f : Frame
     f = frame u r.viewport
 
-    good : GoodForm ws l
-    good = good-form ws l e
-
-    same-recording : recording (sections_at l ws) ≡ r
-    same-recording = reads l ws good.fits
-
     recording-there : (q : Question) → why-words u ws row tile q ≡ recording-answer f r row tile q
-    recording-there q =
-        words-answer q
-        ∙ ap (λ (o : Option (List (List (List ℕ)))). answer-in u o row tile q) good.same
-        ∙ ap (λ (x : Recording). recording-answer (frame u x.viewport) x row tile q) same-recording
+    recording-there q = words-answer q ∙ go (sections shape ws) e
+      where
+        go : (o : Option (List (List (List ℕ)))) → recording_of o ≡ Some r → answer-in u o row tile q ≡ recording-answer f r row tile q
+        go None i = cc
+        go (Some ss) i = let same : recording ss ≡ r = cc in rw same
 
     played : (play-records (Screen Row) (call Row row-ops) (reset fresh-row) (rowlist-place u ws) (reset fresh-row nothing) r).number ≡ 0
-    played = rw (← same-recording) (by (sections shape ws) good.same accepted-play)
+    played = by (sections shape ws) e accepted-play
       where
         old : Screen Row
         old = reset fresh-row nothing
@@ -167,8 +153,10 @@ module _ (u : Setup) (ws : List ℕ) (accepted : (rowlist-screen u ws).number �
         accepted-play : (by-sections (sections shape ws)).number ≡ 0
         accepted-play = unfold play in accepted
 
-        by : (o : Option (List (List (List ℕ)))) → o ≡ Some (sections_at l ws) → (by-sections o).number ≡ 0 → (by-sections (Some (sections_at l ws))).number ≡ 0
-        by o s z = rw s at z
+        by : (o : Option (List (List (List ℕ)))) → recording_of o ≡ Some r → (by-sections o).number ≡ 0
+            → (play-records (Screen Row) (call Row row-ops) (reset fresh-row) (rowlist-place u ws) old r).number ≡ 0
+        by None i z = cc
+        by (Some ss) i z = let same : recording ss ≡ r = cc in rw same at z
 
     facts : (judge-records (rowlist-place u ws) r ≡ 0) × ((walk (rowlist-place u ws) (reset fresh-row nothing) r).number ≡ 0)
     facts = judged-walked (rowlist-place u ws) (reset fresh-row nothing) r played
@@ -176,8 +164,8 @@ module _ (u : Setup) (ws : List ℕ) (accepted : (rowlist-screen u ws).number �
     goods : (good_viewport f.viewport ≡ true) × (good-records r ≡ true)
     goods = records-good (rowlist-place u ws) (reset fresh-row nothing) r facts.0
 
-    pub ready : WalkReady ws l
-    ready = record { fits = good.fits; good = goods.1 }
+    pub good-here : good-records r ≡ true
+    good-here = goods.1
 
     pub good-view : good_viewport f.viewport ≡ true
     good-view = goods.0

@@ -14,8 +14,7 @@ ghost use Rattle.text.specs.Files.{Usual};
 ghost use Rattle.text_programs.specs.Programs.{first};
 ghost use Rattle.text_why.specs.Questions.{question-of, read_by, ToldOf, answer-most};
 
-use file::form::{read_form, words_of_bytes};
-use file::judge::box_at;
+use file::{Recording, words_of_bytes};
 use screen::Setup;
 use sizes::LINE_TABLE;
 use sizes::answers::Refusal;
@@ -24,7 +23,6 @@ use text::{Out, Print, print_first};
 use text_programs::list_file;
 use text_programs::tables::Tables;
 use tile::{Asked, Reason, Tale, is_off_screen, reason_of, tell_tile};
-use walk::Recording;
 
 /// What is asked of a tile: one attribute, or every attribute.
 #[derive(Clone, Copy)]
@@ -149,15 +147,15 @@ fn tell_words(
     tile: u32,
     lines: &mut [u32],
 ) -> Result<Tale, Refusal>
-    requires { ((rowlist-screen (setup-of setup) words.now).number ≡ 0) × (length lines.old ≡ line-table) }
+    requires accepted { (rowlist-screen (setup-of setup) words.now).number ≡ 0 }
+    requires room { length lines.old ≡ line-table }
     ensures { ToldOf (setup-of setup) words.now row tile result lines.new }
 {
-    let layout = read_form(words)?;
-    let viewport = box_at(words, 1).viewport_in(setup.mode)?;
+    let file = Recording::read(words)?;
+    let viewport = file.viewport().viewport_in(setup.mode)?;
     if is_off_screen(viewport, row, tile) {
         return Err(Refusal::BadRun);
     }
-    let file = Recording { words, layout };
     tell_tile(&file, viewport, setup.width, row, tile, lines)
 }
 

@@ -12,7 +12,7 @@ use Rattle.rect.specs.Rects.{box_of}
 use Rattle.screen.specs.Tables.{ScreenLent, reset_to}
 use Rattle.walk.specs.Recorded.{recorded}
 use Rattle.host.specs.declared.state.SetupWords.{SetupWords}
-use Rattle.host.specs.Building.{props, picture}
+use Rattle.host.specs.Building.{props, filter-in, picture}
 use Rattle.rules_picture.specs.Recorded.{history, Readable, said}
 use Rattle.rules_picture.proofs.Cases.{by}
 use Rattle.host.specs.State.{screen-words}
@@ -104,12 +104,12 @@ holds (by-pop ss r e) =
     let z = holds r in
     let q = ap (pop-at ss) z.same ∙ pop-on z.words ss in
     made _ (calls.pop-at ss z.words) q (reached.by-pop ss z.reached (number_of _ (calls.pop-at ss z.words) q e))
-holds (by-filter p flag m n g r e) =
+holds (by-filter dest x y flag m n g r e) =
     let z = holds r in
-    let F : Host → Answer Host = filter-at p flag m n g in
-    let after = calls.filter-at (given p (picture flag m) n g) z.words in
-    let q = ap F z.same ∙ filter-on z.words p flag m n g (sym (ap (λ (x : Host). (F x).number) z.same) ∙ e) in
-    made _ after q (reached.by-filter (given p (picture flag m) n g) z.reached (number_of _ after q e))
+    let F : Host → Answer Host = filter-at dest x y flag m n g in
+    let after = calls.filter-at (given (filter-in dest x y (picture flag m)) n g) z.words in
+    let q = ap F z.same ∙ filter-on z.words dest x y flag m n g (sym (ap (λ (x : Host). (F x).number) z.same) ∙ e) in
+    made _ after q (reached.by-filter (given (filter-in dest x y (picture flag m)) n g) z.reached (number_of _ after q e))
 holds (by-begin r) =
     let z = holds r in
     made _ (reached.begin-at z.words) (ap begin-at z.same ∙ begin-on z.words) (reached.by-begin z.reached)

@@ -17,14 +17,13 @@ use Rattle.rect.specs.Rects.{box_of}
 use Rattle.row.specs.Words.{Words}
 use Rattle.screen.specs.declared.Screen.{Screen}
 use Rattle.screen.specs.Tables.{Tables, ScreenLent, lent, reset_to}
-use Rattle.fill.specs.declared.Draw.{Draw}
+use Rattle.inputs.specs.declared.Draw.{Draw}
 use Rattle.fill.specs.Fills as fills
 use Rattle.fill.specs.Fills.{filled}
 use Rattle.layers.specs.Push as push
 use Rattle.layers.specs.Push.{pushed}
 use Rattle.pop.specs.Pop as pop
 use Rattle.pop.specs.Pop.{popped}
-use Rattle.layers.specs.declared.filter.Placement.{Placement}
 use Rattle.layers.specs.Filter as filter
 use Rattle.layers.specs.Filter.{given, filtered}
 use Rattle.paint.specs.Beginning.{canvas, beginning}
@@ -36,7 +35,7 @@ use Rattle.host.specs.declared.state.SetupWords.{SetupWords}
 use Rattle.host.specs.Asked.{asked_setup}
 use Rattle.host.proofs.Words.{read_back, written_back}
 use Rattle.host.specs.Border.{unasked, unasked_number}
-use Rattle.host.specs.Building.{tables-left, reset_in, recording_in, fill-left, fill_call, props, push-left, push_call, pop-left, pop_call, picture, filter-left, filter_call}
+use Rattle.host.specs.Building.{tables-left, reset_in, recording_in, fill-left, fill_call, props, push-left, push_call, pop-left, pop_call, filter-in, picture, filter-left, filter_call}
 use Rattle.host.specs.Results.{skip-left}
 use Rattle.host.specs.Painting.{begin-left, begin_call, step_left, step_call, row_call, write_call, skip_call}
 use Rattle.host.proofs.HostAsked.{reset_unasked, recording_unasked, reset_asked, recording_asked}
@@ -203,14 +202,14 @@ module _ (l : ScreenLent) where
       (with_rows t a.value.1.words a.value.1.layers a.value.1.opacities t.paint-attrs a.value.1.attrs t.filter-paints)))
       (on-screen (screen-words l.screen, pop-part l) (λ (s : Screen). pop-left (popped s (pop-part l) ss)) l.screen)
 
-  pub filter-on : (p : Placement) (flag m n q : ℕ) → (filter-at p flag m n q (host-of l)).number ≡ Done
-      → filter-at p flag m n q (host-of l) ≡ hosted (calls.filter-at (given p (picture flag m) n q) l)
+  pub filter-on : (dest : Rect) (x y flag m n q : ℕ) → (filter-at dest x y flag m n q (host-of l)).number ≡ Done
+      → filter-at dest x y flag m n q (host-of l) ≡ hosted (calls.filter-at (given (filter-in dest x y (picture flag m)) n q) l)
   unfolding filter-at filter_call calls.filter-at
-  filter-on p flag m n q e =
+  filter-on dest x y flag m n q e =
       ap (λ (a : Answer (List ℕ × Words × List ℕ × List ℤ)). answer a.number
       (host a.value.0 (with_rows t a.value.1 t.layers t.opacities a.value.2 t.layer-attrs a.value.3)))
       (on-done (screen-words l.screen, rows_words t, t.paint-attrs, t.filter-paints)
-      (λ (s : Screen). filter-left (filtered (given p (picture flag m) n q) (filter.lent s (rows_words t) t.paint-attrs t.filter-paints))) (leb flag 1) l.screen e)
+      (λ (s : Screen). filter-left (filtered (given (filter-in dest x y (picture flag m)) n q) (filter.lent s (rows_words t) t.paint-attrs t.filter-paints))) (leb flag 1) l.screen e)
 
   pub begin-on : begin-at (host-of l) ≡ hosted (reached.begin-at l)
   unfolding begin-at begin_call reached.begin-at

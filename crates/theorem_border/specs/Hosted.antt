@@ -13,9 +13,8 @@ use Rattle.rect.specs.Rects.{box_of}
 use Rattle.row.specs.Words.{Words}
 use Rattle.screen.specs.Judging.{arenas}
 use Rattle.screen.specs.Tables.{Tables, tables, lengths}
-use Rattle.fill.specs.declared.Draw.{Draw}
+use Rattle.inputs.specs.declared.Draw.{Draw}
 use Rattle.pop.specs.Pop as pop
-use Rattle.layers.specs.declared.filter.Placement.{Placement}
 use Rattle.layers.specs.Filter.{given}
 use Rattle.paint.specs.Painting as paint
 use Rattle.paint.specs.Stepping.{Attributes, attributes}
@@ -24,7 +23,7 @@ use Rattle.rules_picture.specs.Recorded.{history, Readable, said}
 use Rattle.theorem_picture.specs.Calls.{fill-said, pop-said, filter-said}
 use Rattle.host.specs.declared.state.SetupWords.{SetupWords}
 use Rattle.host.specs.Asked.{asked_setup}
-use Rattle.host.specs.Building.{reset_call, recording_call, fill_call, said-props, props, push_call, pop_call, picture, filter_call}
+use Rattle.host.specs.Building.{reset_call, recording_call, fill_call, said-props, props, push_call, pop_call, filter-in, picture, filter_call}
 use Rattle.host.specs.Painting.{begin_call, step_call, row_call, write_call}
 
 -- the state's words and the ten tables
@@ -82,11 +81,11 @@ pop-at ss h =
     let l = a.value.1 in
     answer a.number (host a.value.0 (with_rows t l.words l.layers l.opacities t.paint-attrs l.attrs t.filter-paints))
 
--- `coarse_filter_fill`: any placement, any flag and handle, beside a list of n paints, any panel q
-unfoldable pub filter-at : Placement → ℕ → ℕ → ℕ → ℕ → Host → Answer Host
-filter-at p flag m n q h =
+-- `coarse_filter_fill`: any box and place in the picture, any flag and handle, beside a list of n paints, any panel q
+unfoldable pub filter-at : Rect → ℕ → ℕ → ℕ → ℕ → ℕ → ℕ → Host → Answer Host
+filter-at dest x y flag m n q h =
     let t = h.tables in
-    let a = filter_call flag (given p (picture flag m) n q) h.state (rows_words t) t.paint-attrs t.filter-paints in
+    let a = filter_call flag (given (filter-in dest x y (picture flag m)) n q) h.state (rows_words t) t.paint-attrs t.filter-paints in
     answer a.number (host a.value.0 (with_rows t a.value.1 t.layers t.opacities a.value.2 t.layer-attrs a.value.3))
 
 -- `coarse_begin_painting`
@@ -149,8 +148,8 @@ pub data Hosted : Frame → List Step → Host → Type 0 where
       → Hosted f (xs ++ (push-said mix compose opacity mask flag clip panel ∷ [])) (push_at mix compose opacity mask flag clip panel h).value
   by-pop : {f : Frame} {xs : List Step} {h : Host} (ss : List ℕ) → Hosted f xs h → (pop-at ss h).number ≡ Done
       → Hosted f (xs ++ (pop-said ss ∷ [])) (pop-at ss h).value
-  by-filter : {f : Frame} {xs : List Step} {h : Host} (p : Placement) (flag m n q : ℕ) → Hosted f xs h → (filter-at p flag m n q h).number ≡ Done
-      → Hosted f (xs ++ (filter-said (given p (picture flag m) n q) ∷ [])) (filter-at p flag m n q h).value
+  by-filter : {f : Frame} {xs : List Step} {h : Host} (dest : Rect) (x y flag m n q : ℕ) → Hosted f xs h → (filter-at dest x y flag m n q h).number ≡ Done
+      → Hosted f (xs ++ (filter-said (given (filter-in dest x y (picture flag m)) n q) ∷ [])) (filter-at dest x y flag m n q h).value
   by-begin : {f : Frame} {xs : List Step} {h : Host} → Hosted f xs h → Hosted f xs (begin-at h).value
   by-paint : {f : Frame} {xs : List Step} {h : Host} (c : Call) → Hosted f xs h → Hosted f xs (paint-at c h)
   by-write : {f : Frame} {xs : List Step} {h : Host} (i id : ℕ) (t : Span) (list count : List ℕ) → Hosted f xs h

@@ -11,7 +11,7 @@ use Rattle.rect.specs.Rects.{box_of}
 use Rattle.row.specs.Words.{Words}
 use Rattle.screen.specs.Tables.{Tables, lent, reset_to}
 use Rattle.screen.specs.declared.layers.LayerProps.{LayerProps}
-use Rattle.fill.specs.declared.Draw.{Draw}
+use Rattle.inputs.specs.declared.Draw.{Draw}
 use Rattle.fill.specs.Fills as fills
 use Rattle.fill.specs.Fills.{filled}
 use Rattle.layers.specs.Push as push

@@ -10,7 +10,7 @@ use Rattle.rules.specs.Plain.{plain}
 use Rattle.rect.specs.declared.Rect.{Rect}
 use Rattle.rect.specs.Rects.{box_of}
 use Rattle.screen.specs.Tables.{tables, float-0}
-use Rattle.fill.specs.declared.Draw.{Draw}
+use Rattle.inputs.specs.declared.Draw.{Draw}
 use Rattle.rules_picture.specs.Turns.{from}
 use Rattle.theorem_picture.specs.Calls.{fill-said}
 use Rattle.host.specs.declared.state.SetupWords.{SetupWords}

@@ -7,7 +7,7 @@ use Rattle.rect.specs.declared.Rect.{Rect}
 use Rattle.row.specs.Words.{Words}
 use Rattle.screen.specs.Tables.{Tables}
 use Rattle.screen.specs.declared.layers.LayerProps.{LayerProps}
-use Rattle.fill.specs.declared.Draw.{Draw}
+use Rattle.inputs.specs.declared.Draw.{Draw}
 use Rattle.layers.specs.Filter.{FilterGiven}
 use Rattle.pop.specs.Pop as pop
 use Rattle.paint.specs.Painting as paint

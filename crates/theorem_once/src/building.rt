@@ -4,7 +4,8 @@ ghost use Rattle.row.specs.Rows.{all-held};
 ghost use Rattle.screen.specs.Lent.{tables_in};
 
 use crate::Twice;
-use fill::{Draw, fill};
+use fill::fill;
+use inputs::Draw;
 use layers::filter::{FilterFill, filter_fill};
 use layers::push::push_layer;
 use pop::pop_layer;

@@ -10,7 +10,7 @@ use Rattle.rules.specs.Steps.{call}
 use Rattle.rules.specs.Calls.{Canvas, step_call, begin-call, paint-call, unset-call, visible-call, write-call, can-skip-call}
 use Rattle.screen.specs.Tables.{ScreenLent}
 use Rattle.screen.specs.declared.layers.LayerProps.{LayerProps}
-use Rattle.fill.specs.declared.Draw.{Draw}
+use Rattle.inputs.specs.declared.Draw.{Draw}
 use Rattle.layers.specs.Filter.{FilterGiven}
 use Rattle.walk.specs.Reading.{props_in}
 use Rattle.walk.specs.Steps.{call_at}

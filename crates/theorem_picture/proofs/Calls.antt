@@ -18,9 +18,10 @@ use Rattle.screen.specs.declared.Screen as shown
 use Rattle.screen.specs.Judging.{judged}
 use Rattle.screen.specs.Tables.{ScreenLent}
 use Rattle.screen.specs.declared.layers.LayerProps.{LayerProps}
-use Rattle.fill.specs.declared.Draw.{Draw}
+use Rattle.inputs.specs.declared.Draw.{Draw}
 use Rattle.fill.specs.Fills as fills
-use Rattle.fill.specs.Fills.{draw-of, paints, paints-of, filled, fill_number, fill_done, first_number}
+use Rattle.inputs.specs.Inputs.{draw-of}
+use Rattle.fill.specs.Fills.{paints, paints-of, filled, fill_number, fill_done, first_number}
 use Rattle.layers.specs.Push as push
 use Rattle.layers.specs.Push.{pushed, push-number}
 use Rattle.pop.specs.Pop as pop

@@ -15,7 +15,7 @@ use Rattle.rules.proofs.All.{both}
 use Rattle.screen.specs.Judging.{good-fixed, judged_reset}
 use Rattle.screen.specs.Tables.{zeros, lengths, ScreenLent, reset_to}
 use Rattle.walk.specs.Reading.{draw_in, props_in}
-use Rattle.walk.specs.Steps.{placement_in, call_at}
+use Rattle.walk.specs.Steps.{filter_in, call_at}
 use Rattle.walk.proofs.Lists.{paints-said, segments-said}
 use Rattle.rules.proofs.laws.Answers.{settle-number}
 use Rattle.refine_steps.proofs.Reset.{judged-facts, rooms, fresh-sound, fresh-words}
@@ -153,4 +153,4 @@ step-reached (a-fill ps ss d) r e =
     rw (paints-said ps, segments-said ss) at h
 step-reached (a-push p) r e = by-push (props_in p) p refl r e
 step-reached (a-pop ss) r e = let h = by-pop (join words_of.segment-words ss) r e in rw (segments-said ss) at h
-step-reached (a-filter n f q) r e = by-filter (given (placement_in f) f.pixmap n q) r e
+step-reached (a-filter n f q) r e = by-filter (given (filter_in f) n q) r e

@@ -6,8 +6,9 @@ use Rattle.rules.specs.Plans.{Step, a-fill, a-pop, a-filter}
 use Rattle.segments.specs.Segs.{segs-of}
 use Rattle.screen.specs.Tables.{ScreenLent}
 use Rattle.screen.specs.declared.layers.LayerProps.{LayerProps}
-use Rattle.fill.specs.declared.Draw.{Draw}
-use Rattle.fill.specs.Fills.{draw-of, paints-of, filled}
+use Rattle.inputs.specs.declared.Draw.{Draw}
+use Rattle.inputs.specs.Inputs.{draw-of}
+use Rattle.fill.specs.Fills.{paints-of, filled}
 use Rattle.layers.specs.Push.{pushed}
 use Rattle.pop.specs.Pop.{popped}
 use Rattle.layers.specs.Filter.{FilterGiven, filter-of, filtered}

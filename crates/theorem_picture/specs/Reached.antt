@@ -7,7 +7,7 @@ use Rattle.rules.specs.Plans.{Frame, Step, a-push}
 use Rattle.screen.specs.declared.Screen.{Screen}
 use Rattle.screen.specs.Tables.{tables, ScreenLent, lent, reset_to}
 use Rattle.screen.specs.declared.layers.LayerProps.{LayerProps}
-use Rattle.fill.specs.declared.Draw.{Draw}
+use Rattle.inputs.specs.declared.Draw.{Draw}
 use Rattle.layers.specs.Filter.{FilterGiven}
 use Rattle.walk.specs.Reading.{props_in}
 use Rattle.paint.specs.Painting as paint

@@ -5,7 +5,7 @@ use Rattle.rules.specs.Boxes.{Box}
 use Rattle.rules.specs.Segments.{good-segment}
 use Rattle.segments.specs.Segs.{segs, segs-of}
 use Rattle.segments.proofs.Laws.{segs-slice}
-use Rattle.screen.specs.declared.layers.Clip.{Clip}
+use Rattle.inputs.specs.declared.Clip.{Clip}
 use Rattle.screen.specs.Layers.{clip-of}
 use Rattle.tile.specs.Telling.{Look, no-look, look, closing-look}
 use Rattle.tile.specs.Places.{ClipReady}

@@ -1,5 +1,5 @@
 -- The public call from the recording's answer on: each way that the code takes gives what the definition gives.
-use Rattle.std.proofs.Common.{ℕ, ◌+◌, ◌≡◌, refl, sym, ap, ◌∙◌, true, false, List, None, Ok, Err, replicate, ne_eqb}
+use Rattle.std.proofs.Common.{ℕ, ◌+◌, arith, ◌≡◌, refl, sym, ap, ◌∙◌, true, false, List, Option, None, Some, Ok, Err, replicate, ne_eqb}
 use Rattle.sizes.specs.declared.answers.Refusal.{Refusal}
 use Rattle.sizes.specs.Sizes.{line-table}
 use Rattle.sizes.specs.Widths.{bucket-tiles}
@@ -7,24 +7,20 @@ use Rattle.rules.specs.Answers.{Answer, answer, Done, BadForm, BadRun}
 use Rattle.rules.specs.Boxes.{Box, good_viewport}
 use Rattle.rules.specs.Plans.{Frame, bucket}
 use Rattle.rules.specs.Setups.{Setup, frame, viewport-in}
-use Rattle.rules.specs.Recording.{Recording, shape, sections}
+use Rattle.rules.specs.Recording.{Recording, shape, sections, recording}
 use Rattle.rules.specs.Walk.{walk-all}
 use Rattle.rules_reason.specs.Reasons.{Reason, Asked}
 use Rattle.screen.specs.Tables.{ScreenLent}
-use Rattle.file.specs.declared.form.Layout.{Layout}
-use Rattle.file.specs.Places as file
-use Rattle.file.proofs.Laid.{GoodForm}
-use Rattle.file.specs.Judging.{box_from}
 use Rattle.rect.specs.declared.Rect.{Rect}
 use Rattle.rect.specs.Rects.{box_of, seen}
 use Rattle.rect.proofs.Snapping.{good-seen, bad-seen}
-use Rattle.file.proofs.Reading.{reads}
+use Rattle.file.specs.Held.{recording_of}
 use Rattle.walk.specs.Recorded.{recorded}
 use Rattle.tile.specs.Telling.{Telling, tell-at, nothing-told}
 use Rattle.tile.specs.Places.{Says}
 use Rattle.tile.specs.Reading.{reason-read}
 use Rattle.rules_reason.specs.Answers.{off-screen}
-use Rattle.tile.specs.Explained.{Explained, explained-as, no-reason, told_of, reason-told, explained-of, explained}
+use Rattle.tile.specs.Explained.{Explained, explained-as, no-reason, told_of, reason-told, explained-of, explained-in, explained}
 
 -- a story told to its end, or refused, at w tiles a bucket: the reason that it gives
 module _ (w : ℕ) (r : Recording) (v : Box) (row tile : ℕ) (a : Asked) (l : ScreenLent) where
@@ -42,16 +38,15 @@ module _ (w : ℕ) (r : Recording) (v : Box) (row tile : ℕ) (a : Asked) (l : S
       → explained-as Done l x ≡ reason-told a (told_of w v r row tile) l
   story-told t s x q = rw (told_here, s.number, s.value refl, q)
 
--- the viewport that a file's four words give in a setup
-module _ (p : Layout) (ws : List ℕ) (q : Setup) (b : Rect) (e : box_of b ≡ box_from ws 1) where
-  view-is : viewport-in q.mode (box_of b) ≡ (frame q (file.recorded p ws).viewport).viewport
-  unfolding file.recorded box_from
+-- the viewport that a file says, in a setup
+module _ (r : Recording) (q : Setup) (b : Rect) (e : box_of b ≡ r.viewport) where
+  view-is : viewport-in q.mode (box_of b) ≡ (frame q r.viewport).viewport
   view-is = rw e
 
-  pub view-seen : (v : Rect) → Ok v ≡ seen (viewport-in q.mode (box_of b)) → (frame q (file.recorded p ws).viewport).viewport ≡ box_of v
+  pub view-seen : (v : Rect) → Ok v ≡ seen (viewport-in q.mode (box_of b)) → (frame q r.viewport).viewport ≡ box_of v
   view-seen v h = sym view-is ∙ sym (ap box_of (good-seen _ v h).1)
 
-  pub view-unseen : {r : Refusal} → Err r ≡ seen (viewport-in q.mode (box_of b)) → good_viewport (frame q (file.recorded p ws).viewport).viewport ≡ false
+  pub view-unseen : {x : Refusal} → Err x ≡ seen (viewport-in q.mode (box_of b)) → good_viewport (frame q r.viewport).viewport ≡ false
   view-unseen h = rw (← view-is) (bad-seen _ _ h).0
 
 -- an accepted recording, by where the tile lies
@@ -75,18 +70,25 @@ module _ (ws : List ℕ) (q : Setup) (row tile : ℕ) (a : Asked) (old : ScreenL
     unfolding explained
     formless h = rw (← e, h)
 
-    module _ (p : Layout) (g : GoodForm ws p) where
-      abbrev f : Frame
-      f = frame q (file.recorded p ws).viewport
+    by_recording : (o : Option (List (List (List ℕ)))) (r : Recording) → recording_of o ≡ Some r
+        → explained-in q o row tile a l ≡ explained-of (frame q r.viewport) r row tile a l
+    by_recording (Some ss) r g =
+        let h : recording ss ≡ r = cc in
+        rw h
+    by_recording None r g = let z : ◌≡◌ {A = ℕ} 0 1 = cc in absurd (omega arith)
 
-      in-form : explained ws q row tile a old ≡ explained-of f (file.recorded p ws) row tile a l
+    module _ (r : Recording) (g : recording_of (sections shape ws) ≡ Some r) where
+      abbrev f : Frame
+      f = frame q r.viewport
+
+      in-form : explained ws q row tile a old ≡ explained-of f r row tile a l
       unfolding explained
-      in-form = rw (← e, g.same, reads p ws g.fits)
+      in-form = rw (← e) (by_recording (sections shape ws) r g)
 
       module _ (v : Box) (same : f.viewport ≡ v) where
         pub off : off-screen v row tile ≡ true → no-reason BadRun l ≡ explained ws q row tile a old
-        off h = sym (in-form ∙ past-screen f (file.recorded p ws) row tile a l (rw same h))
+        off h = sym (in-form ∙ past-screen f r row tile a l (rw same h))
 
-        pub reasoned : off-screen v row tile ≡ false → (x : Explained) → x ≡ reason-told a (told_of (bucket-tiles q.width) v (file.recorded p ws) row tile) l
+        pub reasoned : off-screen v row tile ≡ false → (x : Explained) → x ≡ reason-told a (told_of (bucket-tiles q.width) v r row tile) l
             → x ≡ explained ws q row tile a old
-        reasoned h x k = k ∙ sym (in-form ∙ on-screen f (file.recorded p ws) row tile a l (rw same h) ∙ rw same)
+        reasoned h x k = k ∙ sym (in-form ∙ on-screen f r row tile a l (rw same h) ∙ rw same)

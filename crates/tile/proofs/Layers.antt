@@ -1,14 +1,11 @@
 -- A layer's steps, one after the other.
-use Rattle.std.proofs.Common.{ℕ, zero, suc, ◌-◌, ◌≤◌, ◌+◌, ◌*◌, arith, ◌≡◌, refl, ap, ◌∙◌, true, false, not, List, [], length, get_or, eqb, eq-eqb, ne_eqb}
+use Rattle.std.proofs.Common.{ℕ, zero, suc, ◌-◌, ◌≤◌, arith, ◌≡◌, refl, ap, ◌∙◌, true, false, not, [], length, get_or, eqb, eq-eqb, ne_eqb}
 use Rattle.rules.specs.Answers.{Answer, answer}
 use Rattle.rules.specs.Inputs.{needs-buffer}
 use Rattle.rules.specs.Recording.{Recording, LayerRec, layer-rec}
 use Rattle.rules.specs.Plans.{a-push, a-pop, a-filter}
 use Rattle.rules.specs.Walk.{◌then◌, when, props-of, walk-filter, walk-nodes, walk-layer}
-use Rattle.file.specs.declared.form.Layout.{Layout}
-use Rattle.file.specs.Places.{recorded, layer_from}
 use Rattle.walk.proofs.Runs.{then-none, none_then}
-use Rattle.walk.proofs.Places.{layer-there}
 use Rattle.tile.specs.declared.steps.Spot.{Spot}
 use Rattle.tile.specs.Telling.{Telling}
 use Rattle.tile.specs.Places.{Says}
@@ -98,9 +95,9 @@ module _ (s : Spot) (r : Recording) (y : LayerRec) where
         closed z h = said-by deeper (goes_through pushing (inside (d - 1)) popping x e o f z h)
 
 -- the layer that a node names
-module _ (s : Spot) (l : Layout) (ws : List ℕ) (d k : ℕ) (x : Telling) where
+module _ (s : Spot) (r : Recording) (d k : ℕ) (x : Telling) where
   abbrev named : Answer Telling
-  named = when (not (eqb k 0)) (walk-layer Telling (told s) (recorded l ws) d (get_or (recorded l ws).layers (k - 1) (layer-rec []))) x
+  named = when (not (eqb k 0)) (walk-layer Telling (told s) r d (get_or r.layers (k - 1) (layer-rec []))) x
 
   nothing : k ≡ 0 → named ≡ answer 0 x
   unfolding when
@@ -109,7 +106,6 @@ module _ (s : Spot) (l : Layout) (ws : List ℕ) (d k : ℕ) (x : Telling) where
   pub names-none : k ≡ 0 → Says named 0 x
   names-none z = says-itself (nothing z)
 
-  pub names-one : (j : ℕ) → j ≡ k - 1 → (k ≡ 0 → ⊥) → k ≤ l.layers.count
-      → named ≡ walking s (recorded l ws) (layer_from ws (l.layers.at + 22 * j)) d x
+  pub names-one : {y : LayerRec} → y ≡ get_or r.layers (k - 1) (layer-rec []) → (k ≡ 0 → ⊥) → named ≡ walking s r y d x
   unfolding when
-  names-one j e z h = rw (ne_eqb k 0 z, ← e, layer-there l ws j (omega arith))
+  names-one e z = rw (ne_eqb k 0 z, e)

@@ -8,6 +8,7 @@ pub mod Records
 pub mod Said
 pub mod WalkSteps
 pub mod Lines
+pub mod Plain
 pub mod Accepted
 pub mod Spots
 pub mod Explaining

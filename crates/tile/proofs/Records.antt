@@ -1,29 +1,20 @@
 -- What a judged file's records are to the tile's steps: a draw's paint and segments, a layer's clip, a filter's dest box.
-use Rattle.std.proofs.Common.{ℕ, zero, suc, ◌+◌, ◌-◌, ◌*◌, ◌/◌, ◌≤◌, ◌<◌, arith, ◌≡◌, refl, ap, ◌∙◌, Bool, true, false, ◌&&◌, cond, List, [], ◌∷◌, Option, None, Some, length, take, drop, length-take}
-use Rattle.std.proofs.Common.{length-drop, leb, ltb, eqb, leb-true, ltb-true, eq-eqb}
+use Rattle.std.proofs.Common.{ℕ, zero, suc, ◌-◌, ◌*◌, ◌/◌, ◌≤◌, ◌<◌, arith, ◌≡◌, refl, ap, ◌∙◌, Bool, true, false, ◌&&◌, cond, List, [], ◌∷◌, Option, None, Some, length, get_or, take, drop, leb, ltb, eqb, leb-true, ltb-true, eq-eqb}
 use Rattle.rules.specs.Lists.{every, slice}
 use Rattle.rules.specs.Boxes.{Box, by_4, bounded, good-box, good-dest}
 use Rattle.rules.specs.Blends.{good-blend}
 use Rattle.rules.specs.Segments.{good-segment}
 use Rattle.rules.specs.Spans.{good-range}
 use Rattle.rules.specs.Inputs.{Draw, Clip, draw-paint, good-thread, good-paint, good-handle, good-panel, good-draw, good-clip, good-filter, good-pixmap, all-good}
-use Rattle.rules.specs.Recording.{Recording, LayerRec, good-clip-rec, good-layer-rec, zero-clip, zero-filter, layer-rec}
+use Rattle.rules.specs.Recording.{Recording, LayerRec, good-records, good-clip-rec, good-layer-rec, zero-clip, zero-filter, layer-rec}
 use Rattle.rules.proofs.All.{both}
 use Rattle.rect.specs.Rects.{Small}
 use Rattle.segments.specs.Segs.{segs, segs-of}
 use Rattle.segments.proofs.Laws.{segs-slice}
 use Rattle.screen.specs.Layers.{clip-of}
-use Rattle.fill.specs.Fills.{paints-of}
-use Rattle.file.specs.declared.form.Layout.{Layout}
-use Rattle.file.specs.Places.{recorded, draw_from, layer_from, segment_from}
-use Rattle.file.proofs.Eaches.{each-length}
-use Rattle.file.proofs.Reading.{lent-paints, paints-width}
 use Rattle.file.proofs.Laws.{record-facts, good-draw-at, good-layer-at}
-use Rattle.file.proofs.Listed.{lent}
 use Rattle.walk.specs.Reading.{clip_in, clip_read}
-use Rattle.walk.proofs.Lists.{cut_is, paints-said, segments-said, paints-lent, segments-lent, paints-count, draws-count, draw-there}
-use Rattle.walk.specs.Ready.{WalkReady}
-use Rattle.walk.proofs.Places.{layer-count, layer-there}
+use Rattle.walk.proofs.Draws.{some-draw}
 use Rattle.tile.specs.Places.{ClipReady}
 
 -- a test of every element, of a part of them
@@ -118,72 +109,43 @@ clip-good r y e = rw (clip-back (clip_read y)) (go (eqb y.flag 1) (clear r y e).
     go true q = (both (good-clip y.clip) (leb y.clip.end (length r.segments)) q).0
     go false q = refl
 
-module _ (l : Layout) (ws : List ℕ) (g : WalkReady ws l) where
-  -- the parts that the code lends
-  abbrev pub segments-of : List ℕ
-  segments-of = lent ws l.segments.at l.segments.count
+-- a draw of a judged recording
+pub draw-is : (r : Recording) → good-records r ≡ true → (i : ℕ) → i < length r.draws → {d : Draw} → d ≡ get_or r.draws i some-draw → Drawable r d
+draw-is r g i h e = rw e (drawable r (get_or r.draws i some-draw) (good-draw-at r g i some-draw h))
 
-  pub segments-are : segs-of segments-of ≡ (recorded l ws).segments
-  segments-are = rw (cut_is l.segments.at (5 * l.segments.count) ws) (segments-lent l ws g.fits ∙ segments-said (recorded l ws).segments)
+-- a layer of it
+pub layer-good : (r : Recording) → good-records r ≡ true → (i : ℕ) → i < length r.layers → {y : LayerRec} → y ≡ get_or r.layers i (layer-rec []) → good-layer-rec r y ≡ true
+layer-good r g i h e = rw e (good-layer-at r g i (layer-rec []) h)
 
-  pub paints-are : paints-of (lent-paints l ws g.fits) ≡ (recorded l ws).paints
-  paints-are = rw (cut_is l.paints.at (4 * l.paints.count) ws) (paints-lent l ws g.fits ∙ paints-said (recorded l ws).paints)
-
-  segments-count : length (recorded l ws).segments ≡ l.segments.count
-  unfolding recorded
-  segments-count = each-length segment_from 5 ws l.segments.at l.segments.count
-
-  segments-width : length segments-of ≡ 5 * l.segments.count
-  segments-width = let h = g.fits.segments.ends in simp (length-take, length-drop) (omega arith)
-
+-- the words that are lent for its segments
+module _ (r : Recording) (ss : List ℕ) (e : segs-of ss ≡ r.segments) (w : length ss ≡ 5 * length r.segments) where
   -- a range of the segments
-  module _ (a b : ℕ) (h : a ≤ b) (k : b ≤ length (recorded l ws).segments) where
-    pub range-ends : 5 * b ≤ length segments-of
-    range-ends = let w = segments-width in let n = segments-count in omega arith
+  module _ (a b : ℕ) (h : a ≤ b) (k : b ≤ length r.segments) where
+    pub range-ends : 5 * b ≤ length ss
+    range-ends = omega arith
 
-    pub range-is : segs segments-of a (b - a) ≡ slice a b (recorded l ws).segments
+    pub range-is : segs ss a (b - a) ≡ slice a b r.segments
     range-is =
-        let w = segments-width in
-        let n = segments-count in
-        let e : b ≤ length segments-of / 5 = omega arith in
-        segs-slice segments-of a b h e ∙ ap (slice a b) segments-are
+        let n : b ≤ length ss / 5 = omega arith in
+        segs-slice ss a b h n ∙ ap (slice a b) e
 
-    pub range-good : every good-segment (segs segments-of a (b - a)) ≡ true
-    range-good =
+    pub range-good : good-records r ≡ true → every good-segment (segs ss a (b - a)) ≡ true
+    range-good g =
         rw range-is
-        (every_take good-segment (b - a) (drop a (recorded l ws).segments)
-        (every_drop good-segment a (recorded l ws).segments (record-facts (recorded l ws) g.good).segments))
+        (every_take good-segment (b - a) (drop a r.segments)
+        (every_drop good-segment a r.segments (record-facts r g).segments))
 
-  -- a draw's
-  module _ (i : ℕ) (h : i < l.draws.count) where
-    pub draw-is : Drawable (recorded l ws) (draw_from ws (l.draws.at + 7 * i))
-    draw-is =
-        let d = draw_from ws (l.draws.at + 7 * i) in
-        drawable (recorded l ws) d
-        (rw (draw-there l ws g.fits i d h) at (good-draw-at (recorded l ws) g.good i d (rw (draws-count l ws g.fits) h)))
-
-    pub paint-there : (draw_from ws (l.draws.at + 7 * i)).paint < length (lent-paints l ws g.fits) / 4
-    paint-there =
-        let w = paints-width l ws g.fits in
-        let n = paints-count l ws g.fits in
-        let p = draw-is.paint in
-        omega arith
-
-  -- a layer's
-  pub layer-good : (i : ℕ) → i < l.layers.count → good-layer-rec (recorded l ws) (layer_from ws (l.layers.at + 22 * i)) ≡ true
-  layer-good i h = rw (layer-there l ws i h) at (good-layer-at (recorded l ws) g.good i (layer-rec []) (rw (layer-count l ws) h))
-
-  pub clip-ready : (y : LayerRec) → good-layer-rec (recorded l ws) y ≡ true → ClipReady (clip_in (clip_read y)) segments-of
-  clip-ready y e = go (eqb y.flag 1) (clear (recorded l ws) y e).clip
+  pub clip-ready : good-records r ≡ true → (y : LayerRec) → good-layer-rec r y ≡ true → ClipReady (clip_in (clip_read y)) ss
+  clip-ready g y j = go (eqb y.flag 1) (clear r y j).clip
     where
-      go : (t : Bool) → cond t (good-clip-rec (recorded l ws) y.clip) (zero-clip y.clip) ≡ true → ClipReady (clip_in (cond t (Some y.clip) None)) segments-of
+      go : (t : Bool) → cond t (good-clip-rec r y.clip) (zero-clip y.clip) ≡ true → ClipReady (clip_in (cond t (Some y.clip) None)) ss
       go true q =
           let c = y.clip in
-          let n = leb c.end (length (recorded l ws).segments) in
+          let n = leb c.end (length r.segments) in
           let h1 = both (good-clip c) n q in
           let b = leb c.start c.end in
           let h0 = both (good-box c.bounds && b) (good-thread c.thread) h1.0 in
           let o = leb-true _ _ (both (good-box c.bounds) b h0.0).1 in
           let k = leb-true _ _ h1.1 in
-          (o, range-ends c.start c.end o k, range-good c.start c.end o k)
+          (o, range-ends c.start c.end o k, range-good c.start c.end o k g)
       go false q = tt

@@ -1,5 +1,5 @@
 -- A tile of a good viewport's screen, and what its story goes by before the first step.
-use Rattle.std.proofs.Common.{ℕ, ◌+◌, ◌/◌, ◌≤◌, arith, ◌≡◌, refl, sym, Bool, true, false, ◌||◌, List, [], length, get_or, leb, leb-false}
+use Rattle.std.proofs.Common.{ℕ, ◌/◌, arith, ◌≡◌, refl, sym, Bool, true, false, ◌||◌, List, [], length, leb, leb-false}
 use Rattle.sizes.specs.Sizes.{most-layers, line-table}
 use Rattle.sizes.specs.declared.width.Width.{Width}
 use Rattle.sizes.specs.Widths.{bucket-tiles}
@@ -11,12 +11,9 @@ use Rattle.rules.proofs.laws.Widths.{bucket-some, bucket-most}
 use Rattle.rect.specs.declared.Rect.{Rect}
 use Rattle.rect.specs.Rects.{box_of, Small}
 use Rattle.rect.proofs.Boxes.{view, small-viewport}
-use Rattle.file.specs.declared.form.Layout.{Layout}
-use Rattle.file.specs.Places as file
-use Rattle.walk.specs.declared.steps.Recording.{Recording}
-use Rattle.file.proofs.Laws.{root-range}
-use Rattle.walk.specs.Ready.{WalkReady, ReadyIn}
-use Rattle.walk.proofs.Places.{node-count}
+use Rattle.rules.specs.Recording as rule
+use Rattle.file.specs.declared.recording.Recording.{Recording}
+use Rattle.walk.specs.Ready.{ReadyIn}
 use Rattle.tile.specs.declared.steps.Spot.{Spot}
 use Rattle.tile.specs.declared.steps.Within.{Within}
 use Rattle.tile.specs.declared.steps.Tale.{Tale}
@@ -75,23 +72,15 @@ module _ (v : Rect) (g : good_viewport (box_of v) ≡ true) where
     pub holds-nothing : Holds (box_of v) (outermost clip) []
     holds-nothing = record { clip = sym e; count = refl }
 
-module _ (ws : List ℕ) (l : Layout) (r : WalkReady ws l) where
-  pub root : (get_or ws l.root.at 0 ≤ get_or ws (l.root.at + 1) 0) × (get_or ws (l.root.at + 1) 0 ≤ l.nodes.count)
-  unfolding file.recorded
-  root = let h = root-range (file.recorded l ws) r.good in (h.0, rw (node-count l ws) at h.1)
-
 -- the walk from the root is the walk of the whole recording, at w tiles a bucket
-module _ (ws : List ℕ) (l : Layout) (w : ℕ) (v : Box) (row tile : ℕ) (t : Telling) where
+module _ (r : rule.Recording) (w : ℕ) (v : Box) (row tile : ℕ) (t : Telling) where
   abbrev step : Step → Telling → Answer Telling
   step = tell-at w v row tile
 
-  from-root : walk-nodes Telling step (file.recorded l ws) (walk-layer Telling step (file.recorded l ws) most-layers) (get_or ws l.root.at 0)
-      (get_or ws (l.root.at + 1) 0) t
-      ≡ walk-all Telling step (file.recorded l ws) t
-  unfolding walk-all file.recorded
+  from-root : walk-nodes Telling step r (walk-layer Telling step r most-layers) r.start r.end t ≡ walk-all Telling step r t
+  unfolding walk-all
   from-root = refl
 
-  pub all_told : (n : ℕ) (u : Telling)
-      → Says (walk-nodes Telling step (file.recorded l ws) (walk-layer Telling step (file.recorded l ws) most-layers) (get_or ws l.root.at 0) (get_or ws (l.root.at + 1) 0) t) n u
-      → Says (walk-all Telling step (file.recorded l ws) t) n u
+  pub all_told : (n : ℕ) (u : Telling) → Says (walk-nodes Telling step r (walk-layer Telling step r most-layers) r.start r.end t) n u
+      → Says (walk-all Telling step r t) n u
   all_told n u s = rw from-root at s

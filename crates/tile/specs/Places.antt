@@ -11,13 +11,14 @@ use Rattle.rules.specs.Inputs.{Props}
 use Rattle.rules.specs.Plans.{Layer, clip-box}
 use Rattle.rect.specs.Rects.{box_of, Small}
 use Rattle.segments.specs.Segs.{segs}
-use Rattle.screen.specs.declared.layers.Clip.{Clip}
+use Rattle.inputs.specs.declared.Clip.{Clip}
 use Rattle.tile.specs.declared.steps.Spot.{Spot}
 use Rattle.tile.specs.declared.steps.Within.{Within}
 use Rattle.tile.specs.declared.steps.Tale.{Tale}
 use Rattle.tile.specs.declared.steps.lines.Line.{Line}
 use Rattle.tile.specs.declared.steps.looks.Look.{Look}
 use Rattle.tile.specs.Telling as tell
+use Rattle.tile.specs.Standings.{standing_number}
 use Rattle.tile.specs.Telling.{Telling}
 
 abbrev pub line_of : Line → tell.Line
@@ -25,7 +26,7 @@ line_of l =
     record {
       layer = l.layer;
       attribute = l.attribute;
-      standing = l.standing;
+      standing = standing_number l.standing;
       alpha = l.alpha;
       nesting = l.nesting;
       panel = l.panel;
@@ -65,11 +66,14 @@ abbrev pub left_by : {T : Type 0} → Result T Refusal → Layer → List Layer 
 left_by (Ok _) l ls = ls
 left_by (Err _) l ls = l ∷ ls
 
--- the segments of a clip: good ones, within the list
+-- good segments from a to b, within the list
+abbrev pub GoodRun : List ℕ → ℕ → ℕ → Type 0
+GoodRun ws a b = (a ≤ b) × (5 * b ≤ length ws) × (every good-segment (segs ws a (b - a)) ≡ true)
+
+-- those of a clip
 abbrev pub ClipReady : Option Clip → List ℕ → Type 0
 ClipReady None ws = Unit
-ClipReady (Some c) ws =
-    (c.start ≤ c.end) × (5 * c.end ≤ length ws) × (every good-segment (segs ws c.start (c.end - c.start)) ≡ true)
+ClipReady (Some c) ws = GoodRun ws c.start c.end
 
 -- a row and a tile of a screen, at so many tiles a bucket
 pub record Spotted (s : Spot) : Type 0 where

@@ -1,7 +1,7 @@
 -- What the walk of one tile's story goes by.
 use Rattle.std.specs.Prelude.{ℕ, ◌+◌, ◌≡◌, List, length}
 use Rattle.sizes.specs.Sizes.{most-layers, line-table}
-use Rattle.walk.specs.declared.steps.Recording.{Recording}
+use Rattle.file.specs.declared.recording.Recording.{Recording}
 use Rattle.walk.specs.Ready.{ReadyIn}
 use Rattle.tile.specs.declared.steps.Spot.{Spot}
 use Rattle.tile.specs.declared.steps.Within.{Within}

@@ -6,6 +6,7 @@ use Rattle.tile.specs.declared.reason.Asked.{Asked}
 use Rattle.tile.specs.declared.reason.Mark.{Mark}
 use Rattle.tile.specs.declared.reason.Search.{Search}
 use Rattle.tile.specs.Reading as reading
+use Rattle.tile.specs.Standings.{standing_number}
 
 abbrev pub reason-of : Reason → rule.Reason
 reason-of said.UnknownAttribute = rule.unknown-attribute
@@ -19,13 +20,13 @@ abbrev pub asked_of : Asked → rule.Asked
 asked_of a = record { layer = a.layer; attribute = a.attribute }
 
 abbrev pub mark_of : Mark → reading.Mark
-mark_of m = record { layer = m.layer; attribute = m.attribute; standing = m.standing; panel = m.panel }
+mark_of m = record { layer = m.layer; attribute = m.attribute; standing = standing_number m.standing; panel = m.panel }
 
 abbrev pub search-of : Search → reading.Search
 search-of s =
     record {
       found = s.found;
-      standing = s.standing;
+      standing = standing_number s.standing;
       place = s.place;
       hidden = s.hidden;
       count = s.count;

@@ -11,7 +11,7 @@ ghost use Rattle.rect.specs.Rects.{box_of};
 ghost use Rattle.screen.specs.Screens.{setup-of};
 ghost use Rattle.screen.specs.Tables.{ScreenLent};
 ghost use Rattle.screen.specs.Lent.{whole, SameLent};
-ghost use Rattle.walk.specs.Recordings.{recorded_in};
+ghost use Rattle.file.specs.Held.{held};
 ghost use Rattle.walk.specs.Ready.{ReadyIn};
 ghost use Rattle.walk.specs.Recorded.{recorded};
 ghost use Rattle.tile.specs.Telling.{Telling, tell-at, nothing-told};
@@ -21,15 +21,14 @@ ghost use Rattle.tile.specs.Explained.{explained-as, reason_said, reason-told, t
 
 use crate::reason::{Asked, Reason, reason_of};
 use crate::steps::{Spot, Tale, Within};
-use crate::story::tell_nodes;
-use file::form::read_form;
-use file::judge::box_at;
+use crate::story::{Teller, tell_nodes};
+use file::Recording;
 use rect::Rect;
 use screen::{Lent, Screen, Setup};
 use sizes::answers::Refusal;
 use sizes::width::Width;
 use sizes::{LINE_TABLE, MOST_LAYERS};
-use walk::{Recording, bucket_recording};
+use walk::bucket_recording;
 
 /// Whether the screen of this viewport does not have the row, or the tile in a row (answer 12).
 pub fn is_off_screen(viewport: Rect, row: u32, tile: u32) -> bool
@@ -48,12 +47,13 @@ pub fn tell_tile(
     tile: u32,
     lines: &mut [u32],
 ) -> Result<Tale, Refusal>
-    requires { ReadyIn file.now × (good_viewport (box_of viewport) ≡ true) × (off-screen (box_of viewport) row tile ≡ false) × (length lines.old ≡ line-table) }
-    ensures { ToldTo (walk-all Telling (tell-at (bucket-tiles width) (box_of viewport) row tile) (recorded_in file.now) (nothing-told lines.old)) result lines.new }
+    requires ready { ReadyIn file.now }
+    requires good { good_viewport (box_of viewport) ≡ true }
+    requires on_screen { off-screen (box_of viewport) row tile ≡ false }
+    requires room { length lines.old ≡ line-table }
+    ensures { ToldTo (walk-all Telling (tell-at (bucket-tiles width) (box_of viewport) row tile) (held file.now) (nothing-told lines.old)) result lines.new }
 {
-    let at = file.layout.root.at;
-    let first = file.words[at] as usize;
-    let end = file.words[at + 1] as usize;
+    let (first, end) = file.root();
     let spot = Spot {
         viewport,
         row,
@@ -71,16 +71,8 @@ pub fn tell_tile(
         filters: 0,
         levels: 0,
     };
-    tell_nodes(
-        MOST_LAYERS,
-        &mut tale,
-        spot,
-        within,
-        file,
-        first,
-        end,
-        lines,
-    )?;
+    let teller = Teller { spot, file: *file };
+    tell_nodes(MOST_LAYERS, &mut tale, &teller, within, first, end, lines)?;
     Ok(tale)
 }
 
@@ -93,9 +85,11 @@ fn reason_at(
     tile: u32,
     asked: Asked,
 ) -> Result<Reason, Refusal>
-    requires { ReadyIn file.now × (good_viewport (box_of viewport) ≡ true) × (off-screen (box_of viewport) row tile ≡ false) }
+    requires ready { ReadyIn file.now }
+    requires good { good_viewport (box_of viewport) ≡ true }
+    requires on_screen { off-screen (box_of viewport) row tile ≡ false }
     ensures { (l : ScreenLent) → explained-as (answer_number result) l (reason_said result)
-        ≡ reason-told (asked_of asked) (told_of (bucket-tiles width) (box_of viewport) (recorded_in file.now) row tile) l }
+        ≡ reason-told (asked_of asked) (told_of (bucket-tiles width) (box_of viewport) (held file.now) row tile) l }
 {
     let mut lines = [0u32; LINE_TABLE];
     let tale = tell_tile(file, viewport, width, row, tile, &mut lines)?;
@@ -114,12 +108,11 @@ fn explain(
     ensures { (old l : ScreenLent) → answer 0 l ≡ recorded words.now (setup-of setup) old
         → explained-as (answer_number result) l (reason_said result) ≡ explained words.now (setup-of setup) row tile (asked_of asked) old }
 {
-    let layout = read_form(words)?;
-    let viewport = box_at(words, 1).viewport_in(setup.mode)?;
+    let file = Recording::read(words)?;
+    let viewport = file.viewport().viewport_in(setup.mode)?;
     if is_off_screen(viewport, row, tile) {
         return Err(Refusal::BadRun);
     }
-    let file = Recording { words, layout };
     reason_at(&file, viewport, setup.width, row, tile, asked)
 }
 

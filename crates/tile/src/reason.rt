@@ -1,13 +1,16 @@
 //! Why a tile shows what it shows: a reason, read off the lines that were told of the tile (docs/RULES.md, Why a tile shows what it shows). Parts.
-ghost use Rattle.std.specs.Prelude.{◌≡◌, ◌+◌, ◌*◌, ◌≤◌, ◌<◌, length};
+ghost use Rattle.std.specs.Prelude.{◌≡◌, ◌+◌, ◌*◌, ◌≤◌, ◌<◌, cond, length};
+ghost use Rattle.rules_reason.specs.Reasons.{hidden-by, shown-at};
 ghost use Rattle.sizes.specs.Sizes.{most-attrs, line-size, line-table};
 ghost use Rattle.tile.specs.Reading.{mark_at, is-asked, read, reason-by, reason-read};
 ghost use Rattle.tile.specs.Reasons.{reason-of, asked_of, mark_of, search-of};
+ghost use Rattle.tile.specs.Standings.{plain_mark};
 
-use crate::steps::lines::{CUT_AWAY, HIDES, LINE_PANEL, NO_SEGMENT, TOLD, UNTOUCHED};
+use crate::steps::lines::{LINE_PANEL, Standing};
 use sizes::LINE;
 
-/// `attribute` is the paint attribute of the newest eligible solid segment over the tile's whole bucket, `hider_panel` its panel; `panel` the asked attribute's.
+/// `attribute` is the paint attribute of the newest eligible solid segment over the tile's whole bucket, `hider_panel` its panel; `panel` the asked
+/// attribute's.
 #[derive(Clone, Copy)]
 pub struct Hidden {
     pub attribute: u32,
@@ -46,12 +49,12 @@ pub struct Asked {
     pub attribute: u32,
 }
 
-// What a reason goes by of a line, by its words: layer 1 or paint 0, attribute, standing, panel.
+// What a reason goes by of a line: layer 1 or paint 0, attribute, standing, panel.
 #[derive(Clone, Copy)]
 struct Mark {
     layer: u32,
     attribute: u32,
-    standing: u32,
+    standing: Standing,
     panel: u32,
 }
 
@@ -64,17 +67,18 @@ impl Mark {
     }
 }
 
-// Of line i.
+// Of line i. A word that is no standing, which no line has, goes for one that is told.
 #[tactic(auto, unfolding(crate::specs::Reading::mark_at))]
 fn mark_at(lines: &[u32], i: usize) -> Mark
-    requires { (i < most-attrs + most-attrs) × (line-size * (i + 1) ≤ length lines.now) }
-    ensures { mark_of result ≡ mark_at lines.now i }
+    requires line { i < most-attrs + most-attrs }
+    requires lines { line-size * (i + 1) ≤ length lines.now }
+    ensures { mark_of result ≡ plain_mark (mark_at lines.now i) }
 {
     let at = LINE * i;
     Mark {
         layer: lines[at],
         attribute: lines[at + 1],
-        standing: lines[at + 2],
+        standing: Standing::read(lines[at + 2]).unwrap_or(Standing::Told),
         panel: lines[at + LINE_PANEL],
     }
 }
@@ -84,7 +88,7 @@ fn mark_at(lines: &[u32], i: usize) -> Mark
 #[derive(Clone, Copy)]
 struct Search {
     found: bool,
-    standing: u32,
+    standing: Standing,
     place: u32,
     hidden: bool,
     count: u32,
@@ -99,7 +103,7 @@ fn read_line(asked: Asked, search: Search, mark: Mark) -> Search
     ensures { search-of result ≡ read (asked_of asked) (mark_of mark) (search-of search) }
 {
     let mut next = search;
-    if mark.standing == HIDES {
+    if mark.standing.is_hiding() {
         next.hidden = search.found;
         next.count = 0;
         next.hider = mark.attribute;
@@ -112,28 +116,16 @@ fn read_line(asked: Asked, search: Search, mark: Mark) -> Search
         next.hidden = false;
         next.panel = mark.panel;
     }
-    if TOLD <= mark.standing {
+    if mark.standing.is_told() {
         next.count += 1;
     }
     next
 }
 
-// The first that holds.
-fn reason_by(search: Search) -> Reason
-    ensures { reason-of result ≡ reason-by (search-of search) }
+// Of an attribute that has an entry in the tile's list.
+fn reason_told(search: Search) -> Reason
+    ensures { reason-of result ≡ cond search.hidden (hidden-by search.hider search.hider_panel search.panel) (shown-at search.place search.panel) }
 {
-    if !search.found {
-        return Reason::UnknownAttribute;
-    }
-    if search.standing == NO_SEGMENT {
-        return Reason::NoSegment(search.panel);
-    }
-    if search.standing == CUT_AWAY {
-        return Reason::CutAway(search.panel);
-    }
-    if search.standing == UNTOUCHED {
-        return Reason::RowUntouched(search.panel);
-    }
     if search.hidden {
         return Reason::HiddenBy(Hidden {
             attribute: search.hider,
@@ -147,6 +139,21 @@ fn reason_by(search: Search) -> Reason
     })
 }
 
+// The first that holds.
+fn reason_by(search: Search) -> Reason
+    ensures { reason-of result ≡ reason-by (search-of search) }
+{
+    if !search.found {
+        return Reason::UnknownAttribute;
+    }
+    match search.standing {
+        Standing::NoSegment => Reason::NoSegment(search.panel),
+        Standing::CutAway => Reason::CutAway(search.panel),
+        Standing::Untouched => Reason::RowUntouched(search.panel),
+        _ => reason_told(search),
+    }
+}
+
 /// The reason that the first n lines give of an attribute.
 pub fn reason_of(lines: &[u32], n: usize, asked: Asked) -> Reason
     requires { (n ≤ most-attrs + most-attrs) × (line-size * n ≤ length lines.now) }
@@ -154,7 +161,7 @@ pub fn reason_of(lines: &[u32], n: usize, asked: Asked) -> Reason
 {
     let mut search = Search {
         found: false,
-        standing: 0,
+        standing: Standing::NoSegment,
         place: 0,
         hidden: false,
         count: 0,

@@ -1,24 +1,20 @@
-//! What each building step says of one tile, in plain draw order: a line for each attribute that it adds, and no row. Parts: callers have judged the records and
-//! chosen a tile of the screen. `lines` holds the lines of all attributes. The refusals are the step's own, but for those of rows.
-ghost use Rattle.std.specs.Prelude.{◌≡◌, true, ◌&&◌, not, List, ◌∷◌, ℕ, ◌+◌, ◌-◌, ◌*◌, ◌≤◌, length, ltb};
+//! What each building step says of one tile, in plain draw order: a line for each attribute that it adds, and no row. Parts: callers have judged the records
+//! and chosen a tile of the screen. `lines` holds the lines of all attributes. The refusals are the step's own, but for those of rows.
+ghost use Rattle.std.specs.Prelude.{◌≡◌, true, ◌&&◌, not, ◌+◌, ◌-◌, ◌*◌, length, ltb};
 ghost use Rattle.sizes.specs.Sizes.{last-id, line-table};
 ghost use Rattle.sizes.specs.Refusals.{answer_number};
 ghost use Rattle.rules.specs.Answers.{answer};
-ghost use Rattle.rules.specs.Lists.{every, is_none};
+ghost use Rattle.rules.specs.Lists.{is_none};
 ghost use Rattle.rules.specs.Boxes.{empty-box};
 ghost use Rattle.rules.specs.Blends.{destructive};
-ghost use Rattle.rules.specs.Inputs.{Props, Filter, all-good};
-ghost use Rattle.rules.specs.Segments.{good-segment};
-ghost use Rattle.rules.specs.Plans.{Layer};
+ghost use Rattle.rules.specs.Inputs.{all-good};
 ghost use Rattle.rect.specs.Rects.{box_of, Small};
-ghost use Rattle.cmd.specs.Blends.{blend_of};
-ghost use Rattle.segments.specs.Segs.{segs, segs-of};
 ghost use Rattle.screen.specs.Layers.{clip-of};
-ghost use Rattle.tile.specs.Telling as tell;
 ghost use Rattle.tile.specs.Telling.{in_row};
-ghost use Rattle.tile.specs.Places.{Spotted, Holds, Bounded, Low, ClipReady, Opens, opened_by, left_by, look-of, telling};
+ghost use Rattle.tile.specs.Places.{Spotted, GoodRun, Bounded, Low, ClipReady, Opens, look-of};
+ghost use Rattle.tile.specs.Named.{closing_in, fill_told, Tells, TellsPush, TellsPop, TellsFilter};
 
-use crate::steps::lines::{Line, put_line, standing};
+use crate::steps::lines::{Line, put_line, standing_of};
 use crate::steps::looks::{Look, is_in_row, is_met, look_at};
 use cmd::blend::Blend;
 use layers::filter::{draws_nothing, filter_box};
@@ -89,11 +85,14 @@ pub fn tell_fill(
     stroke: Stroke,
     lines: &mut [u32],
 ) -> Result<(), Refusal>
-    requires { Spotted spot × Bounded within × Low tale.old × (length lines.old ≡ line-table) × (stroke.start ≤ stroke.«end») × (5 * stroke.«end» ≤ length segments.now) × (every good-segment (segs segments.now stroke.start (stroke.«end» - stroke.start)) ≡ true) }
+    requires spot { Spotted spot }
+    requires within { Bounded within }
+    requires counts { Low tale.old }
+    requires lines { length lines.old ≡ line-table }
+    requires run { GoodRun segments.now stroke.start stroke.«end» }
     ensures low { Low tale.new }
-    ensures told { (ls : List Layer) → Holds (box_of spot.viewport) within ls
-        → answer (answer_number result) (telling tale.new ls lines.new)
-        ≡ tell.tell-fill spot.width (box_of spot.viewport) spot.row spot.tile (segs segments.now stroke.start (stroke.«end» - stroke.start)) stroke.eligible stroke.panel (telling tale.old ls lines.old) }
+    ensures told { Tells spot within (fill_told spot segments.now stroke) (answer_number result)
+        tale.old lines.old tale.new lines.new }
 {
     if is_out_of_ids(*tale) {
         return Err(Refusal::Ids);
@@ -109,7 +108,7 @@ pub fn tell_fill(
     let line = Line {
         layer: false,
         attribute: tale.paints,
-        standing: standing(
+        standing: standing_of(
             look.covered,
             look.kept,
             true,
@@ -143,12 +142,13 @@ pub fn tell_push(
     within: Within,
     props: LayerProps,
 ) -> Result<Within, Refusal>
-    requires { Spotted spot × Bounded within × Low tale.old × (all-good (clip-of props.clip) ≡ true) }
+    requires spot { Spotted spot }
+    requires within { Bounded within }
+    requires counts { Low tale.old }
+    requires clip { all-good (clip-of props.clip) ≡ true }
     ensures low { Low tale.new }
     ensures opens { Opens result within }
-    ensures told { (p : Props) (ls : List Layer) (ws : List ℕ) → p.blend ≡ blend_of props.blend → p.clip ≡ clip-of props.clip → Holds (box_of spot.viewport) within ls
-        → answer (answer_number result) (telling tale.new (opened_by result p ls) ws)
-        ≡ tell.tell-push spot.width (box_of spot.viewport) spot.row spot.tile p (telling tale.old ls ws) }
+    ensures told { TellsPush spot within props result tale.old tale.new }
 {
     if MOST_LAYERS <= within.open {
         return Err(Refusal::Deep);
@@ -163,8 +163,10 @@ pub fn tell_push(
 
 // Rule 9: what closes a layer with this clip, cut by the parent's box; without a clip its own box.
 fn closing_look(spot: Spot, own: Rect, parent: Rect, clip: Option<Clip>, segments: &[u32]) -> Look
-    requires { Spotted spot × Small (box_of own) × Small (box_of parent) × ClipReady clip segments.now }
-    ensures { look-of result ≡ tell.closing-look spot.width (box_of spot.viewport) spot.row spot.tile (clip-of clip) (box_of own) (box_of parent) (segs-of segments.now) }
+    requires spot { Spotted spot }
+    requires boxes { Small (box_of own) × Small (box_of parent) }
+    requires clip { ClipReady clip segments.now }
+    ensures { look-of result ≡ closing_in spot clip own parent segments.now }
 {
     match clip {
         None => {
@@ -191,11 +193,15 @@ pub fn tell_pop(
     segments: &[u32],
     lines: &mut [u32],
 ) -> Result<(), Refusal>
-    requires { Spotted spot × Bounded within × Bounded outer × (within.«open» ≡ outer.«open» + 1) × Low tale.old × (length lines.old ≡ line-table) × ClipReady props.clip segments.now }
+    requires spot { Spotted spot }
+    requires within { Bounded within }
+    requires outer { Bounded outer }
+    requires inner { within.«open» ≡ outer.«open» + 1 }
+    requires counts { Low tale.old }
+    requires lines { length lines.old ≡ line-table }
+    requires clip { ClipReady props.clip segments.now }
     ensures low { Low tale.new }
-    ensures told { (l : Layer) (ls : List Layer) → l.props.clip ≡ clip-of props.clip → l.props.panel ≡ props.panel → l.bounds ≡ box_of within.clip → Holds (box_of spot.viewport) outer ls
-        → answer (answer_number result) (telling tale.new (left_by result l ls) lines.new)
-        ≡ tell.tell-pop spot.width (box_of spot.viewport) spot.row spot.tile (l ∷ ls) (segs-of segments.now) (telling tale.old (l ∷ ls) lines.old) }
+    ensures told { TellsPop spot within outer props segments.now result tale.old lines.old tale.new lines.new }
 {
     if is_out_of_ids(*tale) {
         return Err(Refusal::Ids);
@@ -208,7 +214,7 @@ pub fn tell_pop(
     let line = Line {
         layer: true,
         attribute: tale.layers,
-        standing: standing(look.covered, look.kept, touched, false),
+        standing: standing_of(look.covered, look.kept, touched, false),
         alpha: look.alpha,
         nesting: within.open,
         panel: props.panel,
@@ -230,11 +236,14 @@ pub fn tell_filter(
     panel: u32,
     lines: &mut [u32],
 ) -> Result<(), Refusal>
-    requires { Spotted spot × Bounded within × Low tale.old × (length lines.old ≡ line-table) × Small (box_of dest) }
+    requires spot { Spotted spot }
+    requires within { Bounded within }
+    requires counts { Low tale.old }
+    requires lines { length lines.old ≡ line-table }
+    requires dest { Small (box_of dest) }
     ensures low { Low tale.new }
-    ensures told { (f : Filter) (ls : List Layer) → f.dest ≡ box_of dest → f.pixmap ≡ pixmap → Holds (box_of spot.viewport) within ls
-        → answer (answer_number result) (telling tale.new ls lines.new)
-        ≡ tell.tell-filter spot.width (box_of spot.viewport) spot.row spot.tile f panel (telling tale.old ls lines.old) }
+    ensures told { TellsFilter spot within dest pixmap panel (answer_number result)
+        tale.old lines.old tale.new lines.new }
 {
     let bbox = filter_box(spot.viewport, within.clip, dest);
     if draws_nothing(pixmap, bbox) {
@@ -255,7 +264,7 @@ pub fn tell_filter(
     let line = Line {
         layer: false,
         attribute: tale.paints,
-        standing: standing(covered, kept, true, false),
+        standing: standing_of(covered, kept, true, false),
         alpha: None,
         nesting: within.open,
         panel,

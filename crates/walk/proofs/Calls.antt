@@ -10,7 +10,7 @@ use Rattle.rules.specs.Plans.{a-push, a-pop, a-filter}
 use Rattle.segments.specs.Segs.{segs-of}
 use Rattle.screen.specs.declared.Screen.{Screen}
 use Rattle.screen.specs.Tables.{ScreenLent}
-use Rattle.fill.specs.declared.Draw.{Draw}
+use Rattle.inputs.specs.declared.Draw.{Draw}
 use Rattle.fill.specs.Fills as fills
 use Rattle.fill.specs.Fills.{paints-of, filled, fill_number, fill_done}
 use Rattle.layers.specs.Push as push
@@ -20,7 +20,7 @@ use Rattle.pop.specs.Pop.{popped, first, number-after}
 use Rattle.layers.specs.Filter as filter
 use Rattle.layers.specs.Filter.{given, filtered}
 use Rattle.walk.specs.Reading.{draw_in, props_in}
-use Rattle.walk.specs.Steps.{placement_in, call_at, draw_step, fill-part, fill-into, push-part, push-into, pop-part, pop-into, filter-part, filter-into}
+use Rattle.walk.specs.Steps.{filter_in, call_at, draw_step, fill-part, fill-into, push-part, push-into, pop-part, pop-into, filter-part, filter-into}
 
 pub same-fill : (x : fills.FillLent) (ps qs ss ts : List ℕ) (d : Draw) → paints-of ps ≡ paints-of qs → length ps ≡ length qs → segs-of ss ≡ segs-of ts → length ss ≡ length ts
     → filled x ps ss d ≡ filled x qs ts d
@@ -49,6 +49,6 @@ module _ (l : ScreenLent) (n : ℕ) where
   pop_step ss s y e = rw (← e)
 
   pub filter_step : (f : rule.Filter) (k q : ℕ) (y : filter.FilterLent)
-      → answer n y ≡ filtered (given (placement_in f) f.pixmap k q) (filter-part l) → answer n (filter-into l.tables y) ≡ call_at (a-filter k f q) l
+      → answer n y ≡ filtered (given (filter_in f) k q) (filter-part l) → answer n (filter-into l.tables y) ≡ call_at (a-filter k f q) l
   unfolding call_at
   filter_step f k q y e = rw (← e)

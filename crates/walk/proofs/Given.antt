@@ -5,7 +5,7 @@ use lib.Ieee.Bits.{nan_bits_is, of_bits-to_bits}
 use Rattle.rules.specs.Inputs as rule
 use Rattle.rules.specs.Inputs.{good-props}
 use Rattle.rules.proofs.All.{both}
-use Rattle.screen.specs.declared.layers.Clip.{Clip}
+use Rattle.inputs.specs.declared.Clip.{Clip}
 use Rattle.screen.specs.declared.layers.LayerProps.{LayerProps}
 use Rattle.screen.specs.Layers.{clip-of, props-of, good-pattern, good-given}
 use Rattle.walk.specs.Reading.{pattern_of, clip_in, props_in, props_said}

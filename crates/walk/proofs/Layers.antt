@@ -1,15 +1,12 @@
 -- A layer's steps, one after the other.
-use Rattle.std.proofs.Common.{ℕ, zero, suc, ◌-◌, ◌≤◌, ◌+◌, ◌*◌, arith, ◌≡◌, refl, sym, ap, ◌∙◌, true, not, List, [], get_or, eqb, eq-eqb, ne_eqb}
+use Rattle.std.proofs.Common.{ℕ, zero, suc, ◌-◌, arith, ◌≡◌, refl, sym, ap, ◌∙◌, true, not, [], get_or, eqb, eq-eqb, ne_eqb}
 use Rattle.rules.specs.Answers.{Answer, answer}
 use Rattle.rules.specs.Recording.{Recording, LayerRec, layer-rec}
 use Rattle.rules.specs.Plans.{a-push, a-pop}
 use Rattle.rules.specs.Walk.{◌then◌, when, props-of, walk-filter, walk-nodes, walk-layer}
 use Rattle.screen.specs.Tables.{ScreenLent}
-use Rattle.file.specs.declared.form.Layout.{Layout}
-use Rattle.file.specs.Places.{recorded, layer_from}
 use Rattle.walk.specs.Steps.{call_at}
 use Rattle.walk.proofs.Runs.{stopped, onward, then-none, none_then}
-use Rattle.walk.proofs.Places.{layer-there}
 
 module _ (r : Recording) (y : LayerRec) where
   abbrev pushing : ScreenLent → Answer ScreenLent
@@ -72,15 +69,14 @@ module _ (r : Recording) (y : LayerRec) where
         closed z a q = q ∙ sym (deeper ∙ onward (pushing then inside (d - 1)) popping s m u entered z)
 
 -- the layer that a node names
-module _ (l : Layout) (ws : List ℕ) (d k : ℕ) (s : ScreenLent) where
+module _ (r : Recording) (d k : ℕ) (s : ScreenLent) where
   abbrev named : Answer ScreenLent
-  named = when (not (eqb k 0)) (walk-layer ScreenLent call_at (recorded l ws) d (get_or (recorded l ws).layers (k - 1) (layer-rec []))) s
+  named = when (not (eqb k 0)) (walk-layer ScreenLent call_at r d (get_or r.layers (k - 1) (layer-rec []))) s
 
   pub names-none : k ≡ 0 → answer 0 s ≡ named
   unfolding when
   names-none z = rw (eq-eqb k 0 z)
 
-  pub names-one : (j : ℕ) → j ≡ k - 1 → (k ≡ 0 → ⊥) → k ≤ l.layers.count
-      → named ≡ walk-layer ScreenLent call_at (recorded l ws) d (layer_from ws (l.layers.at + 22 * j)) s
+  pub names-one : {y : LayerRec} → y ≡ get_or r.layers (k - 1) (layer-rec []) → (k ≡ 0 → ⊥) → walk-layer ScreenLent call_at r d y s ≡ named
   unfolding when
-  names-one j e z h = rw (ne_eqb k 0 z, ← e, layer-there l ws j (omega arith))
+  names-one e z = rw (ne_eqb k 0 z, e)

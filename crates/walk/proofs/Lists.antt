@@ -1,24 +1,19 @@
 -- The words that say paints and segments, and the parts of a file's words that are lent for them.
-use Rattle.std.proofs.Common.{ℕ, zero, suc, ◌+◌, ◌-◌, ◌*◌, ◌/◌, ◌<◌, add_assoc, mul-zero, arith, ◌≡◌, refl, sym, ap, ◌∙◌, List, [], ◌∷◌, length, get_or, take, drop, length-take, length-drop, get_or-drop}
+use Rattle.std.proofs.Common.{ℕ, zero, suc, ◌+◌, ◌*◌, ◌/◌, add_assoc, mul-zero, arith, ◌≡◌, refl, sym, ◌∙◌, List, [], ◌∷◌, length, get_or, get_or-drop}
 use Rattle.rules.specs.Lists.{join}
-use Rattle.rules.specs.Inputs.{Paint, Draw}
+use Rattle.rules.specs.Inputs.{Paint}
 use Rattle.rules.specs.Segments.{Segment}
+use Rattle.rules.specs.Recording.{Recording}
 use Rattle.rules.specs.Words.{paint-words, segment-words}
 use Rattle.segments.specs.Segs.{seg-at, segs, segs-of}
-use Rattle.file.specs.declared.form.Layout.{Layout}
 use Rattle.file.specs.Each.{each}
-use Rattle.file.specs.Layouts.{Fits}
-use Rattle.file.specs.Places.{paint_from, segment_from, draw_from, recorded}
-use Rattle.file.proofs.Eaches.{each-length, each_at}
-use Rattle.file.proofs.Reading.{reads, lent-paints, paints-width, paints-part}
-use Rattle.file.proofs.Laws.{segments-part}
+use Rattle.file.specs.Places.{paint_from}
 use Rattle.screen.specs.declared.Screen.{Screen}
-use Rattle.fill.specs.declared.Draw as step
+use Rattle.inputs.specs.declared.Draw as step
 use Rattle.fill.specs.Fills as fills
 use Rattle.fill.specs.Fills.{paint-at, paints, paints-of, filled}
 use Rattle.pop.specs.Pop as pop
 use Rattle.pop.specs.Pop.{popped}
-use Rattle.walk.specs.Recordings.{records_of}
 use Rattle.walk.proofs.Calls.{same-fill, same-pop}
 
 -- four words a paint
@@ -90,52 +85,30 @@ by-each ws (suc k) i =
     let p : 4 * (i + 1) ≡ 4 * i + 4 = omega arith in
     rw (by-each ws k (i + 1), p)
 
--- words cut out from a place to another
-pub cut_is : (a n : ℕ) (ws : List ℕ) → take (a + n - a) (drop a ws) ≡ take n (drop a ws)
-cut_is a n ws = let e : a + n - a ≡ n = omega arith in rw e
+-- words that say a recording's paints and segments: a fill and a pop that are lent them
+module _ (r : Recording) where
+  -- as many words as there are paints, and read as those
+  pub record Lent (ps ss : List ℕ) : Type 0 where
+    pub paints : each paint_from 4 ps 0 (length r.paints) ≡ r.paints
+    pub paints-long : length ps ≡ 4 * length r.paints
+    pub segments : segs-of ss ≡ r.segments
+    pub segments-long : length ss ≡ 5 * length r.segments
 
--- the parts that the code lends say the recording's paints and segments
-module _ (l : Layout) (ws : List ℕ) (f : Fits ws l) where
-  pub paints-lent : paints-of (records_of 4 l.paints ws) ≡ paints-of (join paint-words (recorded l ws).paints)
-  paints-lent =
-      rw (← cut_is l.paints.at (4 * l.paints.count) ws)
-      (let n : length (lent-paints l ws f) / 4 ≡ l.paints.count = rw (paints-width l ws f) (omega arith) in
-      rw (paints-said (recorded l ws).paints, ← reads l ws f, n, by-each (lent-paints l ws f) l.paints.count 0, mul-zero 4)
-      (paints-part l ws f))
+  pub paints-lent : (ps : List ℕ) → each paint_from 4 ps 0 (length r.paints) ≡ r.paints → length ps ≡ 4 * length r.paints → paints-of ps ≡ r.paints
+  paints-lent ps e n =
+      let k : length ps / 4 ≡ length r.paints = rw n (omega arith) in
+      rw (k, by-each ps (length r.paints) 0, mul-zero 4) e
 
-  pub paints-lent-length : length (records_of 4 l.paints ws) ≡ length (join paint-words (recorded l ws).paints)
-  unfolding recorded
-  paints-lent-length =
-      rw (← cut_is l.paints.at (4 * l.paints.count) ws)
-      (paints-width l ws f
-      ∙ sym (paints-words-length (recorded l ws).paints ∙ ap (λ (n : ℕ). 4 * n) (each-length paint_from 4 ws l.paints.at l.paints.count)))
+  pub same_filled : (x : fills.FillLent) (ps ss : List ℕ) {d e : step.Draw} → Lent ps ss → d ≡ e
+      → filled x ps ss d ≡ filled x (join paint-words r.paints) (join segment-words r.segments) e
+  same_filled x ps ss {d} {e} k h =
+      rw h
+      (same-fill x ps (join paint-words r.paints) ss (join segment-words r.segments) e
+      (paints-lent ps k.paints k.paints-long ∙ sym (paints-said r.paints))
+      (k.paints-long ∙ sym (paints-words-length r.paints))
+      (k.segments ∙ sym (segments-said r.segments))
+      (k.segments-long ∙ sym (segments-words-length r.segments)))
 
-  pub segments-lent : segs-of (records_of 5 l.segments ws) ≡ segs-of (join segment-words (recorded l ws).segments)
-  segments-lent = rw (← cut_is l.segments.at (5 * l.segments.count) ws, segments-said (recorded l ws).segments, ← reads l ws f) (segments-part l ws f)
-
-  pub segments-lent-length : length (records_of 5 l.segments ws) ≡ length (join segment-words (recorded l ws).segments)
-  unfolding recorded
-  segments-lent-length =
-      let h = f.segments.ends in
-      let w : length (records_of 5 l.segments ws) ≡ 5 * l.segments.count = simp (length-take, length-drop) (omega arith) in
-      w ∙ sym (segments-words-length (recorded l ws).segments ∙ ap (λ (n : ℕ). 5 * n) (each-length segment_from 5 ws l.segments.at l.segments.count))
-
-  -- a fill and a pop that are lent them
-  pub same_filled : (x : fills.FillLent) {ps ss : List ℕ} {d e : step.Draw} → ps ≡ records_of 4 l.paints ws → ss ≡ records_of 5 l.segments ws → d ≡ e
-      → filled x ps ss d ≡ filled x (join paint-words (recorded l ws).paints) (join segment-words (recorded l ws).segments) e
-  same_filled x {ps} {ss} {d} {e} p q h = rw (p, q, h) (same-fill x _ _ _ _ e paints-lent paints-lent-length segments-lent segments-lent-length)
-
-  pub same_popped : (s : Screen) (x : pop.PopLent) {ss : List ℕ} → ss ≡ records_of 5 l.segments ws → popped s x ss ≡ popped s x (join segment-words (recorded l ws).segments)
-  same_popped s x q = rw q (same-pop s x _ _ segments-lent segments-lent-length)
-
-  pub paints-count : length (recorded l ws).paints ≡ l.paints.count
-  unfolding recorded
-  paints-count = each-length paint_from 4 ws l.paints.at l.paints.count
-
-  pub draws-count : length (recorded l ws).draws ≡ l.draws.count
-  unfolding recorded
-  draws-count = each-length draw_from 7 ws l.draws.at l.draws.count
-
-  pub draw-there : (i : ℕ) (d : Draw) → i < l.draws.count → get_or (recorded l ws).draws i d ≡ draw_from ws (l.draws.at + 7 * i)
-  unfolding recorded
-  draw-there i d h = each_at draw_from 7 ws l.draws.at l.draws.count i d h
+  pub same_popped : (s : Screen) (x : pop.PopLent) (ss : List ℕ) → segs-of ss ≡ r.segments → length ss ≡ 5 * length r.segments
+      → popped s x ss ≡ popped s x (join segment-words r.segments)
+  same_popped s x ss p q = same-pop s x ss (join segment-words r.segments) (p ∙ sym (segments-said r.segments)) (q ∙ sym (segments-words-length r.segments))

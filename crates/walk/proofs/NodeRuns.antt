@@ -1,67 +1,56 @@
 -- A run of nodes, one more node at a time.
-use Rattle.std.proofs.Common.{ℕ, ◌+◌, ◌-◌, ◌*◌, ◌≤◌, ◌<◌, arith, ◌≡◌, sym, ◌∙◌, not, List, [], length, get_or, eqb}
+use Rattle.std.proofs.Common.{ℕ, ◌+◌, ◌-◌, ◌≤◌, ◌<◌, ◌≡◌, sym, ◌∙◌, not, [], length, get_or, eqb}
 use Rattle.rules.specs.Lists.{slice}
 use Rattle.rules.specs.Answers.{Answer, answer}
-use Rattle.rules.specs.Recording.{Node, layer-rec}
+use Rattle.rules.specs.Recording.{Recording, Node, layer-rec}
 use Rattle.rules.specs.Walk.{each, when, walk-node, walk-nodes, walk-layer}
 use Rattle.screen.specs.Tables.{ScreenLent}
-use Rattle.file.specs.declared.form.Layout.{Layout}
-use Rattle.file.specs.Places.{recorded, node_from}
 use Rattle.walk.specs.Steps.{call_at, draw_step}
 use Rattle.walk.proofs.Runs.{ended, refused, turned, stopped, onward}
-use Rattle.walk.proofs.Places.{some-node, node-count, node-there}
+use Rattle.walk.proofs.Places.{some-node}
 
-module _ (l : Layout) (ws : List ℕ) (d : ℕ) where
+module _ (r : Recording) (d : ℕ) where
   -- nodes a to b, with layers d deep
   abbrev pub nodes : ℕ → ℕ → ScreenLent → Answer ScreenLent
-  nodes a b = walk-nodes ScreenLent call_at (recorded l ws) (walk-layer ScreenLent call_at (recorded l ws) d) a b
+  nodes a b = walk-nodes ScreenLent call_at r (walk-layer ScreenLent call_at r d) a b
 
   abbrev node : Node → ScreenLent → Answer ScreenLent
-  node n = walk-node ScreenLent call_at (recorded l ws) (walk-layer ScreenLent call_at (recorded l ws) d) n
+  node n = walk-node ScreenLent call_at r (walk-layer ScreenLent call_at r d) n
 
   -- draws a to b, and the layer that a node names
   abbrev draws : ℕ → ℕ → ScreenLent → Answer ScreenLent
-  draws a b = each (draw_step (recorded l ws)) (slice a b (recorded l ws).draws)
+  draws a b = each (draw_step r) (slice a b r.draws)
 
   abbrev layer : ℕ → ScreenLent → Answer ScreenLent
-  layer k = when (not (eqb k 0)) (walk-layer ScreenLent call_at (recorded l ws) d (get_or (recorded l ws).layers (k - 1) (layer-rec [])))
+  layer k = when (not (eqb k 0)) (walk-layer ScreenLent call_at r d (get_or r.layers (k - 1) (layer-rec [])))
 
-module _ (l : Layout) (ws : List ℕ) (d i b : ℕ) (y : ScreenLent) where
-  pub all_walked : b ≤ i → answer 0 y ≡ nodes l ws d i b y
+module _ (r : Recording) (d i b : ℕ) (y : ScreenLent) where
+  pub all_walked : b ≤ i → answer 0 y ≡ nodes r d i b y
   unfolding walk-nodes
-  all_walked h = sym (ended (node l ws d) (recorded l ws).nodes i b y h)
+  all_walked h = sym (ended (node r d) r.nodes i b y h)
 
-  module _ (h : i < b) (k : b ≤ l.nodes.count) (n : ℕ) (z : ScreenLent)
-      (e : answer n z ≡ draws l ws d (get_or ws (l.nodes.at + 3 * i) 0) (get_or ws (l.nodes.at + 3 * i + 1) 0) y) where
-    abbrev this : Node
-    this = get_or (recorded l ws).nodes i some-node
+  module _ (h : i < b) (k : b ≤ length r.nodes) (this : Node) (s : this ≡ get_or r.nodes i some-node) (n : ℕ) (z : ScreenLent)
+      (e : answer n z ≡ draws r d this.start this.end y) where
+    first-refused : (n ≡ 0 → ⊥) → answer n z ≡ node r d this y
+    unfolding walk-node
+    first-refused q = stopped (draws r d this.start this.end) (layer r d this.layer) y n z e q
 
-    room : b ≤ length (recorded l ws).nodes
-    room = rw (node-count l ws) k
+    pub draws_refused : (n ≡ 0 → ⊥) → answer n z ≡ nodes r d i b y
+    unfolding walk-nodes
+    draws_refused q = refused (node r d) r.nodes i b y some-node h k n z (rw s at (first-refused q)) q
 
-    drawn : answer n z ≡ draws l ws d this.start this.end y
-    unfolding node_from
-    drawn = rw (node-there l ws i (omega arith)) e
-
-    pub draws_refused : (n ≡ 0 → ⊥) → answer n z ≡ nodes l ws d i b y
-    unfolding walk-nodes walk-node
-    draws_refused q =
-        refused (node l ws d) (recorded l ws).nodes i b y some-node h room n z
-        (stopped (draws l ws d this.start this.end) (layer l ws d this.layer) y n z drawn q) q
-
-    module _ (o : n ≡ 0) (m : ℕ) (u : ScreenLent) (f : answer m u ≡ layer l ws d (get_or ws (l.nodes.at + 3 * i + 2) 0) z) where
-      walked : answer m u ≡ layer l ws d this.layer z
-      unfolding node_from
-      walked = rw (node-there l ws i (omega arith)) f
-
-      done : answer m u ≡ node l ws d this y
+    module _ (o : n ≡ 0) (m : ℕ) (u : ScreenLent) (f : answer m u ≡ layer r d this.layer z) where
+      both-done : answer m u ≡ node r d this y
       unfolding walk-node
-      done = walked ∙ sym (onward (draws l ws d this.start this.end) (layer l ws d this.layer) y n z drawn o)
+      both-done = f ∙ sym (onward (draws r d this.start this.end) (layer r d this.layer) y n z e o)
 
-      pub layer_refused : (m ≡ 0 → ⊥) → answer m u ≡ nodes l ws d i b y
-      unfolding walk-nodes
-      layer_refused q = refused (node l ws d) (recorded l ws).nodes i b y some-node h room m u done q
+      done : answer m u ≡ node r d (get_or r.nodes i some-node) y
+      done = rw s at both-done
 
-      pub node_turned : m ≡ 0 → nodes l ws d (i + 1) b u ≡ nodes l ws d i b y
+      pub layer_refused : (m ≡ 0 → ⊥) → answer m u ≡ nodes r d i b y
       unfolding walk-nodes
-      node_turned q = sym (turned (node l ws d) (recorded l ws).nodes i b y some-node h room m u done q)
+      layer_refused q = refused (node r d) r.nodes i b y some-node h k m u done q
+
+      pub node_turned : m ≡ 0 → nodes r d (i + 1) b u ≡ nodes r d i b y
+      unfolding walk-nodes
+      node_turned q = sym (turned (node r d) r.nodes i b y some-node h k m u done q)

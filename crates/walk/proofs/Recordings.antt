@@ -1,5 +1,5 @@
 -- The recording call, from the form to the last step.
-use Rattle.std.proofs.Common.{ℕ, ◌+◌, ◌≤◌, ◌≡◌, refl, sym, ap, ◌∙◌, Bool, true, false, cond, List, None, length, get_or, eqb, eq-eqb, ne_eqb}
+use Rattle.std.proofs.Common.{ℕ, ◌≤◌, arith, ◌≡◌, refl, sym, ap, ◌∙◌, Bool, true, false, cond, List, Option, None, Some, length, eqb, eq-eqb, ne_eqb}
 use borrow.Author.Tests.{eqb-false}
 use Rattle.rules.specs.Answers.{Answer, answer}
 use Rattle.rules.specs.Boxes.{Box}
@@ -13,45 +13,29 @@ use Rattle.screen.specs.Judging.{judged_reset}
 use Rattle.screen.specs.declared.Lent.{Lent}
 use Rattle.screen.specs.Tables.{Tables, lengths, zeroed, ScreenLent, lent, reset_to}
 use Rattle.screen.specs.Lent.{tables_in, SameLent}
-use Rattle.file.specs.declared.form.Layout.{Layout}
-use Rattle.file.specs.Layouts.{Fits, sections_at}
-use Rattle.file.specs.Places as file
-use Rattle.file.proofs.Laid.{GoodForm}
-use Rattle.file.proofs.Reading.{reads}
-use Rattle.file.specs.Judging.{judged, box_from}
+use Rattle.file.specs.Held.{recording_of}
+use Rattle.file.specs.Judging.{judged}
 use Rattle.file.proofs.Laws.{sound, root-range}
 use Rattle.walk.specs.Steps.{call_at}
 use Rattle.walk.proofs.Runs.{stopped, onward}
-use Rattle.walk.specs.Recorded.{judging, played, recorded-in, recorded}
-use Rattle.walk.specs.Ready.{WalkReady}
-use Rattle.walk.proofs.Places.{node-count}
+use Rattle.walk.specs.Recorded.{judging, played, recorded-in, of-sections, recorded}
 
 -- Records, then the walk.
-module _ (l : Layout) (ws : List ℕ) (f : Fits ws l) (n : ℕ) (e : n ≡ judged (recording (sections_at l ws))) where
-  judged-here : n ≡ judged (file.recorded l ws)
-  judged-here = rw (reads l ws f) at e
-
-  pub bad-records : (n ≡ 0 → ⊥) → (s : ScreenLent) → answer n s ≡ (judging (file.recorded l ws) then walk-all ScreenLent call_at (file.recorded l ws)) s
-  bad-records h s =
-      stopped (judging (file.recorded l ws)) (walk-all ScreenLent call_at (file.recorded l ws)) s n s (ap (λ (k : ℕ). answer k s) judged-here) h
+module _ (r : Recording) (n : ℕ) (e : n ≡ judged r) where
+  pub bad-records : (n ≡ 0 → ⊥) → (s : ScreenLent) → answer n s ≡ (judging r then walk-all ScreenLent call_at r) s
+  bad-records h s = stopped (judging r) (walk-all ScreenLent call_at r) s n s (ap (λ (k : ℕ). answer k s) e) h
 
   module _ (z : n ≡ 0) where
-    good : good-records (file.recorded l ws) ≡ true
-    good = (sound (file.recorded l ws) (sym judged-here ∙ z)).records
+    pub good : good-records r ≡ true
+    good = (sound r (sym e ∙ z)).records
 
-    pub ready : WalkReady ws l
-    ready = record { fits = f; good = good }
+    pub root : (r.start ≤ r.end) × (r.end ≤ length r.nodes)
+    root = root-range r good
 
-    pub root : (get_or ws l.root.at 0 ≤ get_or ws (l.root.at + 1) 0) × (get_or ws (l.root.at + 1) 0 ≤ l.nodes.count)
-    unfolding file.recorded
-    root = let h = root-range (file.recorded l ws) good in (h.0, rw (node-count l ws) at h.1)
-
-    pub good-walk : (s : ScreenLent) (a : Answer ScreenLent)
-        → a ≡ walk-nodes ScreenLent call_at (file.recorded l ws) (walk-layer ScreenLent call_at (file.recorded l ws) 16) (get_or ws l.root.at 0) (get_or ws (l.root.at + 1) 0) s
-        → a ≡ (judging (file.recorded l ws) then walk-all ScreenLent call_at (file.recorded l ws)) s
-    unfolding walk-all file.recorded
-    good-walk s a q =
-        q ∙ sym (onward (judging (file.recorded l ws)) (walk-all ScreenLent call_at (file.recorded l ws)) s n s (ap (λ (k : ℕ). answer k s) judged-here) z)
+    pub good-walk : (s : ScreenLent) (a : Answer ScreenLent) → a ≡ walk-nodes ScreenLent call_at r (walk-layer ScreenLent call_at r 16) r.start r.end s
+        → a ≡ (judging r then walk-all ScreenLent call_at r) s
+    unfolding walk-all
+    good-walk s a q = q ∙ sym (onward (judging r) (walk-all ScreenLent call_at r) s n s (ap (λ (k : ℕ). answer k s) e) z)
 
 module _ (r : Recording) (fresh : ScreenLent) (m : ℕ) (s : ScreenLent) (e : answer m s ≡ (judging r then walk-all ScreenLent call_at r) fresh) where
   all-played : m ≡ 0 → answer m s ≡ played r fresh
@@ -107,34 +91,40 @@ pub bad-file : (ws : List ℕ) (q : Setup) (old : ScreenLent) → sections shape
 unfolding recorded
 bad-file ws q old e = rw e
 
-module _ (l : Layout) (ws : List ℕ) (g : GoodForm ws l) (v : Rect) (b : box_of v ≡ box_from ws 1) (q : Setup) (old : ScreenLent)
+by-sections : (o : Option (List (List (List ℕ)))) (r : Recording) → recording_of o ≡ Some r → (q : Setup) (old : ScreenLent) → of-sections o q old ≡ recorded-in r q old
+by-sections (Some ss) r e q old =
+    let h : recording ss ≡ r = cc in
+    rw h
+by-sections None r e q old = let z : ◌≡◌ {A = ℕ} 0 1 = cc in absurd (omega arith)
+
+-- the call at a file that says a recording
+pub as-said : (r : Recording) (ws : List ℕ) → recording_of (sections shape ws) ≡ Some r → (q : Setup) (old : ScreenLent) → recorded ws q old ≡ recorded-in r q old
+unfolding recorded
+as-said r ws g q old = by-sections (sections shape ws) r g q old
+
+module _ (r : Recording) (ws : List ℕ) (g : recording_of (sections shape ws) ≡ Some r) (v : Rect) (b : box_of v ≡ r.viewport) (q : Setup) (old : ScreenLent)
     (n : ℕ) (a : ScreenLent) (e : answer n a ≡ reset_to (frame q (box_of v)) old) where
-  view : box_of v ≡ (file.recorded l ws).viewport
-  unfolding file.recorded box_from
-  view = b
+  as-recorded : recorded-in r q old ≡ recorded ws q old
+  as-recorded = sym (as-said r ws g q old)
 
-  as-recorded : recorded-in (file.recorded l ws) q old ≡ recorded ws q old
-  unfolding recorded
-  as-recorded = rw (g.same, reads l ws g.fits)
-
-  its_view : answer n a ≡ reset_to (frame q (file.recorded l ws).viewport) old
-  its_view = e ∙ ap (λ (x : Box). reset_to (frame q x) old) view
+  its_view : answer n a ≡ reset_to (frame q r.viewport) old
+  its_view = e ∙ ap (λ (x : Box). reset_to (frame q x) old) b
 
   pub not-reset : (n ≡ 0 → ⊥) → answer n a ≡ recorded ws q old
   unfolding recorded-in
-  not-reset z = stopped (reset_to (frame q (file.recorded l ws).viewport)) (played (file.recorded l ws)) old n a its_view z ∙ as-recorded
+  not-reset z = stopped (reset_to (frame q r.viewport)) (played r) old n a its_view z ∙ as-recorded
 
-  module _ (z : n ≡ 0) (m : ℕ) (s : ScreenLent) (f : answer m s ≡ (judging (file.recorded l ws) then walk-all ScreenLent call_at (file.recorded l ws)) a) where
-    then-played : recorded ws q old ≡ played (file.recorded l ws) a
+  module _ (z : n ≡ 0) (m : ℕ) (s : ScreenLent) (f : answer m s ≡ (judging r then walk-all ScreenLent call_at r) a) where
+    then-played : recorded ws q old ≡ played r a
     unfolding recorded-in
-    then-played = sym as-recorded ∙ onward (reset_to (frame q (file.recorded l ws).viewport)) (played (file.recorded l ws)) old n a its_view z
+    then-played = sym as-recorded ∙ onward (reset_to (frame q r.viewport)) (played r) old n a its_view z
 
     pub all_done : m ≡ 0 → answer m s ≡ recorded ws q old
-    all_done y = all-played (file.recorded l ws) a m s f y ∙ sym then-played
+    all_done y = all-played r a m s f y ∙ sym then-played
 
     pub left_fresh : (m ≡ 0 → ⊥) → (t : Tables) → SameLong s.tables a.tables → SameLong a.tables old.tables → t ≡ zeroed s.tables
         → answer m (lent a.screen t) ≡ recorded ws q old
     left_fresh x t p o k =
         let cleared : t ≡ a.tables =
         k ∙ same_zeros p ∙ same_zeros o ∙ sym (emptied (frame q (box_of v)) old n a e z) in
-        rw cleared (not-played (file.recorded l ws) a m s f x ∙ sym then-played)
+        rw cleared (not-played r a m s f x ∙ sym then-played)

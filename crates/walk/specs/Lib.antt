@@ -1,5 +1,4 @@
 pub mod Reading
 pub mod Steps
-pub mod Recordings
 pub mod Ready
 pub mod Recorded

@@ -10,8 +10,8 @@ use Rattle.rules.specs.Recording.{LayerRec}
 use Rattle.cmd.specs.declared.blend.Blend.{Blend}
 use Rattle.cmd.specs.Blends.{blend_of}
 use Rattle.rect.specs.Rects.{rect-of}
-use Rattle.fill.specs.declared.Draw.{Draw}
-use Rattle.screen.specs.declared.layers.Clip.{Clip}
+use Rattle.inputs.specs.declared.Draw.{Draw}
+use Rattle.inputs.specs.declared.Clip.{Clip}
 use Rattle.screen.specs.declared.layers.LayerProps.{LayerProps}
 use Rattle.screen.specs.Layers.{clip-of}
 

@@ -13,13 +13,16 @@ use Rattle.walk.specs.Steps.{call_at}
 abbrev pub judging : Recording → ScreenLent → Answer ScreenLent
 judging r l = answer (judged r) l
 
+-- all records are judged, even those out of reach, then walked
+abbrev pub played-once : Recording → ScreenLent → Answer ScreenLent
+played-once r = judging r then walk-all ScreenLent call_at r
+
 -- after a refusal the screen is left as it was after the reset
 abbrev pub or-fresh : ScreenLent → Answer ScreenLent → Answer ScreenLent
 or-fresh fresh a = cond (eqb a.number Done) a (answer a.number fresh)
 
--- all records are judged, even those out of reach, then walked
 unfoldable pub played : Recording → ScreenLent → Answer ScreenLent
-played r fresh = or-fresh fresh ((judging r then walk-all ScreenLent call_at r) fresh)
+played r fresh = or-fresh fresh (played-once r fresh)
 
 -- the frame of the file's viewport; a refused reset changes nothing
 unfoldable pub recorded-in : Recording → Setup → ScreenLent → Answer ScreenLent

@@ -1,8 +1,10 @@
 -- A building step at a screen and all its words: the calls' own definitions, each on its part of what is lent.
-use Rattle.rules.specs.Lists.{join}
+use Rattle.std.specs.Prelude.{ℕ, [], ◌-◌, not, eqb, length, get_or}
+use Rattle.rules.specs.Lists.{join, slice}
 use Rattle.rules.specs.Answers.{Answer, answer}
 use Rattle.rules.specs.Inputs as rule
-use Rattle.rules.specs.Recording.{Recording}
+use Rattle.rules.specs.Recording.{Recording, LayerRec, layer-rec}
+use Rattle.rules.specs.Walk.{each, when, walk-layer, walk-nodes}
 use Rattle.rules.specs.Words.{paint-words, segment-words}
 use Rattle.rules.specs.Plans.{Step, a-fill, a-push, a-pop, a-filter}
 use Rattle.row.specs.Words.{Words, words}
@@ -14,13 +16,13 @@ use Rattle.layers.specs.Push as push
 use Rattle.layers.specs.Push.{pushed}
 use Rattle.pop.specs.Pop as pop
 use Rattle.pop.specs.Pop.{popped}
-use Rattle.layers.specs.declared.filter.Placement.{Placement}
+use Rattle.inputs.specs.declared.Filter.{Filter}
 use Rattle.layers.specs.Filter as filter
 use Rattle.layers.specs.Filter.{given, filtered}
 use Rattle.walk.specs.Reading.{draw_in, props_in}
 
-abbrev pub placement_in : rule.Filter → Placement
-placement_in f = record { dest = rect-of f.dest; source_x = f.source-x; source_y = f.source-y }
+abbrev pub filter_in : rule.Filter → Filter
+filter_in f = record { pixmap = f.pixmap; dest = rect-of f.dest; source_x = f.source-x; source_y = f.source-y }
 
 -- the words of all the rows
 abbrev pub rows_words : Tables → Words
@@ -68,8 +70,23 @@ unfoldable pub call_at : Step → ScreenLent → Answer ScreenLent
 call_at (a-fill ps ss d) l = with_value (fill-into l.tables) (filled (fill-part l) (join paint-words ps) (join segment-words ss) (draw_in d))
 call_at (a-push p) l = with_value (push-into l.tables) (pushed (props_in p) (push-part l))
 call_at (a-pop ss) l = pop-into l.tables (popped l.screen (pop-part l) (join segment-words ss))
-call_at (a-filter n f q) l = with_value (filter-into l.tables) (filtered (given (placement_in f) f.pixmap n q) (filter-part l))
+call_at (a-filter n f q) l = with_value (filter-into l.tables) (filtered (given (filter_in f) n q) (filter-part l))
 
 -- the fill of a recording's draw
 abbrev pub draw_step : Recording → rule.Draw → ScreenLent → Answer ScreenLent
 draw_step r d = call_at (a-fill r.paints r.segments d)
+
+-- the filter fill of a recording's layer
+abbrev pub filter_step : Recording → LayerRec → ScreenLent → Answer ScreenLent
+filter_step r y = call_at (a-filter (length r.paints) y.filter y.panel)
+
+-- the walk's parts: draws a to b; nodes a to b, with layers so deep; the layer that a node names by its number + 1, 0 for none
+module _ (r : Recording) where
+  abbrev pub draws-walked : ℕ → ℕ → ScreenLent → Answer ScreenLent
+  draws-walked a b = each (draw_step r) (slice a b r.draws)
+
+  abbrev pub nodes-walked : ℕ → ℕ → ℕ → ScreenLent → Answer ScreenLent
+  nodes-walked depth a b = walk-nodes ScreenLent call_at r (walk-layer ScreenLent call_at r depth) a b
+
+  abbrev pub layer-walked : ℕ → ℕ → ScreenLent → Answer ScreenLent
+  layer-walked depth k = when (not (eqb k 0)) (walk-layer ScreenLent call_at r depth (get_or r.layers (k - 1) (layer-rec [])))

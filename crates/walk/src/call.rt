@@ -2,18 +2,13 @@
 ghost use Rattle.std.specs.Prelude.{◌≡◌};
 ghost use Rattle.sizes.specs.Refusals.{answer_number};
 ghost use Rattle.rules.specs.Answers.{answer};
-ghost use Rattle.rules.specs.Walk.{◌then◌, walk-all};
 ghost use Rattle.screen.specs.Screens.{setup-of};
-ghost use Rattle.screen.specs.Tables.{ScreenLent};
 ghost use Rattle.screen.specs.Lent.{whole, SameLent};
-ghost use Rattle.walk.specs.Steps.{call_at};
-ghost use Rattle.walk.specs.Recordings.{recorded_in, FitsIn};
-ghost use Rattle.walk.specs.Recorded.{judging, recorded};
+ghost use Rattle.file.specs.Held.{held, FitsIn};
+ghost use Rattle.walk.specs.Recorded.{played-once, recorded};
 
 use crate::nodes::walk_nodes;
-use crate::steps::Recording;
-use file::form::read_form;
-use file::judge::{box_at, judge_records};
+use file::Recording;
 use screen::{Lent, Screen, Setup, reset};
 use sizes::MOST_LAYERS;
 use sizes::answers::Refusal;
@@ -23,12 +18,10 @@ fn play(screen: &mut Screen, file: &Recording<'_>, lent: &mut Lent<'_>) -> Resul
     requires { FitsIn file.now }
     ensures same { SameLent lent.old lent.new }
     ensures played { answer (answer_number result) (whole screen.new lent.new)
-        ≡ (judging (recorded_in file.now) then walk-all ScreenLent call_at (recorded_in file.now)) (whole screen.old lent.old) }
+        ≡ played-once (held file.now) (whole screen.old lent.old) }
 {
-    judge_records(file.words, file.layout)?;
-    let at = file.layout.root.at;
-    let first = file.words[at] as usize;
-    let end = file.words[at + 1] as usize;
+    file.judge()?;
+    let (first, end) = file.root();
     walk_nodes(MOST_LAYERS, screen, file, first, end, lent)
 }
 
@@ -44,13 +37,9 @@ pub fn bucket_recording(
     ensures recorded { answer (answer_number result) (whole screen.new lent.new)
         ≡ recorded file.now (setup-of setup) (whole screen.old lent.old) }
 {
-    let layout = read_form(file)?;
-    let fresh = reset(box_at(file, 1), setup, lent)?;
+    let recording = Recording::read(file)?;
+    let fresh = reset(recording.viewport(), setup, lent)?;
     *screen = fresh;
-    let recording = Recording {
-        words: file,
-        layout,
-    };
     if let Err(refusal) = play(screen, &recording, lent) {
         *screen = fresh;
         lent.clear();

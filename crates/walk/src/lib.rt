@@ -8,4 +8,3 @@ pub mod read;
 pub mod steps;
 
 pub use call::bucket_recording;
-pub use steps::Recording;

@@ -1,69 +1,40 @@
-//! The building steps of a recording, called from its words: a draw's fill and a run of them, a push, a pop, a filter layer. Parts: callers have read the form
-//! and judged the records. Paints and segments are parts of the file's words, handed on. Each step refuses as the call that it makes.
-ghost use Rattle.std.specs.Prelude.{◌≡◌, ◌+◌, ◌*◌, ◌≤◌, ◌<◌, length};
+//! The building steps of a recording, called from its records: a draw's fill and a run of them, a push, a pop, a filter layer. Parts: callers have read the
+//! form and judged the records. Paints and segments are parts of the file's words, handed on. Each step refuses as the call that it makes.
+ghost use Rattle.std.specs.Prelude.{◌≡◌, ◌≤◌, ◌<◌, length, get_or};
 ghost use Rattle.sizes.specs.Refusals.{answer_number};
 ghost use Rattle.rules.specs.Answers.{answer};
-ghost use Rattle.rules.specs.Lists.{slice};
-ghost use Rattle.rules.specs.Recording.{pixmap-of};
-ghost use Rattle.rules.specs.Inputs.{Props};
-ghost use Rattle.rules.specs.Plans.{a-push, a-pop, a-filter};
-ghost use Rattle.rules.specs.Walk.{each, walk-filter};
+ghost use Rattle.rules.specs.Inputs.{Props, Draw as RuleDraw};
+ghost use Rattle.rules.specs.Plans.{a-push, a-pop};
+ghost use Rattle.rules.specs.Walk.{walk-filter};
 ghost use Rattle.screen.specs.Tables.{ScreenLent};
 ghost use Rattle.screen.specs.Lent.{whole, SameLent};
-ghost use Rattle.file.specs.Places.{draw_from, filter_from, layer_from};
+ghost use Rattle.inputs.specs.Inputs.{filter-of};
+ghost use Rattle.file.specs.Records.{layer-of};
+ghost use Rattle.file.specs.Held.{held, FitsIn};
 ghost use Rattle.layers.specs.Filter.{given, given_of};
 ghost use Rattle.walk.specs.Reading.{props_in};
-ghost use Rattle.walk.specs.Steps.{placement_in, call_at, draw_step};
-ghost use Rattle.walk.specs.Recordings.{recorded_in, FitsIn, records_of};
+ghost use Rattle.walk.specs.Steps.{filter_in, call_at, draw_step, filter_step, draws-walked};
 
-use crate::read::{draw_at, needs_buffer, props_at};
-use file::form::{Layout, Section};
-use file::judge::box_at;
+use crate::read::{needs_buffer, to_props};
+use file::{Layer, Recording};
 use fill::fill;
-use layers::{FilterFill, Placement, filter_fill, push_layer};
+use inputs::Filter;
+use layers::{FilterFill, filter_fill, push_layer};
 use pop::pop_layer;
 use row::Rows;
 use screen::layers::{LayerProps, Layers};
 use screen::{Lent, Screen};
 use sizes::answers::Refusal;
-use sizes::{DRAW, PAINT, SEGMENT};
 
-/// A recording file's words, and where its sections stand in them.
-#[derive(Clone, Copy)]
-pub struct Recording<'a> {
-    pub words: &'a [u32],
-    pub layout: Layout,
-}
-
-// A section's records, of `size` words each.
-fn records(words: &[u32], section: Section, size: usize) -> &[u32]
-    requires { (section.at + size * section.count ≤ length words.now) × (size * section.count ≤ 4294967295) }
-    ensures { result.now ≡ records_of size section words.now }
-{
-    &words[section.at..section.at + size * section.count]
-}
-
-/// The picture that a file's word says: its handle, counted from 0, is the word - 1; 0 is none.
-pub fn pixmap_of(word: u32) -> Option<u32>
-    ensures { result ≡ pixmap-of word }
-{
-    word.checked_sub(1)
-}
-
-// What the filter layer at a place draws, in a recording of so many paints. A file has no panel numbers: its layers have panel 0.
-fn filter_at(w: &[u32], at: usize, paints: usize) -> FilterFill
-    requires { (at + 22 ≤ length w.now) × (paints ≤ 4294967295) }
-    ensures { given_of result ≡ given (placement_in (filter_from w.now at)) (filter_from w.now at).pixmap paints 0 }
+// What a filter layer draws, in a recording of so many paints.
+fn to_filter(filter: Filter, paints: usize, panel: u32) -> FilterFill
+    requires { paints ≤ 4294967295 }
+    ensures { given_of result ≡ given (filter_in (filter-of filter)) paints panel }
 {
     FilterFill {
-        placement: Placement {
-            dest: box_at(w, at + 16),
-            source_x: w[at + 20],
-            source_y: w[at + 21],
-        },
-        pixmap: pixmap_of(w[at + 15]),
+        filter,
         paint_count: paints as u32,
-        panel: 0,
+        panel,
     }
 }
 
@@ -74,10 +45,11 @@ fn fill_draw(
     i: usize,
     lent: &mut Lent<'_>,
 ) -> Result<(), Refusal>
-    requires { FitsIn file.now × (i < file.now.layout.draws.count) }
+    requires fits { FitsIn file.now }
+    requires there { i < length (held file.now).draws }
     ensures same { SameLent lent.old lent.new }
-    ensures filled { answer (answer_number result) (whole screen.new lent.new)
-        ≡ draw_step (recorded_in file.now) (draw_from file.now.words.now (file.now.layout.draws.at + 7 * i)) (whole screen.old lent.old) }
+    ensures filled { (d : RuleDraw) → answer (answer_number result) (whole screen.new lent.new)
+        ≡ draw_step (held file.now) (get_or (held file.now).draws i d) (whole screen.old lent.old) }
 {
     let mut rows = Rows {
         state: lent.rows,
@@ -88,9 +60,9 @@ fn fill_draw(
         screen,
         &mut rows,
         lent.paint_attrs,
-        records(file.words, file.layout.paints, PAINT),
-        records(file.words, file.layout.segments, SEGMENT),
-        draw_at(file.words, file.layout.draws.at + DRAW * i),
+        file.paints(),
+        file.segments(),
+        file.draw(i),
     )
 }
 
@@ -102,10 +74,12 @@ pub fn walk_draws(
     b: usize,
     lent: &mut Lent<'_>,
 ) -> Result<(), Refusal>
-    requires { FitsIn file.now × (a ≤ b) × (b ≤ file.now.layout.draws.count) }
+    requires fits { FitsIn file.now }
+    requires order { a ≤ b }
+    requires ends { b ≤ length (held file.now).draws }
     ensures same { SameLent lent.old lent.new }
     ensures walked { answer (answer_number result) (whole screen.new lent.new)
-        ≡ each (draw_step (recorded_in file.now)) (slice a b (recorded_in file.now).draws) (whole screen.old lent.old) }
+        ≡ draws-walked (held file.now) a b (whole screen.old lent.old) }
 {
     for i in a..b {
         fill_draw(screen, file, i, lent)?;
@@ -113,10 +87,11 @@ pub fn walk_draws(
     Ok(())
 }
 
-/// A push of what the words of a layer say.
+/// A push of what a layer says.
 pub fn push_at(screen: &mut Screen, props: LayerProps, lent: &mut Lent<'_>) -> Result<(), Refusal>
     ensures same { SameLent lent.old lent.new }
-    ensures pushed { (p : Props) → props ≡ props_in p → answer (answer_number result) (whole screen.new lent.new) ≡ call_at (a-push p) (whole screen.old lent.old) }
+    ensures pushed { (p : Props) → props ≡ props_in p → answer (answer_number result) (whole screen.new lent.new)
+        ≡ call_at (a-push p) (whole screen.old lent.old) }
 {
     let mut rows = Rows {
         state: lent.rows,
@@ -134,7 +109,8 @@ pub fn push_at(screen: &mut Screen, props: LayerProps, lent: &mut Lent<'_>) -> R
 pub fn pop_at(screen: &mut Screen, file: &Recording<'_>, lent: &mut Lent<'_>) -> Result<(), Refusal>
     requires { FitsIn file.now }
     ensures same { SameLent lent.old lent.new }
-    ensures popped { answer (answer_number result) (whole screen.new lent.new) ≡ call_at (a-pop (recorded_in file.now).segments) (whole screen.old lent.old) }
+    ensures popped { answer (answer_number result) (whole screen.new lent.new)
+        ≡ call_at (a-pop (held file.now).segments) (whole screen.old lent.old) }
 {
     let mut rows = Rows {
         state: lent.rows,
@@ -150,21 +126,21 @@ pub fn pop_at(screen: &mut Screen, file: &Recording<'_>, lent: &mut Lent<'_>) ->
         &mut rows,
         &mut layers,
         lent.layer_attrs,
-        records(file.words, file.layout.segments, SEGMENT),
+        file.segments(),
     )
 }
 
-// The filter fill of the layer at a place.
+// The filter fill of a layer.
 fn fill_filter(
     screen: &mut Screen,
     file: &Recording<'_>,
-    at: usize,
+    layer: Layer,
     lent: &mut Lent<'_>,
 ) -> Result<(), Refusal>
-    requires { FitsIn file.now × (at + 22 ≤ length file.now.words.now) }
+    requires { FitsIn file.now }
     ensures same { SameLent lent.old lent.new }
     ensures filtered { answer (answer_number result) (whole screen.new lent.new)
-        ≡ call_at (a-filter (length (recorded_in file.now).paints) (filter_from file.now.words.now at) 0) (whole screen.old lent.old) }
+        ≡ filter_step (held file.now) (layer-of layer) (whole screen.old lent.old) }
 {
     let mut rows = Rows {
         state: lent.rows,
@@ -176,27 +152,27 @@ fn fill_filter(
         &mut rows,
         lent.paint_attrs,
         lent.filter_paints,
-        filter_at(file.words, at, file.layout.paints.count),
+        to_filter(layer.filter, file.paint_count(), layer.panel),
     )
 }
 
-/// Rule 2: the filter layer at a place. Its nodes are not walked; it is pushed and popped around its filter fill only if it needs a buffer.
+/// Rule 2: a filter layer. Its nodes are not walked; it is pushed and popped around its filter fill only if it needs a buffer.
 pub fn walk_filter(
     screen: &mut Screen,
     file: &Recording<'_>,
-    at: usize,
+    layer: Layer,
     lent: &mut Lent<'_>,
 ) -> Result<(), Refusal>
-    requires { FitsIn file.now × (at + 22 ≤ length file.now.words.now) }
+    requires { FitsIn file.now }
     ensures same { SameLent lent.old lent.new }
     ensures walked { answer (answer_number result) (whole screen.new lent.new)
-        ≡ walk-filter ScreenLent call_at (recorded_in file.now) (layer_from file.now.words.now at) (whole screen.old lent.old) }
+        ≡ walk-filter ScreenLent call_at (held file.now) (layer-of layer) (whole screen.old lent.old) }
 {
-    let props = props_at(file.words, at);
+    let props = to_props(layer);
     if !needs_buffer(props) {
-        return fill_filter(screen, file, at, lent);
+        return fill_filter(screen, file, layer, lent);
     }
     push_at(screen, props, lent)?;
-    fill_filter(screen, file, at, lent)?;
+    fill_filter(screen, file, layer, lent)?;
     pop_at(screen, file, lent)
 }

@@ -7,7 +7,8 @@ ghost use Rattle.depth.specs.Listing.{out};
 ghost use Rattle.paint.specs.DirectRuns.{unset-of, visible-of, wrote, write-of, record-skip, skip-of-row};
 
 use crate::canvas::judge::{judge_runs, judge_skip};
-use crate::shown::{is_good_summary, summary_of};
+use crate::shown::summary_of;
+use row::judge::is_good_summary;
 use row::part;
 use screen::Screen;
 use sizes::ROW;

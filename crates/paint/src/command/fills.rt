@@ -4,8 +4,8 @@ ghost use Rattle.sizes.specs.Sizes.{tile-end};
 ghost use Rattle.span.specs.Spans.{tiles, buckets, Moves};
 ghost use Rattle.sizes.specs.Widths.{bucket-tiles};
 ghost use Rattle.paint.specs.Answers.{painted_of};
-ghost use Rattle.paint.specs.Painting.{word, out, settled};
-ghost use Rattle.paint.specs.Named.{depth_painted, fill_painted};
+ghost use Rattle.paint.specs.Painting.{out, settled};
+ghost use Rattle.paint.specs.Named.{CanStep, depth_painted, fill_painted};
 
 use crate::command::marks::Mark;
 use crate::command::reading::Row;
@@ -28,7 +28,7 @@ pub fn paint_depth(
     width: Width,
 ) -> Result<Stepped, Refusal>
     requires first_bound { (fill.buckets.first ≤ fill.buckets.«end») × (fill.buckets.«end» ≤ length depth.old) × (fill.buckets.«end» ≤ 65535) × (0 < mark.id) }
-    requires painting_len { (length painting.old ≡ 2) × (word painting.old 0 < 4294967295) }
+    requires painting { CanStep painting.old }
     ensures { out (painted_of result) depth.new painting.new list.new ≡ settled (Some (depth_painted (bucket-tiles width) fill mark depth.old painting.old)) depth.old painting.old list.old }
 {
     let room = list.len() / PIECE;
@@ -58,7 +58,7 @@ pub fn paint_fill(
     list: &mut [u32],
 ) -> Result<Stepped, Refusal>
     requires first_bound { (fill.span.first ≤ fill.span.«end») × (fill.span.«end» ≤ tile-end) × Moves fill.alpha (fill.span.«end» - fill.span.first) × (length depth.now ≤ 65535) }
-    requires painting_len { (length painting.old ≡ 2) × (word painting.old 0 < 4294967295) }
+    requires painting { CanStep painting.old }
     ensures { out (painted_of result) depth.now painting.new list.new ≡ settled (Some (fill_painted row.now layer fill mark depth.now painting.old)) depth.now painting.old list.old }
 {
     let room = list.len() / PIECE;

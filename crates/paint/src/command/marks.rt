@@ -10,7 +10,7 @@ use cmd::attrs::{layer_id, layer_panel, paint_id, paint_panel};
 use sizes::{LAST_ID, PANEL_END};
 
 /// What a fill's attribute says: the id of its draw or closing layer, from 1 to LAST_ID, and its panel.
-#[derive(Clone, Copy)]
+#[derive(Clone, Copy, Debug, PartialEq, Eq)]
 pub struct Mark {
     pub id: u32,
     pub panel: u32,

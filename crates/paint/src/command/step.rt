@@ -1,19 +1,18 @@
 //! One step of one row: judged first, then done.
-ghost use Rattle.std.specs.Prelude.{◌≡◌, Some, [], option_map, ◌+◌, ◌*◌, ◌≤◌, ◌<◌, length};
-ghost use Rattle.sizes.specs.Widths.{bucket-tiles};
+ghost use Rattle.std.specs.Prelude.{◌≡◌, [], ◌+◌, ◌*◌, ◌≤◌, length};
 ghost use Rattle.cmd.specs.Commands.{command};
 ghost use Rattle.cmd.specs.Good.{GoodCommand};
 ghost use Rattle.paint.specs.Answers.{painted_of};
-ghost use Rattle.paint.specs.Summaries.{summary-at};
-ghost use Rattle.paint.specs.Painting.{word, lent, out, painter-at, depth-step, command-step, depth-fill-at, command-at, bad-row, settled, painted-row};
-ghost use Rattle.paint.specs.Reading.{attrs_of};
+ghost use Rattle.paint.specs.Painting.{lent, out, bad-row};
+ghost use Rattle.paint.specs.Named.{CanStep};
+ghost use Rattle.paint.specs.Rows.{steps_of, depth_step_of, command_step_of};
 
 use crate::command::fills::{paint_depth, paint_fill};
 use crate::command::reading::Row;
 use crate::pieces::{Stepped, advance};
-use crate::shown::is_good_summary;
 use cmd::command::{CmdWords, RenderCmd};
 use cmd::depth_fill::DepthWords;
+use row::judge::is_good_summary;
 use sizes::answers::Refusal;
 use sizes::{DEPTHS, MOST_LAYERS, RENDERS};
 
@@ -39,14 +38,12 @@ fn step_depth(
     painting: &mut [u32],
     list: &mut [u32],
 ) -> Result<Stepped, Refusal>
-    requires k_in_bounds { (2 * k + 2 ≤ length row.now.fills.now) × (length depth.old ≤ 65535) }
-    requires painting_len { (length painting.old ≡ 2) × (word painting.old 0 < 4294967295) }
-    ensures { out (painted_of result) depth.new painting.new list.new ≡ settled (depth-step (bucket-tiles row.now.width) (attrs_of row.now.attrs) (painter-at depth.old painting.old) (depth-fill-at (length depth.old) row.now.fills.now k)) depth.old painting.old list.old }
+    requires k_in_bounds { 2 * k + 2 ≤ length row.now.fills.now }
+    requires depth_len { length depth.old ≤ 65535 }
+    requires painting { CanStep painting.old }
+    ensures { out (painted_of result) depth.new painting.new list.new ≡ depth_step_of row.now k depth.old painting.old list.old }
 {
-    let words = DepthWords {
-        span: row.fills[2 * k],
-        attrs_idx: row.fills[2 * k + 1],
-    };
+    let words = DepthWords::at(row.fills, k);
     let fill = words.read(depth.len() as u32).ok_or(Refusal::BadRecord)?;
     let mark = row.attrs.paint(fill.attrs_idx).ok_or(Refusal::BadRecord)?;
     paint_depth(depth, painting, fill, mark, list, row.width)
@@ -61,8 +58,10 @@ fn step_command(
     painting: &mut [u32],
     list: &mut [u32],
 ) -> Result<Stepped, Refusal>
-    requires { GoodCommand (command cmd) × (length depth.now ≤ 65535) × (length painting.old ≡ 2) × (word painting.old 0 < 4294967295) }
-    ensures { out (painted_of result) depth.now painting.new list.new ≡ settled (command-step (bucket-tiles row.now.width) (attrs_of row.now.attrs) (summary-at row.now.state.now) (painter-at depth.now painting.old) (Some (command cmd))) depth.now painting.old list.old }
+    requires good { GoodCommand (command cmd) }
+    requires depth_len { length depth.now ≤ 65535 }
+    requires painting { CanStep painting.old }
+    ensures { out (painted_of result) depth.now painting.new list.new ≡ command_step_of row.now (command cmd) depth.now painting.old list.old }
 {
     match cmd {
         RenderCmd::PaintFill(fill) => {
@@ -90,21 +89,6 @@ fn step_command(
     }
 }
 
-// The command at place k, if its words stand for one.
-fn read_command(render: &[u32], k: usize) -> Option<RenderCmd>
-    requires { 4 * k + 4 ≤ length render.now }
-    ensures { option_map command result ≡ command-at render.now k }
-{
-    let at = 4 * k;
-    let words = CmdWords {
-        tag: render[at],
-        span: render[at + 1],
-        alpha: render[at + 2],
-        attrs_idx: render[at + 3],
-    };
-    words.read()
-}
-
 /// One step of a row: its depth fills last to first, then its commands in order, then finished, as often as asked. `painting` has its two words: steps done, and
 /// nesting. BadRecord, 4, for words that are no row's; NoRoom, 14.
 pub fn step_row(
@@ -113,8 +97,9 @@ pub fn step_row(
     painting: &mut [u32],
     list: &mut [u32],
 ) -> Result<Stepped, Refusal>
-    requires { (length depth.old ≤ 65535) × (length painting.old ≡ 2) }
-    ensures { out (painted_of result) depth.new painting.new list.new ≡ painted-row (bucket-tiles row.now.width) (attrs_of row.now.attrs) (lent row.now.state.now row.now.render.now row.now.fills.now depth.old painting.old list.old) }
+    requires depth_len { length depth.old ≤ 65535 }
+    requires painting_len { length painting.old ≡ 2 }
+    ensures { out (painted_of result) depth.new painting.new list.new ≡ steps_of row.now depth.old painting.old list.old }
 {
     if is_forged(row, painting) {
         return Err(Refusal::BadRecord);
@@ -128,7 +113,8 @@ pub fn step_row(
     }
     let k = steps - depths;
     if k < renders {
-        let cmd = read_command(row.render, k as usize).ok_or(Refusal::BadRecord)?;
+        let words = CmdWords::at(row.render, k as usize);
+        let cmd = words.read().ok_or(Refusal::BadRecord)?;
         return step_command(row, cmd, depth, painting, list);
     }
     Ok(Stepped {

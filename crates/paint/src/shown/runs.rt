@@ -16,7 +16,9 @@ use span::TileSpan;
 // Whether the summary of a row of so many buckets says that nothing hides the span, and the span ends within them.
 #[tactic(auto, using(crate::proofs::Clear::skip_said))]
 fn is_clear(sum: DepthState, span: TileSpan, id: u32, buckets: usize, width: Width) -> bool
-    requires { (span.first ≤ span.«end») × (span.«end» ≤ tile-end) × (buckets ≤ 65535) }
+    requires order { span.first ≤ span.«end» }
+    requires short { span.«end» ≤ tile-end }
+    requires few { buckets ≤ 65535 }
     ensures { result ≡ is_clear (bucket-tiles width) (summary sum) buckets id (tiles span) }
 {
     sum.can_skip(span, id).unwrap_or(false) && span.end as usize <= width.tiles() as usize * buckets
@@ -49,7 +51,9 @@ pub fn shown_runs(
     list: &mut [u32],
     width: Width,
 ) -> Result<usize, Refusal>
-    requires { (span.first ≤ span.«end») × (span.«end» ≤ tile-end) × (length depth.now ≤ 65535) }
+    requires order { span.first ≤ span.«end» }
+    requires short { span.«end» ≤ tile-end }
+    requires few { length depth.now ≤ 65535 }
     ensures { out result list.new ≡ listing (listed false (length list.old / 2) (shown_runs (bucket-tiles width) (summary sum) depth.now id (tiles span))) list.old }
 {
     if is_clear(sum, span, id, depth.len(), width) {

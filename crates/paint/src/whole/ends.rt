@@ -5,7 +5,9 @@ ghost use Rattle.paint.specs.Kinds.{SeenTo, HiddenTo};
 
 /// Where the buckets from a on end that hold at most the id, as bucket a does: at e at the latest. Bucket a has been looked at, and is not read again.
 pub fn seen_end(depth: &[u32], a: usize, e: usize, id: u32) -> usize
-    requires { (a < e) × (e ≤ length depth.now) × (word depth.now a ≤ id) }
+    requires some { a < e }
+    requires fits { e ≤ length depth.now }
+    requires looked { word depth.now a ≤ id }
     ensures { SeenTo depth.now id a e result }
 {
     let mut i = a + 1;
@@ -20,7 +22,9 @@ pub fn seen_end(depth: &[u32], a: usize, e: usize, id: u32) -> usize
 
 /// The same of buckets that hold more than the id, as bucket a does.
 pub fn hidden_end(depth: &[u32], a: usize, e: usize, id: u32) -> usize
-    requires { (a < e) × (e ≤ length depth.now) × (id < word depth.now a) }
+    requires some { a < e }
+    requires fits { e ≤ length depth.now }
+    requires looked { id < word depth.now a }
     ensures { HiddenTo depth.now id a e result }
 {
     let mut i = a + 1;

@@ -7,12 +7,12 @@ ghost use Rattle.sizes.specs.Widths.{bucket-tiles};
 ghost use Rattle.cmd.specs.Attrs.{words-at};
 ghost use Rattle.paint.specs.Pieces.{words_of};
 ghost use Rattle.paint.specs.Kinds.{low-met, high-met, moved-index, runs-met};
-ghost use Rattle.paint.specs.Cuts.{FillsCut, LookedCut, cut_words, met, FirstRun};
+ghost use Rattle.paint.specs.Cuts.{FillsCut, LookedCut, end_met, cut_words, met, FirstRun};
 
 use crate::command::Mark;
 use crate::pieces::{PieceWords, Pieces};
 use crate::whole::ends::seen_end;
-use cmd::command::CmdWords;
+use cmd::command::{CmdWords, SpanWord};
 use depth::search::{Run, next_run};
 use sizes::TILE_ALPHAS;
 use sizes::width::Width;
@@ -40,12 +40,14 @@ fn moved_index(tag: u32, alpha: u32, tiles: u32) -> u32
 impl Cut {
     // The buckets of a run, cut to the fill's tiles.
     fn piece(self, run: Run) -> PieceWords
-        requires { FillsCut self × (run.first < high-met (bucket-tiles self.width) self.words.span) × (run.«end» ≤ high-met (bucket-tiles self.width) self.words.span) }
+        requires good { FillsCut self }
+        requires first { run.first < end_met self }
+        requires within { run.«end» ≤ end_met self }
         ensures { words_of result ≡ cut_words self (span run.first run.«end») }
     {
-        let first = self.words.span / 65536;
+        let first = self.words.span.first();
         let from = first.max(self.width.times(run.first as u32));
-        let end = (self.words.span % 65536).min(self.width.times(run.end as u32));
+        let end = self.words.span.end().min(self.width.times(run.end as u32));
         PieceWords {
             tag: self.words.tag,
             attrs_idx: self.words.attrs_idx,
@@ -59,9 +61,9 @@ impl Cut {
 
     // The end of the buckets that the fill meets.
     fn end(self) -> usize
-        ensures { result ≡ high-met (bucket-tiles self.width) self.words.span }
+        ensures { result ≡ end_met self }
     {
-        self.width.above(self.words.span % 65536) as usize
+        self.width.above(self.words.span.end()) as usize
     }
 
     // The first run, of which the look has seen all or the first bucket: the search goes on from there.
@@ -70,7 +72,7 @@ impl Cut {
         ensures { FirstRun self depth.now result }
     {
         if seen {
-            let first = self.width.below(self.words.span / 65536) as usize;
+            let first = self.width.below(self.words.span.first()) as usize;
             return Run { first, end: stop };
         }
         Run {
@@ -83,7 +85,9 @@ impl Cut {
 /// A fill that some of its buckets show and some hide. The look has seen its buckets up to `stop`, which are all shown if `seen` and else all hidden, and bucket
 /// `stop`, which is not.
 pub fn put_fill(depth: &[u32], cut: Cut, seen: bool, stop: usize, pieces: &mut Pieces<'_>)
-    requires { LookedCut cut depth.now seen stop × FillsCut cut × (piece-size * (pieces.old.count + length (met cut depth.now)) ≤ length pieces.old.list.now) }
+    requires looked { LookedCut cut depth.now seen stop }
+    requires good { FillsCut cut }
+    requires room { piece-size * (pieces.old.count + length (met cut depth.now)) ≤ length pieces.old.list.now }
     ensures same { pieces.new.list.ghost_name ≡ pieces.old.list.ghost_name }
     ensures count { pieces.new.count ≡ pieces.old.count + length (met cut depth.now) }
     ensures list { pieces.new.list.now ≡ words-at pieces.old.list.now (piece-size * pieces.old.count) (join (cut_words cut) (met cut depth.now)) }
@@ -97,12 +101,12 @@ pub fn put_fill(depth: &[u32], cut: Cut, seen: bool, stop: usize, pieces: &mut P
     }
 }
 
-/// How many runs the buckets that a fill meets have at most. `tiles` is the fill's span word.
-pub fn most_runs(tiles: u32, width: Width) -> usize
-    requires { low-met (bucket-tiles width) tiles ≤ high-met (bucket-tiles width) tiles }
-    ensures { result ≡ (high-met (bucket-tiles width) tiles - low-met (bucket-tiles width) tiles + 1) / 2 }
+/// How many runs the buckets that a fill meets have at most.
+pub fn most_runs(tiles: SpanWord, width: Width) -> usize
+    requires { low-met (bucket-tiles width) tiles.0 ≤ high-met (bucket-tiles width) tiles.0 }
+    ensures { result ≡ (high-met (bucket-tiles width) tiles.0 - low-met (bucket-tiles width) tiles.0 + 1) / 2 }
 {
-    let a = width.below(tiles / 65536) as usize;
-    let e = width.above(tiles % 65536) as usize;
+    let a = width.below(tiles.first()) as usize;
+    let e = width.above(tiles.end()) as usize;
     (e - a + 1) / 2
 }

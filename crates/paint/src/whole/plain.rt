@@ -8,16 +8,16 @@ ghost use Rattle.sizes.specs.Widths.{bucket-tiles};
 ghost use Rattle.paint.specs.Painting.{word, out, listed};
 ghost use Rattle.paint.specs.Reading.{attrs_of};
 ghost use Rattle.paint.specs.Running.{most};
-ghost use Rattle.paint.specs.Rows.{steps_of, mark_in, FillSays, Says, SaysAt};
-ghost use Rattle.paint.specs.Kinds.{summary-by, good-index, Calm, place, Reaches, Onward};
+ghost use Rattle.paint.specs.Rows.{steps_of, CalmRow, Ran, mark_in, FillSays, Says, SaysAt};
+ghost use Rattle.paint.specs.Kinds.{summary-by, good-index, Onward};
 
 use crate::command::{Mark, Row};
 use crate::pieces::{PieceWords, Pieces};
-use crate::shown::is_good_summary;
 use crate::whole::ends::{hidden_end, seen_end};
 use crate::whole::pieces::{Cut, most_runs, put_fill};
 use crate::whole::reading::{FillLook, Hull, Look, Partly};
-use cmd::command::{CmdWords, good_span_word};
+use cmd::command::CmdWords;
+use row::judge::is_good_summary;
 use sizes::width::Width;
 use sizes::{DEPTHS, END, FIRST, LARGEST, MOST_LAYERS, PIECE, RENDERS, TILE_ALPHAS, TILE_END};
 
@@ -42,7 +42,7 @@ fn is_good_index(tag: u32, alpha: u32, width: u32) -> bool
     if tag % 2 == 1 {
         return false;
     }
-    alpha <= 4294967295 - TILE_ALPHAS * width
+    alpha <= u32::MAX - TILE_ALPHAS * width
 }
 
 impl Hull {
@@ -57,10 +57,10 @@ impl Hull {
 
 // What one look shows of a fill's words, with its attribute's id.
 fn sure_fill(depth: &[u32], width: Width, words: CmdWords, id: u32, hull: Hull) -> FillLook
-    ensures { FillSays (bucket-tiles width) (summary-by hull.from hull.to hull.largest) depth.now id words.tag words.span words.alpha result }
+    ensures { FillSays (bucket-tiles width) (summary-by hull.from hull.to hull.largest) depth.now id words result }
 {
-    let first = words.span / 65536;
-    let end = words.span % 65536;
+    let first = words.span.first();
+    let end = words.span.end();
     if end <= first || TILE_END < end || !is_good_index(words.tag, words.alpha, end - first) {
         return FillLook::Unsure;
     }
@@ -94,18 +94,18 @@ fn sure_fill(depth: &[u32], width: Width, words: CmdWords, id: u32, hull: Hull) 
 
 // What a buffer's words show.
 fn sure_buffer(words: CmdWords, nesting: u32) -> Look
-    ensures { (v : ℕ) (a : Attrs) (u : Summary) (D : List ℕ) → Says v a u D nesting words.tag words.span words.alpha words.attrs_idx result }
+    ensures { (v : ℕ) (a : Attrs) (u : Summary) (D : List ℕ) → Says v a u D nesting words result }
 {
     if words.alpha != 0 || words.attrs_idx != 0 {
         return Look::Unsure;
     }
     if words.tag == 6 {
-        if good_span_word(TILE_END, words.span) && nesting < MOST_LAYERS {
+        if words.span.is_good(TILE_END) && nesting < MOST_LAYERS {
             return Look::Push;
         }
         return Look::Unsure;
     }
-    if words.span != 0 {
+    if words.span.0 != 0 {
         return Look::Unsure;
     }
     if words.tag == 5 && nesting < MOST_LAYERS {
@@ -119,7 +119,7 @@ fn sure_buffer(words: CmdWords, nesting: u32) -> Look
 
 // What one look shows of a command's words.
 fn look_at(row: &Row<'_>, depth: &[u32], words: CmdWords, nesting: u32, hull: Hull) -> Look
-    ensures { Says (bucket-tiles row.now.width) (attrs_of row.now.attrs) (summary-by hull.from hull.to hull.largest) depth.now nesting words.tag words.span words.alpha words.attrs_idx result }
+    ensures { Says (bucket-tiles row.now.width) (attrs_of row.now.attrs) (summary-by hull.from hull.to hull.largest) depth.now nesting words result }
 {
     if 4 < words.tag {
         return sure_buffer(words, nesting);
@@ -138,22 +138,8 @@ fn look_at(row: &Row<'_>, depth: &[u32], words: CmdWords, nesting: u32, hull: Hu
     }
 }
 
-// The command at place k.
-fn words_at(render: &[u32], k: usize) -> CmdWords
-    requires { 4 * k + 4 ≤ length render.now }
-    ensures { result ≡ record { tag = word render.now (4 * k); span = word render.now (4 * k + 1); alpha = word render.now (4 * k + 2); attrs_idx = word render.now (4 * k + 3) } }
-{
-    let at = 4 * k;
-    CmdWords {
-        tag: render[at],
-        span: render[at + 1],
-        alpha: render[at + 2],
-        attrs_idx: render[at + 3],
-    }
-}
-
 // Where a run of commands ended: the place of the next command, the nesting, and a fill that is shown in part there, if that is why.
-#[derive(Clone, Copy)]
+#[derive(Clone, Copy, Debug, PartialEq, Eq)]
 struct Reached {
     at: usize,
     nesting: u32,
@@ -169,10 +155,10 @@ fn run_sure(
     stop: usize,
     nesting: u32,
 ) -> Reached
-    requires calm { Calm row.now.state.now row.now.render.now row.now.fills.now }
+    requires calm { CalmRow row.now }
     requires start_le_stop { (start ≤ stop) × (stop ≤ word row.now.state.now 0) × (nesting ≤ most-layers) }
     ensures same { pieces.new.list.ghost_name ≡ pieces.old.list.ghost_name }
-    ensures reaches { Reaches (steps_of row.now) depth.now (word row.now.state.now 1) (place start pieces.old.count nesting pieces.old.list.now) (place result.at pieces.new.count result.nesting pieces.new.list.now) }
+    ensures reaches { Ran row.now depth.now start nesting pieces.old result pieces.new }
     ensures at_le_stop { result.at ≤ stop }
     ensures at_lt_stop { IfSome result.part (λ q. (result.at < stop) × SaysAt row.now depth.now result.nesting result.at (Look.Partly q)) }
 {
@@ -184,7 +170,7 @@ fn run_sure(
     let mut at = start;
     let mut level = nesting;
     while at < stop {
-        let words = words_at(row.render, at);
+        let words = CmdWords::at(row.render, at);
         match look_at(row, depth, words, level, hull) {
             Look::Whole(panel) => {
                 if pieces.left() < PIECE {
@@ -193,8 +179,8 @@ fn run_sure(
                 pieces.push(PieceWords {
                     tag: words.tag,
                     attrs_idx: words.attrs_idx,
-                    first: words.span / 65536,
-                    end: words.span % 65536,
+                    first: words.span.first(),
+                    end: words.span.end(),
                     alpha: words.alpha,
                     nesting: level,
                     panel,
@@ -237,10 +223,10 @@ fn run_commands(
     stop: usize,
     nesting: u32,
 ) -> Reached
-    requires calm { Calm row.now.state.now row.now.render.now row.now.fills.now }
+    requires calm { CalmRow row.now }
     requires start_le_stop { (start ≤ stop) × (stop ≤ word row.now.state.now 0) × (nesting ≤ most-layers) }
     ensures same { pieces.new.list.ghost_name ≡ pieces.old.list.ghost_name }
-    ensures reaches { Reaches (steps_of row.now) depth.now (word row.now.state.now 1) (place start pieces.old.count nesting pieces.old.list.now) (place result.at pieces.new.count result.nesting pieces.new.list.now) }
+    ensures reaches { Ran row.now depth.now start nesting pieces.old result pieces.new }
     ensures at_le_stop { result.at ≤ stop }
 {
     let mut at = start;
@@ -251,7 +237,7 @@ fn run_commands(
             return reached;
         };
         let next = reached.at;
-        let words = words_at(row.render, next);
+        let words = CmdWords::at(row.render, next);
         if pieces.left() < PIECE * most_runs(words.span, row.width) {
             return reached;
         }
@@ -268,7 +254,7 @@ fn run_commands(
 }
 
 /// How far a run went: the steps done, and how many pieces stand in the list.
-#[derive(Clone, Copy)]
+#[derive(Clone, Copy, Debug, PartialEq, Eq)]
 pub struct Gone {
     pub steps: usize,
     pub pieces: usize,

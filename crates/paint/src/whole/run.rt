@@ -1,12 +1,10 @@
 //! The steps of one row, over its own words. Parts: where a function asks something, its callers have judged it.
 ghost use Rattle.std.specs.Prelude.{◌≡◌, ◌*◌, ◌≤◌, length};
 ghost use Rattle.sizes.specs.Sizes.{piece-size};
-ghost use Rattle.sizes.specs.Widths.{bucket-tiles};
 ghost use Rattle.paint.specs.Answers.{painted_of};
-ghost use Rattle.paint.specs.Painting.{lent, out, listed};
-ghost use Rattle.paint.specs.Reading.{attrs_of};
-ghost use Rattle.paint.specs.Running.{most, onto, one_more, own-run};
-ghost use Rattle.paint.specs.Rows.{steps_of};
+ghost use Rattle.paint.specs.Painting.{out, listed};
+ghost use Rattle.paint.specs.Running.{most, onto, one_more};
+ghost use Rattle.paint.specs.Rows.{steps_of, run_of};
 
 use crate::command::{Row, step_row};
 use crate::pieces::Stepped;
@@ -45,8 +43,9 @@ pub fn run_row(
     list: &mut [u32],
     limit: usize,
 ) -> Result<Stepped, Refusal>
-    requires { (length depth.old ≤ 65535) × (length painting.old ≡ 2) × (limit ≤ most) }
-    ensures { out (painted_of result) depth.new painting.new list.new ≡ own-run (bucket-tiles row.now.width) limit (attrs_of row.now.attrs) (lent row.now.state.now row.now.render.now row.now.fills.now depth.old painting.old list.old) }
+    requires lens { (length depth.old ≤ 65535) × (length painting.old ≡ 2) }
+    requires limit { limit ≤ most }
+    ensures { out (painted_of result) depth.new painting.new list.new ≡ run_of row.now limit depth.old painting.old list.old }
 {
     let mut pieces: usize = 0;
     let mut steps: usize = 0;

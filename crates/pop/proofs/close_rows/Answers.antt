@@ -1,30 +1,26 @@
--- With a clip the LayerFills of its segments, without one a LayerFill on each touched row; then the PopBufs.
-use Rattle.std.proofs.Common.{refl, arith}
-use Rattle.pop.proofs.Doing.{seen, small-boxes, plain-requires, plain_done, clip-requires, clip-done}
+-- With a clip the LayerFills of its segments, without one a LayerFill on each touched row.
+use Rattle.pop.proofs.Doing.{plain-requires, plain_done, clip-requires, clip-done}
 use Rattle.pop.proofs.close_rows.Goals as goal
-
-pub open_at-layer-requires : goal.open_at-layer-requires
-open_at-layer-requires c = (omega (arith, (seen c.requires).bounds.deep, c.requires.some), c.requires.table)
 
 pub close_spans-requires : goal.close_spans-requires
 close_spans-requires c =
-    plain-requires c.requires _ c.open_at-layer.ensures _ _ c.band_of-band.ensures.0 c.band_of-band.ensures.1 c.if-layer-eq0.true _
-    c.bbox_span.ensures
+    let k = c.requires.closing in
+    let p = plain-requires c.requires.judged _ k.layer _ _ k.first k.last (rw c.in-None.is at k.clip) _ c.bbox_span.ensures in
+    record { whole = p.0; band = p.1; short = p.2; room = p.3 }
 
-pub returns-then-layer-eq0-clause-rows : goal.returns-then-layer-eq0-clause-rows
-returns-then-layer-eq0-clause-rows c =
-    plain_done c.requires _ c.open_at-layer.ensures _ _ c.band_of-band.ensures.0 c.band_of-band.ensures.1 c.if-layer-eq0.true _ c.bbox_span.ensures
-    c.close_spans.ensures.rows
-
-pub scene_of-requires : goal.scene_of-requires
-scene_of-requires c = rw c.parent_box-parent.ensures (small-boxes c.requires)
+pub returns-in-None-clause-rows : goal.returns-in-None-clause-rows
+returns-in-None-clause-rows c =
+    let k = c.requires.closing in
+    plain_done c.requires.judged _ k.layer _ _ k.first k.last (rw c.in-None.is at k.clip) _ c.bbox_span.ensures c.close_spans.ensures.rows
 
 pub close_segments-requires : goal.close_segments-requires
 close_segments-requires c =
-    clip-requires c.requires _ c.open_at-layer.ensures _ _ c.band_of-band.ensures.0 c.band_of-band.ensures.1 c.if-layer-eq0.false refl
-    refl _ c.parent_box-parent.ensures _ c.scene_of.ensures
+    let k = c.requires.closing in
+    let p = rw c.in-Some.is at k.clip in
+    clip-requires c.requires.judged _ k.layer _ _ k.first k.last p.0 p.1 p.2 _ k.parent _ p.3
 
-pub returns-clause-rows : goal.returns-clause-rows
-returns-clause-rows c =
-    clip-done c.requires _ c.open_at-layer.ensures _ _ c.band_of-band.ensures.0 c.band_of-band.ensures.1 c.if-layer-eq0.false refl
-    refl _ c.parent_box-parent.ensures _ c.scene_of.ensures c.close_segments.ensures.rows
+pub returns-in-Some-clause-rows : goal.returns-in-Some-clause-rows
+returns-in-Some-clause-rows c =
+    let k = c.requires.closing in
+    let p = rw c.in-Some.is at k.clip in
+    clip-done c.requires.judged _ k.layer _ _ k.first k.last p.0 p.1 p.2 _ k.parent _ p.3 c.close_segments.ensures.rows

@@ -4,52 +4,52 @@ use Rattle.std.proofs.Common.{sym, ◌∙◌}
 use Rattle.std.proofs.lemmas.Result.{err_from_is_err_and}
 use Rattle.rules.proofs.All.{never}
 use Rattle.screen.specs.Screens.{setup-of}
-use Rattle.file.proofs.Laid.{good-form}
+use Rattle.file.specs.Held.{held}
 use Rattle.tile.proofs.Explaining.{view-seen, view-unseen}
-use Rattle.text_why.proofs.Accepted.{formless, ready, good-view, off-answer, told-of}
+use Rattle.text_why.proofs.Accepted.{formless, good-here, good-view, off-answer, told-of}
 use Rattle.text_why.proofs.tell_words.Goals as goal
 
-pub returns-in_err-layout : goal.returns-in_err-layout
-returns-in_err-layout c =
+pub returns-in_err-file : goal.returns-in_err-file
+returns-in_err-file c =
     let a = c.args in
     let p = err_from_is_err_and c.from_residual.result c.from_residual.ensures.1 in
-    rw (p.1, p.2) (formless (setup-of a.setup) a.words.now c.requires.0 a.row a.tile c.in_err-layout.ensures)
-
-pub box_at-requires : goal.box_at-requires
-box_at-requires c = (good-form c.args.words.now c.in_ok-layout.layout c.in_ok-layout.ensures).fits.viewport.ends
+    rw (p.1, p.2) (formless (setup-of a.setup) a.words.now c.requires.accepted a.row a.tile c.in_err-file.ensures)
 
 pub returns-in_err-viewport : goal.returns-in_err-viewport
 returns-in_err-viewport c =
     let a = c.args in
     let u = setup-of a.setup in
-    let bad = view-unseen _ a.words.now u _ c.box_at.ensures c.in_err-viewport.ensures in
-    never (sym (good-view u a.words.now c.requires.0 a.row a.tile c.in_ok-layout.layout c.in_ok-layout.ensures) ∙ bad)
+    let r = held c.in_ok-file.file in
+    let bad = view-unseen r u _ c.viewport.ensures c.in_err-viewport.ensures in
+    never (sym (good-view u a.words.now c.requires.accepted a.row a.tile r c.in_ok-file.ensures.1) ∙ bad)
 
 pub returns-then-is_off_screen : goal.returns-then-is_off_screen
 returns-then-is_off_screen c =
     let a = c.args in
     let u = setup-of a.setup in
-    let l = c.in_ok-layout.layout in
-    let view = view-seen l a.words.now u _ c.box_at.ensures _ c.in_ok-viewport.ensures in
-    off-answer u a.words.now c.requires.0 a.row a.tile l c.in_ok-layout.ensures _ view (sym c.is_off_screen.ensures ∙ c.if-is_off_screen.true)
+    let r = held c.in_ok-file.file in
+    let view = view-seen r u _ c.viewport.ensures _ c.in_ok-viewport.ensures in
+    off-answer u a.words.now c.requires.accepted a.row a.tile r c.in_ok-file.ensures.1 _ view (sym c.is_off_screen.ensures ∙ c.if-is_off_screen.true)
 
 pub tell_tile-requires : goal.tell_tile-requires
 tell_tile-requires c =
     let a = c.args in
     let u = setup-of a.setup in
-    let l = c.in_ok-layout.layout in
-    let view = view-seen l a.words.now u _ c.box_at.ensures _ c.in_ok-viewport.ensures in (
-      ready u a.words.now c.requires.0 a.row a.tile l c.in_ok-layout.ensures,
-      rw view at (good-view u a.words.now c.requires.0 a.row a.tile l c.in_ok-layout.ensures),
-      sym c.is_off_screen.ensures ∙ c.if-is_off_screen.false,
-      c.requires.1,
-    )
+    let r = held c.in_ok-file.file in
+    let e = c.in_ok-file.ensures in
+    let view = view-seen r u _ c.viewport.ensures _ c.in_ok-viewport.ensures in
+    record {
+      ready = record { fits = e.0; good = good-here u a.words.now c.requires.accepted a.row a.tile r e.1 };
+      good = rw view at (good-view u a.words.now c.requires.accepted a.row a.tile r e.1);
+      on_screen = sym c.is_off_screen.ensures ∙ c.if-is_off_screen.false;
+      room = c.requires.room;
+    }
 
 pub returns : goal.returns
 returns c =
     let a = c.args in
     let u = setup-of a.setup in
-    let l = c.in_ok-layout.layout in
-    let view = view-seen l a.words.now u _ c.box_at.ensures _ c.in_ok-viewport.ensures in
-    told-of u a.words.now c.requires.0 a.row a.tile l c.in_ok-layout.ensures _ view (sym c.is_off_screen.ensures ∙ c.if-is_off_screen.false) _ _ _
+    let r = held c.in_ok-file.file in
+    let view = view-seen r u _ c.viewport.ensures _ c.in_ok-viewport.ensures in
+    told-of u a.words.now c.requires.accepted a.row a.tile r c.in_ok-file.ensures.1 _ view (sym c.is_off_screen.ensures ∙ c.if-is_off_screen.false) _ _ _
     c.tell_tile.ensures

@@ -1,35 +1,86 @@
 //! The lines that are told of a tile, one for each attribute, LINE words each: layer (1) or paint (0), attribute, standing, whether it has an alpha index, that
 //! index, nesting, panel.
-ghost use Rattle.std.specs.Prelude.{◌≡◌, [], ◌∷◌, ◌+◌, ◌*◌, ◌<◌, length};
+ghost use Rattle.std.specs.Prelude.{◌≡◌, [], ◌∷◌, ◌+◌, ◌*◌, ◌<◌, length, eqb, leb};
 ghost use Rattle.sizes.specs.Sizes.{most-attrs, line-size, line-table};
 ghost use Rattle.cmd.specs.Attrs.{words-at};
 ghost use Rattle.tile.specs.Telling.{alpha-words, line-words, standing-of};
 ghost use Rattle.tile.specs.Places.{line_of};
+ghost use Rattle.tile.specs.Standings.{standing_number, standing_in};
 
 use sizes::LINE;
 
-/// How an attribute's step stands to the tile, the first that holds: before the cut, nothing of it covers the tile.
-pub const NO_SEGMENT: u32 = 0;
+/// How an attribute's step stands to the tile: the first that holds, in this order.
+#[derive(Clone, Copy, Debug, PartialEq, Eq)]
+pub enum Standing {
+    /// Before the cut, nothing of it covers the tile.
+    NoSegment,
+    /// Nothing of it covers the tile after the cut.
+    CutAway,
+    /// The row is not touched for the layer that closes.
+    Untouched,
+    /// It has an entry in the tile's list, and hides nothing.
+    Told,
+    /// It has one, and hides what came before: an eligible solid segment over the whole bucket. It is tested before `Told`.
+    Hides,
+}
 
-/// .. nothing after the cut.
-pub const CUT_AWAY: u32 = 1;
+impl Standing {
+    /// The word that a line has for it.
+    pub fn word(self) -> u32
+        ensures { result ≡ standing_number self }
+    {
+        match self {
+            Standing::NoSegment => 0,
+            Standing::CutAway => 1,
+            Standing::Untouched => 2,
+            Standing::Told => 3,
+            Standing::Hides => 4,
+        }
+    }
 
-/// .. the row is not touched for the layer that closes.
-pub const UNTOUCHED: u32 = 2;
+    /// The standing of a line's word; no other word is one.
+    pub fn read(word: u32) -> Option<Standing>
+        ensures { result ≡ standing_in word }
+    {
+        match word {
+            0 => Some(Standing::NoSegment),
+            1 => Some(Standing::CutAway),
+            2 => Some(Standing::Untouched),
+            3 => Some(Standing::Told),
+            4 => Some(Standing::Hides),
+            _ => None,
+        }
+    }
 
-/// Else it is told: it has an entry in the tile's list.
-pub const TOLD: u32 = 3;
+    /// Whether it hides what came before.
+    pub fn is_hiding(self) -> bool
+        ensures { result ≡ eqb (standing_number self) 4 }
+    {
+        match self {
+            Standing::Hides => true,
+            _ => false,
+        }
+    }
 
-/// Told, and it hides what came before: an eligible solid segment over the whole bucket.
-pub const HIDES: u32 = 4;
+    /// Whether it has an entry in the tile's list.
+    pub fn is_told(self) -> bool
+        ensures { result ≡ leb 3 (standing_number self) }
+    {
+        match self {
+            Standing::Told => true,
+            Standing::Hides => true,
+            _ => false,
+        }
+    }
+}
 
-/// One line: a layer's attribute or a paint's, its place in their table, how it stands to the tile, and of what covers the tile the alpha index there, if it has
-/// one.
+/// One line: a layer's attribute or a paint's, its place in their table, how it stands to the tile, and of what covers the tile the alpha index there, if it
+/// has one.
 #[derive(Clone, Copy)]
 pub struct Line {
     pub layer: bool,
     pub attribute: u32,
-    pub standing: u32,
+    pub standing: Standing,
     pub alpha: Option<u32>,
     pub nesting: u32,
     pub panel: u32,
@@ -38,20 +89,20 @@ pub struct Line {
 /// Which word of a line is the panel.
 pub const LINE_PANEL: usize = 6;
 
-/// The first that holds, as a number.
-pub fn standing(covered: bool, kept: bool, touched: bool, hides: bool) -> u32
-    ensures { result ≡ standing-of covered kept touched hides }
+/// The first that holds.
+pub fn standing_of(covered: bool, kept: bool, touched: bool, hides: bool) -> Standing
+    ensures { standing_number result ≡ standing-of covered kept touched hides }
 {
     if !covered {
-        NO_SEGMENT
+        Standing::NoSegment
     } else if !kept {
-        CUT_AWAY
+        Standing::CutAway
     } else if !touched {
-        UNTOUCHED
+        Standing::Untouched
     } else if hides {
-        HIDES
+        Standing::Hides
     } else {
-        TOLD
+        Standing::Told
     }
 }
 
@@ -67,14 +118,15 @@ fn index_of(alpha: Option<u32>) -> (u32, u32)
 
 /// Stores line i: lines stand in the order in which the attributes are added.
 pub fn put_line(lines: &mut [u32], i: u32, line: Line)
-    requires { (i < most-attrs + most-attrs) × (length lines.old ≡ line-table) }
+    requires line { i < most-attrs + most-attrs }
+    requires lines { length lines.old ≡ line-table }
     ensures { lines.new ≡ words-at lines.old (line-size * i) (line-words (line_of line)) }
 {
     let (flag, index) = index_of(line.alpha);
     let at = LINE * i as usize;
     lines[at] = u32::from(line.layer);
     lines[at + 1] = line.attribute;
-    lines[at + 2] = line.standing;
+    lines[at + 2] = line.standing.word();
     lines[at + 3] = flag;
     lines[at + 4] = index;
     lines[at + 5] = line.nesting;

@@ -1,6 +1,5 @@
 //! What a list of segments is to one tile, before it is cut to the clip box and after.
-ghost use Rattle.std.specs.Prelude.{◌≡◌, true, ◌+◌, ◌-◌, ◌*◌, ◌≤◌, length};
-ghost use Rattle.rules.specs.Lists.{every};
+ghost use Rattle.std.specs.Prelude.{◌≡◌, true, ◌+◌, ◌-◌, ◌*◌};
 ghost use Rattle.rules.specs.Spans as rule;
 ghost use Rattle.rules.specs.Segments.{good-segment};
 ghost use Rattle.span.specs.Spans.{tiles, stretch as stretch-of};
@@ -8,8 +7,9 @@ ghost use Rattle.cmd.specs.Good.{GoodAlpha};
 ghost use Rattle.rect.specs.Rects.{box_of, Small};
 ghost use Rattle.segments.specs.Segs.{segment-of, segs, SceneOf};
 ghost use Rattle.tile.specs.Telling as tell;
-ghost use Rattle.tile.specs.Telling.{no-look, in_row, met};
-ghost use Rattle.tile.specs.Places.{Spotted, look-of};
+ghost use Rattle.tile.specs.Telling.{in_row, met};
+ghost use Rattle.tile.specs.Places.{Spotted, GoodRun, look-of};
+ghost use Rattle.tile.specs.Named.{cover_at, see_at, look_in};
 
 use crate::steps::Spot;
 use rect::Rect;
@@ -61,7 +61,8 @@ fn is_whole(spot: Spot, span: TileSpan) -> bool
 
 // What is left of a segment on the row.
 fn notice(spot: Spot, look: Look, stretch: Stretch) -> Look
-    requires { Spotted spot × GoodAlpha (tiles stretch.tiles) stretch.alpha }
+    requires spot { Spotted spot }
+    requires stretch { GoodAlpha (tiles stretch.tiles) stretch.alpha }
     ensures { look-of result ≡ tell.noticed spot.width spot.tile (look-of look) (stretch-of stretch) }
 {
     if !covers(stretch.tiles, spot.tile) {
@@ -82,7 +83,7 @@ fn notice(spot: Spot, look: Look, stretch: Stretch) -> Look
 // Whether it covers the tile before the cut.
 fn cover(spot: Spot, look: Look, segment: Segment) -> Look
     requires { Spotted spot }
-    ensures { look-of result ≡ tell.cover spot.width (box_of spot.viewport) spot.row spot.tile (look-of look) (segment-of segment) }
+    ensures { look-of result ≡ cover_at spot (look-of look) (segment-of segment) }
 {
     let own = TileSpan {
         first: segment.first,
@@ -96,8 +97,10 @@ fn cover(spot: Spot, look: Look, segment: Segment) -> Look
 
 // One more segment; those of other rows say nothing.
 fn see(spot: Spot, scene: Scene, clip: Rect, look: Look, segment: Segment) -> Look
-    requires { Spotted spot × (good-segment (segment-of segment) ≡ true) × SceneOf (box_of spot.viewport) (box_of clip) scene }
-    ensures { look-of result ≡ tell.see spot.width (box_of spot.viewport) spot.row spot.tile (box_of clip) (look-of look) (segment-of segment) }
+    requires spot { Spotted spot }
+    requires segment { good-segment (segment-of segment) ≡ true }
+    requires scene { SceneOf (box_of spot.viewport) (box_of clip) scene }
+    ensures { look-of result ≡ see_at spot clip (look-of look) (segment-of segment) }
 {
     if segment.row != spot.row + spot.viewport.y0 / 4 {
         return look;
@@ -111,8 +114,10 @@ fn see(spot: Spot, scene: Scene, clip: Rect, look: Look, segment: Segment) -> Lo
 
 /// What the segments from start to end of a list are to the tile, cut to the clip box.
 pub fn look_at(spot: Spot, clip: Rect, list: &[u32], start: usize, end: usize) -> Look
-    requires { Spotted spot × Small (box_of clip) × (start ≤ «end») × (5 * «end» ≤ length list.now) × (every good-segment (segs list.now start («end» - start)) ≡ true) }
-    ensures { look-of result ≡ tell.look spot.width (box_of spot.viewport) spot.row spot.tile (box_of clip) no-look (segs list.now start («end» - start)) }
+    requires spot { Spotted spot }
+    requires clip { Small (box_of clip) }
+    requires run { GoodRun list.now start «end» }
+    ensures { look-of result ≡ look_in spot clip (segs list.now start («end» - start)) }
 {
     let scene = scene_of(spot.viewport, clip);
     let mut look = Look {

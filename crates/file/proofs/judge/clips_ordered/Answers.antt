@@ -11,7 +11,7 @@ pub all-requires-clause-callable : goal.all-requires-clause-callable
 all-requires-clause-callable c =
     serves_from_Range (λ x q k. search (rules, tests))
     (λ x a b.
-    let r = every-at layer_from 22 c.args.w.now (clip_range (length c.args.list.now / 5)) c.args.layers.at c.args.layers.count x b c.requires.1.0 in
+    let r = every-at layer_from 22 c.args.w.now (clip_range (length c.args.list.now / 5)) c.args.layers.at c.args.layers.count x b c.requires.ranges in
     search (rules, tests, r))
 
 pub returns : goal.returns

@@ -12,7 +12,7 @@ unfolding draw_range draw_from
 all-requires-clause-callable c =
     serves_from_Range (λ x q k. search (rules, tests))
     (λ x a b.
-    let r = every-at draw_from 7 c.args.w.now (draw_range (length c.args.list.now / 5)) c.args.draws.at c.args.draws.count x b c.requires.1.0 in
+    let r = every-at draw_from 7 c.args.w.now (draw_range (length c.args.list.now / 5)) c.args.draws.at c.args.draws.count x b c.requires.ranges in
     search (rules, tests, r))
 
 pub returns : goal.returns

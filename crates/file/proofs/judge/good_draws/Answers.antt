@@ -3,7 +3,7 @@ use Rattle.std.proofs.lemmas.Iterator.{YieldsList-from_range}
 use Rattle.std.proofs.lemmas.Iterator.Search.{all_from_yields_List}
 use Rattle.file.specs.Places.{draw_from}
 use Rattle.file.proofs.Eaches.{each_place}
-use Rattle.file.specs.Judging.{draw_fields}
+use Rattle.inputs.specs.Inputs.{draw_fields}
 use Rattle.file.proofs.judge.good_draws.Goals as goal
 
 pub returns : goal.returns

@@ -6,7 +6,7 @@ pub returns-then-not-good_records : goal.returns-then-not-good_records
 returns-then-not-good_records c = rw (all-counted _ _ c.requires, sym c.good_records.ensures ∙ c.if-not-good_records.true)
 
 pub good_order-requires : goal.good_order-requires
-good_order-requires c = (c.requires, all-counted _ _ c.requires ∙ sym c.good_records.ensures ∙ c.if-not-good_records.false)
+good_order-requires c = record { fits = c.requires; good = all-counted _ _ c.requires ∙ sym c.good_records.ensures ∙ c.if-not-good_records.false }
 
 pub returns-then-not-good_order : goal.returns-then-not-good_order
 returns-then-not-good_order c =

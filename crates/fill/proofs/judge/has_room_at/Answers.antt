@@ -5,10 +5,5 @@ use Rattle.fill.proofs.judge.has_room_at.Goals as goal
 
 pub has_room-requires : goal.has_room-requires
 has_room-requires c =
-    let o = c.requires in (
-      rw c.part-state.ensures (record-long c.args.rows.now _ (omega (arith, o.0.long, o.0.bottom, o.0.starts.top))),
-      o.0.c,
-      o.0.d,
-      o.0.layers,
-      o.1,
-    )
+    let o = c.requires.rows in
+    record { words = rw c.part-state.ensures (record-long c.args.rows.now _ (omega (arith, o.long, o.bottom, o.starts.top))); room = (o.c, o.d); layers = o.layers; few = c.requires.few }

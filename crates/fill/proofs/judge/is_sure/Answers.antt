@@ -28,7 +28,7 @@ pub loop-i-init : goal.loop-i-init
 loop-i-init c =
     let weighed : c.if-job.weight ≡ split_off c.args.job.eligible 1 =
     elim c.if-job.branch [ then-job w ↦ rw w.if-job.true w.weight-is | else-job w ↦ rw w.if-job.false w.weight-is ] in
-    (weighed, set_out _ c.requires.0 c.requires.1 c.requires.2)
+    (weighed, set_out _ c.requires.rows c.requires.range c.requires.list)
 
 pub loop-i-preserved : goal.loop-i-preserved
 loop-i-preserved c =

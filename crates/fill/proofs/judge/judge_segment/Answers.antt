@@ -11,10 +11,10 @@ pub returns-in_default : goal.returns-in_default
 returns-in_default c = took-nothing c.args.job c.args.rows.now (at-hand c.args.hand) c.in_default.ensures
 
 pub added_by-more-requires : goal.added_by-more-requires
-added_by-more-requires c = let l = lands c.args.job _ _ _ _ c.requires.0 c.requires.1 c.in-Some.ensures in (l.1, l.2)
+added_by-more-requires c = let l = lands c.args.job _ _ _ _ c.requires.rows c.requires.segment c.in-Some.ensures in (l.1, l.2)
 
 pub add-requires : goal.add-requires
-add-requires c = let few = few-more _ _ _ _ c.added_by-more.ensures in (c.requires.2, few.0, few.1)
+add-requires c = let few = few-more _ _ _ _ c.added_by-more.ensures in (c.requires.hand, few.0, few.1)
 
 pub returns-then-hand-placed : goal.returns-then-hand-placed
 returns-then-hand-placed c =
@@ -23,8 +23,8 @@ returns-then-hand-placed c =
 
 pub turn_to-requires : goal.turn_to-requires
 turn_to-requires c = (
-  omega (arith, ap (λ (l : Limits). l.layers) c.limits_of-limits.ensures, c.requires.0.layers),
-  row-there c.args.job _ _ _ c.requires.0 (lands c.args.job _ _ _ _ c.requires.0 c.requires.1 c.in-Some.ensures).0,
+  omega (arith, ap (λ (l : Limits). l.layers) c.limits_of-limits.ensures, c.requires.rows.layers),
+  row-there c.args.job _ _ _ c.requires.rows (lands c.args.job _ _ _ _ c.requires.rows c.requires.segment c.in-Some.ensures).0,
 )
 
 pub returns-in_err-turned : goal.returns-in_err-turned

@@ -8,7 +8,11 @@ pub fill_segment-requires : goal.fill_segment-requires
 fill_segment-requires c =
     let held = c.loop-i.invariant.1 in
     rw (rows-counted _ _ held.rest.fits.arenas.long.state)
-    (held.rest.fits, omega (arith, held.rest.within), good-here held c.loop-i-test.true, room-here held c.loop-i-test.true)
+    (record {
+      fits = held.rest.fits;
+      segment = (omega (arith, held.rest.within), good-here held c.loop-i-test.true);
+      room = room-here held c.loop-i-test.true;
+    })
 
 pub loop-i-preserved-then-segs-i-eq0 : goal.loop-i-preserved-then-segs-i-eq0
 loop-i-preserved-then-segs-i-eq0 c =
@@ -21,15 +25,15 @@ loop-i-preserved-then-segs-i-eq0 c =
 pub fill_run-i-requires : goal.fill_run-i-requires
 fill_run-i-requires c =
     let held = c.loop-i.invariant.1 in
-    rw (rows-counted _ _ held.rest.fits.arenas.long.state) (held.rest, c.loop-i-test.true, kind-read _ _ c.if-segs-i-eq0.false)
+    rw (rows-counted _ _ held.rest.fits.arenas.long.state) (record { ready = held.rest; some = c.loop-i-test.true; alpha = kind-read _ _ c.if-segs-i-eq0.false })
 
 pub loop-i-preserved : goal.loop-i-preserved
 loop-i-preserved c =
     let held = c.loop-i.invariant.1 in
     let r = c.fill_run-i.ensures in (
       search rules,
-      after_run held _ r.0 r.1 _ (long_after _ _ _ held.rest.fits.arenas.long (search rules) (search rules) (search rules))
-          (rw (rows-counted _ _ held.rest.fits.arenas.long.state) at r.2),
+      after_run held _ r.after.0 r.after.1 _ (long_after _ _ _ held.rest.fits.arenas.long (search rules) (search rules) (search rules))
+          (rw (rows-counted _ _ held.rest.fits.arenas.long.state) at r.rows),
     )
 
 pub returns : goal.returns

@@ -7,38 +7,39 @@ use Rattle.fill.proofs.Runs.{row-there, run_lent, run-back, nothing_put}
 use Rattle.fill.proofs.rows.fill_run.Goals as goal
 
 pub place-requires : goal.place-requires
-place-requires c = (ap good-segment c.segment_at-first.ensures ∙ good-first _ _ _ c.requires.1 c.requires.0.good, c.requires.0.fits.starts)
+place-requires c = (ap good-segment c.segment_at-first.ensures ∙ good-first _ _ _ c.requires.some c.requires.ready.good, c.requires.ready.fits.starts)
 
 pub place_of-p-requires : goal.place_of-p-requires
 place_of-p-requires c =
-    let o = c.requires.0.fits.arenas in
-    (o.c, o.d, omega (arith, o.rows, row-there c.requires.0 c.requires.1 _ (rw c.segment_at-first.ensures at c.in-Some.ensures)))
+    let o = c.requires.ready.fits.arenas in
+    (o.c, o.d, omega (arith, o.rows, row-there c.requires.ready c.requires.some _ (rw c.segment_at-first.ensures at c.in-Some.ensures)))
 
 pub slice_bounds-push_run-end : goal.slice_bounds-push_run-end
 slice_bounds-push_run-end c =
-    x-end c.requires.0.fits.arenas (row-there c.requires.0 c.requires.1 _ (rw c.segment_at-first.ensures at c.in-Some.ensures)) c.place_of-p.ensures
+    x-end c.requires.ready.fits.arenas (row-there c.requires.ready c.requires.some _ (rw c.segment_at-first.ensures at c.in-Some.ensures)) c.place_of-p.ensures
 
 pub push_run-requires : goal.push_run-requires
 push_run-requires c =
-    run_lent c.requires.0 c.requires.1 _ (rw c.segment_at-first.ensures at c.in-Some.ensures) (ap (λ (s : Segment). s.row) c.segment_at-first.ensures)
-    c.place_of-p.ensures c.requires.2
+    run_lent c.requires.ready c.requires.some _ (rw c.segment_at-first.ensures at c.in-Some.ensures) (ap (λ (s : Segment). s.row) c.segment_at-first.ensures)
+    c.place_of-p.ensures c.requires.alpha
 
 pub returns : goal.returns
 returns c =
-    let r = c.push_run.ensures in (
-      r.0,
-      r.1,
-      run-back c.requires.0 c.requires.1 _ (rw c.segment_at-first.ensures at c.in-Some.ensures) (ap (λ (s : Segment). s.row) c.segment_at-first.ensures)
-          c.place_of-p.ensures _ r.0 r.1 r.2 _ _ _ r.3,
-    )
+    let r = c.push_run.ensures in
+    record {
+      after = r.after;
+      rows =
+          run-back c.requires.ready c.requires.some _ (rw c.segment_at-first.ensures at c.in-Some.ensures) (ap (λ (s : Segment). s.row) c.segment_at-first.ensures)
+          c.place_of-p.ensures _ r.after.0 r.after.1 r.on _ _ _ r.row;
+    }
 
 pub returns-in_default : goal.returns-in_default
-returns-in_default c = (
-  omega arith,
-  omega (arith, c.requires.1),
-  nothing_put c.args.job c.args.segs.now c.args.start _ (rw c.segment_at-first.ensures at c.in_default.ensures),
-)
+returns-in_default c =
+    record {
+      after = (omega arith, omega (arith, c.requires.some));
+      rows = nothing_put c.args.job c.args.segs.now c.args.start _ (rw c.segment_at-first.ensures at c.in_default.ensures);
+    }
 
 pub slice_bounds-push_run-end-3 : goal.slice_bounds-push_run-end-3
 slice_bounds-push_run-end-3 c =
-    z-end c.requires.0.fits.arenas (row-there c.requires.0 c.requires.1 _ (rw c.segment_at-first.ensures at c.in-Some.ensures)) c.place_of-p.ensures
+    z-end c.requires.ready.fits.arenas (row-there c.requires.ready c.requires.some _ (rw c.segment_at-first.ensures at c.in-Some.ensures)) c.place_of-p.ensures

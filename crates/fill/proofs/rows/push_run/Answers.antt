@@ -14,13 +14,13 @@ pub returns-then-segment-run : goal.returns-then-segment-run
 returns-then-segment-run c =
     let e = run-done c.requires c.ensure_row_layers.ensures.row c.loop-next.invariant.1
     (row-left c.loop-next.invariant.1 (λ e. c.if-segment-run.true (ap (λ (s : Segment). s.row) c.segment_at-segment.ensures ∙ e))) in
-    (e.0, e.1, e.2, search (rules, e.3))
+    record { after = (e.0, e.1); on = e.2; row = search (rules, e.3) }
 
 pub returns-then-segment-eq0 : goal.returns-then-segment-eq0
 returns-then-segment-eq0 c =
     let e = run-done c.requires c.ensure_row_layers.ensures.row c.loop-next.invariant.1
     (solid-met c.loop-next.invariant.1 (sym (ap (λ (s : Segment). s.kind) c.segment_at-segment.ensures) ∙ c.if-segment-eq0.true)) in
-    (e.0, e.1, e.2, search (rules, e.3))
+    record { after = (e.0, e.1); on = e.2; row = search (rules, e.3) }
 
 pub push_paint-requires : goal.push_paint-requires
 push_paint-requires c =
@@ -31,7 +31,7 @@ push_paint-requires c =
 pub returns : goal.returns
 returns c =
     let e = run-done c.requires c.ensure_row_layers.ensures.row c.loop-next.invariant.1 (omega (arith, c.loop-next.invariant.1.ready.before)) in
-    (e.0, e.1, e.2, search (rules, e.3))
+    record { after = (e.0, e.1); on = e.2; row = search (rules, e.3) }
 
 pub loop-next-preserved : goal.loop-next-preserved
 loop-next-preserved c =

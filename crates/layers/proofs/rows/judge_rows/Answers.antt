@@ -1,4 +1,4 @@
-use Rattle.std.proofs.Common.{◌∙◌}
+use Rattle.std.proofs.Common.{sym}
 use Rattle.std.proofs.lemmas.Result.{err_from_is_err_and}
 use Rattle.row.proofs.RoomRows.{going_end, going-bad, going_on}
 use Rattle.layers.specs.Band.{band_number}
@@ -9,7 +9,7 @@ pub returns-in_err-turned : goal.returns-in_err-turned
 unfolding band_number
 returns-in_err-turned c =
     let p = err_from_is_err_and c.from_residual.result c.from_residual.ensures.1 in
-    rw (p.1, p.2, c.in_err-turned.ensures.1) (going-bad c.loop-r.invariant c.loop-r-test.true c.in_err-turned.ensures.0)
+    rw (p.1, p.2) (c.in_err-turned.ensures.1, sym (going-bad c.loop-r.invariant c.loop-r-test.true c.in_err-turned.ensures.0))
 
 pub loop-r-preserved : goal.loop-r-preserved
 loop-r-preserved c =
@@ -19,4 +19,4 @@ loop-r-preserved c =
 
 pub returns : goal.returns
 unfolding band_number
-returns c = c.answer.ensures ∙ going_end c.loop-r.invariant c.loop-r-test.false
+returns c = going_end c.loop-r.invariant c.loop-r-test.false

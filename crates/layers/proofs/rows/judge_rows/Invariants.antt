@@ -7,4 +7,4 @@ use Rattle.layers.specs.Band.{is-full}
 use Rattle.layers.proofs.rows.judge_rows.Given as goal
 
 abbrev pub invariant-loop-r : goal.invariant-loop-r
-invariant-loop-r l = Going (λ (i : ℕ). good_row l.limits.c l.limits.d l.limits.layers (record-at l.rows i)) (λ (i : ℕ). is-full l.limits.c l.limits.layers (record-at l.rows i)) l.a l.b (fault_number l.found) l.r
+invariant-loop-r l = Going (λ (i : ℕ). good_row l.limits.c l.limits.d l.limits.layers (record-at l.rows i)) (λ (i : ℕ). is-full l.limits.c l.limits.layers (record-at l.rows i)) l.band.start l.band.end (fault_number l.found) l.r

@@ -1,4 +1,4 @@
-use Rattle.std.proofs.Common.{sym, ◌∙◌, arith}
+use Rattle.std.proofs.Common.{sym, ◌∙◌}
 use Rattle.std.proofs.lemmas.Result.{err_from_is_err_and}
 use Rattle.paint.specs.Painting.{lent}
 use Rattle.paint.specs.Stepping.{attributes}
@@ -13,8 +13,8 @@ returns-in_err-judge_step c =
     let s = a.stored.now in
     rw (p.1, p.2) (step_refused a.screen a.row (attributes s.paint_attrs.now s.layer_attrs.now) (lent s.rows.now s.render.now s.fills.now a.depth.now a.painting.now a.list.now) _ c.in_err-judge_step.ensures)
 
-pub row_part-requires : goal.row_part-requires
-row_part-requires c = (omega arith, ready _ _ _ _ (sym c.in_ok-judge_step.ensures))
+pub row_part-requires-clause-ready : goal.row_part-requires-clause-ready
+row_part-requires-clause-ready c = ready _ _ _ _ (sym c.in_ok-judge_step.ensures)
 
 pub returns : goal.returns
 returns c = step_done _ _ _ _ _ c.in_ok-judge_step.ensures (c.row_part.ensures ∙ step-is-run _ _ _ _)

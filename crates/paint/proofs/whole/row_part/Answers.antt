@@ -6,7 +6,7 @@ use Rattle.paint.proofs.whole.row_part.Goals as goal
 
 pub invariant_of-read-2 : goal.invariant_of-read-2
 invariant_of-read-2 c =
-    let ready = c.requires.1 in
+    let ready = c.requires.ready in
     record {
       state_len = ap length c.part.ensures ∙ part-of-length _ _ _ ready.state;
       render_len = omega (arith, ap length c.part-2.ensures ∙ part-of-length _ _ _ ready.render, ready.few-commands);

@@ -10,5 +10,5 @@ use Rattle.pop.proofs.rows.is_full_clip.Given as goal
 
 abbrev pub invariant-loop-i : goal.invariant-loop-i
 invariant-loop-i l =
-    Counting l.screen.c l.screen.d (touched-in l.screen.layers (rows_at (frame-of l.screen) (all-held l.rows)) (range l.band.a l.band.b))
+    Counting l.screen.c l.screen.d (touched-in l.screen.layers (rows_at (frame-of l.screen) (all-held l.rows)) (range l.band.start l.band.«end»))
     (rows_at (frame-of l.screen) (all-held l.rows)) l.list l.clip.start l.clip.«end» l.clip.scene l.i (at-hand l.hand)

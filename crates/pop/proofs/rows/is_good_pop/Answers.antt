@@ -9,7 +9,7 @@ returns-then-levels-open c = pop-other c.args.c c.args.d c.args.open _ c.if-leve
 pub bounds-render-state : goal.bounds-render-state
 bounds-render-state c =
     place-within _ c.args.d _ (words c.args.state.now c.args.render.now c.args.fills.now) (sym c.is_good_row.ensures ∙ c.if-is_good_row.true)
-    c.if-levels-open.false refl refl c.requires.2 c.requires.1
+    c.if-levels-open.false refl refl c.requires.some c.requires.render
 
 pub returns-then-is_good_row : goal.returns-then-is_good_row
 returns-then-is_good_row c = tag_at _ _ _ _ (sym c.is_good_row.ensures ∙ c.if-is_good_row.true) c.if-levels-open.false refl refl

@@ -10,4 +10,4 @@ use Rattle.pop.proofs.rows.judge_pop_rows.Given as goal
 
 abbrev pub invariant-loop-r : goal.invariant-loop-r
 invariant-loop-r l = Going (λ (i : ℕ). good-pop l.screen.c l.screen.d l.screen.layers (row_of (rows_at (frame-of l.screen) (all-held l.rows)) i))
-    (λ (i : ℕ). full-pop l.screen.c l.screen.layers (l.more + 1) (row_of (rows_at (frame-of l.screen) (all-held l.rows)) i).state) l.fn.band.a l.fn.band.b (fault_number l.found) l.r
+    (λ (i : ℕ). full-pop l.screen.c l.screen.layers (l.more + 1) (row_of (rows_at (frame-of l.screen) (all-held l.rows)) i).state) l.fn.band.start l.fn.band.«end» (fault_number l.found) l.r

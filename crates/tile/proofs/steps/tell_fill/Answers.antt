@@ -26,7 +26,7 @@ returns-then-look-clause-told c =
     let left = ids-left c.is_out_of_ids.ensures c.if-is_out_of_ids.false in
     λ ls h.
     fill-drawn _ _ _ _ _ _ _ _ left (some-there s.segments.now s.stroke.start s.stroke.«end» c.if-stroke.false) c.if-tale-ge-MOST_ATTRS.false h.clip h.count
-    c.look_at-look.ensures refl (c.put_line.ensures ∙ rw (c.standing.ensures, c.is_hiding.ensures)) (rw c.if-look.true)
+    c.look_at-look.ensures refl (c.put_line.ensures ∙ rw (c.standing_of.ensures, c.is_hiding.ensures)) (rw c.if-look.true)
 
 pub returns-else-look-clause-told : goal.returns-else-look-clause-told
 returns-else-look-clause-told c =
@@ -34,4 +34,4 @@ returns-else-look-clause-told c =
     let left = ids-left c.is_out_of_ids.ensures c.if-is_out_of_ids.false in
     λ ls h.
     fill-drawn _ _ _ _ _ _ _ _ left (some-there s.segments.now s.stroke.start s.stroke.«end» c.if-stroke.false) c.if-tale-ge-MOST_ATTRS.false h.clip h.count
-    c.look_at-look.ensures refl (c.put_line.ensures ∙ rw (c.standing.ensures, c.is_hiding.ensures)) (rw c.if-look.false)
+    c.look_at-look.ensures refl (c.put_line.ensures ∙ rw (c.standing_of.ensures, c.is_hiding.ensures)) (rw c.if-look.false)

@@ -30,7 +30,7 @@ returns-then-is_in_row-clause-told c =
     let left = ids-left c.is_out_of_ids.ensures c.if-is_out_of_ids.false in
     λ f ls fd fm h.
     filter-done _ _ _ _ f _ _ h.clip fd fm c.filter_box-bbox.ensures c.draws_nothing.ensures c.if-draws_nothing.false left c.if-tale-ge-MOST_ATTRS.false
-    c.if-tale-ge-MOST_FILTERS.false h.count c.is_met-covered.ensures c.is_met-kept.ensures refl (c.put_line.ensures ∙ rw c.standing.ensures)
+    c.if-tale-ge-MOST_FILTERS.false h.count c.is_met-covered.ensures c.is_met-kept.ensures refl (c.put_line.ensures ∙ rw c.standing_of.ensures)
     c.is_in_row.ensures (rw c.if-is_in_row.true)
 
 pub returns-else-is_in_row-clause-told : goal.returns-else-is_in_row-clause-told
@@ -38,5 +38,5 @@ returns-else-is_in_row-clause-told c =
     let left = ids-left c.is_out_of_ids.ensures c.if-is_out_of_ids.false in
     λ f ls fd fm h.
     filter-done _ _ _ _ f _ _ h.clip fd fm c.filter_box-bbox.ensures c.draws_nothing.ensures c.if-draws_nothing.false left c.if-tale-ge-MOST_ATTRS.false
-    c.if-tale-ge-MOST_FILTERS.false h.count c.is_met-covered.ensures c.is_met-kept.ensures refl (c.put_line.ensures ∙ rw c.standing.ensures)
+    c.if-tale-ge-MOST_FILTERS.false h.count c.is_met-covered.ensures c.is_met-kept.ensures refl (c.put_line.ensures ∙ rw c.standing_of.ensures)
     c.is_in_row.ensures (rw c.if-is_in_row.false)

@@ -17,4 +17,4 @@ returns-clause-told c =
     let left = ids-left c.is_out_of_ids.ensures c.if-is_out_of_ids.false in
     λ l ls lo lp lb h.
     pop-done _ _ _ _ _ _ _ _ left c.if-tale-ge-MOST_ATTRS.false h.clip h.count lo lp lb
-    c.closing_look-look.ensures refl refl c.requires.3 (c.put_line.ensures ∙ rw c.standing.ensures) c.min-tale.ensures
+    c.closing_look-look.ensures refl refl c.requires.inner (c.put_line.ensures ∙ rw c.standing_of.ensures) c.min-tale.ensures

@@ -11,13 +11,13 @@ returns-then-within-ge-MOST_LAYERS-clause-told c = λ p ls ws b q h. push-deep _
 pub touches-requires : goal.touches-requires
 touches-requires c =
     let s = c.args in
-    small_by c.layer_box-bbox.ensures (layer-small (box_of s.spot.viewport) (box_of s.within.clip) (clip-of s.props.clip) c.requires.1.small c.requires.3)
+    small_by c.layer_box-bbox.ensures (layer-small (box_of s.spot.viewport) (box_of s.within.clip) (clip-of s.props.clip) c.requires.within.small c.requires.clip)
 
 pub returns-then-touches-clause-opens : goal.returns-then-touches-clause-opens
 returns-then-touches-clause-opens c =
     let s = c.args in (
       record {
-        small = small_by c.layer_box-bbox.ensures (layer-small (box_of s.spot.viewport) (box_of s.within.clip) (clip-of s.props.clip) c.requires.1.small c.requires.3);
+        small = small_by c.layer_box-bbox.ensures (layer-small (box_of s.spot.viewport) (box_of s.within.clip) (clip-of s.props.clip) c.requires.within.small c.requires.clip);
         few = omega arith;
       },
       refl,
@@ -32,7 +32,7 @@ pub returns-else-touches-clause-opens : goal.returns-else-touches-clause-opens
 returns-else-touches-clause-opens c =
     let s = c.args in (
       record {
-        small = small_by c.layer_box-bbox.ensures (layer-small (box_of s.spot.viewport) (box_of s.within.clip) (clip-of s.props.clip) c.requires.1.small c.requires.3);
+        small = small_by c.layer_box-bbox.ensures (layer-small (box_of s.spot.viewport) (box_of s.within.clip) (clip-of s.props.clip) c.requires.within.small c.requires.clip);
         few = omega arith;
       },
       refl,

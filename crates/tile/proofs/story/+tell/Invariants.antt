@@ -3,6 +3,7 @@
 use Rattle.std.proofs.Common.{◌+◌, ◌*◌, List}
 use Rattle.rules.specs.Plans.{Layer}
 use Rattle.rect.specs.Rects.{box_of}
+use Rattle.file.specs.Held.{held}
 use Rattle.tile.specs.Places.{Low, telling}
 use Rattle.tile.proofs.Said.{Left}
 use Rattle.tile.proofs.Nodes.{nodes}
@@ -17,5 +18,5 @@ decreases-tell_nodes l = 2 * l.depth + 1
 abbrev pub invariant-tell_nodes-loop-i : goal.invariant-tell_nodes-loop-i
 invariant-tell_nodes-loop-i l =
     Low l.tale
-    × Left (nodes l.spot l.file.layout l.file.words.now l.depth l.b) (box_of l.spot.viewport) l.within
+    × Left (nodes l.teller.spot (held l.teller.file) l.depth l.b) (box_of l.teller.spot.viewport) l.within
     l.a (λ (ls : List Layer). telling l.initial.tale ls l.initial.lines) l.i (λ (ls : List Layer). telling l.tale ls l.lines)

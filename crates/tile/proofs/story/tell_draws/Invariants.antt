@@ -2,6 +2,7 @@
 use Rattle.std.proofs.Common.{List}
 use Rattle.rules.specs.Plans.{Layer}
 use Rattle.rect.specs.Rects.{box_of}
+use Rattle.file.specs.Held.{held}
 use Rattle.tile.specs.Places.{Low, telling}
 use Rattle.tile.proofs.Said.{Left}
 use Rattle.tile.proofs.Nodes.{draws}
@@ -10,5 +11,5 @@ use Rattle.tile.proofs.story.tell_draws.Given as goal
 abbrev pub invariant-loop-i : goal.invariant-loop-i
 invariant-loop-i l =
     Low l.tale
-    × Left (draws l.spot l.file.layout l.file.words.now l.b) (box_of l.spot.viewport) l.within
+    × Left (draws l.teller.spot (held l.teller.file) l.b) (box_of l.teller.spot.viewport) l.within
     l.a (λ (ls : List Layer). telling l.initial.tale ls l.initial.lines) l.i (λ (ls : List Layer). telling l.tale ls l.lines)

@@ -2,6 +2,7 @@
 -- refused, and those that are left say what all of them say.
 use Rattle.std.proofs.Common.{◌+◌, ◌*◌, ◌≡◌}
 use Rattle.screen.specs.Lent.{whole, SameLent}
+use Rattle.file.specs.Held.{held}
 use Rattle.walk.proofs.NodeRuns.{nodes}
 use Rattle.walk.proofs.nodes.+walk.Given as goal
 
@@ -14,5 +15,5 @@ decreases-walk_nodes l = 2 * l.depth + 1
 abbrev pub invariant-walk_nodes-loop-i : goal.invariant-walk_nodes-loop-i
 invariant-walk_nodes-loop-i l =
     SameLent l.initial.lent l.lent
-    × (nodes l.file.layout l.file.words.now l.depth l.i l.b (whole l.screen l.lent)
-    ≡ nodes l.file.layout l.file.words.now l.depth l.a l.b (whole l.initial.screen l.initial.lent))
+    × (nodes (held l.file) l.depth l.i l.b (whole l.screen l.lent)
+    ≡ nodes (held l.file) l.depth l.a l.b (whole l.initial.screen l.initial.lent))

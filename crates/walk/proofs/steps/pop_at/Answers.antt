@@ -1,6 +1,6 @@
 use Rattle.std.proofs.Common.{rules, ◌∙◌}
 use Rattle.screen.specs.Lent.{whole}
-use Rattle.walk.specs.Recordings.{recorded_in}
+use Rattle.file.specs.Held.{held}
 use Rattle.walk.proofs.Calls.{pop_step}
 use Rattle.walk.proofs.Lists.{same_popped}
 use Rattle.walk.proofs.steps.pop_at.Goals as goal
@@ -8,6 +8,6 @@ use Rattle.walk.proofs.steps.pop_at.Goals as goal
 pub returns-clause-popped : goal.returns-clause-popped
 returns-clause-popped c =
     let e =
-    pop_step (whole c.args.screen.now c.args.lent.now) _ (recorded_in c.args.file.now).segments _ _
-    (c.pop_layer.ensures.popped ∙ same_popped _ _ c.requires _ _ c.records.ensures) in
+    pop_step (whole c.args.screen.now c.args.lent.now) _ (held c.args.file.now).segments _ _
+    (c.pop_layer.ensures.popped ∙ same_popped (held c.args.file.now) _ _ _ c.segments.ensures.read c.segments.ensures.long) in
     search (rules, e)

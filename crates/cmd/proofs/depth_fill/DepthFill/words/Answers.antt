@@ -3,4 +3,4 @@ use Rattle.cmd.proofs.depth_fill.DepthFill.words.Goals as goal
 
 pub returns : goal.returns
 unfolding depth-words
-returns c = rw c.span_word.ensures
+returns c = rw c.of.ensures

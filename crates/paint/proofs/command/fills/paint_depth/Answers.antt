@@ -10,9 +10,10 @@ returns-in_err-n c =
     c.requires.first_bound.3 _ c.in_err-n.ensures)
 
 pub spread-requires : goal.spread-requires
-spread-requires c = rw c.tiles.ensures (depth_ready c.args.width c.args.depth.now c.args.painting.now c.args.list.now _ _ _
-    c.args.fill.attrs_idx c.args.mark.panel c.args.fill.buckets c.requires.first_bound.0 c.requires.first_bound.1 c.requires.first_bound.3 _
-    c.in_ok-n.ensures c.requires.first_bound.2)
+spread-requires c =
+    let o = depth_ready c.args.width c.args.depth.now c.args.painting.now c.args.list.now _ _ _ c.args.fill.attrs_idx c.args.mark.panel c.args.fill.buckets
+    c.requires.first_bound.0 c.requires.first_bound.1 c.requires.first_bound.3 _ c.in_ok-n.ensures c.requires.first_bound.2 in
+    record { room = o.0; runs = rw c.tiles.ensures o.1 }
 
 pub returns : goal.returns
 returns c = depth_done c.args.width _ c.args.painting.now c.args.list.now _ _ _ _ c.args.mark.panel c.args.fill.buckets

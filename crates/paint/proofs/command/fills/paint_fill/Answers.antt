@@ -11,9 +11,11 @@ returns-in_err-n c =
     c.requires.first_bound.0 c.requires.first_bound.1 _ (rw c.summary_of-sum.ensures at c.in_err-n.ensures))
 
 pub spread-requires : goal.spread-requires
-spread-requires c = fill_ready c.args.row.now.width c.args.depth.now c.args.painting.now c.args.list.now _ (summary-at c.args.row.now.state.now) c.args.layer _
+spread-requires c =
+    let o = fill_ready c.args.row.now.width c.args.depth.now c.args.painting.now c.args.list.now _ (summary-at c.args.row.now.state.now) c.args.layer _
     c.args.fill.attrs_idx c.args.mark.panel c.args.fill.span c.args.fill.alpha c.requires.first_bound.0 c.requires.first_bound.1 _
-    (rw c.summary_of-sum.ensures at c.in_ok-n.ensures) c.requires.first_bound.2
+    (rw c.summary_of-sum.ensures at c.in_ok-n.ensures) c.requires.first_bound.2 in
+    record { room = o.0; runs = o.1 }
 
 pub returns : goal.returns
 returns c = fill_done c.args.row.now.width _ c.args.painting.now c.args.list.now _ (summary-at c.args.row.now.state.now) _ _ _ c.args.mark.panel c.args.fill.span

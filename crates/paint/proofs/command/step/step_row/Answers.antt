@@ -14,7 +14,7 @@ returns-then-is_forged c = row_forged _ (attrs_of c.args.row.now.attrs) _ _ _ _ 
 pub step_depth-requires-clause-k_in_bounds : goal.step_depth-requires-clause-k_in_bounds
 step_depth-requires-clause-k_in_bounds c =
     let k = counts c.args.row.now.state.now c.args.row.now.render.now c.args.row.now.fills.now c.args.painting.now (sym c.is_forged.ensures ∙ c.if-is_forged.false) in
-    (omega (arith, k.depths, c.if-steps-depths.true), c.requires.0)
+    omega (arith, k.depths, c.if-steps-depths.true)
 
 pub returns-then-steps-depths : goal.returns-then-steps-depths
 returns-then-steps-depths c =
@@ -24,18 +24,22 @@ pub returns-in_err-cmd : goal.returns-in_err-cmd
 returns-in_err-cmd c =
     let p = err_from_is_err_and c.from_residual.result c.from_residual.ensures.1 in
     let n = ok_none _ _ _ c.in_err-cmd.ensures.value in
-    rw (p.1, p.2, n.1) (then_unread _ (attrs_of c.args.row.now.attrs) _ _ _ _ _ _ (sym c.is_forged.ensures ∙ c.if-is_forged.false) c.if-steps-depths.false c.if-k-renders.true _ c.read_command.ensures n.0)
+    rw (p.1, p.2, n.1) (then_unread _ (attrs_of c.args.row.now.attrs) _ _ _ _ _ _ (sym c.is_forged.ensures ∙ c.if-is_forged.false) c.if-steps-depths.false c.if-k-renders.true _ (rw c.at-words.ensures at c.read.ensures) n.0)
 
-pub step_command-requires : goal.step_command-requires
-step_command-requires c =
+pub step_command-requires-clause-good : goal.step_command-requires-clause-good
+step_command-requires-clause-good c =
+    command_good c.args.row.now.render.now (word c.args.painting.now 0 - word c.args.row.now.state.now 1) _ _ (rw c.at-words.ensures at c.read.ensures) (ok_some _ _ _ c.in_ok-cmd.ensures.value)
+
+pub step_command-requires-clause-painting : goal.step_command-requires-clause-painting
+step_command-requires-clause-painting c =
     let k = counts c.args.row.now.state.now c.args.row.now.render.now c.args.row.now.fills.now c.args.painting.now (sym c.is_forged.ensures ∙ c.if-is_forged.false) in
-    (command_good c.args.row.now.render.now (word c.args.painting.now 0 - word c.args.row.now.state.now 1) _ _ c.read_command.ensures (ok_some _ _ _ c.in_ok-cmd.ensures.value), c.requires.0, c.requires.1, omega (arith, k.renders, k.depths, k.steps))
+    (c.requires.painting_len, omega (arith, k.renders, k.depths, k.steps))
 
 pub returns-then-k-renders : goal.returns-then-k-renders
 returns-then-k-renders c =
-    then_command _ (attrs_of c.args.row.now.attrs) _ _ _ _ _ _ (sym c.is_forged.ensures ∙ c.if-is_forged.false) c.if-steps-depths.false c.if-k-renders.true _ c.read_command.ensures _ _
+    then_command _ (attrs_of c.args.row.now.attrs) _ _ _ _ _ _ (sym c.is_forged.ensures ∙ c.if-is_forged.false) c.if-steps-depths.false c.if-k-renders.true _ (rw c.at-words.ensures at c.read.ensures) _ _
     (ok_some _ _ _ c.in_ok-cmd.ensures.value) c.step_command.ensures
 
 pub returns : goal.returns
 returns c =
-    then_finished _ (attrs_of c.args.row.now.attrs) _ _ _ _ _ _ (sym c.is_forged.ensures ∙ c.if-is_forged.false) c.if-steps-depths.false c.if-k-renders.false c.requires.1
+    then_finished _ (attrs_of c.args.row.now.attrs) _ _ _ _ _ _ (sym c.is_forged.ensures ∙ c.if-is_forged.false) c.if-steps-depths.false c.if-k-renders.false c.requires.painting_len

@@ -12,4 +12,4 @@ invariant-loop-run l = record {
 }
 
 abbrev pub decreases-loop-run : goal.decreases-loop-run
-decreases-loop-run l = high-met (bucket-tiles l.cut.width) l.cut.words.span - l.from
+decreases-loop-run l = high-met (bucket-tiles l.cut.width) l.cut.words.span.0 - l.from

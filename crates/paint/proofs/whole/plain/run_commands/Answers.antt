@@ -1,47 +1,43 @@
-use Rattle.std.proofs.Common.{◌≡◌, refl, ◌∙◌, Bool, true, false, cond, ◌+◌, ◌*◌, ◌≤◌, ◌<◌, arith, length, eqb}
+use Rattle.std.proofs.Common.{◌∙◌, ◌+◌, ◌*◌, ◌≤◌, ◌<◌, arith, length}
 use Rattle.sizes.specs.Sizes.{piece-size}
 use Rattle.sizes.specs.Widths.{bucket-tiles}
 use Rattle.depth.proofs.Searching.{runs-few}
 use Rattle.paint.specs.Kinds.{runs-met}
 use Rattle.paint.specs.Rows.{SaysAt}
 use Rattle.paint.specs.declared.whole.reading.Look.TheVariants as look
-use Rattle.paint.proofs.Along.{reach-both, on-partly}
+use Rattle.paint.proofs.Along.{reach-both, on_given}
+use Rattle.paint.proofs.Putting.{length_runs}
 use Rattle.paint.proofs.whole.plain.run_commands.Goals as goal
 use Rattle.paint.proofs.whole.plain.run_commands.Goals.{Else-left-most_runs}
-
-seen-is : (b : Bool) → eqb (cond b 5 6) 5 ≡ b
-seen-is true = refl
-seen-is false = refl
-
-partly-is : (b : Bool) → 4 < cond b 5 6
-partly-is true = omega arith
-partly-is false = omega arith
 
 -- the list has room for the pieces of a fill that is shown in part
 room : (c : Else-left-most_runs)
     → let p = c.run_sure-reached.new.pieces in
-    piece-size * (p.count + length (runs-met (bucket-tiles c.args.row.now.width) c.args.depth.now c.in-Some.part.mark.id c.words_at-words.result.span)) ≤ length p.list.now
+    piece-size * (p.count + length (runs-met (bucket-tiles c.args.row.now.width) c.args.depth.now c.in-Some.part.mark.id c.at-words.result.span.0)) ≤ length p.list.now
 room c = omega (arith, runs-few, c.most_runs.ensures, c.left.ensures, c.if-left-most_runs.false)
 
 ahead : (c : Else-left-most_runs) → (c.run_sure-reached.result.at < c.args.stop)
     × SaysAt c.args.row.now c.args.depth.now c.run_sure-reached.result.nesting c.run_sure-reached.result.at (look.Partly c.in-Some.part)
 ahead c = (rw c.in-Some.is at c.run_sure-reached.ensures.at_lt_stop)
 
-pub put_fill-requires : goal.put_fill-requires
-put_fill-requires c =
-    let at = (goal.at.put_fill-requires c).Else-left-most_runs in
-    let part = (ahead at).1.partly (partly-is _) in
-    (rw c.words_at-words.ensures (rw seen-is at part.looked), rw c.words_at-words.ensures part.good, room at)
+pub put_fill-requires-clause-looked : goal.put_fill-requires-clause-looked
+put_fill-requires-clause-looked c = rw c.at-words.ensures (ahead (goal.at.put_fill-requires-clause-looked c).Else-left-most_runs).1.looked
+
+pub put_fill-requires-clause-good : goal.put_fill-requires-clause-good
+put_fill-requires-clause-good c = rw c.at-words.ensures (ahead (goal.at.put_fill-requires-clause-good c).Else-left-most_runs).1.good
+
+pub put_fill-requires-clause-room : goal.put_fill-requires-clause-room
+put_fill-requires-clause-room c = room (goal.at.put_fill-requires-clause-room c).Else-left-most_runs
 
 pub loop-part-preserved : goal.loop-part-preserved
 loop-part-preserved c =
     let at = (goal.at.loop-part-preserved c).Else-left-most_runs in
     let sure = c.run_sure-reached.ensures in
-    let words = c.words_at-words.ensures in
+    let words = c.at-words.ensures in
     let all = reach-both _ _ _ _ _ _ c.loop-part.invariant.reaches sure.reaches in
     record {
-      reaches = rw c.put_fill.ensures.count (rw words (on-partly _ _ _ _ _ _ c.requires.calm _ _ _ _ _ all (omega (arith, (ahead at).0)) _ _ _ _ (ahead at).1
-          (rw words at (room at)) (partly-is _) _ (rw words at c.put_fill.ensures.list)));
+      reaches = rw c.put_fill.ensures.count (rw words (on_given _ _ _ _ _ _ c.requires.calm _ _ _ _ _ all (omega (arith, (ahead at).0)) _ _ _ (ahead at).1.gives
+          (length_runs _ _ _ _ _) all.shallow (rw words at (room at)) _ (rw words at c.put_fill.ensures.list)));
       at_le_stop = omega (arith, (ahead at).0);
       same = c.put_fill.ensures.same ∙ sure.same ∙ c.loop-part.invariant.same;
     }

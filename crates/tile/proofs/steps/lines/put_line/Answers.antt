@@ -5,4 +5,4 @@ use Rattle.tile.proofs.Wording.{line-stored}
 use Rattle.tile.proofs.steps.lines.put_line.Goals as goal
 
 pub returns : goal.returns
-returns c = line-stored (line_of c.args.line) _ _ _ (search rules) c.index_of-flag.ensures c.args.lines.now _ (omega arith)
+returns c = rw c.word.ensures (line-stored (line_of c.args.line) _ _ _ (search rules) c.index_of-flag.ensures c.args.lines.now _ (omega arith))

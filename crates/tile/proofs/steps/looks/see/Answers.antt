@@ -9,20 +9,19 @@ use Rattle.tile.proofs.Looking.{index-good, seen-away, seen-left}
 use Rattle.tile.proofs.steps.looks.see.Goals as goal
 
 pub place-requires : goal.place-requires
-place-requires c = (c.requires.1, scene-starts c.requires.2)
+place-requires c = (c.requires.segment, scene-starts c.requires.scene)
 
 pub notice-requires : goal.notice-requires
 notice-requires c =
     let s = c.args in
-    let left = landed (origin s.scene) (bounds s.scene) (segment-of s.segment) _ c.requires.1 (scene-starts c.requires.2) c.in-Some.ensures in
-    (c.requires.0, index-good (tiles c.in-Some.placed.stretch.tiles) c.in-Some.placed.stretch.alpha left.index)
+    let left = landed (origin s.scene) (bounds s.scene) (segment-of s.segment) _ c.requires.segment (scene-starts c.requires.scene) c.in-Some.ensures in record { spot = c.requires.spot; stretch = index-good (tiles c.in-Some.placed.stretch.tiles) c.in-Some.placed.stretch.alpha left.index }
 
 pub returns-in-None : goal.returns-in-None
 returns-in-None c =
     let s = c.args in
     seen-away s.spot.width (box_of s.spot.viewport) s.spot.row s.spot.tile (box_of s.clip) (look-of s.look) _
     (segment-of s.segment) c.if-segment-spot.false c.cover-next.ensures
-    (c.in-None.ensures ∙ cut-in-scene c.requires.2 (segment-of s.segment))
+    (c.in-None.ensures ∙ cut-in-scene c.requires.scene (segment-of s.segment))
 
 pub returns-in-Some : goal.returns-in-Some
 returns-in-Some c =
@@ -30,4 +29,4 @@ returns-in-Some c =
     c.notice.ensures
     ∙ seen-left s.spot.width (box_of s.spot.viewport) s.spot.row s.spot.tile (box_of s.clip) (look-of s.look) _
     (segment-of s.segment) c.if-segment-spot.false c.cover-next.ensures _
-    (c.in-Some.ensures ∙ cut-in-scene c.requires.2 (segment-of s.segment))
+    (c.in-Some.ensures ∙ cut-in-scene c.requires.scene (segment-of s.segment))

@@ -1,8 +1,0 @@
-use Rattle.pop.proofs.Opening.{parent-none, parent-some}
-use Rattle.pop.proofs.parent_box.Goals as goal
-
-pub returns-then-open-eq1 : goal.returns-then-open-eq1
-returns-then-open-eq1 c = parent-none _ _ _ c.if-open-eq1.true _ c.whole.ensures
-
-pub returns : goal.returns
-returns c = parent-some _ _ _ c.if-open-eq1.false c.requires.0 _ c.box_at.ensures

@@ -1,0 +1,187 @@
+//! The tests of a pop, in the order of its refusals: what is lent, the innermost layer, the rows of its box and its clip's segments, ids and attributes.
+//! Parts of `pop_layer`: where one asks something, its callers have judged it.
+ghost use Rattle.std.specs.Prelude.{◌≡◌, ◌&&◌, ◌-◌, ◌*◌, ◌≤◌, length, IfOk};
+ghost use Rattle.sizes.specs.Sizes.{most-layers, open-layer-table};
+ghost use Rattle.rules.specs.Plans.{clip-box};
+ghost use Rattle.rect.specs.Rects.{box_of};
+ghost use Rattle.screen.specs.Judging.{judged};
+ghost use Rattle.segments.specs.Segs.{origin, bounds, Starts};
+ghost use Rattle.sizes.specs.Refusals.{answer_number};
+ghost use Rattle.screen.specs.Layers.{good_layer, good_own_box};
+ghost use Rattle.pop.specs.Pop.{layers-in, good_lengths, number, Closes};
+ghost use Rattle.pop.specs.Named.{WholeRows, InScreen, plain_number, clip_number, open_number, lent_of};
+
+use crate::rows::{ClipPath, is_full_clip, judge_pop_rows};
+use rect::Rect;
+use row::Rows;
+use screen::layers::{Layers, OpenLayer, is_good_own_box};
+use screen::{Screen, judge_screen};
+use segments::{judge_segments, scene_of};
+use sizes::answers::Refusal;
+use sizes::{LAST_ID, LAYER_TABLE, MOST_ATTRS, OPACITIES, OPEN_TABLE, SEGMENT};
+use std::ops::Range;
+
+/// How the innermost layer closes: the layer, its parent's box, its box's rows, and its clip's segments where it has a clip.
+#[derive(Drop)]
+pub struct Closing {
+    pub layer: OpenLayer,
+    pub parent: Rect,
+    pub band: Range<usize>,
+    pub clip: Option<ClipPath>,
+}
+
+// The box of the innermost layer's parent.
+fn parent_box(viewport: Rect, layers: &Layers<'_>, open: u32) -> Rect
+    requires some { 1 ≤ «open» }
+    requires deep { «open» ≤ most-layers }
+    requires table { length layers.now.table.now ≡ open-layer-table }
+    ensures { box_of result ≡ clip-box (box_of viewport) (layers-in layers.now.table.now («open» - 1)) }
+{
+    if open == 1 {
+        return viewport.whole();
+    }
+    layers.box_at(open - 2)
+}
+
+// How many words are lent beside the screen's (answer 4).
+#[tactic(auto, unfolding(crate::specs::Pop::good_lengths))]
+fn is_good_lengths(layers: usize, opacities: usize, attrs: usize, list: usize) -> bool
+    ensures { result ≡ good_lengths layers opacities attrs list }
+{
+    layers == OPEN_TABLE && opacities == OPACITIES && attrs == LAYER_TABLE && list % SEGMENT == 0
+}
+
+// The layer, its own box, its parent's box (answer 4).
+fn is_good_open(viewport: Rect, layer: OpenLayer, parent: Rect) -> bool
+    ensures { result ≡ (good_layer layer && good_own_box (box_of viewport) (box_of layer.bbox) && good_own_box (box_of viewport) (box_of parent)) }
+{
+    layer.is_good() && is_good_own_box(viewport, layer.bbox) && is_good_own_box(viewport, parent)
+}
+
+// Without a clip: BadRecord for the rows of the band, then Ids, FullAttrs and FullRow.
+// Out of line: within `pop_layer` it takes registers from the loops over a clip's segments.
+#[inline(never)]
+fn judge_plain(screen: Screen, rows: &Rows<'_>, band: &Range<usize>) -> Result<(), Refusal>
+    requires whole { WholeRows screen rows.now }
+    requires band { InScreen screen band.now }
+    requires some { 1 ≤ screen.layers }
+    requires deep { screen.layers ≤ most-layers }
+    ensures { answer_number result ≡ plain_number screen band.now rows.now }
+{
+    let fault = judge_pop_rows(screen, rows, band, 1)?;
+    if LAST_ID < screen.next_draw_id {
+        return Err(Refusal::Ids);
+    }
+    if MOST_ATTRS <= screen.layer_attrs {
+        return Err(Refusal::FullAttrs);
+    }
+    fault.answer()
+}
+
+// With a clip: BadRecord for the rows of the band or a segment, BadOrder for their order, then Ids, FullAttrs and FullRow.
+fn judge_clip(
+    screen: Screen,
+    rows: &Rows<'_>,
+    list: &[u32],
+    clip: ClipPath,
+    band: &Range<usize>,
+) -> Result<(), Refusal>
+    requires whole { WholeRows screen rows.now }
+    requires band { InScreen screen band.now }
+    requires some { 1 ≤ screen.layers }
+    requires deep { screen.layers ≤ most-layers }
+    requires ordered { clip.start ≤ clip.«end» }
+    requires listed { 5 * clip.«end» ≤ length list.now }
+    requires starts { Starts (origin clip.scene) (bounds clip.scene) }
+    ensures { answer_number result ≡ clip_number screen band.now rows.now clip list.now }
+{
+    let fault = judge_pop_rows(screen, rows, band, 0)?;
+    judge_segments(list, clip.start, clip.end)?;
+    if LAST_ID < screen.next_draw_id {
+        return Err(Refusal::Ids);
+    }
+    if MOST_ATTRS <= screen.layer_attrs {
+        return Err(Refusal::FullAttrs);
+    }
+    fault.answer()?;
+    if is_full_clip(screen, rows, list, clip, band) {
+        return Err(Refusal::FullRow);
+    }
+    Ok(())
+}
+
+// With a layer open: BadRecord for it, then what its rows and its list say. It gives how the layer closes.
+fn judge_open(
+    screen: Screen,
+    rows: &Rows<'_>,
+    layers: &Layers<'_>,
+    list: &[u32],
+) -> Result<Closing, Refusal>
+    requires screen { judged screen (length rows.now.state.now) (length rows.now.render.now) (length rows.now.fills.now) ≡ 0 }
+    requires table { length layers.now.table.now ≡ open-layer-table }
+    requires some { 1 ≤ screen.layers }
+    ensures closing { IfOk result (Closes screen layers.now.table.now) }
+    ensures number { answer_number result ≡ open_number screen rows.now layers.now.table.now list.now }
+{
+    let layer = layers.open_at(screen.layers - 1);
+    let parent = parent_box(screen.viewport, layers, screen.layers);
+    if !is_good_open(screen.viewport, layer, parent) {
+        return Err(Refusal::BadRecord);
+    }
+    let band = layer.bbox.rows();
+    if layer.flag == 0 {
+        judge_plain(screen, rows, &band)?;
+        return Ok(Closing {
+            layer,
+            parent,
+            band,
+            clip: None,
+        });
+    }
+    if list.len() / SEGMENT < layer.end as usize {
+        return Err(Refusal::BadRecord);
+    }
+    let clip = ClipPath {
+        start: layer.start as usize,
+        end: layer.end as usize,
+        scene: scene_of(screen.viewport, parent),
+    };
+    judge_clip(screen, rows, list, clip, &band)?;
+    Ok(Closing {
+        layer,
+        parent,
+        band,
+        clip: Some(clip),
+    })
+}
+
+/// A pop, before anything is done: BadViewport, BadArena, BadRecord for the lengths, NoLayer with none open, and then as above.
+pub fn judge_pop(
+    screen: Screen,
+    rows: &Rows<'_>,
+    layers: &Layers<'_>,
+    layer_attrs: &[u32],
+    list: &[u32],
+) -> Result<Closing, Refusal>
+    ensures closing { IfOk result (Closes screen layers.now.table.now) }
+    ensures number { answer_number result ≡ number screen (lent_of rows.now layers.now layer_attrs.now) list.now }
+{
+    judge_screen(
+        screen,
+        rows.state.len(),
+        rows.render.len(),
+        rows.fills.len(),
+    )?;
+    if !is_good_lengths(
+        layers.table.len(),
+        layers.opacities.len(),
+        layer_attrs.len(),
+        list.len(),
+    ) {
+        return Err(Refusal::BadRecord);
+    }
+    if screen.layers == 0 {
+        return Err(Refusal::NoLayer);
+    }
+    judge_open(screen, rows, layers, list)
+}

@@ -106,7 +106,7 @@ struct Shown<'a> {
 
 // The texts of the rows from row r to row n, one after the other, on a screen whose painting has begun.
 fn rows_text(
-    shown: Shown<'_>,
+    shown: &Shown<'_>,
     r: u32,
     n: u32,
     canvas: &mut Canvas<'_>,
@@ -114,7 +114,7 @@ fn rows_text(
     out: &mut [u8],
 ) -> usize
     ensures out_after { part_in result canvas.new list.new out.new
-        ≡ rows-dumped shown.panels (n - r) r shown.screen (row_attrs shown.stored.now) (row_lent shown.stored.now canvas.old list.old) out.old }
+        ≡ rows-dumped shown.now.panels (n - r) r shown.now.screen (row_attrs shown.now.stored.now) (row_lent shown.now.stored.now canvas.old list.old) out.old }
     ensures upper_bound { result ≤ length out.old }
 {
     if n <= r {
@@ -147,7 +147,7 @@ fn begun_text(
         stored,
         panels,
     };
-    rows_text(shown, 0, n, canvas, list, out)
+    rows_text(&shown, 0, n, canvas, list, out)
 }
 
 // The attributes of the screen in the tables.

@@ -12,8 +12,8 @@ use crate::results::{put_runs, put_skip, put_split, put_step};
 use crate::state::{leave, put_screen, screen_of};
 use depth::split_opaque_span;
 use paint::{
-    Canvas, Stored, begin_painting, can_skip, paint_row, paint_step, unset_runs, unset_runs_and_write,
-    visible_runs,
+    Canvas, Stored, begin_painting, can_skip, paint_row, paint_step, unset_runs,
+    unset_runs_and_write, visible_runs,
 };
 use sizes::answers::Refusal;
 use sizes::width::Width;

@@ -3,8 +3,8 @@ use crate::answers::{Answers, MARK};
 use crate::call::Painting;
 use crate::tables::{Shape, Table, Tables, first};
 use paint::{
-    Canvas, Stepped, Stored, begin_painting, can_skip, paint_step, unset_runs, unset_runs_and_write,
-    visible_runs,
+    Canvas, Stepped, Stored, begin_painting, can_skip, paint_step, unset_runs,
+    unset_runs_and_write, visible_runs,
 };
 use screen::{Lent, Screen};
 use sizes::answers::{Refusal, answer_number};

@@ -120,7 +120,16 @@ fn rows_text(
     if n <= r {
         return 0;
     }
-    let k = row_text(shown.screen, r, shown.panels, shown.stored, canvas, list, out).unwrap_or(0);
+    let k = row_text(
+        shown.screen,
+        r,
+        shown.panels,
+        shown.stored,
+        canvas,
+        list,
+        out,
+    )
+    .unwrap_or(0);
     let more = rows_text(shown, r + 1, n, canvas, list, &mut out[k..]);
     k + more
 }

@@ -85,8 +85,24 @@ pub fn row_text_twice(
         → (result.0 ≡ result.1) × (row-text-words a.new ≡ row-text-words b.new) }
 {
     (
-        row_text(screen, row, panels, &a.stored, &mut a.canvas, a.list, a.bytes),
-        row_text(screen, row, panels, &b.stored, &mut b.canvas, b.list, b.bytes),
+        row_text(
+            screen,
+            row,
+            panels,
+            &a.stored,
+            &mut a.canvas,
+            a.list,
+            a.bytes,
+        ),
+        row_text(
+            screen,
+            row,
+            panels,
+            &b.stored,
+            &mut b.canvas,
+            b.list,
+            b.bytes,
+        ),
     )
 }
 

@@ -5,7 +5,7 @@ use Rattle.rules.specs.Attributes.{Attrs}
 use Rattle.cmd.specs.Attrs.{words-at}
 use Rattle.cmd.proofs.Tables.{length_at}
 use Rattle.paint.specs.Summaries.{summary-at}
-use Rattle.paint.specs.Painting.{word, StepOut, next-step, painted-row}
+use Rattle.paint.specs.Painting.{CanvasWords, held, word, StepOut, next-step, painted-row}
 use Rattle.paint.specs.Running.{one_more, run, own-step}
 use Rattle.cmd.specs.Commands.{cmd_at}
 use Rattle.paint.specs.Kinds.{step-to, Gives, Calm, Place, place, stands, Reaches}
@@ -13,7 +13,7 @@ use Rattle.paint.proofs.WholeRuns.{more}
 use Rattle.paint.proofs.Putting.{words-none}
 
 -- any step
-module _ (step : List ℕ → List ℕ → List ℕ → StepOut) (D : List ℕ) (d : ℕ) where
+module _ (step : CanvasWords → List ℕ → StepOut) (D : List ℕ) (d : ℕ) where
   none_more : (n f k : ℕ) (g : StepOut) → run step f k g ≡ run step (f - (n - n)) (k + (n - n)) g
   none_more n f k g = let e : n - n ≡ 0 = omega arith in let i : f - 0 ≡ f = omega arith in let j : k + 0 ≡ k = omega arith in rw (e, i, j)
 
@@ -51,14 +51,14 @@ module _ (v : ℕ) (a : Attrs) (s re fi D : List ℕ) (c : Calm s re fi) where
   abbrev d : ℕ
   d = word s 1
 
-  abbrev steps : List ℕ → List ℕ → List ℕ → StepOut
+  abbrev steps : CanvasWords → List ℕ → StepOut
   steps = own-step v a s re fi
 
   module _ (at m : ℕ) (h : at < word s 0) (g : m ≤ 16) where
     one-back : d + at - d ≡ at
     one-back = omega arith
 
-    taken : (l : List ℕ) → steps D ((d + at) ∷ m ∷ []) l
+    taken : (l : List ℕ) → steps (held D ((d + at) ∷ m ∷ [])) l
         ≡ step-to v a (summary-at s) D m (cmd_at re at) (d + at) ((d + at) ∷ m ∷ []) l
     unfolding painted-row next-step
     taken l =

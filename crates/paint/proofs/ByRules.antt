@@ -8,7 +8,7 @@ use Rattle.rules.specs.Depth.{Summary}
 use Rattle.rules.specs.Rows.{Row}
 use Rattle.rules.specs.Attributes.{PaintAttr, LayerAttr, Attrs, no-paint, no-layer}
 use Rattle.rules.specs.Painting.{Painter, paint-id, paint-panel, layer-id, layer-panel, no-fill, paint-depth, paint-fill-runs, paint-command, paint-when, paint-step}
-use Rattle.paint.specs.Painting.{word, paint-at, layer-at, attrs-at, RowLent, lent, painter-at, good-command, fill-shown, command-shown, depth-step, command-step, depth-fill-at, command-at, bad-row, next-step, painted-row}
+use Rattle.paint.specs.Painting.{held, word, paint-at, layer-at, attrs-at, RowLent, lent, painter-at, good-command, fill-shown, command-shown, depth-step, command-step, depth-fill-at, command-at, bad-row, next-step, painted-row}
 use Rattle.paint.specs.Summaries.{summary-at, Sound, Included}
 use Rattle.paint.specs.Standing.{Stands, PainterReady, Holds}
 use Rattle.paint.proofs.Skips.{same_runs, sound-after}
@@ -54,7 +54,7 @@ module _ (v : ℕ) (a b : Attrs) (s : Same a b) (p : Painter) where
 pub same_row : (v : ℕ) (a b : Attrs) → Same a b → (w : RowLent) → painted-row v a w ≡ painted-row v b w
 unfolding painted-row next-step
 same_row v a b s w =
-    let p = painter-at w.depth w.painting in
+    let p = painter-at w.canvas in
     rw (same-depth-step v a b s p, same-command-step v a b s p (summary-at w.state))
 
 -- the tables' attributes are such
@@ -117,35 +117,35 @@ by-summary width a u (push-buf t) p o = refl
 by-summary width a u pop-buf p o = refl
 
 -- the words of a row stand for it, the painter is within it, and its summary is sound
-module _ (width : Width) (a : Attrs) (r : Row) (s re fi D P l : List ℕ) (g : Stands a (length D) r s re fi) (q : PainterReady a r (painter-at D P))
+module _ (width : Width) (a : Attrs) (r : Row) (s re fi D P l : List ℕ) (g : Stands a (length D) r s re fi) (q : PainterReady a r (painter-at (held D P)))
     (o : Sound (bucket-tiles width) (summary-at s) D) where
   abbrev v : ℕ
   v = bucket-tiles width
 
-  good : bad-row (lent s re fi D P l) ≡ false
+  good : bad-row (lent s re fi (held D P) l) ≡ false
   good =
       rw (g.renders, g.depths, le-ltb _ _ g.few-renders, le-ltb _ _ g.few-depths, le-ltb _ _ q.shallow, le-ltb _ _ q.steps-left, g.summary)
 
   depth-place : word P 0 < length r.fills
-      → depth-step v a (painter-at D P) (depth-fill-at (length D) fi (length r.fills - (word P 0 + 1)))
-      ≡ Some (paint-depth v a (get_or r.fills (length r.fills - (word P 0 + 1)) no-fill) (painter-at D P))
+      → depth-step v a (painter-at (held D P)) (depth-fill-at (length D) fi (length r.fills - (word P 0 + 1)))
+      ≡ Some (paint-depth v a (get_or r.fills (length r.fills - (word P 0 + 1)) no-fill) (painter-at (held D P)))
   unfolding depth-step
   depth-place h =
       let k : length r.fills - (word P 0 + 1) < length r.fills = omega arith in
       rw (g.fills-at _ k, g.good-fills _ k)
 
   command-place : length r.fills ≤ word P 0 → word P 0 - length r.fills < length r.commands
-      → command-step v a (summary-at s) (painter-at D P) (command-at re (word P 0 - length r.fills))
-      ≡ Some (paint-command v a (get_or r.commands (word P 0 - length r.fills) pop-buf) (painter-at D P))
+      → command-step v a (summary-at s) (painter-at (held D P)) (command-at re (word P 0 - length r.fills))
+      ≡ Some (paint-command v a (get_or r.commands (word P 0 - length r.fills) pop-buf) (painter-at (held D P)))
   unfolding command-step
-  command-place m h = rw (g.commands-at _ h, q.good-next m h, by-summary width a (summary-at s) (get_or r.commands (word P 0 - length r.fills) pop-buf) (painter-at D P) o)
+  command-place m h = rw (g.commands-at _ h, q.good-next m h, by-summary width a (summary-at s) (get_or r.commands (word P 0 - length r.fills) pop-buf) (painter-at (held D P)) o)
 
-  pub next : next-step v a (lent s re fi D P l) ≡ Some (paint-step v a r (painter-at D P))
+  pub next : next-step v a (lent s re fi (held D P) l) ≡ Some (paint-step v a r (painter-at (held D P)))
   unfolding next-step paint-step paint-when
   next = rw (good, g.depths, g.renders) (go (ltb (word P 0) (length r.fills)) (ltb (word P 0 - length r.fills) (length r.commands)) refl refl)
     where
       p : Painter
-      p = painter-at D P
+      p = painter-at (held D P)
 
       go : (t u : Bool) → ltb (word P 0) (length r.fills) ≡ t → ltb (word P 0 - length r.fills) (length r.commands) ≡ u
           → cond t (depth-step v a p (depth-fill-at (length D) fi (length r.fills - (word P 0 + 1))))

@@ -10,7 +10,7 @@ use Rattle.cmd.specs.Reading.{command_of, depth_fill_of}
 use Rattle.rules.specs.Depth.{no-depth, can_skip, bucket-runs, runs-in, runs, visible-runs, write-runs, written}
 use Rattle.rules.specs.Painting.{no-fill, paint-depth, paint-command}
 use Rattle.paint.specs.Answers.{Painted}
-use Rattle.paint.specs.Painting.{paint-with, attrs-at, painter-at, good-paint, command-at, depth-fill-at, lent, StepOut, out, refused, settled, fill-shown, command-shown, depth-step, command-step, next-step, painted-row}
+use Rattle.paint.specs.Painting.{held, paint-with, attrs-at, painter-at, good-paint, command-at, depth-fill-at, lent, StepOut, out, refused, settled, fill-shown, command-shown, depth-step, command-step, next-step, painted-row}
 use Rattle.paint.specs.Summaries.{shown_runs}
 use Rattle.paint.specs.Standing.{Stands, PainterReady}
 
@@ -23,39 +23,39 @@ told n = record { number = 0; finished = false; pieces = n }
 
 -- the rules' worked example, row 0: a depth fill of bucket 1, and tiles 10 to 32 beside it
 row : List ℕ → List ℕ → List ℕ → StepOut
-row d p l = painted-row (bucket-tiles W128) attrs (lent (1 ∷ 1 ∷ []) (1 ∷ 655392 ∷ 0 ∷ 0 ∷ []) (65538 ∷ 0 ∷ []) d p l)
+row d p l = painted-row (bucket-tiles W128) attrs (lent (1 ∷ 1 ∷ []) (1 ∷ 655392 ∷ 0 ∷ 0 ∷ []) (65538 ∷ 0 ∷ []) (held d p) l)
 
 first : row (0 ∷ 0 ∷ []) (0 ∷ 0 ∷ []) (9 ∷ 9 ∷ 9 ∷ 9 ∷ 9 ∷ 9 ∷ 9 ∷ 9 ∷ [])
-    ≡ out (told 1) (0 ∷ 1 ∷ []) (1 ∷ 0 ∷ []) (1 ∷ 0 ∷ 32 ∷ 64 ∷ 0 ∷ 0 ∷ 5 ∷ 9 ∷ [])
+    ≡ out (told 1) (held (0 ∷ 1 ∷ []) (1 ∷ 0 ∷ [])) (1 ∷ 0 ∷ 32 ∷ 64 ∷ 0 ∷ 0 ∷ 5 ∷ 9 ∷ [])
 unfolding attrs row told attrs-at painted-row next-step depth-step command-step settled paint-depth paint-command command-shown fill-shown shown_runs can_skip depth_fill_of command_of written write-runs visible-runs runs runs-in bucket-runs
 first = refl
 
 second : row (0 ∷ 1 ∷ []) (1 ∷ 0 ∷ []) (9 ∷ 9 ∷ 9 ∷ 9 ∷ 9 ∷ 9 ∷ 9 ∷ 9 ∷ [])
-    ≡ out (told 1) (0 ∷ 1 ∷ []) (2 ∷ 0 ∷ []) (1 ∷ 0 ∷ 10 ∷ 32 ∷ 0 ∷ 0 ∷ 5 ∷ 9 ∷ [])
+    ≡ out (told 1) (held (0 ∷ 1 ∷ []) (2 ∷ 0 ∷ [])) (1 ∷ 0 ∷ 10 ∷ 32 ∷ 0 ∷ 0 ∷ 5 ∷ 9 ∷ [])
 unfolding attrs row told attrs-at painted-row next-step depth-step command-step settled paint-depth paint-command command-shown fill-shown shown_runs can_skip depth_fill_of command_of written write-runs visible-runs runs runs-in bucket-runs
 second = refl
 
 -- then it is finished, also without a list
-third : row (0 ∷ 1 ∷ []) (2 ∷ 0 ∷ []) [] ≡ out (record { number = 0; finished = true; pieces = 0 }) (0 ∷ 1 ∷ []) (2 ∷ 0 ∷ []) []
+third : row (0 ∷ 1 ∷ []) (2 ∷ 0 ∷ []) [] ≡ out (record { number = 0; finished = true; pieces = 0 }) (held (0 ∷ 1 ∷ []) (2 ∷ 0 ∷ [])) []
 unfolding attrs row told attrs-at painted-row next-step depth-step command-step settled paint-depth paint-command command-shown fill-shown shown_runs can_skip depth_fill_of command_of written write-runs visible-runs runs runs-in bucket-runs
 third = refl
 
 -- a list that is too short; a nesting and a number of steps that no row has
-short : row (0 ∷ 0 ∷ []) (0 ∷ 0 ∷ []) (9 ∷ 9 ∷ 9 ∷ 9 ∷ 9 ∷ 9 ∷ []) ≡ out (refused 14) (0 ∷ 0 ∷ []) (0 ∷ 0 ∷ []) (9 ∷ 9 ∷ 9 ∷ 9 ∷ 9 ∷ 9 ∷ [])
+short : row (0 ∷ 0 ∷ []) (0 ∷ 0 ∷ []) (9 ∷ 9 ∷ 9 ∷ 9 ∷ 9 ∷ 9 ∷ []) ≡ out (refused 14) (held (0 ∷ 0 ∷ []) (0 ∷ 0 ∷ [])) (9 ∷ 9 ∷ 9 ∷ 9 ∷ 9 ∷ 9 ∷ [])
 unfolding attrs row told attrs-at painted-row next-step depth-step command-step settled paint-depth paint-command command-shown fill-shown shown_runs can_skip depth_fill_of command_of written write-runs visible-runs runs runs-in bucket-runs
 short = refl
 
-deep : row (0 ∷ 0 ∷ []) (0 ∷ 17 ∷ []) [] ≡ out (refused 4) (0 ∷ 0 ∷ []) (0 ∷ 17 ∷ []) []
+deep : row (0 ∷ 0 ∷ []) (0 ∷ 17 ∷ []) [] ≡ out (refused 4) (held (0 ∷ 0 ∷ []) (0 ∷ 17 ∷ [])) []
 unfolding attrs row told attrs-at painted-row next-step depth-step command-step settled paint-depth paint-command command-shown fill-shown shown_runs can_skip depth_fill_of command_of written write-runs visible-runs runs runs-in bucket-runs
 deep = refl
 
-past : row (0 ∷ 0 ∷ []) (3 ∷ 0 ∷ []) [] ≡ out (refused 4) (0 ∷ 0 ∷ []) (3 ∷ 0 ∷ []) []
+past : row (0 ∷ 0 ∷ []) (3 ∷ 0 ∷ []) [] ≡ out (refused 4) (held (0 ∷ 0 ∷ []) (3 ∷ 0 ∷ [])) []
 unfolding attrs row told attrs-at painted-row next-step depth-step command-step settled paint-depth paint-command command-shown fill-shown shown_runs can_skip depth_fill_of command_of written write-runs visible-runs runs runs-in bucket-runs
 past = refl
 
 -- an alpha fill of the layer over tiles 10 to 100, at nesting 2, where bucket 1 holds the larger id 7: its index moves by 16 a tile
-alpha : painted-row (bucket-tiles W128) attrs (lent (1 ∷ 0 ∷ 32 ∷ 64 ∷ 7 ∷ []) (4 ∷ 655460 ∷ 5 ∷ 0 ∷ []) [] (0 ∷ 7 ∷ 0 ∷ 0 ∷ []) (0 ∷ 2 ∷ []) (9 ∷ 9 ∷ 9 ∷ 9 ∷ 9 ∷ 9 ∷ 9 ∷ 9 ∷ 9 ∷ 9 ∷ 9 ∷ 9 ∷ 9 ∷ 9 ∷ []))
-    ≡ out (told 2) (0 ∷ 7 ∷ 0 ∷ 0 ∷ []) (1 ∷ 2 ∷ []) (4 ∷ 0 ∷ 10 ∷ 32 ∷ 5 ∷ 2 ∷ 6 ∷ 4 ∷ 0 ∷ 64 ∷ 100 ∷ 869 ∷ 2 ∷ 6 ∷ [])
+alpha : painted-row (bucket-tiles W128) attrs (lent (1 ∷ 0 ∷ 32 ∷ 64 ∷ 7 ∷ []) (4 ∷ 655460 ∷ 5 ∷ 0 ∷ []) [] (held (0 ∷ 7 ∷ 0 ∷ 0 ∷ []) (0 ∷ 2 ∷ [])) (9 ∷ 9 ∷ 9 ∷ 9 ∷ 9 ∷ 9 ∷ 9 ∷ 9 ∷ 9 ∷ 9 ∷ 9 ∷ 9 ∷ 9 ∷ 9 ∷ []))
+    ≡ out (told 2) (held (0 ∷ 7 ∷ 0 ∷ 0 ∷ []) (1 ∷ 2 ∷ [])) (4 ∷ 0 ∷ 10 ∷ 32 ∷ 5 ∷ 2 ∷ 6 ∷ 4 ∷ 0 ∷ 64 ∷ 100 ∷ 869 ∷ 2 ∷ 6 ∷ [])
 unfolding attrs row told attrs-at painted-row next-step depth-step command-step settled paint-depth paint-command command-shown fill-shown shown_runs can_skip depth_fill_of command_of written write-runs visible-runs runs runs-in bucket-runs
 alpha = refl
 
@@ -63,7 +63,7 @@ alpha = refl
 panelled : ℕ → List ℕ → List ℕ → List ℕ → List ℕ → StepOut
 panelled q s re fi p =
     painted-row (bucket-tiles W128) (attrs-at (0 ∷ 0 ∷ 3 ∷ 0 ∷ 1 ∷ 0 ∷ 0 ∷ 0 ∷ q ∷ []) 1 (0 ∷ 3 ∷ 0 ∷ 2 ∷ 0 ∷ 0 ∷ q ∷ []) 1)
-    (lent s re fi (0 ∷ 0 ∷ []) p [])
+    (lent s re fi (held (0 ∷ 0 ∷ []) p) [])
 
 no-panel : ((panelled 256 (1 ∷ 1 ∷ []) (1 ∷ 655392 ∷ 0 ∷ 0 ∷ []) (65538 ∷ 0 ∷ []) (0 ∷ 0 ∷ [])).answer ≡ refused 4)
     × ((panelled 256 (1 ∷ 1 ∷ []) (1 ∷ 655392 ∷ 0 ∷ 0 ∷ []) (65538 ∷ 0 ∷ []) (1 ∷ 0 ∷ [])).answer ≡ refused 4)
@@ -116,6 +116,6 @@ stands =
     good zero h = refl
     good (suc k) h = absurd (omega arith)
 
-ready : PainterReady known on_row (painter-at (0 ∷ 1 ∷ []) (1 ∷ 0 ∷ []))
+ready : PainterReady known on_row (painter-at (held (0 ∷ 1 ∷ []) (1 ∷ 0 ∷ [])))
 unfolding known on_row
 ready = record { steps-left = omega arith; shallow = omega arith; good-next = λ h g. refl }

@@ -11,24 +11,24 @@ use Rattle.rules.specs.Rows.{Row}
 use Rattle.rules.specs.Attributes.{Attrs}
 use Rattle.rules.specs.Painting as rules
 use Rattle.rules.specs.Painting.{paint-depth, paint-command, paint-step}
-use Rattle.paint.specs.Painting.{word, attrs-at, RowLent, lent, StepOut, out, painter-at, good-paint, good-command, fill-shown, command-shown, depth-step, command-step, depth-fill-at, command-at, bad-row, refused, left, next-step, settled, painted-row}
+use Rattle.paint.specs.Painting.{held, word, attrs-at, RowLent, lent, StepOut, out, painter-at, good-paint, good-command, fill-shown, command-shown, depth-step, command-step, depth-fill-at, command-at, bad-row, refused, left, next-step, settled, painted-row}
 use Rattle.paint.specs.Summaries.{summary-at, Sound}
 use Rattle.paint.specs.Standing.{Stands, PainterReady, Holds}
 use Rattle.paint.proofs.ByRules.{held, same_row, next}
 
 -- Nothing is forged, and the summary is sound for the depth words: the step is the rules' step of the row. It is refused, by 14, only if the list is shorter than its pieces.
 module _ (width : Width) (a : Attrs) (ps : List ℕ) (paints : ℕ) (ls : List ℕ) (layers : ℕ) (h : Holds a ps paints ls layers)
-    (r : Row) (s re fi D P l : List ℕ) (g : Stands a (length D) r s re fi) (q : PainterReady a r (painter-at D P))
+    (r : Row) (s re fi D P l : List ℕ) (g : Stands a (length D) r s re fi) (q : PainterReady a r (painter-at (held D P)))
     (o : Sound (bucket-tiles width) (summary-at s) D) where
   abbrev v : ℕ
   v = bucket-tiles width
 
-  stands : painted-row v a (lent s re fi D P l) ≡ settled (Some (paint-step v a r (painter-at D P))) D P l
+  stands : painted-row v a (lent s re fi (held D P) l) ≡ settled (Some (paint-step v a r (painter-at (held D P)))) (held D P) l
   unfolding painted-row
   stands = rw (next width a r s re fi D P l g q o)
 
-  pub by-rules : painted-row v (attrs-at ps paints ls layers) (lent s re fi D P l) ≡ settled (Some (paint-step v a r (painter-at D P))) D P l
-  by-rules = same_row v (attrs-at ps paints ls layers) a (held a ps paints ls layers h) (lent s re fi D P l) ∙ stands
+  pub by-rules : painted-row v (attrs-at ps paints ls layers) (lent s re fi (held D P) l) ≡ settled (Some (paint-step v a r (painter-at (held D P)))) (held D P) l
+  by-rules = same_row v (attrs-at ps paints ls layers) a (held a ps paints ls layers h) (lent s re fi (held D P) l) ∙ stands
 
 -- A step leaves as many depth words as there were, and two painting words.
 length-written : (id : ℕ) (r : Span) (i : ℕ) (bs : List ℕ) → length (written_from i id r bs) ≡ length bs
@@ -61,17 +61,17 @@ module _ (v : ℕ) (a : Attrs) (u : Summary) (p : rules.Painter) where
   long-command None = tt
   long-command (Some c) = long-if _ (good-command a p.nesting c) _ (long-shown c)
 
-long-next : (v : ℕ) (a : Attrs) (w : RowLent) → Long (length w.depth) (next-step v a w)
+long-next : (v : ℕ) (a : Attrs) (w : RowLent) → Long (length w.canvas.depth) (next-step v a w)
 unfolding next-step
 long-next v a w = go (bad-row w) (ltb p.steps (word w.state 1)) (ltb (p.steps - word w.state 1) (word w.state 0))
   where
     p : rules.Painter
-    p = painter-at w.depth w.painting
+    p = painter-at w.canvas
 
     go : (t y x : Bool)
-        → Long (length w.depth)
+        → Long (length w.canvas.depth)
         (cond t None
-        (cond y (depth-step v a p (depth-fill-at (length w.depth) w.fills (word w.state 1 - (p.steps + 1))))
+        (cond y (depth-step v a p (depth-fill-at (length w.canvas.depth) w.fills (word w.state 1 - (p.steps + 1))))
         (cond x (command-step v a (summary-at w.state) p (command-at w.render (p.steps - word w.state 1)))
         (Some (record { finished = true; pieces = []; painter = p })))))
     go true y x = tt
@@ -80,18 +80,18 @@ long-next v a w = go (bad-row w) (ltb p.steps (word w.state 1)) (ltb (p.steps - 
     go false false false = refl
 
 abbrev SameLong : StepOut → List ℕ → Type 0
-SameLong o d = (length o.depth ≡ length d) × (length o.painting ≡ 2)
+SameLong o d = (length o.canvas.depth ≡ length d) × (length o.canvas.painting ≡ 2)
 
-settled-long : (o : Option rules.Painted) (d p l : List ℕ) → length p ≡ 2 → Long (length d) o → SameLong (settled o d p l) d
+settled-long : (o : Option rules.Painted) (d p l : List ℕ) → length p ≡ 2 → Long (length d) o → SameLong (settled o (held d p) l) d
 unfolding settled
 settled-long None d p l e h = (refl, e)
 settled-long (Some o) d p l e h = go (ltb (length l / piece-size) (length o.pieces))
   where
-    go : (t : Bool) → SameLong (cond t (out (refused 14) d p l) (left o l)) d
+    go : (t : Bool) → SameLong (cond t (out (refused 14) (held d p) l) (left o l)) d
     go true = (refl, e)
     go false = (h, refl)
 
-pub same-lengths : (v : ℕ) (a : Attrs) (w : RowLent) → length w.painting ≡ 2
-    → (length (painted-row v a w).depth ≡ length w.depth) × (length (painted-row v a w).painting ≡ 2)
+pub same-lengths : (v : ℕ) (a : Attrs) (w : RowLent) → length w.canvas.painting ≡ 2
+    → (length (painted-row v a w).canvas.depth ≡ length w.canvas.depth) × (length (painted-row v a w).canvas.painting ≡ 2)
 unfolding painted-row
-same-lengths v a w e = settled-long (next-step v a w) w.depth w.painting w.list e (long-next v a w)
+same-lengths v a w e = settled-long (next-step v a w) w.canvas.depth w.canvas.painting w.list e (long-next v a w)

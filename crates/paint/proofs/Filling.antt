@@ -22,7 +22,7 @@ use Rattle.paint.specs.declared.pieces.Brush.{Brush}
 use Rattle.paint.specs.Pieces.{laid, Fits, run_at, runs-at}
 use Rattle.paint.specs.Summaries.{shown_runs}
 use Rattle.paint.specs.Answers.{Painted, Advanced, advanced}
-use Rattle.paint.specs.Painting.{word, out, painter-at, refused, listed, fill-shown, settled}
+use Rattle.paint.specs.Painting.{held, word, out, painter-at, refused, listed, fill-shown, settled}
 use Rattle.paint.proofs.Spreading.{piece}
 use Rattle.paint.proofs.Within.{shown-fits, depth-fits}
 use Rattle.paint.proofs.Listing.{lent, lent-room, back, Listed, listed-room, listed_at, listed-spread, when_refused, when_listed}
@@ -33,14 +33,14 @@ same_map f g h (x ∷ xs) = rw (h x, same_map f g h xs)
 
 module _ (D P l : List ℕ) (o : rules.Painted) where
   -- no room for the pieces
-  pub no_room : ltb (length l / piece-size) (length o.pieces) ≡ true → out (refused 14) D P l ≡ settled (Some o) D P l
+  pub no_room : ltb (length l / piece-size) (length o.pieces) ≡ true → out (refused 14) (held D P) l ≡ settled (Some o) (held D P) l
   unfolding settled
   no_room e = rw e
 
   -- room for them
   pub room : (D' P' l' : List ℕ) (n : ℕ) → ltb (length l / piece-size) (length o.pieces) ≡ false → o.finished ≡ false
       → n ≡ length o.pieces → D' ≡ o.painter.buckets → P' ≡ o.painter.steps ∷ o.painter.nesting ∷ [] → l' ≡ laid o.pieces l
-      → out (listed n) D' P' l' ≡ settled (Some o) D P l
+      → out (listed n) (held D' P') l' ≡ settled (Some o) (held D P) l
   unfolding settled
   room D' P' l' n e f q d p h = rw (e, f, q, d, p, h)
 
@@ -58,7 +58,7 @@ module _ (width : Width) (D P l ys : List ℕ) (u : Summary) (layer : Bool) (id 
   told r e = e ∙ rw (lent-room l)
 
   pub fill_refused : (k : Refusal) → Told (Err k)
-      → out (refused (number_of k)) D P (back l ys) ≡ settled (Some (fill-shown (bucket-tiles width) no-attrs u layer id i panel (tiles t) a (painter-at D P))) D P l
+      → out (refused (number_of k)) (held D P) (back l ys) ≡ settled (Some (fill-shown (bucket-tiles width) no-attrs u layer id i panel (tiles t) a (painter-at (held D P)))) (held D P) l
   unfolding fill-shown runs
   fill_refused k e =
       let w = when_refused runs l ys k (told (Err k) e) in
@@ -81,13 +81,13 @@ module _ (width : Width) (D P l ys : List ℕ) (u : Summary) (layer : Bool) (id 
 
     pub fill_done : (p : Painted) (P' l' : List ℕ) → advanced p P' ≡ advanced (listed n) ((word P 0 + 1) ∷ word P 1 ∷ [])
         → l' ≡ laid (map (piece 1 brush) (runs-at n (back l ys))) (back l ys)
-        → out p D P' l'
-        ≡ settled (Some (fill-shown (bucket-tiles width) no-attrs u layer id i panel (tiles t) a (painter-at D P))) D P l
+        → out p (held D P') l'
+        ≡ settled (Some (fill-shown (bucket-tiles width) no-attrs u layer id i panel (tiles t) a (painter-at (held D P)))) (held D P) l
     unfolding fill-shown runs
     fill_done p P' l' o v =
         let f : Span → Piece = fill-piece (bucket-tiles width) no-attrs layer i panel (tiles t) a (word P 1) in
         let same : map (piece 1 brush) runs ≡ map f runs = same_map (piece 1 brush) f (λ x. simp mul-one) runs in
-        ap (λ (x : Advanced). out x.answer D x.painting l') o
+        ap (λ (x : Advanced). out x.answer (held D x.painting) l') o
         ∙ room D P l _ D ((word P 0 + 1) ∷ word P 1 ∷ []) l' n
         (rw length-map found.roomy)
         refl
@@ -125,7 +125,7 @@ module _ (width : Width) (D P l ys D' : List ℕ) (id i panel : ℕ) (b : Bucket
   abbrev pub marked : rules.Painted
   marked = gives (map (depth-piece (bucket-tiles width) no-attrs i panel) (write-runs D (buckets b))) (written D id (buckets b)) (word P 0 + 1) (word P 1)
 
-  pub depth_refused : (k : Refusal) → ToldWrite (Err k) → out (refused (number_of k)) D' P (back l ys) ≡ settled (Some marked) D P l
+  pub depth_refused : (k : Refusal) → ToldWrite (Err k) → out (refused (number_of k)) (held D' P) (back l ys) ≡ settled (Some marked) (held D P) l
   unfolding unset
   depth_refused k e =
       let w = when_refused unset l ys k (told-write (Err k) e) in
@@ -148,10 +148,10 @@ module _ (width : Width) (D P l ys D' : List ℕ) (id i panel : ℕ) (b : Bucket
 
     pub depth_done : (p : Painted) (P' l' : List ℕ) → advanced p P' ≡ advanced (listed n) ((word P 0 + 1) ∷ word P 1 ∷ [])
         → l' ≡ laid (map (piece (bucket-tiles width) depth-brush) (runs-at n (back l ys))) (back l ys)
-        → out p D' P' l' ≡ settled (Some marked) D P l
+        → out p (held D' P') l' ≡ settled (Some marked) (held D P) l
     unfolding unset
     depth_done p P' l' u v =
-        ap (λ (x : Advanced). out x.answer D' x.painting l') u
+        ap (λ (x : Advanced). out x.answer (held D' x.painting) l') u
         ∙ room D P l marked D' ((word P 0 + 1) ∷ word P 1 ∷ []) l' n
         (rw length-map found-unset.roomy)
         refl

@@ -11,7 +11,7 @@ use Rattle.rules.proofs.All.{and_left}
 use Rattle.rules.proofs.laws.Answers.{settle-kept}
 use Rattle.screen.specs.declared.Screen.{Screen}
 use Rattle.depth.specs.Listing.{numbers, listing}
-use Rattle.paint.specs.Painting.{RowLent, StepOut, attrs-at, next-step, settled, painted-row, out, refused, left}
+use Rattle.paint.specs.Painting.{CanvasWords, held, RowLent, StepOut, attrs-at, next-step, settled, painted-row, out, refused, left}
 use Rattle.paint.specs.Judging.{wide, runs_number}
 use Rattle.paint.specs.Stepping.{Attributes, part, own, in_place, number, row_step, stepped}
 use Rattle.paint.specs.Running.{goes_on, ended, one_more, run, most, standing, call_step, row-painted}
@@ -88,33 +88,33 @@ module _ (s : Screen) (r : ℕ) (d : List ℕ) (t : Span) where
             (bare-listed (bad-range (length mine) t || eqb id 0) (length l / 2) (write-runs mine t)) q
         by false q = (refl, refl, refl)
 
--- A painting step. What it leaves of the depth words d, the painting words p and the list l
-abbrev pub AsLent : StepOut → List ℕ → List ℕ → List ℕ → Type 0
-AsLent o d p l = (o.depth ≡ d) × (o.painting ≡ p) × (o.list ≡ l)
+-- A painting step. What it leaves of the canvas k and the list l
+abbrev pub AsLent : StepOut → CanvasWords → List ℕ → Type 0
+AsLent o k l = (o.canvas ≡ k) × (o.list ≡ l)
 
-row_kept : (o : Option rules.Painted) (d p l : List ℕ) → ((settled o d p l).answer.number ≡ Done → ⊥) → AsLent (settled o d p l) d p l
+row_kept : (o : Option rules.Painted) (k : CanvasWords) (l : List ℕ) → ((settled o k l).answer.number ≡ Done → ⊥) → AsLent (settled o k l) k l
 unfolding settled
-row_kept None d p l q = (refl, refl, refl)
-row_kept (Some o) d p l q = by (ltb (length l / piece-size) (length o.pieces)) q
+row_kept None k l q = (refl, refl)
+row_kept (Some o) k l q = by (ltb (length l / piece-size) (length o.pieces)) q
   where
-    by : (b : Bool) → ((cond b (out (refused NoRoom) d p l) (left o l)).answer.number ≡ Done → ⊥) → AsLent (cond b (out (refused NoRoom) d p l) (left o l)) d p l
-    by true q = (refl, refl, refl)
+    by : (b : Bool) → ((cond b (out (refused NoRoom) k l) (left o l)).answer.number ≡ Done → ⊥) → AsLent (cond b (out (refused NoRoom) k l) (left o l)) k l
+    by true q = (refl, refl)
     by false q = absurd (q refl)
 
 module _ (s : Screen) (r : ℕ) (a : Attributes) (l : RowLent) where
-  placed-kept : (x : StepOut) → AsLent x (part (wide s) r l.depth) (part 2 r l.painting) l.list → AsLent (in_place s r l x) l.depth l.painting l.list
-  placed-kept x k = (rw (k.0, put_same (r * wide s) (wide s) l.depth), rw (k.1, put_same (r * 2) 2 l.painting), k.2)
+  placed-kept : (x : StepOut) → AsLent x (own s r l).canvas l.list → AsLent (in_place s r l x) l.canvas l.list
+  placed-kept x h = (rw (h.0, put_same (r * wide s) (wide s) l.canvas.depth, put_same (r * 2) 2 l.canvas.painting), h.1)
 
-  pub step-kept : ((stepped s r a l).answer.number ≡ Done → ⊥) → AsLent (stepped s r a l) l.depth l.painting l.list
+  pub step-kept : ((stepped s r a l).answer.number ≡ Done → ⊥) → AsLent (stepped s r a l) l.canvas l.list
   unfolding stepped row_step painted-row
   step-kept = by (eqb (number s r a l) Done)
     where
-      by : (b : Bool) → ((cond b (row_step s r a l) (out (refused (number s r a l)) l.depth l.painting l.list)).answer.number ≡ Done → ⊥)
-          → AsLent (cond b (row_step s r a l) (out (refused (number s r a l)) l.depth l.painting l.list)) l.depth l.painting l.list
+      by : (b : Bool) → ((cond b (row_step s r a l) (out (refused (number s r a l)) l.canvas l.list)).answer.number ≡ Done → ⊥)
+          → AsLent (cond b (row_step s r a l) (out (refused (number s r a l)) l.canvas l.list)) l.canvas l.list
       by true q =
           placed-kept (painted-row (bucket-tiles s.width) (attrs-at a.paints s.paint_attrs a.layers s.layer_attrs) (own s r l))
-          (row_kept (next-step (bucket-tiles s.width) (attrs-at a.paints s.paint_attrs a.layers s.layer_attrs) (own s r l)) (part (wide s) r l.depth) (part 2 r l.painting) l.list q)
-      by false q = (refl, refl, refl)
+          (row_kept (next-step (bucket-tiles s.width) (attrs-at a.paints s.paint_attrs a.layers s.layer_attrs) (own s r l)) (own s r l).canvas l.list q)
+      by false q = (refl, refl)
 
 -- A row's steps. After one that is done the call is not refused, ..
 pub gone-on : (o : StepOut) → goes_on o.answer ≡ true → o.answer.number ≡ Done
@@ -123,7 +123,7 @@ gone-on o e = eqb-true o.answer.number Done (and_left (eqb o.answer.number Done)
 late : (k : ℕ) (o : StepOut) → (k ≡ 0 → ⊥) → (ended k o).answer.number ≡ Done
 late k o h = rw (ne_eqb k 0 h)
 
-module _ (step : List ℕ → List ℕ → List ℕ → StepOut) where
+module _ (step : CanvasWords → List ℕ → StepOut) where
   pub on-done : (f k : ℕ) (g : StepOut) → g.answer.number ≡ Done → (run step f (k + 1) g).answer.number ≡ Done
   unfolding run
   on-done zero k g e = e
@@ -135,24 +135,24 @@ module _ (step : List ℕ → List ℕ → List ℕ → StepOut) where
       by false i more = late (k + 1) (one_more step g) (λ z. omega (arith, z))
 
 -- .. and a refused first step leaves what it was lent.
-module _ (step : List ℕ → List ℕ → List ℕ → StepOut) (d p l : List ℕ) (keeps : ((step d p l).answer.number ≡ Done → ⊥) → AsLent (step d p l) d p l) where
+module _ (step : CanvasWords → List ℕ → StepOut) (k : CanvasWords) (l : List ℕ) (keeps : ((step k l).answer.number ≡ Done → ⊥) → AsLent (step k l) k l) where
   abbrev first : StepOut
-  first = one_more step (standing d p l)
+  first = one_more step (standing k l)
 
-  first-kept : (first.answer.number ≡ Done → ⊥) → AsLent first d p l
+  first-kept : (first.answer.number ≡ Done → ⊥) → AsLent first k l
   unfolding one_more
   first-kept q = keeps q
 
-  run-kept : (f : ℕ) → ((run step f 0 (standing d p l)).answer.number ≡ Done → ⊥) → AsLent (run step f 0 (standing d p l)) d p l
+  run-kept : (f : ℕ) → ((run step f 0 (standing k l)).answer.number ≡ Done → ⊥) → AsLent (run step f 0 (standing k l)) k l
   unfolding run
-  run-kept zero q = (refl, refl, refl)
+  run-kept zero q = (refl, refl)
   run-kept (suc f) q = by (goes_on first.answer) refl q
     where
-      by : (b : Bool) → goes_on first.answer ≡ b → ((cond b (run step f 1 first) (ended 0 first)).answer.number ≡ Done → ⊥) → AsLent (cond b (run step f 1 first) (ended 0 first)) d p l
+      by : (b : Bool) → goes_on first.answer ≡ b → ((cond b (run step f 1 first) (ended 0 first)).answer.number ≡ Done → ⊥) → AsLent (cond b (run step f 1 first) (ended 0 first)) k l
       by true i q = absurd (q (on-done step f 0 first (gone-on first i)))
       by false i q = first-kept q
 
 pub row-kept : (s : Screen) (r : ℕ) (a : Attributes) (l : RowLent) → ((row-painted s r a l).answer.number ≡ Done → ⊥)
-    → AsLent (row-painted s r a l) l.depth l.painting l.list
+    → AsLent (row-painted s r a l) l.canvas l.list
 unfolding row-painted
-row-kept s r a l = run-kept (call_step s r a l.state l.render l.fills) l.depth l.painting l.list (step-kept s r a l) most
+row-kept s r a l = run-kept (call_step s r a l.state l.render l.fills) l.canvas l.list (step-kept s r a l) most

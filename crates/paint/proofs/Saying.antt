@@ -17,7 +17,7 @@ use Rattle.rules.proofs.All.{and_both}
 use Rattle.cmd.proofs.Commands.{tag-1, tag-2, tag-3, tag-4, tag-5, tag-6, tag-7}
 use Rattle.paint.specs.Summaries.{shown_runs}
 use Rattle.paint.specs.Pieces.{tag_of, index_of, piece-words}
-use Rattle.paint.specs.Painting.{good-paint, good-layer, out, fill-shown, command-shown, command-step, settled, listed}
+use Rattle.paint.specs.Painting.{held, good-paint, good-layer, out, fill-shown, command-shown, command-step, settled, listed}
 use Rattle.paint.specs.declared.command.marks.Mark.{Mark}
 use Rattle.paint.specs.Reading.{paint_mark, layer_mark}
 use Rattle.paint.proofs.Judging.{if_some}
@@ -41,8 +41,8 @@ fill-words layer a w i = record { tag = tag_of layer a; span = record { 0 = w };
 module _ (v : ℕ) (attrs : Attrs) (u : Summary) (D : List ℕ) (m : ℕ) where
   -- a fill that is shown whole
   fill-whole : (layer : Bool) (a : Option ℕ) (w i id p q : ℕ) (P l : List ℕ) → shown_runs v u D id (word-span w) ≡ word-span w ∷ [] → piece-size * 1 ≤ length l
-      → settled (Some (fill-shown v attrs u layer id i p (word-span w) a (at-step D q m))) D P l
-      ≡ out (listed 1) D ((q + 1) ∷ m ∷ []) (over (whole_words (fill-words layer a w i) m p) l)
+      → settled (Some (fill-shown v attrs u layer id i p (word-span w) a (at-step D q m))) (held D P) l
+      ≡ out (listed 1) (held D ((q + 1) ∷ m ∷ [])) (over (whole_words (fill-words layer a w i) m p) l)
   unfolding fill-shown settled
   fill-whole layer a w i id p q P l e h = rw (e, stay a (w / 65536), le-ltb (length l / piece-size) 1 (omega arith))
 
@@ -66,8 +66,8 @@ module _ (v : ℕ) (attrs : Attrs) (u : Summary) (D : List ℕ) (m : ℕ) where
 
     fill-runs : (id q : ℕ) (P l : List ℕ) (rs : List Span)
         → shown_runs v u D id (word-span w) ≡ map (λ (r : Span). common (word-span w) (tiles-of v r)) rs → piece-size * length rs ≤ length l
-        → settled (Some (fill-shown v attrs u layer id i p (word-span w) a (at-step D q m))) D P l
-        ≡ out (listed (length rs)) D ((q + 1) ∷ m ∷ []) (over (join (run-words v (fill-words layer a w i) m p) rs) l)
+        → settled (Some (fill-shown v attrs u layer id i p (word-span w) a (at-step D q m))) (held D P) l
+        ≡ out (listed (length rs)) (held D ((q + 1) ∷ m ∷ [])) (over (join (run-words v (fill-words layer a w i) m p) rs) l)
     unfolding fill-shown settled
     fill-runs id q P l rs e h =
         let n : length (map (fill-piece v attrs layer i p (word-span w) a m) (map (λ (r : Span). common (word-span w) (tiles-of v r)) rs)) ≡ length rs = rw (length-map, length-map) in
@@ -107,9 +107,9 @@ module _ (v : ℕ) (attrs : Attrs) (u : Summary) (D : List ℕ) (m : ℕ) where
       gives-whole s =
           record {
             step = λ q P l h.
-                ap (λ (o : Option rules.Painted). settled o D P l) (f.step q)
+                ap (λ (o : Option rules.Painted). settled o (held D P) l) (f.step q)
                 ∙ fill-whole f.layer f.index c.span.0 c.attrs_idx k.id k.panel q P l s.runs h
-                ∙ ap (λ (e : CmdWords). out (listed 1) D ((q + 1) ∷ m ∷ []) (over (whole_words e m k.panel) l)) f.same;
+                ∙ ap (λ (e : CmdWords). out (listed 1) (held D ((q + 1) ∷ m ∷ [])) (over (whole_words e m k.panel) l)) f.same;
           }
 
       gives-runs : (rs : List Span) → Shows v u D k.id c (map (λ (r : Span). common (word-span c.span.0) (tiles-of v r)) rs)
@@ -117,9 +117,9 @@ module _ (v : ℕ) (attrs : Attrs) (u : Summary) (D : List ℕ) (m : ℕ) where
       gives-runs rs s =
           record {
             step = λ q P l h.
-                ap (λ (o : Option rules.Painted). settled o D P l) (f.step q)
+                ap (λ (o : Option rules.Painted). settled o (held D P) l) (f.step q)
                 ∙ fill-runs f.layer f.index c.span.0 c.attrs_idx k.panel k.id q P l rs s.runs h
-                ∙ ap (λ (e : CmdWords). out (listed (length rs)) D ((q + 1) ∷ m ∷ []) (over (join (run-words v e m k.panel) rs) l)) f.same;
+                ∙ ap (λ (e : CmdWords). out (listed (length rs)) (held D ((q + 1) ∷ m ∷ [])) (over (join (run-words v e m k.panel) rs) l)) f.same;
           }
 
       pub gives-none : Shows v u D k.id c [] → Gives v attrs u D m c 0 [] m

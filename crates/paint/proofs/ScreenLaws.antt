@@ -31,13 +31,13 @@ part-other k (suc n) (suc r) (suc q) xs ys h g d l m =
 
 -- A step of row r, refused or done, leaves the depth and painting words of every other row as they were.
 module _ (s : Screen) (r : ℕ) (a : Attributes) (l : RowLent) where
-  lengths : number s r a l ≡ 0 → (r < count s) × (length l.depth ≡ count s * wide s) × (length l.painting ≡ count s * 2)
+  lengths : number s r a l ≡ 0 → (r < count s) × (length l.canvas.depth ≡ count s * wide s) × (length l.canvas.painting ≡ count s * 2)
   lengths h =
       let re = eqb (length l.render) (count s * (4 * s.c)) in
       let fi = eqb (length l.fills) (count s * (2 * s.d)) in
-      let de = eqb (length l.depth) (count s * wide s) in
+      let de = eqb (length l.canvas.depth) (count s * wide s) in
       let ro = eqb (length l.state) (count s * 54) in
-      let pa = eqb (length l.painting) (count s * 2) in
+      let pa = eqb (length l.canvas.painting) (count s * 2) in
       let ps = eqb (length a.paints) paint-attr-table in
       let ls = eqb (length a.layers) layer-attr-table in
       let t = step-there s r (re && fi && de) (ro && pa && ps && ls) h in
@@ -49,17 +49,17 @@ module _ (s : Screen) (r : ℕ) (a : Attributes) (l : RowLent) where
 
   module _ (q : ℕ) (g : q < count s) (d : q ≡ r → ⊥) where
     abbrev Alone : StepOut → Type 0
-    Alone o = (part (wide s) q o.depth ≡ part (wide s) q l.depth) × (part 2 q o.painting ≡ part 2 q l.painting)
+    Alone o = (part (wide s) q o.canvas.depth ≡ part (wide s) q l.canvas.depth) × (part 2 q o.canvas.painting ≡ part 2 q l.canvas.painting)
 
     done-alone : number s r a l ≡ 0 → Alone (row_step s r a l)
     unfolding row_step
     done-alone h =
         let n = lengths h in
         let b = attrs-at a.paints s.paint_attrs a.layers s.layer_attrs in
-        let o = same-lengths (bucket-tiles s.width) b (own s r l) (part-long (count s) r 2 l.painting n.0 n.2) in (
-          part-other (wide s) (count s) r q l.depth (painted-row (bucket-tiles s.width) b (own s r l)).depth n.0 g d n.1
-              (o.0 ∙ part-long (count s) r (wide s) l.depth n.0 n.1),
-          part-other 2 (count s) r q l.painting (painted-row (bucket-tiles s.width) b (own s r l)).painting n.0 g d n.2 o.1,
+        let o = same-lengths (bucket-tiles s.width) b (own s r l) (part-long (count s) r 2 l.canvas.painting n.0 n.2) in (
+          part-other (wide s) (count s) r q l.canvas.depth (painted-row (bucket-tiles s.width) b (own s r l)).canvas.depth n.0 g d n.1
+              (o.0 ∙ part-long (count s) r (wide s) l.canvas.depth n.0 n.1),
+          part-other 2 (count s) r q l.canvas.painting (painted-row (bucket-tiles s.width) b (own s r l)).canvas.painting n.0 g d n.2 o.1,
         )
 
     pub step-alone : Alone (stepped s r a l)
@@ -67,20 +67,20 @@ module _ (s : Screen) (r : ℕ) (a : Attributes) (l : RowLent) where
     step-alone = go (eqb (number s r a l) 0) refl
       where
         go : (t : Bool) → eqb (number s r a l) 0 ≡ t
-            → Alone (cond t (row_step s r a l) (out (refused (number s r a l)) l.depth l.painting l.list))
+            → Alone (cond t (row_step s r a l) (out (refused (number s r a l)) l.canvas l.list))
         go true e = done-alone (eqb-true _ _ e)
         go false e = (refl, refl)
 
 -- Nothing of row r is forged, and its summary is sound for its depth words: a step is the rules' step of the row.
 module _ (s : Screen) (r : ℕ) (t : Attributes) (l : RowLent) (k : number s r t l ≡ 0) (a : Attrs)
     (h : Holds a t.paints s.paint_attrs t.layers s.layer_attrs) (w : Row)
-    (g : Stands a (length (own s r l).depth) w (own s r l).state (own s r l).render (own s r l).fills)
-    (q : PainterReady a w (painter-at (own s r l).depth (own s r l).painting)) (o : Sound (bucket-tiles s.width) (summary-at (own s r l).state) (own s r l).depth) where
+    (g : Stands a (length (own s r l).canvas.depth) w (own s r l).state (own s r l).render (own s r l).fills)
+    (q : PainterReady a w (painter-at (own s r l).canvas)) (o : Sound (bucket-tiles s.width) (summary-at (own s r l).state) (own s r l).canvas.depth) where
   pub step-by-rules : stepped s r t l
       ≡ in_place s r l
-      (settled (Some (paint-step (bucket-tiles s.width) a w (painter-at (own s r l).depth (own s r l).painting))) (own s r l).depth (own s r l).painting l.list)
+      (settled (Some (paint-step (bucket-tiles s.width) a w (painter-at (own s r l).canvas))) (own s r l).canvas l.list)
   unfolding stepped row_step
   step-by-rules =
       rw (eq-eqb _ _ k)
       (ap (in_place s r l)
-      (by-rules s.width a t.paints s.paint_attrs t.layers s.layer_attrs h w (own s r l).state (own s r l).render (own s r l).fills (own s r l).depth (own s r l).painting l.list g q o))
+      (by-rules s.width a t.paints s.paint_attrs t.layers s.layer_attrs h w (own s r l).state (own s r l).render (own s r l).fills (own s r l).canvas.depth (own s r l).canvas.painting l.list g q o))

@@ -61,9 +61,9 @@ ready s r a l h =
     let n = count s in
     let re = eqb (length l.render) (n * (4 * s.c)) in
     let fi = eqb (length l.fills) (n * (2 * s.d)) in
-    let de = eqb (length l.depth) (n * wide s) in
+    let de = eqb (length l.canvas.depth) (n * wide s) in
     let ro = eqb (length l.state) (n * 54) in
-    let pa = eqb (length l.painting) (n * 2) in
+    let pa = eqb (length l.canvas.painting) (n * 2) in
     let ps = eqb (length a.paints) paint-attr-table in
     let ls = eqb (length a.layers) layer-attr-table in
     let t = step-there s r (re && fi && de) (ro && pa && ps && ls) h in
@@ -76,8 +76,8 @@ ready s r a l h =
       state = lies n r 54 l.state t.there o.few (omega arith) (and_left ro pa m);
       render = lies n r (4 * s.c) l.render t.there o.few (omega (arith, o.c-room.few)) (and_left re fi g);
       fills = lies n r (2 * s.d) l.fills t.there o.few (omega (arith, o.d-room.few)) (and_right re fi g);
-      depth = lies n r (wide s) l.depth t.there o.few (omega (arith, o.narrow)) (and_right (re && fi) de o.arenas);
-      painting = lies n r 2 l.painting t.there o.few (omega arith) (and_right ro pa m);
+      depth = lies n r (wide s) l.canvas.depth t.there o.few (omega (arith, o.narrow)) (and_right (re && fi) de o.arenas);
+      painting = lies n r 2 l.canvas.painting t.there o.few (omega arith) (and_right ro pa m);
       few-commands = o.c-room.few;
       few-fills = o.d-room.few;
       paint-table = eqb-true _ _ (and_right (ro && pa) ps k);
@@ -88,7 +88,7 @@ ready s r a l h =
 
 -- the call, refused or done
 module _ (s : Screen) (r : ℕ) (a : Attributes) (l : RowLent) where
-  pub step_refused : (k : Refusal) → number_of k ≡ number s r a l → out (refused (number_of k)) l.depth l.painting l.list ≡ stepped s r a l
+  pub step_refused : (k : Refusal) → number_of k ≡ number s r a l → out (refused (number_of k)) l.canvas l.list ≡ stepped s r a l
   unfolding stepped
   step_refused k e = rw (← e, ne_eqb (number_of k) 0 (not_done k))
 

@@ -12,7 +12,7 @@ use Rattle.sizes.specs.declared.answers.Refusal.{Refusal}
 use Rattle.sizes.specs.Refusals.{number_of}
 use Rattle.sizes.proofs.Refusals.{not_done}
 use Rattle.paint.specs.Answers.{Painted}
-use Rattle.paint.specs.Painting.{attrs-at, RowLent, lent, StepOut, out, refused, left, settled, painted-row}
+use Rattle.paint.specs.Painting.{CanvasWords, held, attrs-at, RowLent, lent, StepOut, out, refused, left, settled, painted-row}
 use Rattle.paint.proofs.CommandLaws.{same-lengths}
 use Rattle.paint.specs.Judging.{wide}
 use Rattle.paint.specs.Stepping.{part, with_part, Within, Attributes, own-parts, put-parts, own, in_place, number, row_step, stepped}
@@ -22,18 +22,16 @@ use Rattle.paint.proofs.WholeRuns.{stops, more}
 
 -- the steps of the row's own parts, put back in their places
 module _ (v f : ℕ) (a : Attrs) (b c d r : ℕ) (l : RowLent) (o : Painted) (q p t : List ℕ) where
-  pub run-back : out o q p t ≡ own-run v f a
+  pub run-back : out o (held q p) t ≡ own-run v f a
       (lent (part 54 r l.state) (part (4 * c) r l.render) (part (2 * d) r l.fills)
-      (take (r * b + b - r * b) (drop (r * b) l.depth))
-      (take (r * 2 + 2 - r * 2) (drop (r * 2) l.painting))
+      (held (take (r * b + b - r * b) (drop (r * b) l.canvas.depth)) (take (r * 2 + 2 - r * 2) (drop (r * 2) l.canvas.painting)))
       l.list)
-      → out o (put_mid (r * b) (r * b + b - r * b) l.depth q)
-      (put_mid (r * 2) (r * 2 + 2 - r * 2) l.painting p) t
+      → out o (held (put_mid (r * b) (r * b + b - r * b) l.canvas.depth q) (put_mid (r * 2) (r * 2 + 2 - r * 2) l.canvas.painting p)) t
       ≡ row-run v f a b c d r l
   unfolding row-run
   run-back h =
-      let i : out o q p t ≡ own-run v f a (own-parts b c d r l) = rw (part-is b r l.depth, part-is 2 r l.painting) at h in
-      rw (put_is b r l.depth q, put_is 2 r l.painting p) (ap (put-parts b r l) i)
+      let i : out o (held q p) t ≡ own-run v f a (own-parts b c d r l) = rw (part-is b r l.canvas.depth, part-is 2 r l.canvas.painting) at h in
+      rw (put_is b r l.canvas.depth q, put_is 2 r l.canvas.painting p) (ap (put-parts b r l) i)
 
 -- a part in its place: it stands there, and another takes its place
 module _ (k r : ℕ) (xs ys : List ℕ) (h : Within k r xs) (e : length ys ≡ k) where
@@ -63,46 +61,46 @@ module _ (s : Screen) (r : ℕ) (a : Attributes) (l : RowLent) (z : number s r a
   abbrev b : Attrs
   b = attrs-at a.paints s.paint_attrs a.layers s.layer_attrs
 
-  abbrev mine : List ℕ → List ℕ → List ℕ → StepOut
+  abbrev mine : CanvasWords → List ℕ → StepOut
   mine = own-step (bucket-tiles s.width) b (own s r l).state (own s r l).render (own s r l).fills
 
-  abbrev called : List ℕ → List ℕ → List ℕ → StepOut
+  abbrev called : CanvasWords → List ℕ → StepOut
   called = call_step s r a l.state l.render l.fills
 
   -- the row's own depth and painting words have their lengths
   abbrev Long : StepOut → Type 0
-  Long g = (length g.depth ≡ wide s) × (length g.painting ≡ 2)
+  Long g = (length g.canvas.depth ≡ wide s) × (length g.canvas.painting ≡ 2)
 
-  module _ (d p t : List ℕ) (x : length d ≡ wide s) (y : length p ≡ 2) where
+  module _ (k : CanvasWords) (t : List ℕ) (x : length k.depth ≡ wide s) (y : length k.painting ≡ 2) where
     abbrev then : RowLent
-    then = lent l.state l.render l.fills (with_part (wide s) r l.depth d) (with_part 2 r l.painting p) t
+    then = lent l.state l.render l.fills (held (with_part (wide s) r l.canvas.depth k.depth) (with_part 2 r l.canvas.painting k.painting)) t
 
     still : number s r a then ≡ 0
     still =
         let g = ready s r a l z in
-        rw (put-long (wide s) r l.depth d g.depth x, put-long 2 r l.painting p g.painting y) z
+        rw (put-long (wide s) r l.canvas.depth k.depth g.depth x, put-long 2 r l.canvas.painting k.painting g.painting y) z
 
-    call-mine : called (with_part (wide s) r l.depth d) (with_part 2 r l.painting p) t ≡ in_place s r l (mine d p t)
+    call-mine : called (held (with_part (wide s) r l.canvas.depth k.depth) (with_part 2 r l.canvas.painting k.painting)) t ≡ in_place s r l (mine k t)
     unfolding stepped row_step
     call-mine =
         let g = ready s r a l z in
-        let o = painted-row (bucket-tiles s.width) b (lent (own s r l).state (own s r l).render (own s r l).fills d p t) in
+        let o = painted-row (bucket-tiles s.width) b (lent (own s r l).state (own s r l).render (own s r l).fills k t) in
         rw (
           eq-eqb _ _ still,
-          part-there (wide s) r l.depth d g.depth x,
-          part-there 2 r l.painting p g.painting y,
-          part-again (wide s) r l.depth d g.depth x o.depth,
-          part-again 2 r l.painting p g.painting y o.painting,
+          part-there (wide s) r l.canvas.depth k.depth g.depth x,
+          part-there 2 r l.canvas.painting k.painting g.painting y,
+          part-again (wide s) r l.canvas.depth k.depth g.depth x o.canvas.depth,
+          part-again 2 r l.canvas.painting k.painting g.painting y o.canvas.painting,
         )
 
   one-mine : (g : StepOut) → Long g → one_more called (in_place s r l g) ≡ in_place s r l (one_more mine g)
   unfolding one_more
-  one-mine g h = rw (call-mine g.depth g.painting (drop (piece-size * g.answer.pieces) g.list) h.0 h.1)
+  one-mine g h = rw (call-mine g.canvas (drop (piece-size * g.answer.pieces) g.list) h.0 h.1)
 
   one-long : (g : StepOut) → Long g → Long (one_more mine g)
   unfolding one_more
   one-long g h =
-      let o = same-lengths (bucket-tiles s.width) b (lent (own s r l).state (own s r l).render (own s r l).fills g.depth g.painting (drop (piece-size * g.answer.pieces) g.list)) h.1 in
+      let o = same-lengths (bucket-tiles s.width) b (lent (own s r l).state (own s r l).render (own s r l).fills g.canvas (drop (piece-size * g.answer.pieces) g.list)) h.1 in
       (o.0 ∙ h.0, o.1)
 
   run-mine : (f k : ℕ) (g : StepOut) → Long g → run called f k (in_place s r l g) ≡ in_place s r l (run mine f k g)
@@ -120,21 +118,21 @@ module _ (s : Screen) (r : ℕ) (a : Attributes) (l : RowLent) (z : number s r a
   unfolding row-painted row-run own-run
   calls-are-run =
       let g = ready s r a l z in
-      let e = run-mine most 0 (standing (own s r l).depth (own s r l).painting l.list) (part-of-length (wide s) r l.depth g.depth, part-of-length 2 r l.painting g.painting) in
-      (rw (put_same (r * wide s) (wide s) l.depth, put_same (r * 2) 2 l.painting) at e)
+      let e = run-mine most 0 (standing (own s r l).canvas l.list) (part-of-length (wide s) r l.canvas.depth g.depth, part-of-length 2 r l.canvas.painting g.painting) in
+      (rw (put_same (r * wide s) (wide s) l.canvas.depth, put_same (r * 2) 2 l.canvas.painting) at e)
 
 -- the call, refused or done
 module _ (s : Screen) (r : ℕ) (a : Attributes) (l : RowLent) where
   module _ (k : Refusal) (e : number_of k ≡ number s r a l) where
-    first-refused : one_more (call_step s r a l.state l.render l.fills) (standing l.depth l.painting l.list) ≡ out (refused (number_of k)) l.depth l.painting l.list
+    first-refused : one_more (call_step s r a l.state l.render l.fills) (standing l.canvas l.list) ≡ out (refused (number_of k)) l.canvas l.list
     unfolding one_more stepped
     first-refused = rw (← e, ne_eqb (number_of k) 0 (not_done k))
 
-    pub row_refused : out (refused (number_of k)) l.depth l.painting l.list ≡ row-painted s r a l
+    pub row_refused : out (refused (number_of k)) l.canvas l.list ≡ row-painted s r a l
     unfolding row-painted
     row_refused =
         let step = call_step s r a l.state l.render l.fills in
-        let start = standing l.depth l.painting l.list in
+        let start = standing l.canvas l.list in
         let i : goes_on (one_more step start).answer ≡ false = rw (first-refused, ne_eqb (number_of k) 0 (not_done k)) in
         sym (stops step most 0 start (omega arith) i ∙ rw first-refused)
 
@@ -143,36 +141,36 @@ module _ (s : Screen) (r : ℕ) (a : Attributes) (l : RowLent) where
 
 -- a run of one step at most is the step
 abbrev again : StepOut → StepOut
-again o = out (record { number = o.answer.number; finished = o.answer.finished; pieces = o.answer.pieces }) o.depth o.painting o.list
+again o = out (record { number = o.answer.number; finished = o.answer.finished; pieces = o.answer.pieces }) o.canvas o.list
 
-settled-again : (x : Option rules.Painted) (d p l : List ℕ) → again (settled x d p l) ≡ settled x d p l
+settled-again : (x : Option rules.Painted) (k : CanvasWords) (l : List ℕ) → again (settled x k l) ≡ settled x k l
 unfolding settled
-settled-again None d p l = refl
-settled-again (Some o) d p l = go (ltb (length l / piece-size) (length o.pieces))
+settled-again None k l = refl
+settled-again (Some o) k l = go (ltb (length l / piece-size) (length o.pieces))
   where
-    go : (b : Bool) → again (cond b (out (refused 14) d p l) (left o l)) ≡ cond b (out (refused 14) d p l) (left o l)
+    go : (b : Bool) → again (cond b (out (refused 14) k l) (left o l)) ≡ cond b (out (refused 14) k l) (left o l)
     go true = refl
     go false = refl
 
 row-again : (v : ℕ) (a : Attrs) (w : RowLent) → again (painted-row v a w) ≡ painted-row v a w
 unfolding painted-row
-row-again v a w = settled-again _ _ _ _
+row-again v a w = settled-again _ _ _
 
-first_one : (step : List ℕ → List ℕ → List ℕ → StepOut) (d p l : List ℕ) → one_more step (standing d p l) ≡ again (step d p l)
+first_one : (step : CanvasWords → List ℕ → StepOut) (k : CanvasWords) (l : List ℕ) → one_more step (standing k l) ≡ again (step k l)
 unfolding one_more
-first_one step d p l = rw zero-add
+first_one step k l = rw zero-add
 
-one-run : (step : List ℕ → List ℕ → List ℕ → StepOut) (d p l : List ℕ) → run step 1 0 (standing d p l) ≡ again (step d p l)
+one-run : (step : CanvasWords → List ℕ → StepOut) (k : CanvasWords) (l : List ℕ) → run step 1 0 (standing k l) ≡ again (step k l)
 unfolding run
-one-run step d p l = go (goes_on (one_more step (standing d p l)).answer) refl
+one-run step k l = go (goes_on (one_more step (standing k l)).answer) refl
   where
-    go : (b : Bool) → goes_on (one_more step (standing d p l)).answer ≡ b → run step 1 0 (standing d p l) ≡ again (step d p l)
-    go true e = more step 1 0 (standing d p l) (omega arith) e ∙ first_one step d p l
-    go false e = stops step 1 0 (standing d p l) (omega arith) e ∙ rw (first_one step d p l)
+    go : (b : Bool) → goes_on (one_more step (standing k l)).answer ≡ b → run step 1 0 (standing k l) ≡ again (step k l)
+    go true e = more step 1 0 (standing k l) (omega arith) e ∙ first_one step k l
+    go false e = stops step 1 0 (standing k l) (omega arith) e ∙ rw (first_one step k l)
 
 pub step-is-run : (s : Screen) (r : ℕ) (a : Attributes) (l : RowLent) → screen-run 1 s r a l ≡ row_step s r a l
 unfolding row-run own-run row_step
 step-is-run s r a l =
     let b = attrs-at a.paints s.paint_attrs a.layers s.layer_attrs in
     let w = own s r l in
-    ap (in_place s r l) (one-run (own-step (bucket-tiles s.width) b w.state w.render w.fills) w.depth w.painting w.list ∙ row-again (bucket-tiles s.width) b w)
+    ap (in_place s r l) (one-run (own-step (bucket-tiles s.width) b w.state w.render w.fills) w.canvas w.list ∙ row-again (bucket-tiles s.width) b w)

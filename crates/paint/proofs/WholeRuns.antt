@@ -7,17 +7,17 @@ use Rattle.sizes.specs.Sizes.{piece-size}
 use Rattle.rules.specs.Attributes.{Attrs}
 use Rattle.rules.specs.Painting as rules
 use Rattle.paint.specs.Answers.{Painted}
-use Rattle.paint.specs.Painting.{RowLent, lent, StepOut, out, listed, settled, painted-row}
+use Rattle.paint.specs.Painting.{CanvasWords, held, RowLent, lent, StepOut, out, listed, settled, painted-row}
 use Rattle.paint.specs.Running.{goes_on, ended, one_more, run, own-step}
 use Rattle.paint.specs.Kinds.{Onward}
 
 -- a step's pieces have room in its list
-settled-few : (x : Option rules.Painted) (d p l : List ℕ) → piece-size * (settled x d p l).answer.pieces ≤ length l
+settled-few : (x : Option rules.Painted) (d p l : List ℕ) → piece-size * (settled x (held d p) l).answer.pieces ≤ length l
 unfolding settled
 settled-few None d p l = omega arith
 settled-few (Some o) d p l = go (ltb (length l / piece-size) (length o.pieces)) refl
   where
-    go : (b : Bool) → ltb (length l / piece-size) (length o.pieces) ≡ b → piece-size * (settled (Some o) d p l).answer.pieces ≤ length l
+    go : (b : Bool) → ltb (length l / piece-size) (length o.pieces) ≡ b → piece-size * (settled (Some o) (held d p) l).answer.pieces ≤ length l
     go true e = rw e (omega arith)
     go false e = rw e (omega (arith, ltb-false (length l / piece-size) (length o.pieces) e))
 
@@ -38,25 +38,25 @@ module _ (xs : List ℕ) (a : ℕ) (h : a ≤ length xs) where
 
 -- one step more of a row's own words
 module _ (v : ℕ) (a : Attrs) (s re fi d p xs : List ℕ) (n : ℕ) (h : piece-size * n ≤ length xs) (q : Painted) (e g ys : List ℕ)
-    (f : out q e g ys ≡ painted-row v a (lent s re fi d p (take (length xs - piece-size * n) (drop (piece-size * n) xs)))) where
-  same : out q e g ys ≡ own-step v a s re fi d p (drop (piece-size * n) xs)
+    (f : out q (held e g) ys ≡ painted-row v a (lent s re fi (held d p) (take (length xs - piece-size * n) (drop (piece-size * n) xs)))) where
+  same : out q (held e g) ys ≡ own-step v a s re fi (held d p) (drop (piece-size * n) xs)
   same = f ∙ rw (lent-after xs (piece-size * n) h)
 
-  pub one-done : out (record { number = q.number; finished = q.finished; pieces = n + q.pieces }) e g (put_mid (piece-size * n) (length xs - piece-size * n) xs ys)
-      ≡ one_more (own-step v a s re fi) (out (listed n) d p xs)
+  pub one-done : out (record { number = q.number; finished = q.finished; pieces = n + q.pieces }) (held e g) (put_mid (piece-size * n) (length xs - piece-size * n) xs ys)
+      ≡ one_more (own-step v a s re fi) (out (listed n) (held d p) xs)
   unfolding one_more
   one-done =
       rw (back-after xs (piece-size * n) h ys)
-      (ap (λ (o : StepOut). out (record { number = o.answer.number; finished = o.answer.finished; pieces = n + o.answer.pieces }) o.depth o.painting (take (piece-size * n) xs ++ o.list)) same)
+      (ap (λ (o : StepOut). out (record { number = o.answer.number; finished = o.answer.finished; pieces = n + o.answer.pieces }) o.canvas (take (piece-size * n) xs ++ o.list)) same)
 
   pub one-few : piece-size * (n + q.pieces) ≤ length xs
   one-few =
-      let i : q.pieces ≡ (own-step v a s re fi d p (drop (piece-size * n) xs)).answer.pieces = ap (λ (o : StepOut). o.answer.pieces) same in
-      let j : piece-size * q.pieces ≤ length (drop (piece-size * n) xs) = rw i (row-few v a (lent s re fi d p (drop (piece-size * n) xs))) in
+      let i : q.pieces ≡ (own-step v a s re fi (held d p) (drop (piece-size * n) xs)).answer.pieces = ap (λ (o : StepOut). o.answer.pieces) same in
+      let j : piece-size * q.pieces ≤ length (drop (piece-size * n) xs) = rw i (row-few v a (lent s re fi (held d p) (drop (piece-size * n) xs))) in
       omega (arith, j, length-drop (piece-size * n) xs)
 
 -- the steps of a row, from the first to the last
-module _ (step : List ℕ → List ℕ → List ℕ → StepOut) where
+module _ (step : CanvasWords → List ℕ → StepOut) where
   less_one : (n : ℕ) → suc n - 1 ≡ n
   less_one n = omega arith
 
@@ -87,8 +87,8 @@ module _ (step : List ℕ → List ℕ → List ℕ → StepOut) where
     no-and true = refl
     no-and false = refl
 
-    module _ {start now : StepOut} {k : ℕ} (z : Rest start now k) (h : k < limit) (q : Painted) (d p l : List ℕ) (e : out q d p l ≡ one_more step now) where
-      halted : goes_on q ≡ false → ended k (out q d p l) ≡ run step limit 0 start
+    module _ {start now : StepOut} {k : ℕ} (z : Rest start now k) (h : k < limit) (q : Painted) (d p l : List ℕ) (e : out q (held d p) l ≡ one_more step now) where
+      halted : goes_on q ≡ false → ended k (out q (held d p) l) ≡ run step limit 0 start
       halted g =
           let i : goes_on (one_more step now).answer ≡ false = ap (λ (o : StepOut). goes_on o.answer) (sym e) ∙ g in
           ap (ended k) e ∙ sym (stops (limit - k) k now (omega arith) i) ∙ z.whole
@@ -97,31 +97,31 @@ module _ (step : List ℕ → List ℕ → List ℕ → StepOut) where
       stuck g = rw (ne_eqb q.number 0 g)
 
       -- the first step is refused, ..
-      pub rest-refused : (q.number ≡ 0 → ⊥) → k ≡ 0 → out q d p l ≡ run step limit 0 start
+      pub rest-refused : (q.number ≡ 0 → ⊥) → k ≡ 0 → out q (held d p) l ≡ run step limit 0 start
       rest-refused g i = (rw (eq-eqb k 0 i) at (halted (stuck g)))
 
       -- .. or a later one, ..
       pub rest-stopped : (q.number ≡ 0 → ⊥) → (k ≡ 0 → ⊥) → (b : Bool) → q.finished ≡ b
-          → out (record { number = 0; finished = b; pieces = q.pieces }) d p l ≡ run step limit 0 start
+          → out (record { number = 0; finished = b; pieces = q.pieces }) (held d p) l ≡ run step limit 0 start
       rest-stopped g i b j = (rw (ne_eqb k 0 i, j) at (halted (stuck g)))
 
       -- .. or the row is finished, ..
-      pub rest-finished : q.number ≡ 0 → q.finished ≡ true → out q d p l ≡ run step limit 0 start
+      pub rest-finished : q.number ≡ 0 → q.finished ≡ true → out q (held d p) l ≡ run step limit 0 start
       rest-finished m g = go (eqb k 0) refl
         where
           stop : goes_on q ≡ false
           stop = rw g (no-and (eqb q.number 0))
 
-          go : (b : Bool) → eqb k 0 ≡ b → out q d p l ≡ run step limit 0 start
+          go : (b : Bool) → eqb k 0 ≡ b → out q (held d p) l ≡ run step limit 0 start
           go true i = (rw i at (halted stop))
           go false i = rw m (rw i at (halted stop))
 
       -- .. or it goes on
-      pub rest-on : q.number ≡ 0 → q.finished ≡ false → Rest start (out (listed q.pieces) d p l) (k + 1)
+      pub rest-on : q.number ≡ 0 → q.finished ≡ false → Rest start (out (listed q.pieces) (held d p) l) (k + 1)
       rest-on m g =
           let j : limit - k - 1 ≡ limit - (k + 1) = omega arith in
           let i : goes_on (one_more step now).answer ≡ true = ap (λ (o : StepOut). goes_on o.answer) (sym e) ∙ rw (eq-eqb q.number 0 m, g) in
-          let same : out (listed q.pieces) d p l ≡ one_more step now = rw (← m, ← g) e in
+          let same : out (listed q.pieces) (held d p) l ≡ one_more step now = rw (← m, ← g) e in
           record { few = omega arith; whole = rw (same, ← j) (sym (more (limit - k) k now (omega arith) i) ∙ z.whole) }
 
     pub rest_end : {start now : StepOut} {k : ℕ} → Rest start now k → limit ≤ k → now ≡ run step limit 0 start

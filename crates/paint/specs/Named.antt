@@ -17,7 +17,7 @@ use Rattle.paint.specs.declared.command.reading.Row.{Row}
 use Rattle.paint.specs.declared.command.marks.Mark.{Mark}
 use Rattle.rules.specs.Spans.{Span}
 use Rattle.paint.specs.Summaries.{summary-at, shown_runs}
-use Rattle.paint.specs.Painting.{word, attrs-at, painter-at, fill-shown, RowLent, lent, StepOut, out}
+use Rattle.paint.specs.Painting.{word, attrs-at, painter-at, fill-shown, CanvasWords, held, RowLent, lent, StepOut, out}
 use Rattle.paint.specs.Stepping.{Attributes, attributes, StepReady}
 use Rattle.paint.specs.Judging.{wide}
 
@@ -32,19 +32,22 @@ pub record SameCanvas (a b : Canvas) : Type 0 where
   pub depth-long : length b.depth.now ≡ length a.depth.now
   pub painting-long : length b.painting.now ≡ length a.painting.now
 
--- a screen with a canvas' words; an answer with those and the list
+-- a canvas' words, with a screen, and with an answer and the list
+abbrev pub held_in : Canvas → CanvasWords
+held_in c = held c.depth.now c.painting.now
+
 abbrev pub begun_of : Screen → Canvas → begin.Canvas
 begun_of s c = begin.canvas s c.depth.now c.painting.now
 
 abbrev pub step_out : Painted → Canvas → List ℕ → StepOut
-step_out a c l = out a c.depth.now c.painting.now l
+step_out a c l = out a (held_in c) l
 
--- the stored words, with the depth words, painting's words and the list; with a canvas' words
-abbrev pub words_lent : Stored → List ℕ → List ℕ → List ℕ → RowLent
-words_lent s d p l = lent s.rows.now s.render.now s.fills.now d p l
+-- the stored words, with a canvas' words and the list
+abbrev pub words_lent : Stored → CanvasWords → List ℕ → RowLent
+words_lent s k l = lent s.rows.now s.render.now s.fills.now k l
 
 abbrev pub row_lent : Stored → Canvas → List ℕ → RowLent
-row_lent s c l = words_lent s c.depth.now c.painting.now l
+row_lent s c l = words_lent s (held_in c) l
 
 -- the tables of attributes; those of them that are in use
 abbrev pub row_attrs : Stored → Attributes
@@ -54,8 +57,8 @@ abbrev pub used_attrs : Screen → Stored → Attrs
 used_attrs c s = attrs-at s.paint_attrs.now c.paint_attrs s.layer_attrs.now c.layer_attrs
 
 -- the parts of row r lie within the words that are lent, and the tables are whole
-abbrev pub RowReady : Screen → ℕ → Stored → List ℕ → List ℕ → List ℕ → Type 0
-RowReady c r s d p l = StepReady (wide c) c.c c.d c.paint_attrs c.layer_attrs r (row_attrs s) (words_lent s d p l)
+abbrev pub RowReady : Screen → ℕ → Stored → CanvasWords → List ℕ → Type 0
+RowReady c r s k l = StepReady (wide c) c.c c.d c.paint_attrs c.layer_attrs r (row_attrs s) (words_lent s k l)
 
 -- the runs of tiles that a row shows for an id
 abbrev pub shown_in : Row → Canvas → ℕ → Span → List Span
@@ -70,4 +73,4 @@ depth_painted v f m c =
 
 abbrev pub fill_painted : Row → Bool → Fill → Mark → Canvas → rules.Painted
 fill_painted r l f m c =
-    fill-shown (bucket-tiles r.width) no-attrs (summary-at r.state.now) l m.id f.attrs_idx m.panel (tiles f.span) f.alpha (painter-at c.depth.now c.painting.now)
+    fill-shown (bucket-tiles r.width) no-attrs (summary-at r.state.now) l m.id f.attrs_idx m.panel (tiles f.span) f.alpha (painter-at (held_in c))

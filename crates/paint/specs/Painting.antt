@@ -39,31 +39,37 @@ unfoldable pub attrs-at : List ℕ → ℕ → List ℕ → ℕ → Attrs
 attrs-at ps paints ls layers =
     record { paints = map (paint-at ps) (count-from 0 paints); layers = map (layer-at ls) (count-from 0 layers); filters = [] }
 
--- The words that a step is lent: the row's record, commands and depth fills, its depth words, where its painting stands, the result list.
+-- The words that are written while painting: depth words, and where painting stands.
+pub record CanvasWords : Type 0 where
+  pub depth : List ℕ
+  pub painting : List ℕ
+
+abbrev pub held : List ℕ → List ℕ → CanvasWords
+held d p = record { depth = d; painting = p }
+
+-- The words that a step is lent: the row's record, commands and depth fills, its canvas, the result list.
 pub record RowLent : Type 0 where
   pub state : List ℕ
   pub render : List ℕ
   pub fills : List ℕ
-  pub depth : List ℕ
-  pub painting : List ℕ
+  pub canvas : CanvasWords
   pub list : List ℕ
 
-abbrev pub lent : List ℕ → List ℕ → List ℕ → List ℕ → List ℕ → List ℕ → RowLent
-lent s r f d p l = record { state = s; render = r; fills = f; depth = d; painting = p; list = l }
+abbrev pub lent : List ℕ → List ℕ → List ℕ → CanvasWords → List ℕ → RowLent
+lent s r f k l = record { state = s; render = r; fills = f; canvas = k; list = l }
 
 -- What it gives: its answer, and the words that it may change.
 pub record StepOut : Type 0 where
   pub answer : Painted
-  pub depth : List ℕ
-  pub painting : List ℕ
+  pub canvas : CanvasWords
   pub list : List ℕ
 
-abbrev pub out : Painted → List ℕ → List ℕ → List ℕ → StepOut
-out r d p l = record { answer = r; depth = d; painting = p; list = l }
+abbrev pub out : Painted → CanvasWords → List ℕ → StepOut
+out r k l = record { answer = r; canvas = k; list = l }
 
 -- where the painting of the row stands
-abbrev pub painter-at : List ℕ → List ℕ → Painter
-painter-at d p = record { buckets = d; steps = word p 0; nesting = word p 1 }
+abbrev pub painter-at : CanvasWords → Painter
+painter-at k = record { buckets = k.depth; steps = word k.painting 0; nesting = word k.painting 1 }
 
 -- Judging. An id that a draw can have taken.
 abbrev pub good-id : ℕ → Bool
@@ -123,8 +129,8 @@ abbrev pub bad-row : RowLent → Bool
 bad-row w =
     ltb (length w.render) (4 * word w.state 0)
     || ltb (length w.fills) (2 * word w.state 1)
-    || ltb most-layers (word w.painting 1)
-    || ltb (word w.state 1 + word w.state 0) (word w.painting 0)
+    || ltb most-layers (word w.canvas.painting 1)
+    || ltb (word w.state 1 + word w.state 0) (word w.canvas.painting 0)
     || not (good-summary w.state)
 
 -- depth fills last to first, then commands in order, then finished
@@ -132,9 +138,9 @@ unfoldable pub next-step : ℕ → Attrs → RowLent → Option rules.Painted
 next-step v attrs w =
     let renders = word w.state 0 in
     let depths = word w.state 1 in
-    let p = painter-at w.depth w.painting in
+    let p = painter-at w.canvas in
     cond (bad-row w) None
-    (cond (ltb p.steps depths) (depth-step v attrs p (depth-fill-at (length w.depth) w.fills (depths - (p.steps + 1))))
+    (cond (ltb p.steps depths) (depth-step v attrs p (depth-fill-at (length w.canvas.depth) w.fills (depths - (p.steps + 1))))
     (cond (ltb (p.steps - depths) renders) (command-step v attrs (summary-at w.state) p (command-at w.render (p.steps - depths)))
     (Some (record { finished = true; pieces = []; painter = p }))))
 
@@ -142,13 +148,12 @@ next-step v attrs w =
 abbrev pub left : rules.Painted → List ℕ → StepOut
 left o l =
     out (record { number = Done; finished = o.finished; pieces = length o.pieces })
-    o.painter.buckets
-    (o.painter.steps ∷ o.painter.nesting ∷ [])
+    (held o.painter.buckets (o.painter.steps ∷ o.painter.nesting ∷ []))
     (laid o.pieces l)
 
-unfoldable pub settled : Option rules.Painted → List ℕ → List ℕ → List ℕ → StepOut
-settled None d p l = out (refused BadRecord) d p l
-settled (Some o) d p l = cond (ltb (length l / piece-size) (length o.pieces)) (out (refused NoRoom) d p l) (left o l)
+unfoldable pub settled : Option rules.Painted → CanvasWords → List ℕ → StepOut
+settled None k l = out (refused BadRecord) k l
+settled (Some o) k l = cond (ltb (length l / piece-size) (length o.pieces)) (out (refused NoRoom) k l) (left o l)
 
 unfoldable pub painted-row : ℕ → Attrs → RowLent → StepOut
-painted-row v attrs w = settled (next-step v attrs w) w.depth w.painting w.list
+painted-row v attrs w = settled (next-step v attrs w) w.canvas w.list

@@ -7,7 +7,7 @@ use Rattle.sizes.specs.Widths.{bucket-tiles}
 use Rattle.paint.specs.Summaries.{summary-at}
 use Rattle.paint.specs.declared.command.reading.Row.{Row}
 use Rattle.paint.specs.declared.command.marks.Mark.{Mark}
-use Rattle.paint.specs.Painting.{word, lent, StepOut, painter-at, depth-step, command-step, depth-fill-at, settled}
+use Rattle.paint.specs.Painting.{word, CanvasWords, lent, StepOut, painter-at, depth-step, command-step, depth-fill-at, settled}
 use Rattle.paint.specs.Reading.{attrs_of, paint_mark, layer_mark}
 use Rattle.paint.specs.Running.{own-step, own-run}
 use Rattle.rules.specs.Commands.{Command}
@@ -22,21 +22,21 @@ use Rattle.paint.specs.declared.whole.reading.FillLook.TheVariants as fill
 use Rattle.paint.specs.declared.whole.reading.Look.{Look}
 use Rattle.paint.specs.declared.whole.reading.Look.TheVariants as look
 
-abbrev pub steps_of : Row → List ℕ → List ℕ → List ℕ → StepOut
+abbrev pub steps_of : Row → CanvasWords → List ℕ → StepOut
 steps_of r = own-step (bucket-tiles r.width) (attrs_of r.attrs) r.state.now r.render.now r.fills.now
 
 -- the step of the depth fill at place k, and of a command
-abbrev pub depth_step_of : Row → ℕ → List ℕ → List ℕ → List ℕ → StepOut
-depth_step_of r k d p l =
-    settled (depth-step (bucket-tiles r.width) (attrs_of r.attrs) (painter-at d p) (depth-fill-at (length d) r.fills.now k)) d p l
+abbrev pub depth_step_of : Row → ℕ → CanvasWords → List ℕ → StepOut
+depth_step_of r i k l =
+    settled (depth-step (bucket-tiles r.width) (attrs_of r.attrs) (painter-at k) (depth-fill-at (length k.depth) r.fills.now i)) k l
 
-abbrev pub command_step_of : Row → Command → List ℕ → List ℕ → List ℕ → StepOut
-command_step_of r c d p l =
-    settled (command-step (bucket-tiles r.width) (attrs_of r.attrs) (summary-at r.state.now) (painter-at d p) (Some c)) d p l
+abbrev pub command_step_of : Row → Command → CanvasWords → List ℕ → StepOut
+command_step_of r c k l =
+    settled (command-step (bucket-tiles r.width) (attrs_of r.attrs) (summary-at r.state.now) (painter-at k) (Some c)) k l
 
 -- at most f steps
-abbrev pub run_of : Row → ℕ → List ℕ → List ℕ → List ℕ → StepOut
-run_of r f d p l = own-run (bucket-tiles r.width) f (attrs_of r.attrs) (lent r.state.now r.render.now r.fills.now d p l)
+abbrev pub run_of : Row → ℕ → CanvasWords → List ℕ → StepOut
+run_of r f k l = own-run (bucket-tiles r.width) f (attrs_of r.attrs) (lent r.state.now r.render.now r.fills.now k l)
 
 -- the counts of its record have room, and its summary is in order
 abbrev pub CalmRow : Row → Type 0

@@ -8,7 +8,7 @@ use Rattle.sizes.specs.declared.answers.Refusal.{Refusal}
 use Rattle.sizes.specs.Refusals.{number_of}
 use Rattle.paint.specs.declared.pieces.Stepped.{Stepped}
 use Rattle.paint.specs.Answers.{Painted}
-use Rattle.paint.specs.Painting.{RowLent, lent, StepOut, out, listed, painted-row}
+use Rattle.paint.specs.Painting.{CanvasWords, RowLent, lent, StepOut, out, listed, painted-row}
 use Rattle.paint.specs.Stepping.{Attributes, own-parts, put-parts, stepped}
 
 -- a step's answer after n pieces, which stay if it is refused
@@ -23,18 +23,17 @@ goes_on a = eqb a.number Done && not a.finished
 -- the answer after k steps that were done: a refusal is the call's own only where it is the first step's
 abbrev pub ended : ℕ → StepOut → StepOut
 ended k o =
-    out (record { number = cond (eqb k 0) o.answer.number Done; finished = o.answer.finished; pieces = o.answer.pieces }) o.depth
-    o.painting
+    out (record { number = cond (eqb k 0) o.answer.number Done; finished = o.answer.finished; pieces = o.answer.pieces }) o.canvas
     o.list
 
 -- what a step gives of the depth words, the painting words and a list
-module _ (step : List ℕ → List ℕ → List ℕ → StepOut) where
+module _ (step : CanvasWords → List ℕ → StepOut) where
   -- one step more, on what is left of the list: its pieces stand after those so far
   unfoldable pub one_more : StepOut → StepOut
   one_more g =
       let n = g.answer.pieces in
-      let o = step g.depth g.painting (drop (piece-size * n) g.list) in
-      out (record { number = o.answer.number; finished = o.answer.finished; pieces = n + o.answer.pieces }) o.depth o.painting
+      let o = step g.canvas (drop (piece-size * n) g.list) in
+      out (record { number = o.answer.number; finished = o.answer.finished; pieces = n + o.answer.pieces }) o.canvas
       (take (piece-size * n) g.list ++ o.list)
 
   -- at most f steps more, after k, until one is refused or says finished
@@ -49,25 +48,25 @@ abbrev pub most : ℕ
 most = 2049
 
 -- before the first step
-abbrev pub standing : List ℕ → List ℕ → List ℕ → StepOut
-standing d p l = out (listed 0) d p l
+abbrev pub standing : CanvasWords → List ℕ → StepOut
+standing k l = out (listed 0) k l
 
 -- the steps of one row's own words, at v tiles a bucket
-abbrev pub own-step : ℕ → Attrs → List ℕ → List ℕ → List ℕ → List ℕ → List ℕ → List ℕ → StepOut
-own-step v a s re fi d p l = painted-row v a (lent s re fi d p l)
+abbrev pub own-step : ℕ → Attrs → List ℕ → List ℕ → List ℕ → CanvasWords → List ℕ → StepOut
+own-step v a s re fi k l = painted-row v a (lent s re fi k l)
 
 -- at most f of them
 unfoldable pub own-run : ℕ → ℕ → Attrs → RowLent → StepOut
-own-run v f a w = run (own-step v a w.state w.render w.fills) f 0 (standing w.depth w.painting w.list)
+own-run v f a w = run (own-step v a w.state w.render w.fills) f 0 (standing w.canvas w.list)
 
 -- .. of row r of rows of b depth words, with room for c commands and d depth fills, each part in its place
 unfoldable pub row-run : ℕ → ℕ → Attrs → ℕ → ℕ → ℕ → ℕ → RowLent → StepOut
 row-run v f a b c d r l = put-parts b r l (own-run v f a (own-parts b c d r l))
 
 -- calls of a painting step of row r of a screen
-abbrev pub call_step : Screen → ℕ → Attributes → List ℕ → List ℕ → List ℕ → List ℕ → List ℕ → List ℕ → StepOut
-call_step s r a rs re fi d p l = stepped s r a (lent rs re fi d p l)
+abbrev pub call_step : Screen → ℕ → Attributes → List ℕ → List ℕ → List ℕ → CanvasWords → List ℕ → StepOut
+call_step s r a rs re fi k l = stepped s r a (lent rs re fi k l)
 
 unfoldable pub row-painted : Screen → ℕ → Attributes → RowLent → StepOut
 row-painted s r a l =
-    run (call_step s r a l.state l.render l.fills) most 0 (standing l.depth l.painting l.list)
+    run (call_step s r a l.state l.render l.fills) most 0 (standing l.canvas l.list)

@@ -5,7 +5,7 @@ use Rattle.sizes.specs.Sizes.{most-room, most-attrs, row-size, paint-attr-table,
 use Rattle.sizes.specs.Widths.{bucket-tiles}
 use Rattle.rules.specs.Answers.{Done}
 use Rattle.screen.specs.declared.Screen.{Screen}
-use Rattle.paint.specs.Painting.{attrs-at, RowLent, lent, StepOut, out, refused, painted-row}
+use Rattle.paint.specs.Painting.{attrs-at, held, RowLent, lent, StepOut, out, refused, painted-row}
 use Rattle.paint.specs.Judging.{wide, arenas-long, tables-long, step_number}
 
 -- row r's own part, k words a row, and the words with another part there
@@ -32,11 +32,11 @@ attributes ps ls = record { paints = ps; layers = ls }
 -- rows of b depth words, with room for c commands and d depth fills: the words of row r, and the whole list
 abbrev pub own-parts : ℕ → ℕ → ℕ → ℕ → RowLent → RowLent
 own-parts b c d r l =
-    lent (part row-size r l.state) (part (4 * c) r l.render) (part (2 * d) r l.fills) (part b r l.depth) (part 2 r l.painting) l.list
+    lent (part row-size r l.state) (part (4 * c) r l.render) (part (2 * d) r l.fills) (held (part b r l.canvas.depth) (part 2 r l.canvas.painting)) l.list
 
 -- .. and what its step leaves, in its place
 abbrev pub put-parts : ℕ → ℕ → RowLent → StepOut → StepOut
-put-parts b r l o = out o.answer (with_part b r l.depth o.depth) (with_part 2 r l.painting o.painting) o.list
+put-parts b r l o = out o.answer (held (with_part b r l.canvas.depth o.canvas.depth) (with_part 2 r l.canvas.painting o.canvas.painting)) o.list
 
 -- .. on a screen
 abbrev pub own : Screen → ℕ → RowLent → RowLent
@@ -47,16 +47,16 @@ in_place s r l o = put-parts (wide s) r l o
 
 abbrev pub number : Screen → ℕ → Attributes → RowLent → ℕ
 number s r a l =
-    step_number s r (arenas-long s (length l.render) (length l.fills) (length l.depth))
-    (tables-long s (length l.state) (length l.painting) (length a.paints) (length a.layers))
+    step_number s r (arenas-long s (length l.render) (length l.fills) (length l.canvas.depth))
+    (tables-long s (length l.state) (length l.canvas.painting) (length a.paints) (length a.layers))
 
 -- what a step of row r of such rows needs, with p paints and m layers in the tables; a call that is judged 0 has it
 pub record StepReady (b c d p m r : ℕ) (a : Attributes) (l : RowLent) : Type 0 where
   pub state : Within row-size r l.state
   pub render : Within (4 * c) r l.render
   pub fills : Within (2 * d) r l.fills
-  pub depth : Within b r l.depth
-  pub painting : Within 2 r l.painting
+  pub depth : Within b r l.canvas.depth
+  pub painting : Within 2 r l.canvas.painting
   pub few-commands : c ≤ most-room
   pub few-fills : d ≤ most-room
   pub paint-table : length a.paints ≡ paint-attr-table
@@ -73,4 +73,4 @@ unfoldable pub stepped : Screen → ℕ → Attributes → RowLent → StepOut
 stepped s r a l =
     let n = number s r a l in
     let o = row_step s r a l in
-    cond (eqb n Done) o (out (refused n) l.depth l.painting l.list)
+    cond (eqb n Done) o (out (refused n) l.canvas l.list)

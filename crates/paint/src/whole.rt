@@ -3,7 +3,7 @@
 ghost use Rattle.std.specs.Prelude.{◌≡◌, ◌≤◌};
 ghost use Rattle.sizes.specs.Widths.{bucket-tiles};
 ghost use Rattle.paint.specs.Answers.{painted_of};
-ghost use Rattle.paint.specs.Painting.{out};
+ghost use Rattle.paint.specs.Painting.{held, out};
 ghost use Rattle.paint.specs.Judging.{wide};
 ghost use Rattle.paint.specs.Stepping.{stepped};
 ghost use Rattle.paint.specs.Named.{SameCanvas, step_out, RowReady, words_lent, row_lent, row_attrs, used_attrs};
@@ -38,10 +38,10 @@ fn row_part(
     limit: usize,
 ) -> Result<Stepped, Refusal>
     requires limit { limit ≤ most }
-    requires ready { RowReady screen row stored.now depth.old painting.old list.old }
-    ensures { out (painted_of result) depth.new painting.new list.new
+    requires ready { RowReady screen row stored.now (held depth.old painting.old) list.old }
+    ensures { out (painted_of result) (held depth.new painting.new) list.new
         ≡ row-run (bucket-tiles screen.width) limit (used_attrs screen stored.now) (wide screen) screen.c screen.d row
-        (words_lent stored.now depth.old painting.old list.old) }
+        (words_lent stored.now (held depth.old painting.old) list.old) }
 {
     let b = screen.buckets();
     let u = row * b;

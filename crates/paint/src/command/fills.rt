@@ -7,7 +7,7 @@ ghost use Rattle.span.specs.Spans.{tiles, buckets, Moves};
 ghost use Rattle.sizes.specs.Widths.{bucket-tiles};
 ghost use Rattle.paint.specs.Answers.{painted_of};
 ghost use Rattle.paint.specs.Painting.{settled};
-ghost use Rattle.paint.specs.Named.{CanStep, SameCanvas, shown_in, step_out, depth_painted, fill_painted};
+ghost use Rattle.paint.specs.Named.{CanStep, SameCanvas, held_in, shown_in, step_out, depth_painted, fill_painted};
 
 use crate::canvas::stored::Canvas;
 use crate::command::marks::Mark;
@@ -34,7 +34,7 @@ pub fn paint_depth(
     requires painting { CanStep canvas.old.painting.now }
     ensures same { SameCanvas canvas.old canvas.new }
     ensures painted { step_out (painted_of result) canvas.new list.new
-        ≡ settled (Some (depth_painted (bucket-tiles width) fill mark canvas.old)) canvas.old.depth.now canvas.old.painting.now list.old }
+        ≡ settled (Some (depth_painted (bucket-tiles width) fill mark canvas.old)) (held_in canvas.old) list.old }
 {
     let room = list.len() / PIECE;
     let n = unset_runs_and_write(canvas.depth, fill.buckets, mark.id, &mut list[..2 * room])?;
@@ -88,7 +88,7 @@ pub fn paint_fill(
     requires painting { CanStep canvas.old.painting.now }
     ensures same { SameCanvas canvas.old canvas.new }
     ensures painted { step_out (painted_of result) canvas.new list.new
-        ≡ settled (Some (fill_painted row.now layer fill mark canvas.old)) canvas.old.depth.now canvas.old.painting.now list.old }
+        ≡ settled (Some (fill_painted row.now layer fill mark canvas.old)) (held_in canvas.old) list.old }
 {
     let room = list.len() / PIECE;
     let n = fill_runs(row, canvas, fill.span, mark.id, &mut list[..2 * room])?;

@@ -3,8 +3,8 @@ ghost use Rattle.std.specs.Prelude.{◌≡◌, [], ◌+◌, ◌*◌, ◌≤◌, 
 ghost use Rattle.cmd.specs.Commands.{command};
 ghost use Rattle.cmd.specs.Good.{GoodCommand};
 ghost use Rattle.paint.specs.Answers.{painted_of};
-ghost use Rattle.paint.specs.Painting.{lent, bad-row};
-ghost use Rattle.paint.specs.Named.{CanStep, SameCanvas, step_out};
+ghost use Rattle.paint.specs.Painting.{held, lent, bad-row};
+ghost use Rattle.paint.specs.Named.{CanStep, SameCanvas, held_in, step_out};
 ghost use Rattle.paint.specs.Rows.{steps_of, depth_step_of, command_step_of};
 
 use crate::canvas::stored::Canvas;
@@ -20,7 +20,7 @@ use sizes::{DEPTHS, MOST_LAYERS, RENDERS};
 // Whether the words are no row's: counts above the room, a nesting above 16, more steps than there are, a summary out of bounds (answer 4).
 fn is_forged(row: &Row<'_>, canvas: &Canvas<'_>) -> bool
     requires { length canvas.now.painting.now ≡ 2 }
-    ensures { result ≡ bad-row (lent row.now.state.now row.now.render.now row.now.fills.now [] canvas.now.painting.now []) }
+    ensures { result ≡ bad-row (lent row.now.state.now row.now.render.now row.now.fills.now (held [] canvas.now.painting.now) []) }
 {
     let renders = row.state[RENDERS];
     let depths = row.state[DEPTHS];
@@ -42,7 +42,7 @@ fn step_depth(
     requires depth_len { length canvas.old.depth.now ≤ 65535 }
     requires painting { CanStep canvas.old.painting.now }
     ensures same { SameCanvas canvas.old canvas.new }
-    ensures step { step_out (painted_of result) canvas.new list.new ≡ depth_step_of row.now k canvas.old.depth.now canvas.old.painting.now list.old }
+    ensures step { step_out (painted_of result) canvas.new list.new ≡ depth_step_of row.now k (held_in canvas.old) list.old }
 {
     let words = DepthWords::at(row.fills, k);
     let fill = words
@@ -65,7 +65,7 @@ fn step_command(
     requires painting { CanStep canvas.old.painting.now }
     ensures same { SameCanvas canvas.old canvas.new }
     ensures step { step_out (painted_of result) canvas.new list.new
-        ≡ command_step_of row.now (command cmd) canvas.old.depth.now canvas.old.painting.now list.old }
+        ≡ command_step_of row.now (command cmd) (held_in canvas.old) list.old }
 {
     match cmd {
         RenderCmd::PaintFill(fill) => {
@@ -102,7 +102,7 @@ pub fn step_row(
     requires depth_len { length canvas.old.depth.now ≤ 65535 }
     requires painting_len { length canvas.old.painting.now ≡ 2 }
     ensures same { SameCanvas canvas.old canvas.new }
-    ensures step { step_out (painted_of result) canvas.new list.new ≡ steps_of row.now canvas.old.depth.now canvas.old.painting.now list.old }
+    ensures step { step_out (painted_of result) canvas.new list.new ≡ steps_of row.now (held_in canvas.old) list.old }
 {
     if is_forged(row, canvas) {
         return Err(Refusal::BadRecord);

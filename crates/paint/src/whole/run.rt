@@ -2,8 +2,8 @@
 ghost use Rattle.std.specs.Prelude.{◌≡◌, ◌*◌, ◌≤◌, length};
 ghost use Rattle.sizes.specs.Sizes.{piece-size};
 ghost use Rattle.paint.specs.Answers.{painted_of};
-ghost use Rattle.paint.specs.Painting.{out, listed};
-ghost use Rattle.paint.specs.Named.{SameCanvas, step_out};
+ghost use Rattle.paint.specs.Painting.{held, out, listed};
+ghost use Rattle.paint.specs.Named.{SameCanvas, held_in, step_out};
 ghost use Rattle.paint.specs.Running.{most, onto, one_more};
 ghost use Rattle.paint.specs.Rows.{steps_of, run_of};
 
@@ -47,7 +47,7 @@ pub fn run_row(
     requires lens { (length canvas.old.depth.now ≤ 65535) × (length canvas.old.painting.now ≡ 2) }
     requires limit { limit ≤ most }
     ensures same { SameCanvas canvas.old canvas.new }
-    ensures run { step_out (painted_of result) canvas.new list.new ≡ run_of row.now limit canvas.old.depth.now canvas.old.painting.now list.old }
+    ensures run { step_out (painted_of result) canvas.new list.new ≡ run_of row.now limit (held_in canvas.old) list.old }
 {
     let mut pieces: usize = 0;
     let mut steps: usize = 0;
@@ -95,7 +95,7 @@ pub fn run_parts(
 ) -> Result<Stepped, Refusal>
     requires lens { (length depth.old ≤ 65535) × (length painting.old ≡ 2) }
     requires limit { limit ≤ most }
-    ensures { out (painted_of result) depth.new painting.new list.new ≡ run_of row.now limit depth.old painting.old list.old }
+    ensures { out (painted_of result) (held depth.new painting.new) list.new ≡ run_of row.now limit (held depth.old painting.old) list.old }
 {
     let mut canvas = Canvas { depth, painting };
     run_row(row, &mut canvas, list, limit)

@@ -1,6 +1,6 @@
 -- Row r's parts are cut out of the slices and handed on; what the steps make of them is put back, and every other row stays.
 use Rattle.std.proofs.Common.{ap, ◌∙◌, arith, length}
-use Rattle.paint.specs.Painting.{lent}
+use Rattle.paint.specs.Painting.{held, lent}
 use Rattle.paint.proofs.WholeParts.{part-of-length, run-back}
 use Rattle.paint.proofs.whole.row_part.Goals as goal
 
@@ -16,5 +16,5 @@ invariant_of-read-2 c =
 pub returns : goal.returns
 returns c =
     let a = c.args in
-    let l = lent a.stored.now.rows.now a.stored.now.render.now a.stored.now.fills.now a.depth.now a.painting.now a.list.now in
+    let l = lent a.stored.now.rows.now a.stored.now.render.now a.stored.now.fills.now (held a.depth.now a.painting.now) a.list.now in
     rw c.buckets-b.ensures (run-back _ _ _ _ _ _ _ l _ _ _ _ (rw (c.part.ensures, c.part-2.ensures, c.part-3.ensures, c.buckets-b.ensures) at c.run_parts.ensures))

@@ -11,7 +11,7 @@ use Rattle.paint.proofs.whole.run.run_row.Given as goal
 
 abbrev pub invariant-loop-steps : goal.invariant-loop-steps
 invariant-loop-steps l = record {
-  rest : Rest (steps_of l.row) l.limit (standing l.initial.canvas.depth.now l.initial.canvas.painting.now l.initial.list) (step_out (listed l.pieces) l.canvas l.list) l.steps;
+  rest : Rest (steps_of l.row) l.limit (standing (held_in l.initial.canvas) l.initial.list) (step_out (listed l.pieces) l.canvas l.list) l.steps;
   same : SameCanvas l.initial.canvas l.canvas;
   few : piece-size * l.pieces ≤ length l.list;
   none : l.steps ≡ 0 → l.pieces ≡ 0;

@@ -82,16 +82,16 @@ long-next v a w = go (bad-row w) (ltb p.steps (word w.state 1)) (ltb (p.steps - 
 abbrev SameLong : StepOut → List ℕ → Type 0
 SameLong o d = (length o.canvas.depth ≡ length d) × (length o.canvas.painting ≡ 2)
 
-settled-long : (o : Option rules.Painted) (d p l : List ℕ) → length p ≡ 2 → Long (length d) o → SameLong (settled o (held d p) l) d
+settled-long : (o : Option rules.Painted) (k : CanvasWords) (l : List ℕ) → length k.painting ≡ 2 → Long (length k.depth) o → SameLong (settled o k l) k.depth
 unfolding settled
-settled-long None d p l e h = (refl, e)
-settled-long (Some o) d p l e h = go (ltb (length l / piece-size) (length o.pieces))
+settled-long None k l e h = (refl, e)
+settled-long (Some o) k l e h = go (ltb (length l / piece-size) (length o.pieces))
   where
-    go : (t : Bool) → SameLong (cond t (out (refused 14) (held d p) l) (left o l)) d
+    go : (t : Bool) → SameLong (cond t (out (refused 14) k l) (left o l)) k.depth
     go true = (refl, e)
     go false = (h, refl)
 
 pub same-lengths : (v : ℕ) (a : Attrs) (w : RowLent) → length w.canvas.painting ≡ 2
     → (length (painted-row v a w).canvas.depth ≡ length w.canvas.depth) × (length (painted-row v a w).canvas.painting ≡ 2)
 unfolding painted-row
-same-lengths v a w e = settled-long (next-step v a w) w.canvas.depth w.canvas.painting w.list e (long-next v a w)
+same-lengths v a w e = settled-long (next-step v a w) w.canvas w.list e (long-next v a w)

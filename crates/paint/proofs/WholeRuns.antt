@@ -12,18 +12,18 @@ use Rattle.paint.specs.Running.{goes_on, ended, one_more, run, own-step}
 use Rattle.paint.specs.Kinds.{Onward}
 
 -- a step's pieces have room in its list
-settled-few : (x : Option rules.Painted) (d p l : List ℕ) → piece-size * (settled x (held d p) l).answer.pieces ≤ length l
+settled-few : (x : Option rules.Painted) (k : CanvasWords) (l : List ℕ) → piece-size * (settled x k l).answer.pieces ≤ length l
 unfolding settled
-settled-few None d p l = omega arith
-settled-few (Some o) d p l = go (ltb (length l / piece-size) (length o.pieces)) refl
+settled-few None k l = omega arith
+settled-few (Some o) k l = go (ltb (length l / piece-size) (length o.pieces)) refl
   where
-    go : (b : Bool) → ltb (length l / piece-size) (length o.pieces) ≡ b → piece-size * (settled (Some o) (held d p) l).answer.pieces ≤ length l
+    go : (b : Bool) → ltb (length l / piece-size) (length o.pieces) ≡ b → piece-size * (settled (Some o) k l).answer.pieces ≤ length l
     go true e = rw e (omega arith)
     go false e = rw e (omega (arith, ltb-false (length l / piece-size) (length o.pieces) e))
 
 row-few : (v : ℕ) (a : Attrs) (w : RowLent) → piece-size * (painted-row v a w).answer.pieces ≤ length w.list
 unfolding painted-row
-row-few v a w = settled-few _ _ _ w.list
+row-few v a w = settled-few _ _ w.list
 
 -- what is lent of a list from a place on, and what comes back
 module _ (xs : List ℕ) (a : ℕ) (h : a ≤ length xs) where

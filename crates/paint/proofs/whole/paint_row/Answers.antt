@@ -1,6 +1,7 @@
 use Rattle.std.proofs.Common.{sym}
 use Rattle.std.proofs.lemmas.Result.{err_from_is_err_and}
 use Rattle.paint.specs.Painting.{lent}
+use Rattle.paint.specs.Named.{held_in}
 use Rattle.paint.specs.Stepping.{attributes}
 use Rattle.paint.proofs.ScreenParts.{ready}
 use Rattle.paint.proofs.WholeParts.{row_refused, row_done}

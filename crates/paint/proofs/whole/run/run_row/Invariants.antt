@@ -3,7 +3,7 @@
 use Rattle.std.proofs.Common.{◌≡◌, ◌-◌, ◌≤◌, ◌*◌, length}
 use Rattle.sizes.specs.Sizes.{piece-size}
 use Rattle.paint.specs.Painting.{listed}
-use Rattle.paint.specs.Named.{SameCanvas, step_out}
+use Rattle.paint.specs.Named.{SameCanvas, held_in, step_out}
 use Rattle.paint.specs.Running.{standing}
 use Rattle.paint.specs.Rows.{steps_of}
 use Rattle.paint.proofs.WholeRuns.{Rest}

@@ -152,18 +152,18 @@ pub step-is-early : (s : Screen) (r : ℕ) (a : Attributes) (l : paint.RowLent) 
 unfolding stepped row_step paint.painted-row
 step-is-early s r a l =
     after (number s r a l) (row_step s r a l).answer.number (row-late (paint.next-step (bucket-tiles s.width) (paint.attrs-at a.paints s.paint_attrs a.layers s.layer_attrs) (own s r l)) _ _ l.list)
-    ∙ ap before_4 (out-number (eqb (number s r a l) Done) (number s r a l) (row_step s r a l) (paint.out (paint.refused (number s r a l)) l.depth l.painting l.list) refl)
+    ∙ ap before_4 (out-number (eqb (number s r a l) Done) (number s r a l) (row_step s r a l) (paint.out (paint.refused (number s r a l)) l.canvas l.list) refl)
 
 -- a row's call has its first step's number
 module _ (step : List ℕ → List ℕ → List ℕ → paint.StepOut) (d p l : List ℕ) where
   abbrev first : paint.StepOut
-  first = one_more step (standing d p l)
+  first = one_more step (standing (held d p) l)
 
   first-number : (step d p l).answer.number ≡ first.answer.number
   unfolding one_more
   first-number = refl
 
-  run-number : (f : ℕ) → first.answer.number ≡ (run step (suc f) 0 (standing d p l)).answer.number
+  run-number : (f : ℕ) → first.answer.number ≡ (run step (suc f) 0 (standing (held d p) l)).answer.number
   unfolding run
   run-number f = by (goes_on first.answer) (λ y. rw y (gone-on first y ∙ sym (on-done step f 0 first (gone-on first y)))) (λ z. rw z)
 

@@ -26,13 +26,13 @@ written o s d l n n' k e = ap (λ (x : Answer (List ℕ × List ℕ)). answer x.
 -- at the screen that the words stand for, with a result of the right length
 module _ (st : List ℕ) (s : Screen) where
   pub step_roomed : (r k : ℕ) (a : Attributes) (l : paint.RowLent) (p : Painted) (d' p' l' res res' : List ℕ) → Some s ≡ screen_of (eqb (length res) 2) st
-      → paint.out p d' p' l' ≡ stepped s r a l → answer k res' ≡ step-result res p → answer k (d', p', l', res') ≡ step_call r a st l res
+      → paint.out p (held d' p') l' ≡ stepped s r a l → answer k res' ≡ step-result res p → answer k (d', p', l', res') ≡ step_call r a st l res
   unfolding step_call
   step_roomed r k a l p d' p' l' res res' q e f =
       rw (← q) (ap (λ (x : Answer (List ℕ)). answer x.number (d', p', l', x.value)) f ∙ ap (step_left res) e)
 
   pub row_roomed : (r k : ℕ) (a : Attributes) (l : paint.RowLent) (p : Painted) (d' p' l' res res' : List ℕ) → Some s ≡ screen_of (eqb (length res) 2) st
-      → paint.out p d' p' l' ≡ row-painted s r a l → answer k res' ≡ step-result res p → answer k (d', p', l', res') ≡ row_call r a st l res
+      → paint.out p (held d' p') l' ≡ row-painted s r a l → answer k res' ≡ step-result res p → answer k (d', p', l', res') ≡ row_call r a st l res
   unfolding row_call
   row_roomed r k a l p d' p' l' res res' q e f =
       rw (← q) (ap (λ (x : Answer (List ℕ)). answer x.number (d', p', l', x.value)) f ∙ ap (step_left res) e)

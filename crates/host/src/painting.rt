@@ -3,7 +3,7 @@
 ghost use Rattle.std.specs.Prelude.{◌≡◌};
 ghost use Rattle.rules.specs.Answers.{answer};
 ghost use Rattle.rules.specs.Spans.{span};
-ghost use Rattle.paint.specs.Painting.{lent};
+ghost use Rattle.paint.specs.Painting.{held, lent};
 ghost use Rattle.paint.specs.Stepping.{attributes};
 ghost use Rattle.host.specs.Painting.{begin_call, step_call, row_call, unset_call, visible_call, write_call, skip_call, split_call};
 
@@ -55,7 +55,7 @@ pub extern "C" fn coarse_paint_step(
     res: &mut [usize],
 ) -> u32
     ensures { answer result (depth.new, painting.new, list.new, res.new)
-        ≡ step_call row (attributes paint_attrs.now layer_attrs.now) state.now (lent rows.now render.now fills.now depth.old painting.old list.old) res.old }
+        ≡ step_call row (attributes paint_attrs.now layer_attrs.now) state.now (lent rows.now render.now fills.now (held depth.old painting.old) list.old) res.old }
 {
     let stored = Stored {
         rows,
@@ -89,7 +89,7 @@ pub extern "C" fn coarse_paint_row(
     res: &mut [usize],
 ) -> u32
     ensures { answer result (depth.new, painting.new, list.new, res.new)
-        ≡ row_call row (attributes paint_attrs.now layer_attrs.now) state.now (lent rows.now render.now fills.now depth.old painting.old list.old) res.old }
+        ≡ row_call row (attributes paint_attrs.now layer_attrs.now) state.now (lent rows.now render.now fills.now (held depth.old painting.old) list.old) res.old }
 {
     let stored = Stored {
         rows,

@@ -22,7 +22,7 @@ use Rattle.refine_row.proofs.Screens.{screen-long}
 use Rattle.refine_steps.specs.Lent.{table, attr-words, screen-of, rows_of}
 use Rattle.refine_steps.proofs.Tables.{table-length, join-length}
 use Rattle.paint.specs.Summaries.{summary-at, Sound}
-use Rattle.paint.specs.Painting.{out, refused, left, painter-at, settled}
+use Rattle.paint.specs.Painting.{held, out, refused, left, painter-at, settled}
 use Rattle.paint.specs.Standing.{Stands, PainterReady, Holds}
 use Rattle.paint.specs.Judging.{arenas-long, tables-long, step_number}
 use Rattle.paint.specs.Stepping.{part, with_part, in_place, number, stepped}
@@ -143,19 +143,19 @@ module _ (k : calls.Canvas) (w : WholeCanvas k) (i : ℕ) (l : List ℕ) where
     done-number = step-judged ∙ rw (lt-leb (length s.rows) i h, b)
 
     by-step : stepped (screen-of s.state k.begun) i (attributes-of s) (words_of k l)
-        ≡ in_place (screen-of s.state k.begun) i (words_of k l) (settled (Some o) p.buckets (standing-in p) l)
+        ≡ in_place (screen-of s.state k.begun) i (words_of k l) (settled (Some o) (held p.buckets (standing-in p)) l)
     by-step =
         let a = s.state.attrs in
         let m : length p.buckets ≡ n = all-at w.wide i (begin 0) there in
         let g : Stands a (length (part n i (depth-of k.painters))) r (part 54 i (rows_of s).state) (part (4 * s.state.frame.c) i (rows_of s).render) (part (2 * s.state.frame.d) i (rows_of s).fills) =
         rw (own-depth, m) (row-stands s i h w.sound w.fair) in
-        let q : PainterReady a r (painter-at (part n i (depth-of k.painters)) (part 2 i (painting-of k.painters))) =
+        let q : PainterReady a r (painter-at (held (part n i (depth-of k.painters)) (part 2 i (painting-of k.painters)))) =
         rw (own-depth, own-painting) (going-ready a n r (fine-at w.sound.built.fine i) (w.fair i) p (w.going on i h)) in
         let u : Sound (calls.bucket-on k) (summary-at (part 54 i (rows_of s).state)) (part n i (depth-of k.painters)) = rw (own-state, own-depth) (w.going on i h).sound in
         step-by-rules (screen-of s.state k.begun) i (attributes-of s) (words_of k l) done-number a (holds s) r g q u ∙ rw (own-depth, own-painting)
 
     -- 14 alters nothing; done, the row's painter is the rules'
-    step-out : in_place (screen-of s.state k.begun) i (words_of k l) (settled (Some o) p.buckets (standing-in p) l) ≡ given_out (paint-call i (length l / piece-size) k) l
+    step-out : in_place (screen-of s.state k.begun) i (words_of k l) (settled (Some o) (held p.buckets (standing-in p)) l) ≡ given_out (paint-call i (length l / piece-size) k) l
     unfolding settled paint-call
     step-out = rw (lt-leb (length s.rows) i h, b, on) (go (ltb (length l / piece-size) (length o.pieces)))
       where
@@ -163,7 +163,7 @@ module _ (k : calls.Canvas) (w : WholeCanvas k) (i : ℕ) (l : List ℕ) where
         kept f m a = put-join f m a i p there ∙ ap (join f) (set_same k.painters i (begin 0) there)
 
         go : (u : Bool)
-            → in_place (screen-of s.state true) i (words_of k l) (cond u (out (refused NoRoom) p.buckets (standing-in p) l) (left o l))
+            → in_place (screen-of s.state true) i (words_of k l) (cond u (out (refused NoRoom) (held p.buckets (standing-in p)) l) (left o l))
             ≡ given_out
             (settle (cond u NoRoom Done)
             (given (record { finished = false; pieces = []; painter = p }) (record { screen = s; begun = true; painters = k.painters }))

@@ -15,7 +15,7 @@ use Rattle.refine_steps.specs.Sound.{Sound}
 use Rattle.refine_steps.specs.Lent.{screen-of, table, attr-words, rows_of}
 use Rattle.depth.specs.Listing.{listing}
 use Rattle.paint.specs.Pieces.{laid}
-use Rattle.paint.specs.Painting.{RowLent, lent, StepOut, out}
+use Rattle.paint.specs.Painting.{held, RowLent, lent, StepOut, out}
 use Rattle.paint.specs.Stepping.{Attributes, attributes}
 use Rattle.paint.specs.Beginning.{Canvas, canvas}
 use Rattle.paint.specs.DirectRuns.{Wrote}
@@ -54,7 +54,7 @@ abbrev pub given_out : Answer (rule.Given Painted) → List ℕ → StepOut
 given_out g l =
     let o = g.value.result in
     let k = g.value.canvas in
-    out (record { number = g.number; finished = o.finished; pieces = length o.pieces }) (depth-of k.painters) (painting-of k.painters) (laid o.pieces l)
+    out (record { number = g.number; finished = o.finished; pieces = length o.pieces }) (held (depth-of k.painters) (painting-of k.painters)) (laid o.pieces l)
 
 -- what a writing run of the rules gives, as words: the answer and the list, the screen and the depth words
 abbrev pub wrote_of : Answer (rule.Given (List Span)) → List ℕ → Wrote
@@ -68,4 +68,4 @@ attributes-of s = attributes (table 0 paint-attr-table (join paint-attr-words s.
 
 abbrev pub words_of : rule.Canvas → List ℕ → RowLent
 words_of k l =
-    lent (rows_of k.screen).state (rows_of k.screen).render (rows_of k.screen).fills (depth-of k.painters) (painting-of k.painters) l
+    lent (rows_of k.screen).state (rows_of k.screen).render (rows_of k.screen).fills (held (depth-of k.painters) (painting-of k.painters)) l

@@ -4,7 +4,7 @@ use Rattle.sizes.specs.Sizes.{piece-size}
 use Rattle.rules.specs.Answers.{Done}
 use Rattle.rules.specs.Painting as rules
 use Rattle.screen.specs.declared.Screen.{Screen}
-use Rattle.paint.specs.Painting.{RowLent, lent, StepOut, out, refused, left, settled, painted-row}
+use Rattle.paint.specs.Painting.{held, RowLent, lent, StepOut, out, refused, left, settled, painted-row}
 use Rattle.paint.proofs.Spreading.{length-pieces}
 use Rattle.paint.specs.Stepping.{Attributes, number, row_step, stepped}
 use Rattle.paint.specs.Running.{goes_on, ended, one_more, run, most, standing, call_step, row-painted}
@@ -12,12 +12,12 @@ use Rattle.paint.specs.Running.{goes_on, ended, one_more, run, most, standing, c
 abbrev Holds : StepOut → Type 0
 Holds o = piece-size * o.answer.pieces ≤ length o.list
 
-settled-holds : (x : Option rules.Painted) (d p l : List ℕ) → Holds (settled x d p l)
+settled-holds : (x : Option rules.Painted) (d p l : List ℕ) → Holds (settled x (held d p) l)
 unfolding settled
 settled-holds None d p l = omega arith
 settled-holds (Some o) d p l = go (ltb (length l / piece-size) (length o.pieces))
   where
-    go : (b : Bool) → Holds (cond b (out (refused 14) d p l) (left o l))
+    go : (b : Bool) → Holds (cond b (out (refused 14) (held d p) l) (left o l))
     go true = omega arith
     go false = rw (length-append, length-pieces o.pieces) (omega arith)
 
@@ -25,7 +25,7 @@ step-holds : (s : Screen) (r : ℕ) (a : Attributes) (l : RowLent) → Holds (st
 unfolding stepped row_step painted-row
 step-holds s r a l = go (eqb (number s r a l) Done)
   where
-    go : (b : Bool) → Holds (cond b (row_step s r a l) (out (refused (number s r a l)) l.depth l.painting l.list))
+    go : (b : Bool) → Holds (cond b (row_step s r a l) (out (refused (number s r a l)) l.canvas l.list))
     go true = settled-holds _ _ _ _
     go false = omega arith
 
@@ -47,6 +47,6 @@ module _ (step : List ℕ → List ℕ → List ℕ → StepOut) (h : (d p l : L
 pub row-holds : (s : Screen) (r : ℕ) (a : Attributes) (l : RowLent) → piece-size * (row-painted s r a l).answer.pieces ≤ length (row-painted s r a l).list
 unfolding row-painted
 row-holds s r a l =
-    run_holds (call_step s r a l.state l.render l.fills) (λ d p ws. step-holds s r a (lent l.state l.render l.fills d p ws)) most 0
-    (standing l.depth l.painting l.list)
+    run_holds (call_step s r a l.state l.render l.fills) (λ d p ws. step-holds s r a (lent l.state l.render l.fills (held d p) ws)) most 0
+    (standing l.canvas l.list)
     (omega arith)

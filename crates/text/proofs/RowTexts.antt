@@ -6,7 +6,7 @@ use Rattle.text.specs.declared.Out.{Out}
 use Rattle.text.specs.Texts.{Writes}
 use Rattle.text.proofs.Laws.{then}
 use Rattle.paint.specs.Painting as painting
-use Rattle.paint.specs.Painting.{RowLent, lent, out}
+use Rattle.paint.specs.Painting.{held, RowLent, lent, out}
 use Rattle.paint.specs.Answers.{Painted}
 use Rattle.paint.specs.Stepping.{Attributes, stepped}
 use Rattle.paint.specs.Running.{row-painted}
@@ -20,13 +20,13 @@ use Rattle.text.proofs.Holds.{row-holds}
 
 -- the number of a step that is tried
 pub stopped-at : (s : Screen) (r : ℕ) (a : Attributes) (l : RowLent) (q : Painted) {d p ws : List ℕ}
-    → out q d p ws ≡ stepped s r a l → stopped-out (listing q.number 0) d p ≡ stopped s r a l
+    → out q (held d p) ws ≡ stepped s r a l → stopped-out (listing q.number 0) d p ≡ stopped s r a l
 unfolding stopped
 stopped-at s r a l q e = ap (λ (o : painting.StepOut). stopped-out (listing o.answer.number 0) o.depth o.painting) e
 
 -- a row
 module _ (v : Bool) (s : Screen) (r : ℕ) (a : Attributes) (l : RowLent) (q : Painted) {d p ws : List ℕ}
-    (e : out q d p ws ≡ row-painted s r a l) (bs : List ℕ) where
+    (e : out q (held d p) ws ≡ row-painted s r a l) (bs : List ℕ) where
   pub row-refused : (q.number ≡ 0 → ⊥) → row_out (listing q.number 0) d p ws bs ≡ row-dumped v s r a l bs
   unfolding row-dumped
   row-refused h = rw (← e, ne_eqb q.number 0 h)
@@ -35,7 +35,7 @@ module _ (v : Bool) (s : Screen) (r : ℕ) (a : Attributes) (l : RowLent) (q : P
   row-few = subst (λ (o : painting.StepOut). piece-size * o.answer.pieces ≤ length o.list) (sym e) (row-holds s r a l)
 
   module _ (h : q.number ≡ 0) where
-    pub row-ended : {z : Listing} {f g : List ℕ} → q.finished ≡ false → stopped-out z f g ≡ stopped s r a (lent l.state l.render l.fills d p [])
+    pub row-ended : {z : Listing} {f g : List ℕ} → q.finished ≡ false → stopped-out z f g ≡ stopped s r a (lent l.state l.render l.fills (held d p) [])
         → row_out z f g ws bs ≡ row-dumped v s r a l bs
     unfolding row-dumped
     row-ended k j = ap (λ (o : Stopped). row_out o.answer o.depth o.painting ws bs) j ∙ rw (← e, eq-eqb q.number 0 h, k)

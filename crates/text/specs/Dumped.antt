@@ -50,7 +50,7 @@ stopped s r a l = let o = stepped s r a l in stopped-out (listing o.answer.numbe
 -- a row's painting ended by a refusal, and ended whole
 abbrev pub row-stopped : Screen → ℕ → Attributes → RowLent → StepOut → List ℕ → RowOut
 row-stopped s r a l e bs =
-    let o = stopped s r a (lent l.state l.render l.fills e.depth e.painting []) in
+    let o = stopped s r a (lent l.state l.render l.fills e.canvas []) in
     row_out o.answer o.depth o.painting e.list bs
 
 abbrev pub with-text : StepOut → list.TextOut → RowOut

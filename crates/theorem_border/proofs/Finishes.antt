@@ -28,8 +28,8 @@ unfolding paint.settled
 row_done None d p l e = never (sym e)
 row_done (Some o) d p l e = go (ltb (length l / piece-size) (length o.pieces)) e
   where
-    go : (b : Bool) → (cond b (paint.out (paint.refused NoRoom) d p l) (paint.left o l)).answer.finished ≡ true
-        → (cond b (paint.out (paint.refused NoRoom) d p l) (paint.left o l)).answer.number ≡ Done
+    go : (b : Bool) → (cond b (paint.out (paint.refused NoRoom) (held d p) l) (paint.left o l)).answer.finished ≡ true
+        → (cond b (paint.out (paint.refused NoRoom) (held d p) l) (paint.left o l)).answer.number ≡ Done
     go true z = never (sym z)
     go false z = refl
 
@@ -37,8 +37,8 @@ stepped-done : (s : Screen) (r : ℕ) (a : Attributes) (w : paint.RowLent) → (
 unfolding stepped row_step paint.painted-row
 stepped-done s r a w e = go (eqb (number s r a w) Done) e
   where
-    go : (b : Bool) → (cond b (row_step s r a w) (paint.out (paint.refused (number s r a w)) w.depth w.painting w.list)).answer.finished ≡ true
-        → (cond b (row_step s r a w) (paint.out (paint.refused (number s r a w)) w.depth w.painting w.list)).answer.number ≡ Done
+    go : (b : Bool) → (cond b (row_step s r a w) (paint.out (paint.refused (number s r a w)) w.canvas w.list)).answer.finished ≡ true
+        → (cond b (row_step s r a w) (paint.out (paint.refused (number s r a w)) w.canvas w.list)).answer.number ≡ Done
     go true z = row_done (paint.next-step (bucket-tiles s.width) (paint.attrs-at a.paints s.paint_attrs a.layers s.layer_attrs) (own s r w)) _ _ _ z
     go false z = never (sym z)
 

@@ -112,7 +112,7 @@ abbrev pub own-attributes : Host → Attributes
 own-attributes h = attributes h.tables.paint-attrs h.tables.layer-attrs
 
 abbrev pub own-words : List ℕ → Host → paint.RowLent
-own-words list h = let t = h.tables in paint.lent t.rows t.render t.fills t.depth t.painting list
+own-words list h = let t = h.tables in paint.lent t.rows t.render t.fills (held t.depth t.painting) list
 
 -- its number; the depth and painting words, the list and the result afterwards
 unfoldable pub paint-out : Call → Host → Answer (List ℕ × List ℕ × List ℕ × List ℕ)

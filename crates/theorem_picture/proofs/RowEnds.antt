@@ -12,7 +12,7 @@ use Rattle.rules.specs.Calls.{paints-on, Canvas, bucket-on, Given, painter-of, p
 use Rattle.screen.specs.Tables.{ScreenLent}
 use Rattle.refine_steps.specs.Lent.{lent_of}
 use Rattle.paint.specs.Pieces.{piece-words, laid}
-use Rattle.paint.specs.Painting.{StepOut}
+use Rattle.paint.specs.Painting.{held, StepOut}
 use Rattle.paint.proofs.Spreading.{length-pieces}
 use Rattle.paint.specs.Running.{one_more, run, most, standing, row-painted}
 use Rattle.refine_paint.specs.Canvases.{given_out, WholeCanvas}
@@ -156,7 +156,7 @@ row-ended k w b r h list room =
     let c : k.screen.state.frame.c ≤ 1024 = leb-true _ _ (and_right (leb 1 k.screen.state.frame.c) _ s.c-room) in
     let d : k.screen.state.frame.d ≤ 1024 = leb-true _ _ (and_right (leb 1 k.screen.state.frame.d) _ s.d-room) in
     let q = s.rows r in
-    let g = standing (canvas-words k).tables.depth (canvas-words k).tables.painting list in
+    let g = standing (held (canvas-words k).tables.depth (canvas-words k).tables.painting) list in
     ends r (canvas-words k) most (work k r) 0 g k
     (record { words = refl; whole = w; goes_on = b; there = h; holds = omega arith })
     (omega arith) (omega (arith, c, d, q.commands, q.fills)) room

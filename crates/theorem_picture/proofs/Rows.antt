@@ -10,7 +10,7 @@ use Rattle.rules.specs.Painting.{Piece, received}
 use Rattle.screen.specs.declared.Screen.{Screen}
 use Rattle.screen.specs.Tables.{ScreenLent}
 use Rattle.paint.specs.Painting as paint
-use Rattle.paint.specs.Painting.{StepOut, out, refused, left, settled, painted-row}
+use Rattle.paint.specs.Painting.{held, StepOut, out, refused, left, settled, painted-row}
 use Rattle.paint.proofs.Spreading.{length-pieces}
 use Rattle.paint.specs.Stepping.{Attributes, attributes, number, row_step, stepped}
 use Rattle.paint.specs.Running.{goes_on, ended, one_more, run, most, standing, call_step, row-painted}
@@ -43,12 +43,12 @@ pieces-split (suc n) m xs ys h =
     ∙ ap (λ (ps : List Piece). ps ++ pieces-in m ys) (sym (pieces-first own later n long) ∙ ap (pieces-in (suc n)) (take-append-drop piece-size xs))
 
 -- a step's list holds its pieces
-settled-holds : (x : Option rules.Painted) (d p l : List ℕ) → piece-size * (settled x d p l).answer.pieces ≤ length (settled x d p l).list
+settled-holds : (x : Option rules.Painted) (d p l : List ℕ) → piece-size * (settled x (held d p) l).answer.pieces ≤ length (settled x (held d p) l).list
 unfolding settled
 settled-holds None d p l = omega arith
 settled-holds (Some o) d p l = go (ltb (length l / piece-size) (length o.pieces))
   where
-    go : (b : Bool) → piece-size * (cond b (out (refused 14) d p l) (left o l)).answer.pieces ≤ length (cond b (out (refused 14) d p l) (left o l)).list
+    go : (b : Bool) → piece-size * (cond b (out (refused 14) (held d p) l) (left o l)).answer.pieces ≤ length (cond b (out (refused 14) (held d p) l) (left o l)).list
     go true = omega arith
     go false = rw (length-append, length-pieces o.pieces) (omega arith)
 
@@ -57,8 +57,8 @@ unfolding stepped row_step painted-row
 step-holds s r a l = go (eqb (number s r a l) Done)
   where
     go : (b : Bool)
-        → piece-size * (cond b (row_step s r a l) (out (refused (number s r a l)) l.depth l.painting l.list)).answer.pieces
-        ≤ length (cond b (row_step s r a l) (out (refused (number s r a l)) l.depth l.painting l.list)).list
+        → piece-size * (cond b (row_step s r a l) (out (refused (number s r a l)) l.canvas l.list)).answer.pieces
+        ≤ length (cond b (row_step s r a l) (out (refused (number s r a l)) l.canvas l.list)).list
     go true = settled-holds _ _ _ _
     go false = omega arith
 
@@ -94,7 +94,7 @@ module _ (i : ℕ) (l : ScreenLent) where
   pub one_holds : (g : StepOut) → Holds g → Holds (one_more step g)
   unfolding one_more
   one_holds g h =
-      let o = step-holds l.screen i (attributes l.tables.paint-attrs l.tables.layer-attrs) (paint.lent l.tables.rows l.tables.render l.tables.fills g.depth g.painting (next g).list) in
+      let o = step-holds l.screen i (attributes l.tables.paint-attrs l.tables.layer-attrs) (paint.lent l.tables.rows l.tables.render l.tables.fills g.canvas (next g).list) in
       rw (length-append, length-take-le (piece-size * g.answer.pieces) g.list h) (omega (arith, o))
 
   one-pieces : (g : StepOut) → Holds g
@@ -166,7 +166,7 @@ module _ (i : ℕ) (l : ScreenLent) where
   pub row-turns : (list : List ℕ) → RowTurns i list l
   unfolding row_out row-painted pieces-in
   row-turns list =
-      let z = run-leads most 0 (standing l.tables.depth l.tables.painting list) (omega arith) refl in
+      let z = run-leads most 0 (standing (held l.tables.depth l.tables.painting) list) (omega arith) refl in
       record { turns = z.turns; own = z.own; words = z.words; pieces = sym z.pieces; said = z.said }
 
   -- a refusal after the first step is none of the call
@@ -185,7 +185,7 @@ module _ (i : ℕ) (l : ScreenLent) where
   pub row_number : (list : List ℕ) → (row_out i list l).answer.number ≡ (paint-out i list l).answer.number
   unfolding row_out row-painted
   row_number list =
-      let g = standing l.tables.depth l.tables.painting list in
+      let g = standing (held l.tables.depth l.tables.painting) list in
       let same : (one_more step g).answer.number ≡ (paint-out i list l).answer.number = unfold one_more paint-out in refl in
       by (goes_on (one_more step g).answer)
       (λ y.

@@ -32,7 +32,7 @@ begin-at l =
 unfoldable pub paint-out : ℕ → List ℕ → ScreenLent → paint.StepOut
 paint-out i list l =
     stepped l.screen i (attributes l.tables.paint-attrs l.tables.layer-attrs)
-    (paint.lent l.tables.rows l.tables.render l.tables.fills l.tables.depth l.tables.painting list)
+    (paint.lent l.tables.rows l.tables.render l.tables.fills (held l.tables.depth l.tables.painting) list)
 
 abbrev pub paint-at : ℕ → List ℕ → ScreenLent → ScreenLent
 paint-at i list l = let o = paint-out i list l in with-canvas l l.screen o.depth o.painting

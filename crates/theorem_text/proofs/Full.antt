@@ -16,7 +16,7 @@ use Rattle.rules.proofs.All.{All}
 use Rattle.screen.specs.declared.Screen as declared
 use Rattle.screen.specs.Tables.{ScreenLent}
 use Rattle.paint.specs.Painting as paint
-use Rattle.paint.specs.Painting.{StepOut, out, refused, left, settled, painted-row}
+use Rattle.paint.specs.Painting.{held, StepOut, out, refused, left, settled, painted-row}
 use Rattle.paint.proofs.Spreading.{length-pieces}
 use Rattle.paint.specs.Stepping.{Attributes, attributes, number, row_step, stepped}
 use Rattle.paint.specs.Running.{goes_on, ended, one_more, run, most, standing, row-painted}
@@ -40,12 +40,12 @@ pub use Rattle.theorem_text.specs.Waits.{Waits, Whole}
 use Rattle.theorem_text.proofs.Rows.{many, row-gave, waiting-printed}
 
 -- a list keeps its length, step by step
-settled-long : (x : Option rules.Painted) (d p l : List ℕ) → length (settled x d p l).list ≡ length l
+settled-long : (x : Option rules.Painted) (d p l : List ℕ) → length (settled x (held d p) l).list ≡ length l
 unfolding settled
 settled-long None d p l = refl
 settled-long (Some o) d p l = go (ltb (length l / piece-size) (length o.pieces)) refl
   where
-    go : (b : Bool) → ltb (length l / piece-size) (length o.pieces) ≡ b → length (cond b (out (refused 14) d p l) (left o l)).list ≡ length l
+    go : (b : Bool) → ltb (length l / piece-size) (length o.pieces) ≡ b → length (cond b (out (refused 14) (held d p) l) (left o l)).list ≡ length l
     go true e = refl
     go false e = rw (length-append, length-drop, length-pieces o.pieces) (omega (arith, ltb-false (length l / piece-size) (length o.pieces) e))
 
@@ -53,7 +53,7 @@ step-long : (s : declared.Screen) (r : ℕ) (a : Attributes) (l : paint.RowLent)
 unfolding stepped row_step painted-row
 step-long s r a l = go (eqb (number s r a l) Done)
   where
-    go : (b : Bool) → length (cond b (row_step s r a l) (out (refused (number s r a l)) l.depth l.painting l.list)).list ≡ length l.list
+    go : (b : Bool) → length (cond b (row_step s r a l) (out (refused (number s r a l)) l.canvas l.list)).list ≡ length l.list
     go true = settled-long _ _ _ _
     go false = refl
 
@@ -61,7 +61,7 @@ module _ (i : ℕ) (l : ScreenLent) where
   one-long : (g : StepOut) → Holds i l g → length (one_more (step i l) g).list ≡ length g.list
   unfolding one_more
   one-long g h =
-      let o = step-long l.screen i (attributes l.tables.paint-attrs l.tables.layer-attrs) (paint.lent l.tables.rows l.tables.render l.tables.fills g.depth g.painting (next i l g).list) in
+      let o = step-long l.screen i (attributes l.tables.paint-attrs l.tables.layer-attrs) (paint.lent l.tables.rows l.tables.render l.tables.fills g.canvas (next i l g).list) in
       rw (length-append, length-take-le (piece-size * g.answer.pieces) g.list h, o, length-drop) (omega arith)
 
   run_long : (f k : ℕ) (g : StepOut) → Holds i l g → length (run (step i l) f k g).list ≡ length g.list
@@ -77,7 +77,7 @@ module _ (i : ℕ) (l : ScreenLent) where
   -- `paint_row` keeps the length of its list
   pub row-long : (list : List ℕ) → length (row_out i list l).list ≡ length list
   unfolding row_out row-painted
-  row-long list = run_long most 0 (standing l.tables.depth l.tables.painting list) (omega arith)
+  row-long list = run_long most 0 (standing (held l.tables.depth l.tables.painting) list) (omega arith)
 
 module _ {s : Screen Row} {r : ℕ} {m : ScreenLent} (h : Waits s r m) (few : length (get_or s.rows r fresh-row).commands ≤ 64)
     (narrow : buckets-across s.state.frame ≤ 64) (list : List ℕ) (long : piece-list ≤ length list) where
@@ -124,7 +124,7 @@ module _ {s : Screen Row} {r : ℕ} {m : ScreenLent} (h : Waits s r m) (few : le
   -- `row_text` writes it wherever it fits
   pub row_written : (v : Bool) (bs : List ℕ) → length (theirs-text v) ≤ length bs
       → row-dumped v m.screen r (attributes m.tables.paint-attrs m.tables.layer-attrs)
-      (paint.lent m.tables.rows m.tables.render m.tables.fills m.tables.depth m.tables.painting list)
+      (paint.lent m.tables.rows m.tables.render m.tables.fills (held m.tables.depth m.tables.painting) list)
       bs
       ≡ with-text (row_out r list m) (begun-with (theirs-text v) bs)
   unfolding written

@@ -1,6 +1,6 @@
 -- What a host lends, as its tables.
 use Rattle.std.specs.Prelude.{◌≡◌, length}
-use Rattle.screen.specs.declared.Lent.{Lent}
+use Rattle.screen.specs.declared.lent.Lent.{Lent}
 use Rattle.screen.specs.declared.Screen.{Screen}
 use Rattle.screen.specs.Tables.{Tables, tables, ScreenLent, lent}
 

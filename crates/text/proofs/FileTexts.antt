@@ -16,8 +16,8 @@ use Rattle.rect.specs.Rects.{box_of, seen}
 use Rattle.rect.proofs.Snapping.{good-seen, bad-seen}
 use Rattle.row.specs.Words.{Words, words}
 use Rattle.screen.specs.declared.Screen.{Screen}
-use Rattle.screen.specs.declared.Lengths.{Lengths}
-use Rattle.screen.specs.declared.Lent.{Lent}
+use Rattle.screen.specs.declared.lent.Lengths.{Lengths}
+use Rattle.screen.specs.declared.lent.Lent.{Lent}
 use Rattle.screen.specs.Lent.{tables_in, SameLent}
 use Rattle.screen.specs.Screens.{fresh-screen}
 use Rattle.screen.specs.Judging.{judged_reset}

@@ -10,7 +10,7 @@ use Rattle.rules.specs.Walk.{◌then◌, walk-all, walk-nodes, walk-layer}
 use Rattle.rect.specs.declared.Rect.{Rect}
 use Rattle.rect.specs.Rects.{box_of}
 use Rattle.screen.specs.Judging.{judged_reset}
-use Rattle.screen.specs.declared.Lent.{Lent}
+use Rattle.screen.specs.declared.lent.Lent.{Lent}
 use Rattle.screen.specs.Tables.{Tables, lengths, zeroed, ScreenLent, lent, reset_to}
 use Rattle.screen.specs.Lent.{tables_in, SameLent}
 use Rattle.file.specs.Held.{recording_of}

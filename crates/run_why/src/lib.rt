@@ -3,7 +3,7 @@
 //! file; a length past the stream's end takes what is left.
 #![tactic(auto)]
 
-ghost use Rattle.std.specs.Prelude.{◌≡◌, ◌≢◌, ◌≤◌, ◌↔◌, ◌⊎◌, true, false, length, map, take, string_bytes, Some, None, IfSome, IfErr, OnOk, IsErrAnd};
+ghost use Rattle.std.specs.Prelude.{◌≡◌, ◌≤◌, ◌↔◌, ◌⊎◌, true, false, length, map, take, string_bytes, None, IfSome, IfErr, OnOk, IsErrAnd};
 ghost use Rattle.std.specs.Io.KnownBytes.{Appends};
 ghost use Rattle.rules_reason.specs.Answers.{question-line};
 ghost use Rattle.screen.specs.Screens.{setup-of};
@@ -14,7 +14,7 @@ ghost use Rattle.text_programs.specs.Arguments.{asks_help, read_arguments, wante
 ghost use Rattle.text_programs.specs.Streams.{PrintsFirst};
 ghost use Rattle.run_why.specs.Requests.{request_of, IsOfFile, AsksOfFile, AsksOfStream};
 ghost use Rattle.run_why.specs.Desks.{Ready};
-ghost use Rattle.run_why.specs.Printed.{usage, answer, item_answer, stream_answers, reply, printed, item_of};
+ghost use Rattle.run_why.specs.Printed.{usage, answer, item_answer, reply, printed, item_of};
 
 use crate::arguments::{Query, Request, read_request, wrong_after_stream};
 use std::alloc::Global;

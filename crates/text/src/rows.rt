@@ -1,5 +1,5 @@
 //! The lines of a row's words: its depth fills, then its commands.
-ghost use Rattle.std.specs.Prelude.{◌≡◌, ℕ, ◌+◌, ◌*◌, ◌≤◌, length, option_map};
+ghost use Rattle.std.specs.Prelude.{◌≡◌, ◌+◌, ◌*◌, ◌≤◌, length, option_map};
 ghost use Rattle.sizes.specs.Sizes.{row-size};
 ghost use Rattle.rules.specs.Lines.{depth-line, command-line};
 ghost use Rattle.cmd.specs.Commands.{command};

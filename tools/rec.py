@@ -19,6 +19,7 @@ What is left out is 0, or not there at all (a node's layer, a filter layer's pix
 its bits (`opacity bits N`). The way there and back is exact for every file whose sections are exactly counted.
 """
 import math
+import os
 import struct
 import sys
 
@@ -128,7 +129,7 @@ def to_text(data):
 
 class Reader:
     def __init__(self, number, fields):
-        self.number, self.fields = number, fields
+        self.number, self.fields, self.keys = number, fields, set()
 
     def fail(self, what):
         bad('line %d: %s' % (self.number, what))
@@ -137,6 +138,14 @@ class Reader:
         if not self.fields:
             self.fail('something is missing')
         return self.fields.pop(0)
+
+    def key(self):
+        """The name of what comes next, which stands once in a line."""
+        key = self.next()
+        if key in self.keys:
+            self.fail('%s stands twice' % key)
+        self.keys.add(key)
+        return key
 
     def word(self, low=0):
         text = self.next()
@@ -203,7 +212,7 @@ def record_of(kind, r):
         w = [0] * 7
         w[4:6] = [0, 3]
         while r.fields:
-            key = r.next()
+            key = r.key()
             if key == 'segments':
                 w[1:3] = r.words(2)
             elif key == 'paint':
@@ -222,7 +231,7 @@ def record_of(kind, r):
         places = {'nodes': (1, 3), 'blend': (3, 5), 'mask': (6, 7), 'box': (8, 12), 'segments': (12, 14), 'thread': (14, 15),
                   'dest': (16, 20), 'source': (20, 22)}
         while r.fields:
-            key = r.next()
+            key = r.key()
             if key in places:
                 a, b = places[key]
                 w[a:b] = r.words(b - a)
@@ -266,10 +275,35 @@ def to_file(text):
     return struct.pack('<%dI' % len(words), *words)
 
 
-if __name__ == '__main__':
-    if sys.argv[1:] == ['text']:
-        sys.stdout.write(to_text(sys.stdin.buffer.read()))
-    elif sys.argv[1:] == ['file']:
-        sys.stdout.buffer.write(to_file(sys.stdin.read()))
+def main(args):
+    if args in (['--help'], ['-h']):
+        print(__doc__.strip())
+        return
+    if args not in (['text'], ['file']):
+        print('rec: %s' % ('text or file is expected' if not args else '%r is neither text nor file' % ' '.join(args)), file=sys.stderr)
+        print(__doc__.strip(), file=sys.stderr)
+        sys.exit(2)
+    try:
+        given = sys.stdin.buffer.read()
+    except OSError as error:
+        bad('cannot read standard input: %s' % error.strerror)
+    if args == ['text']:
+        out = to_text(given).encode()
     else:
-        sys.exit(__doc__.strip())
+        try:
+            out = to_file(given.decode())
+        except UnicodeDecodeError as error:
+            bad('byte %d is no text' % error.start)
+    try:
+        sys.stdout.buffer.write(out)
+        sys.stdout.buffer.flush()
+    except BrokenPipeError:  # the reader has gone
+        os.dup2(os.open(os.devnull, os.O_WRONLY), sys.stdout.fileno())
+        sys.exit(1)
+    except OSError as error:
+        os.dup2(os.open(os.devnull, os.O_WRONLY), sys.stdout.fileno())
+        bad('cannot write standard output: %s' % error.strerror)
+
+
+if __name__ == '__main__':
+    main(sys.argv[1:])

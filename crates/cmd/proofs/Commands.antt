@@ -1,20 +1,7 @@
 -- Reading a command's words, tag by tag.
-use mathlib.Core.Path.{◌≡◌}
-use mathlib.Core.Bool.{Bool, true, ◌&&◌}
-use Rattle.std.specs.Prelude.{None, Some}
-use Prim.Native.Nat.{ℕ, ◌≤◌, ◌/◌, ◌%◌}
-use lib.Dec.{leb, eqb}
-use borrow.Author.Tests.{leb-true}
+use Rattle.std.proofs.Common.{◌≡◌, Bool, ◌&&◌, None, Some, ℕ, eqb}
 use Rattle.rules.specs.Commands.{paint-fill, layer-fill, push-buf, pop-buf}
 use Rattle.cmd.specs.Reading.{word-span, good-span-word, good-alpha, only_if, command_of}
-use Rattle.rules.proofs.All.{and_left, and_right}
-
--- a good word's numbers are in order, and end at the limit at the latest
-pub in_order : (n s : ℕ) → good-span-word n s ≡ true → s / 65536 ≤ s % 65536
-in_order n s h = leb-true _ _ (and_left _ _ h)
-
-pub in-limit : (n s : ℕ) → good-span-word n s ≡ true → s % 65536 ≤ n
-in-limit n s h = leb-true _ _ (and_right (leb (s / 65536) (s % 65536)) _ h)
 
 module _ (t s a i : ℕ) where
   module _ (b : Bool) where

@@ -1,6 +1,4 @@
-pub mod Tests
 pub mod Commands
 pub mod BothWays
 pub mod RoundTrip
 pub mod Tables
-pub mod Ids

@@ -1,10 +1,5 @@
 -- What the contracts of `words` and `read` give together: a good command is read back as it was written, and good words are written as they were read.
-use mathlib.Core.Path.{◌≡◌, refl, sym, ap, ◌∙◌}
-use mathlib.Core.List.{List}
-use Rattle.std.specs.Prelude.{Option, None, Some, option_map}
-use Prim.Native.Nat.{ℕ, ◌<◌}
-use native.Mathlib.Omega.{arith}
-use lib.ListN.{get_or}
+use Rattle.std.proofs.Common.{◌≡◌, refl, sym, ap, ◌∙◌, List, Option, None, Some, option_map, ℕ, ◌<◌, arith, get_or}
 use Rattle.rules.specs.Spans.{Span}
 use Rattle.rules.specs.Commands as rule
 use Rattle.rules.specs.Commands.{Command, paint-fill, layer-fill, push-buf, pop-buf, command_words, depth-words}
@@ -16,9 +11,9 @@ use Rattle.cmd.specs.declared.command.RenderCmd.TheVariants.{PaintFill, LayerFil
 use Rattle.cmd.specs.declared.command.CmdWords.{CmdWords}
 use Rattle.cmd.specs.declared.depth_fill.DepthFill.{DepthFill}
 use Rattle.cmd.specs.declared.depth_fill.DepthWords.{DepthWords}
-use Rattle.cmd.specs.Commands.{command, words_of, read-words, Narrow, NarrowPush, NarrowCmd}
+use Rattle.cmd.specs.Commands.{command, words_of, read-words}
 use Rattle.cmd.specs.DepthFills.{depth-fill, depth-words-of, read-depth-words}
-use Rattle.cmd.specs.Good.{GoodSpan, GoodPush, GoodCommand, GoodDepthFill}
+use Rattle.cmd.specs.Good.{GoodCommand, GoodDepthFill}
 use Rattle.cmd.proofs.BothWays.{read-list, reads-back, writes-back, read-depth-list, depth-reads-back, depth-writes-back}
 
 -- the rules' commands as the code's again
@@ -59,20 +54,6 @@ un-words ws = record { tag = get_or ws 0 0; span = get_or ws 1 0; alpha = get_or
 pub same-words : (v w : CmdWords) → words_of v ≡ words_of w → v ≡ w
 unfolding un-words
 same-words v w h = ap un-words h
-
--- a good command's numbers fit its words
-narrow : (n : ℕ) (s : Span) → n < 65536 → GoodSpan n s → Narrow s
-narrow n s h g = (omega arith, omega arith)
-
-narrow-push : (r : Option TileSpan) → GoodPush (option_map tiles r) → NarrowPush r
-narrow-push None g = tt
-narrow-push (Some s) g = narrow 8192 _ (omega arith) g
-
-pub narrow-cmd : (k : RenderCmd) → GoodCommand (command k) → NarrowCmd k
-narrow-cmd (PaintFill f) g = narrow 8192 _ (omega arith) g.0
-narrow-cmd (LayerFill f) g = narrow 8192 _ (omega arith) g.0
-narrow-cmd (PushBuf r) g = narrow-push r g
-narrow-cmd PopBuf g = tt
 
 was_read : (r : Option RenderCmd) (k : RenderCmd) → option_map command r ≡ Some (command k) → r ≡ Some k
 was_read None k h = let z : ◌≡◌ {A = ℕ} 0 1 = cc in absurd (omega arith)

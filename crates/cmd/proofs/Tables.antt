@@ -1,10 +1,7 @@
 -- Words that are stored one after the other in a table, and what stands there afterwards.
-use mathlib.Core.Path.{◌≡◌, refl, sym, ap, ◌∙◌}
-use mathlib.Core.List.{List, [], ◌∷◌, ◌++◌}
-use Prim.Native.Nat.{ℕ, suc, ◌≤◌, ◌<◌, ◌+◌, ◌-◌}
-use native.Mathlib.Omega.{arith}
-use lib.ListN.{length, take, drop, set, get_or, length-append, length-drop, get_or-append}
-use lib.Seq.{sets, sets-eq, length-take-le, get_or-append-add, get_or-take, get_or-drop}
+use Rattle.std.proofs.Common.{◌≡◌, refl, sym, ap, ◌∙◌, List, [], ◌∷◌, ◌++◌, ℕ, suc, ◌≤◌, ◌<◌, ◌+◌, ◌-◌, arith, length, take, drop, set, get_or, length-append, length-drop, length-take-le, get_or-append-add, get_or-take, get_or-drop}
+use lib.ListN.{get_or-append}
+use lib.Seq.{sets, sets-eq}
 use Rattle.cmd.specs.Attrs.{words-at}
 
 next : (at k : ℕ) → suc (at + k) ≡ at + (k + 1)

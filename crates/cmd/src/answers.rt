@@ -1,4 +1,4 @@
-// The numbers of the answers, in code, are those of the rules.
+//! The numbers of the answers, in code, are those of the rules.
 ghost use Rattle.std.specs.Prelude.{◌≡◌, [], ◌∷◌};
 ghost use Rattle.rules.specs.Answers.{Done, BadArena, BadViewport, BadForm, BadRecord, BadOrder, Deep, NoLayer, Ids, FullAttrs, FullRow, FullDepth, BadRun, Open, NoRoom};
 

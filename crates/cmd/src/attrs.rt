@@ -1,4 +1,4 @@
-// Attributes of fills (cmd.rs, PaintFillAttrs and LayerFillAttrs), and the tables that hold them, each with a fixed number of words an attribute.
+//! Attributes of fills (cmd.rs, PaintFillAttrs and LayerFillAttrs), and the tables that hold them, each with a fixed number of words an attribute.
 ghost use Rattle.std.specs.Prelude.{◌≡◌, ◌+◌, ◌*◌, ◌<◌, length, get_or};
 ghost use Rattle.sizes.specs.Sizes.{most-attrs, most-filters, handle-end, opacity-count, paint-attr-size, paint-id-at, paint-panel-at, paint-attr-table, layer-attr-size, layer-id-at, layer-panel-at, layer-attr-table, filter-paint-table};
 ghost use Rattle.cmd.specs.Attrs.{put-paint, layer-tables, put-layer, put-filter};
@@ -9,8 +9,8 @@ use sizes::{
     PAINT_PANEL,
 };
 
-// Rule 3: what the commands of one draw share. `paint` is a place of the paint list, `mask` a handle or 0 for none, the origin the viewport's, in pixels. A
-// filter fill adds one too (rule 11).
+/// Rule 3: what the commands of one draw share. `paint` is a place of the paint list, `mask` a handle or 0 for none, the origin the viewport's, in pixels. A
+/// filter fill adds one too (rule 11).
 #[derive(Clone, Copy)]
 pub struct PaintFillAttrs {
     pub paint: u32,
@@ -23,7 +23,7 @@ pub struct PaintFillAttrs {
     pub panel: u32,
 }
 
-// Rule 9: what the fills of a closing layer share. `nan` is the pattern of a NaN opacity, else 0; `thread_idx` the clip's thread, else 0.
+/// Rule 9: what the fills of a closing layer share. `nan` is the pattern of a NaN opacity, else 0; `thread_idx` the clip's thread, else 0.
 #[derive(Clone, Copy)]
 pub struct LayerFillAttrs {
     pub blend: Blend,
@@ -35,7 +35,7 @@ pub struct LayerFillAttrs {
     pub panel: u32,
 }
 
-// Rule 11: the paint of a filter fill, the handle of its picture. The shift, in pixels, is source minus destination, and may be negative.
+/// Rule 11: the paint of a filter fill, the handle of its picture. The shift, in pixels, is source minus destination, and may be negative.
 #[derive(Clone, Copy)]
 pub struct FilterPaint {
     pub pixmap: u32,
@@ -43,7 +43,7 @@ pub struct FilterPaint {
     pub shift_y: i32,
 }
 
-// Stores attribute i in the table of paint attributes, nine words.
+/// Stores attribute i in the table of paint attributes, nine words.
 pub fn put_paint_attrs(table: &mut [u32], i: usize, a: PaintFillAttrs)
     requires { (i < most-attrs) × (length table.old ≡ paint-attr-table) }
     ensures { table.new ≡ put-paint table.old i a }
@@ -60,7 +60,7 @@ pub fn put_paint_attrs(table: &mut [u32], i: usize, a: PaintFillAttrs)
     table[at + PAINT_PANEL] = a.panel;
 }
 
-// The id of the draw that paint attribute i belongs to.
+/// The id of the draw that paint attribute i belongs to.
 pub fn paint_id(table: &[u32], i: usize) -> u32
     requires { (i < most-attrs) × (length table.now ≡ paint-attr-table) }
     ensures { result ≡ get_or table.now (paint-attr-size * i + paint-id-at) 0 }
@@ -68,7 +68,7 @@ pub fn paint_id(table: &[u32], i: usize) -> u32
     table[PAINT_ATTR * i + PAINT_ID]
 }
 
-// The panel of paint attribute i.
+/// The panel of paint attribute i.
 pub fn paint_panel(table: &[u32], i: usize) -> u32
     requires { (i < most-attrs) × (length table.now ≡ paint-attr-table) }
     ensures { result ≡ get_or table.now (paint-attr-size * i + paint-panel-at) 0 }
@@ -76,7 +76,7 @@ pub fn paint_panel(table: &[u32], i: usize) -> u32
     table[PAINT_ATTR * i + PAINT_PANEL]
 }
 
-// Stores attribute i in the table of layer attributes, seven words, and its opacity, after those of the 16 open layers.
+/// Stores attribute i in the table of layer attributes, seven words, and its opacity, after those of the 16 open layers.
 pub fn put_layer_attrs(table: &mut [u32], opacities: &mut [f32], i: usize, a: LayerFillAttrs)
     requires { (i < most-attrs) × (length table.old ≡ layer-attr-table) × (length opacities.old ≡ opacity-count) }
     ensures { layer-tables table.new opacities.new ≡ put-layer (layer-tables table.old opacities.old) i a }
@@ -92,7 +92,7 @@ pub fn put_layer_attrs(table: &mut [u32], opacities: &mut [f32], i: usize, a: La
     opacities[OPACITY_BASE + i] = a.opacity;
 }
 
-// The id of the closing layer that layer attribute i belongs to.
+/// The id of the closing layer that layer attribute i belongs to.
 pub fn layer_id(table: &[u32], i: usize) -> u32
     requires { (i < most-attrs) × (length table.now ≡ layer-attr-table) }
     ensures { result ≡ get_or table.now (layer-attr-size * i + layer-id-at) 0 }
@@ -100,7 +100,7 @@ pub fn layer_id(table: &[u32], i: usize) -> u32
     table[LAYER_ATTR * i + LAYER_ID]
 }
 
-// The panel of layer attribute i.
+/// The panel of layer attribute i.
 pub fn layer_panel(table: &[u32], i: usize) -> u32
     requires { (i < most-attrs) × (length table.now ≡ layer-attr-table) }
     ensures { result ≡ get_or table.now (layer-attr-size * i + layer-panel-at) 0 }
@@ -108,7 +108,7 @@ pub fn layer_panel(table: &[u32], i: usize) -> u32
     table[LAYER_ATTR * i + LAYER_PANEL]
 }
 
-// Stores filter paint i, four words, of which the first is the opaque flag, 0.
+/// Stores filter paint i, four words, of which the first is the opaque flag, 0.
 pub fn put_filter_paint(table: &mut [i32], i: usize, p: FilterPaint)
     requires { (i < most-filters) × (length table.old ≡ filter-paint-table) × (p.pixmap < handle-end) }
     ensures { table.new ≡ put-filter table.old i p }

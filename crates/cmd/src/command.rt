@@ -1,4 +1,4 @@
-// Render commands (cmd.rs, RenderCmd), and the four words that stand for one.
+//! Render commands (cmd.rs, RenderCmd), and the four words that stand for one.
 ghost use Rattle.std.specs.Prelude.{◌≡◌, ◌&&◌, ◌<◌, ◌≤◌, eqb, option_map};
 ghost use Rattle.sizes.specs.Sizes.{tile-end};
 ghost use Rattle.rules.specs.Spans.{span};
@@ -10,7 +10,7 @@ ghost use Rattle.cmd.specs.Commands.{command, words_of, read-words, fill-of, Nar
 use sizes::{TILE_ALPHAS, TILE_END};
 use span::TileSpan;
 
-// A span of a row's tiles, the alpha index of its first tile, if it has one, and the place of its attribute (cmd.rs, PaintFill and LayerFill).
+/// A span of a row's tiles, the alpha index of its first tile, if it has one, and the place of its attribute (cmd.rs, PaintFill and LayerFill).
 #[derive(Clone, Copy)]
 pub struct Fill {
     pub span: TileSpan,
@@ -18,7 +18,7 @@ pub struct Fill {
     pub attrs_idx: u32,
 }
 
-// A command of a row. `PaintFill` has a paint's attribute, `LayerFill` a layer's.
+/// A command of a row. `PaintFill` has a paint's attribute, `LayerFill` a layer's.
 #[derive(Clone, Copy)]
 pub enum RenderCmd {
     PaintFill(Fill),
@@ -29,8 +29,8 @@ pub enum RenderCmd {
     PopBuf,
 }
 
-// Tag (1 and 2 PaintFill solid and alpha, 3 and 4 LayerFill, 5 and 6 PushBuf without and with a span, 7 PopBuf), span word, alpha index and attribute, as they
-// stand in a row. Unused words are 0.
+/// Tag (1 and 2 PaintFill solid and alpha, 3 and 4 LayerFill, 5 and 6 PushBuf without and with a span, 7 PopBuf), span word, alpha index and attribute, as they
+/// stand in a row. Unused words are 0.
 #[derive(Clone, Copy)]
 pub struct CmdWords {
     pub tag: u32,
@@ -39,7 +39,7 @@ pub struct CmdWords {
     pub attrs_idx: u32,
 }
 
-// Two numbers below 65,536, of tiles or of buckets, in one word: first x 65,536 + end.
+/// Two numbers below 65,536, of tiles or of buckets, in one word: first x 65,536 + end.
 pub fn span_word(first: u32, end: u32) -> u32
     requires { Narrow (span first «end») }
     ensures { result ≡ span-word (span first «end») }
@@ -47,7 +47,7 @@ pub fn span_word(first: u32, end: u32) -> u32
     first * 65536 + end
 }
 
-// Whether the two numbers of a span word are in order and the end is at most the limit.
+/// Whether the two numbers of a span word are in order and the end is at most the limit.
 pub fn good_span_word(limit: u32, word: u32) -> bool
     ensures { result ≡ good-span-word limit word }
 {
@@ -100,7 +100,7 @@ fn push_words(recorded: Option<TileSpan>) -> CmdWords
 }
 
 impl RenderCmd {
-    // The words of the command.
+    /// The words of the command.
     #[tactic(auto, unfolding(rules::specs::Commands::command_words))]
     pub fn words(self) -> CmdWords
         requires { NarrowCmd self }
@@ -167,8 +167,8 @@ impl CmdWords {
         }
     }
 
-    // The command that the words stand for, or none: an unknown tag, a span past tile 8,192, an alpha index that cannot be moved over it, or an unused word
-    // that is not 0.
+    /// The command that the words stand for, or none: an unknown tag, a span past tile 8,192, an alpha index that cannot be moved over it, or an unused word
+    /// that is not 0.
     #[tactic(auto, unfolding(crate::specs::Reading::command_of))]
     pub fn read(self) -> Option<RenderCmd>
         ensures { option_map command result ≡ read-words self }

@@ -1,4 +1,4 @@
-// Depth fills (cmd.rs, DepthFill): whole depth buckets of one paint, and the two words that stand for one.
+//! Depth fills (cmd.rs, DepthFill): whole depth buckets of one paint, and the two words that stand for one.
 ghost use Rattle.std.specs.Prelude.{◌≡◌, option_map};
 ghost use Rattle.rules.specs.Commands.{depth-words};
 ghost use Rattle.span.specs.Spans.{buckets};
@@ -8,14 +8,14 @@ ghost use Rattle.cmd.specs.DepthFills.{depth-fill, depth-words-of, read-depth-wo
 use crate::command::{good_span_word, span_word};
 use span::BucketRange;
 
-// Whole buckets of a row, with the place of their paint attribute. They are painted before the commands, from the last to the first.
+/// Whole buckets of a row, with the place of their paint attribute. They are painted before the commands, from the last to the first.
 #[derive(Clone, Copy)]
 pub struct DepthFill {
     pub buckets: BucketRange,
     pub attrs_idx: u32,
 }
 
-// Span word of buckets, first x 65,536 + end, and attribute, as they stand in a row.
+/// Span word of buckets, first x 65,536 + end, and attribute, as they stand in a row.
 #[derive(Clone, Copy)]
 pub struct DepthWords {
     pub span: u32,
@@ -23,7 +23,7 @@ pub struct DepthWords {
 }
 
 impl DepthFill {
-    // The words of the depth fill.
+    /// The words of the depth fill.
     pub fn words(self) -> DepthWords
         requires { Narrow (buckets self.buckets) }
         ensures { depth-words-of result ≡ depth-words (depth-fill self) }
@@ -36,7 +36,7 @@ impl DepthFill {
 }
 
 impl DepthWords {
-    // The depth fill that the words stand for, in a row of `count` buckets, or none: its buckets are out of order or past the row.
+    /// The depth fill that the words stand for, in a row of `count` buckets, or none: its buckets are out of order or past the row.
     #[tactic(auto, unfolding(crate::specs::Reading::depth_fill_of))]
     pub fn read(self, count: u32) -> Option<DepthFill>
         ensures { option_map depth-fill result ≡ read-depth-words count self }

@@ -1,8 +1,18 @@
-// Commands, depth fills, blends and attributes (cmd.rs), and the words that stand for them. Parts: where a function asks something, its callers have judged it.
+//! Commands, depth fills, blends and attributes (cmd.rs), and the words that stand for them. Parts: where a function asks something, its callers have judged it.
 #![tactic(auto)]
+
+ghost use Rattle.cmd.specs.ReadBack.{CommandsReadBack, CommandsWrittenBack, DepthFillsReadBack, DepthFillsWrittenBack};
 
 mod answers;
 pub mod attrs;
 pub mod blend;
 pub mod command;
 pub mod depth_fill;
+
+/// A command is read back from its words, and its words are written back; so are a depth fill's. It does nothing: what it promises is a theorem.
+pub fn words_keep_commands()
+    ensures commands_read { CommandsReadBack }
+    ensures commands_written { CommandsWrittenBack }
+    ensures depth_fills_read { DepthFillsReadBack }
+    ensures depth_fills_written { DepthFillsWrittenBack }
+{}

@@ -1,13 +1,7 @@
 -- What the rules' answers say of each way through the calls over runs. Assumes nothing.
-use mathlib.Core.Path.{◌≡◌, refl, sym, ap, ◌∙◌}
-use mathlib.Core.Bool.{Bool, true, false, ◌&&◌, ◌||◌, not, cond}
-use mathlib.Core.List.{List, [], map}
-use Prim.Native.Nat.{ℕ, ◌≤◌, ◌<◌, ◌+◌, ◌-◌, ◌*◌, ◌/◌, min}
-use native.Mathlib.Nat.{mul-le-mul_right, div-mul-le_self, min-le_left}
-use native.Mathlib.Omega.{arith}
-use lib.ListN.{length, length-map}
-use lib.Dec.{leb, ltb, eqb}
-use borrow.Author.Tests.{le-leb, lt-leb, le-ltb, ltb-false, ne_eqb, eq-eqb}
+use Rattle.std.proofs.Common.{◌≡◌, refl, sym, ap, ◌∙◌, Bool, true, false, ◌&&◌, ◌||◌, not, cond, List, [], map, ℕ, ◌≤◌, ◌<◌, ◌+◌, ◌-◌, ◌/◌, min, arith, length, leb, ltb, eqb, le-leb, le-ltb, ne_eqb, eq-eqb}
+use lib.ListN.{length-map}
+use borrow.Author.Tests.{lt-leb}
 use Rattle.rules.specs.Answers.{Answer, answer}
 use Rattle.rules.specs.Spans.{Span, span, common, bad-range}
 use Rattle.rules.specs.Depth.{runs-in, runs, tiles-of, is-visible, listed, unset-runs, visible-runs, unset_answer, visible_answer, write-runs, write_answer, write-after, written}
@@ -21,28 +15,6 @@ roomy p bs lo hi n h = sym (le-ltb n _ (omega (arith, runs-few p bs lo hi)))
 
 pub empty : (p : ℕ → Bool) (bs : List ℕ) (lo hi n : ℕ) → hi ≤ lo → false ≡ ltb n (length (runs-in p bs (span lo hi)))
 empty p bs lo hi n h = sym (le-ltb n _ (omega (arith, ap length (runs-end p bs hi lo h))))
-
-pub room_for : (n m : ℕ) → false ≡ ltb (n / 2) m → m * 2 ≤ n
-room_for n m e = omega (arith, ltb-false (n / 2) m (sym e))
-
--- the search ends within the buffer, ..
-pub met-within : (w n : ℕ) (s : Span) → met-end w s n ≤ n
-met-within w n s = go (ltb s.first s.end)
-  where
-    go : (t : Bool) → cond t (min ((s.end + (w - 1)) / w) n) 0 ≤ n
-    go true = omega arith
-    go false = omega arith
-
--- .. and its end counts few tiles
-pub met-small : (w n : ℕ) (s : Span) → w ≤ 64 → s.end ≤ 8192 → met-end w s n * w < 4294967296
-met-small w n s h g = go (ltb s.first s.end)
-  where
-    x : ℕ
-    x = s.end + (w - 1)
-
-    go : (t : Bool) → cond t (min (x / w) n) 0 * w < 4294967296
-    go true = omega (arith, mul-le-mul_right w (min-le_left (x / w) n), div-mul-le_self x w)
-    go false = omega arith
 
 -- a refusal leaves the list
 abbrev pub refused : ℕ → List ℕ → RunsOut

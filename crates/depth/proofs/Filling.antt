@@ -1,12 +1,6 @@
 -- The runs' numbers, written to a list from its start. Assumes nothing.
-use mathlib.Core.Path.{◌≡◌, refl, sym, ap, ◌∙◌}
-use mathlib.Core.Bool.{Bool, false}
-use mathlib.Core.List.{List, [], ◌∷◌, map}
-use Prim.Native.Nat.{ℕ, suc, ◌≤◌, ◌<◌, ◌+◌, ◌*◌}
-use native.Mathlib.Numerals.{add-one}
-use native.Mathlib.Nat.{zero-add, mul-le-mul_right}
-use native.Mathlib.Omega.{arith}
-use lib.ListN.{length, get_or, set, length-set, length-map}
+use Rattle.std.proofs.Common.{◌≡◌, refl, sym, ap, ◌∙◌, Bool, false, List, [], ◌∷◌, map, ℕ, suc, ◌≤◌, ◌<◌, ◌+◌, ◌*◌, add-one, zero-add, arith, length, get_or, set, length-set}
+use lib.ListN.{length-map}
 use lib.Seq.{sets, sets-eq}
 use Rattle.rules.specs.Answers.{answer}
 use Rattle.rules.specs.Spans.{Span, span}
@@ -23,10 +17,6 @@ length-numbers (r ∷ rs) = let h = length-numbers rs in omega arith
 pub map_same : (rs : List Span) → map (λ (r : Span). r) rs ≡ rs
 map_same [] = refl
 map_same (r ∷ rs) = rw (map_same rs)
-
--- a bucket's place in units of w is below what the last one's is
-pub scaled : (i hi w : ℕ) → i ≤ hi → hi * w < 4294967296 → i * w < 4294967296
-scaled i hi w h k = let m : i * w ≤ hi * w = mul-le-mul_right w h in omega arith
 
 two-more : (n : ℕ) → (n + 1) * 2 ≡ suc (suc (n * 2))
 two-more n = omega arith

@@ -1,16 +1,9 @@
 -- The id, written bucket by bucket from left to right. Assumes nothing.
-use mathlib.Core.Path.{◌≡◌, refl, sym, ◌∙◌}
-use mathlib.Core.Bool.{Bool, true, false, ◌&&◌}
-use mathlib.Core.List.{List, [], ◌∷◌}
-use Prim.Native.Nat.{ℕ, zero, suc, ◌≤◌, ◌<◌, ◌+◌}
-use native.Mathlib.Numerals.{add-one}
-use native.Mathlib.Nat.{zero-add, le_of_suc-le-suc, not-suc-le-zero}
-use native.Mathlib.Omega.{arith}
-use lib.ListN.{length, get_or, set, length-set}
+use Rattle.std.proofs.Common.{◌≡◌, refl, sym, ◌∙◌, Bool, true, false, ◌&&◌, List, [], ◌∷◌, ℕ, zero, suc, ◌≤◌, ◌<◌, ◌+◌, add-one, zero-add, le_of_suc-le-suc, not-suc-le-zero, arith, length, get_or, set}
+use Rattle.std.proofs.Common.{length-set, leb, ltb, ne_eqb, lt-ltb, le-ltb, le-leb, leb-true}
 use lib.Seq.{set-get_or}
-use lib.Dec.{leb, ltb}
 use borrow.Author.Rules.{read_above}
-use borrow.Author.Tests.{ne_eqb, lt-ltb, le-ltb, le-leb, lt-leb, leb-true}
+use borrow.Author.Tests.{lt-leb}
 use Rattle.rules.specs.Spans.{span, covers}
 use Rattle.rules.specs.Depth.{write, written_from, written}
 

@@ -1,14 +1,8 @@
 -- The rules' runs, found from left to right. Assumes nothing.
-use mathlib.Core.Path.{◌≡◌, refl, sym, ap, ◌∙◌, fun_ext}
-use mathlib.Core.Bool.{Bool, true, false, cond}
-use mathlib.Core.List.{List, [], ◌∷◌}
-use Prim.Native.Nat.{ℕ, zero, suc, ◌≤◌, ◌<◌, ◌+◌, ◌-◌, ◌*◌, min}
-use native.Mathlib.Numerals.{add-one}
-use native.Mathlib.Omega.{arith}
-use lib.ListN.{length, get_or, drop, length-take, length-drop}
-use lib.Seq.{drop-cons, take_all}
-use lib.Dec.{leb, eqb}
-use borrow.Author.Tests.{eq-eqb, ne_eqb, lt-leb, leb-true, leb-false}
+use Rattle.std.proofs.Common.{◌≡◌, refl, sym, ◌∙◌, Bool, true, false, cond, List, [], ◌∷◌, ℕ, zero, suc, ◌≤◌, ◌<◌, ◌+◌, ◌-◌, ◌*◌, min, add-one, arith, length, get_or, drop, length-take, length-drop}
+use Rattle.std.proofs.Common.{drop-cons, take_all, leb, eqb, eq-eqb, ne_eqb, leb-true, leb-false}
+use mathlib.Core.Path.{fun_ext}
+use borrow.Author.Tests.{lt-leb}
 use Rattle.rules.specs.Lists.{slice}
 use Rattle.rules.specs.Spans.{Span, span}
 use Rattle.rules.specs.Depth.{join-run, bucket-runs, runs-in, is-unset, is-visible}
@@ -70,10 +64,6 @@ none_left n i h = omega arith
 -- v is what bucket i holds, if that is before hi: what a search carries from bucket to bucket
 abbrev pub Carried : List ℕ → ℕ → ℕ → ℕ → Type 0
 Carried bs hi i v = i < hi → v ≡ get_or bs i 0
-
--- a test of what is carried is a test of the bucket
-pub carried-test : (p : ℕ → Bool) (bs : List ℕ) (hi i v : ℕ) {t : Bool} → Carried bs hi i v → i < hi → p v ≡ t → p (get_or bs i 0) ≡ t
-carried-test p bs hi i v k h e = sym (ap p (k h)) ∙ e
 
 module _ (p : ℕ → Bool) (bs : List ℕ) (hi : ℕ) where
   pub runs-end : (i : ℕ) → hi ≤ i → runs-in p bs (span i hi) ≡ []

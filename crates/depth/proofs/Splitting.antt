@@ -1,16 +1,10 @@
 -- What rule 7's definition says of each way through the split. Assumes nothing.
-use mathlib.Core.Path.{◌≡◌, refl}
-use mathlib.Core.Bool.{Bool, true, false, cond}
-use mathlib.Core.List.{List, [], ◌∷◌}
-use Prim.Native.Nat.{ℕ, ◌≤◌, ◌<◌, ◌+◌, ◌-◌, ◌*◌, ◌/◌}
-use native.Mathlib.Nat.{mul-le-mul_right, mul-lt-mul_of_pos_right, mul-div_cancel}
-use lib.Dec.{ltb}
-use borrow.Author.Tests.{le-leb, lt-leb}
+use Rattle.std.proofs.Common.{◌≡◌, refl, Bool, true, false, cond, List, [], ◌∷◌, ℕ, ◌≤◌, ◌<◌, ◌+◌, ◌-◌, ◌*◌, ◌/◌, mul-le-mul_right, mul-lt-mul_of_pos_right, mul-div_cancel, ltb, le-leb, Option, None, Some}
+use borrow.Author.Tests.{lt-leb}
 use Rattle.rules.specs.Lists.{keep}
 use Rattle.rules.specs.Answers.{answer}
 use Rattle.rules.specs.Spans.{Span, span}
 use Rattle.rules.specs.Split.{Part, regular, buckets, split, split_answer}
-use Rattle.std.specs.Prelude.{Option, None, Some}
 use Rattle.span.specs.declared.TileSpan.{TileSpan}
 use Rattle.depth.specs.Answers.{beside, piece_of}
 

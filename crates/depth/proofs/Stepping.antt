@@ -1,11 +1,6 @@
 -- One search for the next run. Assumes nothing.
-use mathlib.Core.Path.{◌≡◌, refl, sym, ◌∙◌}
-use mathlib.Core.List.{List}
-use Prim.Native.Nat.{ℕ, ◌≤◌, ◌<◌, ◌+◌}
-use native.Mathlib.Omega.{arith}
-use lib.ListN.{length, get_or}
-use borrow.Author.Tests.{le-leb, lt-leb}
-use Rattle.std.proofs.Common.{below_more}
+use Rattle.std.proofs.Common.{◌≡◌, sym, ◌∙◌, List, ℕ, ◌≤◌, ◌<◌, ◌+◌, arith, length, get_or, le-leb, below_more}
+use borrow.Author.Tests.{lt-leb}
 use Rattle.rules.specs.Spans.{span}
 use Rattle.rules.specs.Depth.{is-visible, runs-in}
 use Rattle.depth.specs.Searching.{NoRun, NextRun}
@@ -23,9 +18,6 @@ module _ (bs : List ℕ) (hi ceiling from : ℕ) where
     pub before : Before first
     pub reached : Reached (is-visible ceiling) bs hi first next
     pub shown : (k : ℕ) → first ≤ k → k < next → get_or bs k 0 ≤ ceiling
-
-  pub before-first : Before from
-  before-first = record { after = omega arith; passed = λ k h g. omega arith; rest = refl }
 
   module _ (fits : hi ≤ length bs) (first : ℕ) (b : Before first) (h : first < hi) where
     pub before-more : ceiling < get_or bs first 0 → Before (first + 1)

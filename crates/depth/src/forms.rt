@@ -1,4 +1,4 @@
-// The functions of `depth` in other forms: a summary updated where it stands, as in the Rust, and a row's runs as spans in place of tile numbers.
+/// The functions of `depth` in other forms: a summary updated where it stands, as in the Rust, and a row's runs as spans in place of tile numbers.
 pub mod listed;
 pub mod runs;
 pub mod spans;

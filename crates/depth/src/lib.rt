@@ -1,5 +1,5 @@
-// Depth of one row (depth.rs): the split of an opaque span, the row's summary, and the runs of its depth words. `forms` has the same over lent structs and
-// slices of spans.
+//! Depth of one row (depth.rs): the split of an opaque span, the row's summary, and the runs of its depth words. `forms` has the same over lent structs and
+//! slices of spans.
 #![tactic(auto)]
 
 pub mod forms;

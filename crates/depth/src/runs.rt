@@ -1,5 +1,5 @@
-// The runs of buckets in one row's depth words (depth.rs, DepthBuffer): a word a bucket, the id of the depth fill there, or 0. Lists have two words a run. The
-// private functions are parts: their callers have judged the range and the room.
+//! The runs of buckets in one row's depth words (depth.rs, DepthBuffer): a word a bucket, the id of the depth fill there, or 0. Lists have two words a run. The
+//! private functions are parts: their callers have judged the range and the room.
 ghost use Rattle.std.specs.Prelude.{◌≡◌, ◌≤◌, ◌<◌, ◌*◌, ◌/◌, length, ltb};
 ghost use Rattle.sizes.specs.Sizes.{tile-end};
 ghost use Rattle.rules.specs.Spans.{span};
@@ -76,8 +76,8 @@ fn met_end(span: TileSpan, buckets: usize, width: Width) -> usize
     buckets.min(width.above(span.end) as usize)
 }
 
-// The runs of a span's tiles whose buckets hold at most the id, as tiles cut to the span, at the list's start; it gives their number (for_each_visible_run).
-// Buckets past the row's words don't count. BadRun, 12, for a span out of order or past tile 8,192; NoRoom, 14.
+/// The runs of a span's tiles whose buckets hold at most the id, as tiles cut to the span, at the list's start; it gives their number (for_each_visible_run).
+/// Buckets past the row's words don't count. BadRun, 12, for a span out of order or past tile 8,192; NoRoom, 14.
 pub fn visible_runs(
     depth: &[u32],
     span: TileSpan,
@@ -98,7 +98,7 @@ pub fn visible_runs(
     Ok(list_runs(depth, lo, hi, draw_id, width.tiles() as usize, span, list))
 }
 
-// The runs of a span's tiles whose buckets hold 0 (for_each_unset_run): what is visible at id 0. Refused by 12 and 14, as those.
+/// The runs of a span's tiles whose buckets hold 0 (for_each_unset_run): what is visible at id 0. Refused by 12 and 14, as those.
 pub fn unset_runs(
     depth: &[u32],
     span: TileSpan,
@@ -156,8 +156,8 @@ fn mark_runs(depth: &mut [u32], lo: usize, hi: usize, draw_id: u32, list: &mut [
     n
 }
 
-// Lists the unset runs of a bucket range as buckets, stores the id over them, and gives their number (for_each_unset_run_and_write). BadRun, 12, for a range
-// out of order or past the row's words, and for id 0; NoRoom, 14: the words stay.
+/// Lists the unset runs of a bucket range as buckets, stores the id over them, and gives their number (for_each_unset_run_and_write). BadRun, 12, for a range
+/// out of order or past the row's words, and for id 0; NoRoom, 14: the words stay.
 #[inline(always)]
 pub fn unset_runs_and_write(
     depth: &mut [u32],

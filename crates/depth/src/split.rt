@@ -1,4 +1,4 @@
-// Rule 7: an opaque span is split into a depth fill of whole buckets and regular pieces beside it (depth.rs, DepthSegment and split_opaque_span).
+//! Rule 7: an opaque span is split into a depth fill of whole buckets and regular pieces beside it (depth.rs, DepthSegment and split_opaque_span).
 ghost use Rattle.std.specs.Prelude.{◌≡◌};
 ghost use Rattle.rules.specs.Split.{split_answer};
 ghost use Rattle.span.specs.Spans.{tiles};
@@ -10,7 +10,7 @@ use sizes::answers::Refusal;
 use sizes::width::Width;
 use span::{BucketRange, TileSpan};
 
-// The span itself where it covers no whole bucket; or its whole buckets, with the tiles before them and after them, where there are any.
+/// The span itself where it covers no whole bucket; or its whole buckets, with the tiles before them and after them, where there are any.
 #[derive(Clone, Copy)]
 pub enum Split {
     Whole(TileSpan),
@@ -21,7 +21,7 @@ pub enum Split {
     },
 }
 
-// Rule 7: the whole buckets of a span of tiles, and what is left of it on each side. BadRun, 12, for a span out of order or past tile 8,192.
+/// Rule 7: the whole buckets of a span of tiles, and what is left of it on each side. BadRun, 12, for a span out of order or past tile 8,192.
 #[tactic(auto, unfolding(rules::specs::Split::split_answer))]
 pub fn split_opaque_span(span: TileSpan, width: Width) -> Result<Split, Refusal>
     ensures { split_of result ≡ split_answer (bucket-tiles width) (tiles span) }

@@ -1,19 +1,10 @@
 -- The words of a file's bytes: how the loop puts them, and that they are the rules'.
-use Prim.Native.Nat.{ℕ, zero, suc, ◌+◌, ◌*◌, ◌/◌, ◌%◌, ◌≤◌, ◌<◌}
-use native.Mathlib.Nat.{zero-add, add_assoc}
-use native.Mathlib.Numerals.{add-one}
-use native.Mathlib.Omega.{arith}
-use mathlib.Core.Path.{◌≡◌, refl, sym, ap}
-use mathlib.Core.Bool.{Bool, true, false, cond}
-use mathlib.Core.List.{List, [], ◌∷◌, ◌++◌, append_assoc}
-use Rattle.std.specs.Prelude.{None, Some, option_map}
-use lib.ListN.{length, get_or, take, drop, set, length-append, length-drop}
-use lib.Seq.{drop-cons, get_or-drop, set_at, take_at}
-use lib.Dec.{eqb}
-use borrow.Author.Tests.{eq-eqb, ne_eqb}
+use Rattle.std.proofs.Common.{ℕ, zero, suc, ◌+◌, ◌*◌, ◌/◌, ◌%◌, ◌≤◌, ◌<◌, zero-add, add_assoc, add-one, arith, ◌≡◌, refl, sym, ap, Bool, true, false, cond, List, [], ◌∷◌, ◌++◌, append_assoc, None}
+use Rattle.std.proofs.Common.{Some, option_map, length, get_or, take, drop, set, length-append, length-drop, drop-cons, get_or-drop, take_at, eqb, eq-eqb, ne_eqb}
+use lib.Seq.{set_at}
 use Rattle.rules.specs.Lines.{word_of, words_of}
 use Rattle.file.specs.Each.{each}
-use Rattle.file.specs.Words.{word_from, words-in, filled, filled-with}
+use Rattle.file.specs.Words.{word_from, words-in}
 use Rattle.file.proofs.Eaches.{each-length, each_more}
 
 -- the words put so far, and what stood after them
@@ -21,16 +12,10 @@ abbrev pub Put : List ℕ → List ℕ → ℕ → List ℕ → Type 0
 Put bs old i now = now ≡ each word_from 4 bs 0 i ++ drop i old
 
 module _ (bs old : List ℕ) (i : ℕ) (now : List ℕ) (p : Put bs old i now) where
-  pub put-length : i ≤ length old → length now ≡ length old
-  put-length h = rw p (simp (length-append, length-drop, each-length) (omega arith))
-
   pub put_next : (x : ℕ) → i < length old → x ≡ word_from bs (4 * i) → Put bs old (i + 1) (set now i x)
   put_next x h e =
       rw (p, drop-cons old i 0 h, set_at (each word_from 4 bs 0 i) (get_or old i 0) (drop (suc i) old) x i (each-length word_from 4 bs 0 i))
       (rw (each_more word_from 4 bs 0 i, zero-add (4 * i), append_assoc, ← e, add-one i))
-
-  pub put_all : i ≡ length bs / 4 → filled (length bs / 4) now ≡ filled-with bs old
-  put_all e = rw (p, e)
 
 -- the words so put are the first of them
 pub first-words : (bs old : List ℕ) → take (length bs / 4) (words-in bs ++ drop (length bs / 4) old) ≡ words-in bs

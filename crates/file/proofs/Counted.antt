@@ -1,12 +1,5 @@
 -- The rules' tests of a recording, by the counts of its sections.
-use Prim.Native.Nat.{ℕ, zero, suc, ◌<◌}
-use native.Mathlib.Omega.{arith}
-use mathlib.Core.Path.{◌≡◌, refl, ◌∙◌}
-use mathlib.Core.Bool.{Bool, true, false, ◌&&◌}
-use mathlib.Core.List.{List, [], ◌∷◌}
-use lib.ListN.{length, get_or}
-use lib.Dec.{ltb}
-use borrow.Author.Tests.{ltb-true}
+use Rattle.std.proofs.Common.{ℕ, zero, suc, ◌<◌, arith, ◌≡◌, refl, ◌∙◌, Bool, true, false, ◌&&◌, List, [], ◌∷◌, length, get_or, ltb, ltb-true}
 use Rattle.rules.specs.Lists.{every}
 use Rattle.rules.specs.Segments.{Segment}
 use Rattle.rules.specs.Blends.{good-blend}

@@ -1,15 +1,6 @@
 -- The fields of a record, as the code reads them.
-use Prim.Native.Nat.{ℕ, zero, suc, ◌+◌, ◌≤◌}
-use native.Mathlib.Nat.{add_assoc}
-use mathlib.Core.Path.{◌≡◌, refl, sym, ap}
-use mathlib.Core.Bool.{Bool, true, false, ◌&&◌}
-use mathlib.Core.List.{List}
-use lib.ListN.{length, get_or, take, drop}
-use lib.Seq.{drop-cons}
+use Rattle.std.proofs.Common.{ℕ, zero, suc, ◌+◌, ◌≤◌, add_assoc, ◌≡◌, refl, sym, ap, Bool, true, false, ◌&&◌, List, length, get_or, take, drop, drop-cons, arith, add-one, leb}
 use Rattle.std.specs.List.{list_all}
-use native.Mathlib.Omega.{arith}
-use native.Mathlib.Numerals.{add-one}
-use lib.Dec.{leb}
 use Rattle.sizes.specs.Sizes.{handle-end}
 use Rattle.rules.specs.Lists.{every}
 use Rattle.rules.specs.Inputs.{good-pixmap}

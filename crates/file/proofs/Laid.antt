@@ -1,15 +1,7 @@
 -- The sections that the rules find are those of the layout; and what the code has found so far.
-use Prim.Native.Nat.{ℕ, ◌+◌, ◌-◌, ◌*◌, ◌≤◌, ◌<◌}
-use native.Mathlib.Numerals.{add-one}
-use native.Mathlib.Omega.{arith}
-use mathlib.Core.Path.{◌≡◌, refl, sym, ap, ◌∙◌}
-use mathlib.Core.Bool.{Bool, true, false, ◌&&◌, cond}
-use mathlib.Core.List.{List, [], ◌∷◌, ◌++◌, append_assoc, append-nil}
-use Rattle.std.specs.Prelude.{Option, None, Some, option_map, Ok, Err}
-use lib.ListN.{length, get_or, drop, length-drop}
-use lib.Seq.{drop-cons, drop-length, drop-drop}
-use lib.Dec.{leb, ltb, eqb}
-use borrow.Author.Tests.{lt-ltb, eq-eqb, ne_eqb, ltb-true, ltb-false, leb-true, eqb-true}
+use Rattle.std.proofs.Common.{ℕ, ◌+◌, ◌-◌, ◌*◌, ◌≤◌, ◌<◌, add-one, arith, ◌≡◌, refl, sym, ap, ◌∙◌, Bool, true, false, ◌&&◌, cond, List, [], ◌∷◌, ◌++◌, append_assoc, append-nil, Option, None, Some}
+use Rattle.std.proofs.Common.{option_map, Ok, Err, length, get_or, drop, length-drop, drop-cons, drop-drop, leb, ltb, eqb, lt-ltb, eq-eqb, ne_eqb, ltb-true, ltb-false, leb-true, eqb-true}
+use lib.Seq.{drop-length}
 use Rattle.rules.specs.Recording.{shape, good-count, records, sections}
 use Rattle.file.specs.declared.form.Section.{Section}
 use Rattle.file.specs.declared.form.Layout.{Layout}

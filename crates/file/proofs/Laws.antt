@@ -1,17 +1,10 @@
 -- Laws for callers: what answer 0 says of every record, and the segment section as a list of its own.
-use Prim.Native.Nat.{ℕ, ◌/◌, ◌≤◌, ◌<◌}
-use native.Mathlib.Omega.{arith}
-use mathlib.Core.Path.{◌≡◌, refl, sym, ◌∙◌}
-use mathlib.Core.Bool.{Bool, true, false, ◌&&◌, not, cond}
-use mathlib.Core.List.{List}
-use lib.ListN.{length, get_or}
-use lib.Dec.{leb}
-use borrow.Author.Tests.{leb-true}
+use Rattle.std.proofs.Common.{ℕ, ◌≤◌, ◌<◌, arith, ◌≡◌, refl, sym, ◌∙◌, Bool, true, false, ◌&&◌, not, cond, List, length, get_or, leb, leb-true}
 use Rattle.rules.specs.Lists.{every}
-use Rattle.rules.specs.Segments.{good-segment, ordered}
+use Rattle.rules.specs.Segments.{good-segment}
 use Rattle.rules.specs.Spans.{good-range}
-use Rattle.rules.specs.Inputs.{good-paint, Draw, good-draw, draw-segments}
-use Rattle.rules.specs.Recording.{Recording, LayerRec, Node, recording, good-records, good-order, good-layer-rec, good-node, good-clip-order}
+use Rattle.rules.specs.Inputs.{good-paint, Draw, good-draw}
+use Rattle.rules.specs.Recording.{Recording, LayerRec, Node, recording, good-records, good-order, good-layer-rec, good-node}
 use Rattle.segments.specs.Segs.{segs-of}
 use Rattle.file.specs.declared.form.Layout.{Layout}
 use Rattle.file.specs.Layouts.{Fits, sections_at}
@@ -19,7 +12,7 @@ use Rattle.rules.proofs.All.{both}
 use Rattle.file.proofs.Reading.{segments-are}
 use Rattle.file.specs.Judging.{judged}
 use Rattle.file.proofs.Counted.{every-getD}
-use Rattle.file.proofs.Listed.{lent, lent-count, lent-segments}
+use Rattle.file.proofs.Listed.{lent, lent-segments}
 
 -- answer 0: every record is good, and every list is in order
 pub record Sound (r : Recording) : Type 0 where
@@ -85,24 +78,7 @@ module _ (r : Recording) (g : good-records r ≡ true) where
       × (((get_or r.nodes i d).end ≤ length r.draws) × ((get_or r.nodes i d).layer ≤ length r.layers))
   node-range-at i d h = node-range (get_or r.nodes i d) (good-node-at i d h)
 
--- a draw's list and a present clip's are in order
-module _ (r : Recording) (o : good-order r ≡ true) where
-  pub draw-order-at : (i : ℕ) (d : Draw) → i < length r.draws → ordered (draw-segments r.segments (get_or r.draws i d)) ≡ true
-  unfolding good-order
-  draw-order-at i d h =
-      every-getD (λ (x : Draw). ordered (draw-segments r.segments x)) r.draws i d h
-      (both (every (λ (x : Draw). ordered (draw-segments r.segments x)) r.draws) (every (good-clip-order r) r.layers) o).0
-
-  pub clip-order-at : (i : ℕ) (d : LayerRec) → i < length r.layers → good-clip-order r (get_or r.layers i d) ≡ true
-  unfolding good-order
-  clip-order-at i d h =
-      every-getD (good-clip-order r) r.layers i d h
-      (both (every (λ (x : Draw). ordered (draw-segments r.segments x)) r.draws) (every (good-clip-order r) r.layers) o).1
-
 -- the segment section, lent as a part of the words, is the recording's segment list
 module _ (l : Layout) (ws : List ℕ) (f : Fits ws l) where
-  pub segments-count : length (lent ws l.segments.at l.segments.count) / 5 ≡ l.segments.count
-  segments-count = lent-count ws l.segments.at l.segments.count f.segments.ends
-
   pub segments-part : segs-of (lent ws l.segments.at l.segments.count) ≡ (recording (sections_at l ws)).segments
   segments-part = lent-segments ws l.segments.at l.segments.count f.segments.ends ∙ sym (segments-are l ws f)

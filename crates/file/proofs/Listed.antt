@@ -1,15 +1,6 @@
 -- A file's segment section as a list of its own, and its lists' order.
-use Prim.Native.Nat.{ℕ, zero, suc, ◌+◌, ◌-◌, ◌*◌, ◌/◌, ◌≤◌, ◌<◌}
-use native.Mathlib.Nat.{add-zero, add_assoc, mul-zero}
-use native.Mathlib.Omega.{arith}
-use mathlib.Core.Path.{◌≡◌, refl, sym, ap, ◌∙◌}
-use mathlib.Core.Bool.{Bool, true, false, not, cond}
-use mathlib.Core.List.{List, [], ◌∷◌}
-use lib.ListN.{length, get_or, take, drop, length-take, length-drop}
-use lib.Seq.{get_or-take, get_or-drop}
-use lib.Dec.{leb, eqb}
-use borrow.Author.Tests.{leb-true, ne_eqb}
-use Rattle.std.specs.Prelude.{Result, Ok, Err}
+use Rattle.std.proofs.Common.{ℕ, zero, suc, ◌+◌, ◌-◌, ◌*◌, ◌/◌, ◌≤◌, ◌<◌, add-zero, add_assoc, mul-zero, arith, ◌≡◌, refl, sym, ap, ◌∙◌, Bool, true, false, not, cond, List, [], ◌∷◌, length, get_or}
+use Rattle.std.proofs.Common.{take, drop, length-take, length-drop, get_or-take, get_or-drop, leb, eqb, leb-true, ne_eqb, Result, Ok, Err}
 use Rattle.std.specs.Result.{is_ok}
 use Rattle.sizes.specs.declared.answers.Refusal.{Refusal}
 use Rattle.sizes.specs.Refusals.{number_of, answer_number}
@@ -117,9 +108,6 @@ module _ (ws : List ℕ) (a b : ℕ) (g : good-range a b (length ws / 5) ≡ tru
 
   range-end : b ≤ length ws / 5
   range-end = leb-true b (length ws / 5) (both (leb a b) (leb b (length ws / 5)) g).1
-
-  pub range-fits : (a ≤ b) × (5 * b ≤ length ws)
-  range-fits = let h = range-end in (range-order, omega arith)
 
   pub range-judged : every good-segment (segs-of ws) ≡ true
       → eqb (judge-segments false (segs ws a (b - a))) 0 ≡ ordered (slice a b (segs-of ws))

@@ -1,10 +1,5 @@
 -- What good records say of the lists whose order is asked, and the order by sections.
-use Prim.Native.Nat.{ℕ, ◌/◌}
-use mathlib.Core.Path.{◌≡◌, refl, sym, ◌∙◌}
-use mathlib.Core.Bool.{Bool, true, false, ◌&&◌}
-use mathlib.Core.List.{List, [], ◌∷◌}
-use lib.ListN.{length}
-use lib.Dec.{leb, ltb, eqb}
+use Rattle.std.proofs.Common.{ℕ, ◌/◌, ◌≡◌, refl, sym, ◌∙◌, Bool, true, false, ◌&&◌, List, [], ◌∷◌, length, leb, ltb, eqb}
 use Rattle.rules.specs.Lists.{every}
 use Rattle.rules.specs.Boxes.{good-box}
 use Rattle.rules.specs.Blends.{good-blend}

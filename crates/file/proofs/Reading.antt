@@ -1,23 +1,12 @@
 -- The recording of a layout's sections, read off the words place by place.
-use Prim.Native.Nat.{ℕ, zero, suc, ◌+◌, ◌-◌, ◌*◌, ◌≤◌, ◌<◌}
-use native.Mathlib.Nat.{add-zero, add_assoc, mul-zero, mul-suc}
-use native.Mathlib.Omega.{arith}
-use mathlib.Core.Path.{◌≡◌, sym, ap, ◌∙◌}
-use mathlib.Core.Bool.{true}
-use mathlib.Core.List.{List, []}
-use lib.ListN.{length, get_or, take, drop, length-take, length-drop}
-use lib.Seq.{get_or-take, get_or-drop, drop-drop}
-use lib.Dec.{ltb}
-use borrow.Author.Tests.{ltb-true}
-use Rattle.rules.specs.Recording.{records, recording, Recording, paint-rec, segment-rec, draw-rec, layer-rec, node-rec, LayerRec, Node}
+use Rattle.std.proofs.Common.{ℕ, ◌+◌, ◌-◌, ◌*◌, ◌≤◌, add-zero, add_assoc, arith, ◌≡◌, sym, ap, ◌∙◌, true, List, [], length, get_or, take, drop, length-take, length-drop, get_or-take, get_or-drop, ltb, ltb-true}
+use Rattle.rules.specs.Recording.{records, recording, Recording, paint-rec, segment-rec, draw-rec, layer-rec, node-rec}
 use Rattle.rules.specs.Boxes.{box}
-use Rattle.rules.specs.Inputs.{Paint, Draw}
-use Rattle.file.specs.declared.form.Section.{Section}
 use Rattle.file.specs.declared.form.Layout.{Layout}
 use Rattle.file.specs.Each.{each}
-use Rattle.file.specs.Layouts.{Fits, cut, sections_at}
+use Rattle.file.specs.Layouts.{Fits, sections_at}
 use Rattle.file.specs.Places.{paint_from, segment_from, draw_from, clip_from, filter_from, layer_from, node_from, recorded}
-use Rattle.file.proofs.Eaches.{each-length, each_at, each-record, each_part}
+use Rattle.file.proofs.Eaches.{each-record, each_part}
 
 -- word i of a record of k words that stands at place p
 cell : (k p : ℕ) (ws : List ℕ) (i : ℕ) → ltb i k ≡ true → get_or (take k (drop p ws)) i 0 ≡ get_or ws (p + i) 0
@@ -62,22 +51,6 @@ module _ (l : Layout) (ws : List ℕ) (f : Fits ws l) where
       )
       (simp (cell, add-zero))
 
--- record j of n records of k words
-record-at : (k p n : ℕ) (ws : List ℕ) (j : ℕ) → j < n → get_or (records k n (drop p ws)) j [] ≡ take k (drop (p + k * j) ws)
-record-at k p zero ws j h = absurd (omega arith)
-record-at k p (suc n) ws zero h = rw (mul-zero k, add-zero p)
-record-at k p (suc n) ws (suc j) h =
-    let e : p + k + k * j ≡ p + k * suc j = rw (mul-suc k j) (omega arith) in
-    rw (drop-drop k p ws) (rw e at (record-at k (p + k) n ws j (omega arith)))
-
--- word i of record j of a section
-pub cut_word : (k : ℕ) (ws : List ℕ) (s : Section) (j i : ℕ) → j < s.count → i < k
-    → get_or (get_or (cut k ws s) j []) i 0 ≡ get_or ws (s.at + k * j + i) 0
-cut_word k ws s j i h g =
-    ap (λ (v : List ℕ). get_or v i 0) (record-at k s.at s.count ws j h)
-    ∙ get_or-take k (drop (s.at + k * j) ws) i 0 g
-    ∙ get_or-drop (s.at + k * j) ws i 0
-
 -- the recording of a layout, section by section
 module _ (l : Layout) (ws : List ℕ) (f : Fits ws l) where
   abbrev held : Recording
@@ -94,55 +67,6 @@ module _ (l : Layout) (ws : List ℕ) (f : Fits ws l) where
   pub segments-are : held.segments ≡ each segment_from 5 ws l.segments.at l.segments.count
   unfolding recorded
   segments-are = ap (λ (r : Recording). r.segments) (reads l ws f)
-
-  pub draws-are : held.draws ≡ each draw_from 7 ws l.draws.at l.draws.count
-  unfolding recorded
-  draws-are = ap (λ (r : Recording). r.draws) (reads l ws f)
-
-  pub layers-are : held.layers ≡ each layer_from 22 ws l.layers.at l.layers.count
-  unfolding recorded
-  layers-are = ap (λ (r : Recording). r.layers) (reads l ws f)
-
-  pub nodes-are : held.nodes ≡ each node_from 3 ws l.nodes.at l.nodes.count
-  unfolding recorded
-  nodes-are = ap (λ (r : Recording). r.nodes) (reads l ws f)
-
-  pub root-start : held.start ≡ get_or ws l.root.at 0
-  unfolding recorded
-  root-start = ap (λ (r : Recording). r.start) (reads l ws f)
-
-  pub root-end : held.end ≡ get_or ws (l.root.at + 1) 0
-  unfolding recorded
-  root-end = ap (λ (r : Recording). r.end) (reads l ws f)
-
-  -- how many there are
-  pub paint-count : length held.paints ≡ l.paints.count
-  paint-count = rw paints-are (each-length paint_from 4 ws l.paints.at l.paints.count)
-
-  pub segment-count : length held.segments ≡ l.segments.count
-  segment-count = rw segments-are (each-length segment_from 5 ws l.segments.at l.segments.count)
-
-  pub draw-count : length held.draws ≡ l.draws.count
-  draw-count = rw draws-are (each-length draw_from 7 ws l.draws.at l.draws.count)
-
-  pub layer-count : length held.layers ≡ l.layers.count
-  layer-count = rw layers-are (each-length layer_from 22 ws l.layers.at l.layers.count)
-
-  pub node-count : length held.nodes ≡ l.nodes.count
-  node-count = rw nodes-are (each-length node_from 3 ws l.nodes.at l.nodes.count)
-
-  -- where the i-th of them stands
-  pub draw-at : (i : ℕ) (d : Draw) → i < l.draws.count → get_or held.draws i d ≡ draw_from ws (l.draws.at + 7 * i)
-  draw-at i d h = rw draws-are (each_at draw_from 7 ws l.draws.at l.draws.count i d h)
-
-  pub layer-at : (i : ℕ) (d : LayerRec) → i < l.layers.count → get_or held.layers i d ≡ layer_from ws (l.layers.at + 22 * i)
-  layer-at i d h = rw layers-are (each_at layer_from 22 ws l.layers.at l.layers.count i d h)
-
-  pub node_at : (i : ℕ) (d : Node) → i < l.nodes.count → get_or held.nodes i d ≡ node_from ws (l.nodes.at + 3 * i)
-  node_at i d h = rw nodes-are (each_at node_from 3 ws l.nodes.at l.nodes.count i d h)
-
-  pub paint-at : (i : ℕ) (d : Paint) → i < l.paints.count → get_or held.paints i d ≡ paint_from ws (l.paints.at + 4 * i)
-  paint-at i d h = rw paints-are (each_at paint_from 4 ws l.paints.at l.paints.count i d h)
 
 -- a paint reads only its own words
 near-paint : (ws : List ℕ) (a m i : ℕ) → i + 4 ≤ m → paint_from (take m (drop a ws)) i ≡ paint_from ws (a + i)

@@ -1,4 +1,4 @@
-// The recording file's form (answer 3): where each section stands. A section is a part of the caller's words, not a copy.
+//! The recording file's form (answer 3): where each section stands. A section is a part of the caller's words, not a copy.
 ghost use Rattle.std.specs.Prelude.{◌≡◌, ◌/◌, ◌≤◌, length};
 ghost use Rattle.rules.specs.Recording.{good-count};
 ghost use Rattle.file.specs.Layouts.{stands, section_at, form_of};
@@ -7,14 +7,14 @@ ghost use Rattle.file.specs.Words.{filled, filled-with};
 use sizes::answers::Refusal;
 use sizes::{DRAW, LAYER, MOST_RECORDS, NODE, PAINT, SEGMENT};
 
-// The place of its first record among the file's words, and how many records it has.
+/// The place of its first record among the file's words, and how many records it has.
 #[derive(Clone, Copy)]
 pub struct Section {
     pub at: usize,
     pub count: usize,
 }
 
-// The sections after the viewport, whose four words stand at place 1. The root has two words.
+/// The sections after the viewport, whose four words stand at place 1. The root has two words.
 #[derive(Clone, Copy)]
 pub struct Layout {
     pub paints: Section,
@@ -59,7 +59,7 @@ fn find_section(
     }
 }
 
-// Where the sections of a file stand, or BadForm, 3: the file is not exactly its counted sections.
+/// Where the sections of a file stand, or BadForm, 3: the file is not exactly its counted sections.
 pub fn read_form(words: &[u32]) -> Result<Layout, Refusal>
     ensures { result ≡ form_of words.now }
 {
@@ -83,7 +83,7 @@ pub fn read_form(words: &[u32]) -> Result<Layout, Refusal>
     })
 }
 
-// The bytes' whole words, little-endian, put first in `words`; how many there are. Up to three bytes left over are not read: their file is refused by 3.
+/// The bytes' whole words, little-endian, put first in `words`; how many there are. Up to three bytes left over are not read: their file is refused by 3.
 pub fn words_of_bytes(bytes: &[u8], words: &mut [u32]) -> usize
     requires { length bytes.now / 4 ≤ length words.old }
     ensures { filled result words.new ≡ filled-with bytes.now words.old }

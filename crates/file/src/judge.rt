@@ -1,5 +1,5 @@
-// The recording file's records (answer 4) and their order (answer 5). Every record is judged, also one that no walk reaches. Parts: a caller has read the form.
-// `at` is a record's place among the file's words.
+//! The recording file's records (answer 4) and their order (answer 5). Every record is judged, also one that no walk reaches. Parts: a caller has read the form.
+//! `at` is a record's place among the file's words.
 ghost use Rattle.std.specs.Prelude.{◌≡◌, true, ◌+◌, ◌*◌, ◌/◌, ◌≤◌, length};
 ghost use Rattle.sizes.specs.Refusals.{answer_number};
 ghost use Rattle.rules.specs.Lists.{every, slice};
@@ -22,7 +22,7 @@ use segments::{judge_segments, segment_at};
 use sizes::answers::Refusal;
 use sizes::{DRAW, HANDLE_END, LAYER, NODE, PAINT, SEGMENT, THREAD_END};
 
-// The box whose four words stand from a place on: x0, y0, x1, y1, in pixels.
+/// The box whose four words stand from a place on: x0, y0, x1, y1, in pixels.
 #[tactic(auto, unfolding(crate::specs::Judging::box_from))]
 pub fn box_at(w: &[u32], at: usize) -> Rect
     requires { at + 4 ≤ length w.now }
@@ -268,7 +268,7 @@ fn good_order(w: &[u32], l: Layout) -> bool
     draws_ordered(w, l.draws, list) && clips_ordered(w, l.layers, list)
 }
 
-// BadRecord, 4, if a record is bad, then BadOrder, 5, if a list is out of order.
+/// BadRecord, 4, if a record is bad, then BadOrder, 5, if a list is out of order.
 pub fn judge_records(w: &[u32], l: Layout) -> Result<(), Refusal>
     requires { Fits w.now l }
     ensures { answer_number result ≡ judged (recording (sections_at l w.now)) }

@@ -1,16 +1,10 @@
 -- What a fill's number 0 gives, and what a done fill leaves. Assumes nothing.
-use mathlib.Core.Path.{◌≡◌, refl, sym, ap, ◌∙◌}
-use mathlib.Core.Bool.{Bool, true, false, cond}
-use mathlib.Core.List.{List, [], ◌∷◌, append-nil}
-use Prim.Native.Nat.{ℕ, ◌+◌, ◌-◌, ◌*◌, ◌≤◌, ◌<◌}
-use native.Mathlib.Omega.{arith}
-use lib.Dec.{ltb, eqb}
-use lib.ListN.{length, drop, take-append-drop}
-use lib.Seq.{drop_at, drop-length}
-use borrow.Author.Tests.{eqb-true, eqb-false, ne_eqb, ltb-true, ltb-false}
+use Rattle.std.proofs.Common.{◌≡◌, refl, sym, ap, ◌∙◌, Bool, true, false, cond, List, [], append-nil, ℕ, ◌+◌, ◌-◌, ◌*◌, ◌≤◌, ◌<◌, arith, ltb, eqb, length, drop, take-append-drop, drop_at, ne_eqb, ltb-true, ltb-false}
+use Rattle.std.proofs.lemmas.Bool.Decides.{nat_tests}
+use lib.Seq.{drop-length}
 use Rattle.sizes.specs.Sizes.{paint-attr-size}
 use Rattle.rules.specs.Lists.{join}
-use Rattle.rules.specs.Answers.{answer, Done, BadRecord, first_of}
+use Rattle.rules.specs.Answers.{answer, Done, BadRecord}
 use Rattle.rules.specs.Boxes.{rows_of}
 use Rattle.rules.specs.Segments.{judge-segments}
 use Rattle.rules.specs.Inputs.{good-fill}
@@ -51,42 +45,17 @@ module _ (l : FillLent) (ps ss : List ℕ) (d : Draw) where
 
 -- the number 0
 said-no : (f : ℕ) (g : Bool) (r : ℕ) → cond (eqb f Done) (cond g r BadRecord) f ≡ 0 → (f ≡ 0) × (g ≡ true) × (r ≡ 0)
-said-no f g r h = go (eqb f Done) g refl h
-  where
-    go : (b g : Bool) → eqb f Done ≡ b → cond b (cond g r BadRecord) f ≡ 0 → (f ≡ 0) × (g ≡ true) × (r ≡ 0)
-    go true true e k = (eqb-true f 0 e, refl, k)
-    go true false e k = absurd (omega arith)
-    go false g e k = absurd (eqb-false f 0 e k)
-
-none-of-five : (a b c d e : Bool) → first_of ((a, 6) ∷ (b, 8) ∷ (c, 9) ∷ (d, 10) ∷ (e, 11) ∷ []) ≡ 0 → (b ≡ false) × (c ≡ false) × (d ≡ false) × (e ≡ false)
-none-of-five true b c d e h = absurd (omega arith)
-none-of-five false true c d e h = absurd (omega arith)
-none-of-five false false true d e h = absurd (omega arith)
-none-of-five false false false true e h = absurd (omega arith)
-none-of-five false false false false true h = absurd (omega arith)
-none-of-five false false false false false h = (refl, refl, refl, refl)
+said-no f g r h = (grind (arith, nat_tests), grind (arith, nat_tests), grind (arith, nat_tests))
 
 -- no refusal: none of its own, and no limit passed
-own-and-tests : (r x : ℕ) → cond (eqb r Done) x r ≡ 0 → (r ≡ 0) × (x ≡ 0)
-own-and-tests r x h = go (eqb r Done) refl h
-  where
-    go : (b : Bool) → eqb r Done ≡ b → cond b x r ≡ 0 → (r ≡ 0) × (x ≡ 0)
-    go true e k = (eqb-true r 0 e, k)
-    go false e k = absurd (eqb-false r 0 e k)
-
 tests : (p : Plan) (t : steps.Screen Words) → refusal Words word-ops p t ≡ 0
     → (p.refused ≡ 0) × (ltb 1048577 p.next ≡ false) × (attrs-full p.attrs ≡ false)
     × (passes Words word-ops (word 0) t.state.frame.c p.puts t.rows ≡ false) × (passes Words word-ops (word 1) t.state.frame.d p.puts t.rows ≡ false)
 unfolding refusal
-tests p t h =
-    let deep = ltb 16 (length p.layers) in
-    let ids = ltb 1048577 p.next in
-    let full = attrs-full p.attrs in
-    let row = passes Words word-ops (word 0) t.state.frame.c p.puts t.rows in
-    let fills = passes Words word-ops (word 1) t.state.frame.d p.puts t.rows in
-    let a = own-and-tests p.refused (first_of ((deep, 6) ∷ (ids, 8) ∷ (full, 9) ∷ (row, 10) ∷ (fills, 11) ∷ [])) h in
-    let b = none-of-five deep ids full row fills a.1 in
-    (a.0, b.0, b.1, b.2, b.3)
+tests p t h = (grind (arith, nat_tests), grind (arith, nat_tests), grind (arith, nat_tests), grind (arith, nat_tests), grind (arith, nat_tests))
+
+unless-4 : (g : Bool) (r : ℕ) → (g ≡ false → r ≡ 4) → r ≡ 0 → g ≡ true
+unless-4 g r f e = grind (arith, nat_tests)
 
 -- what the number 0 says
 pub record Zero (l : FillLent) (ps ss : List ℕ) (d : Draw) : Type 0 where
@@ -113,11 +82,7 @@ module _ (l : FillLent) (ps ss : List ℕ) (d : Draw) where
 
   -- a refused draw is not done
   good-own : (fill-plan l.screen ps ss d).refused ≡ 0 → good-fill (paints-of ps) (segs-of ss) (draw-of d) ≡ true
-  good-own e = go (good-fill (paints-of ps) (segs-of ss) (draw-of d)) refl
-    where
-      go : (b : Bool) → good-fill (paints-of ps) (segs-of ss) (draw-of d) ≡ b → good-fill (paints-of ps) (segs-of ss) (draw-of d) ≡ true
-      go true h = h
-      go false h = let z : ◌≡◌ {A = ℕ} 4 0 = sym (refused-bad l.screen ps ss d h) ∙ e in absurd (omega arith)
+  good-own e = unless-4 (good-fill (paints-of ps) (segs-of ss) (draw-of d)) _ (refused-bad l.screen ps ss d) e
 
   pub zero-says : fill_number l ps ss d ≡ 0 → Zero l ps ss d
   zero-says h =

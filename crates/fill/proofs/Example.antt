@@ -1,8 +1,5 @@
--- The contract is met by a real case: the first draw of the rules' worked example, by computation. Assumes nothing.
-use mathlib.Core.Path.{◌≡◌, refl}
-use mathlib.Core.List.{List, [], ◌∷◌}
-use Prim.Native.Nat.{ℕ, ◌-◌}
-use lib.ListN.{replicate}
+-- Tests: the contract is met by a real case: the first draw of the rules' worked example, by computation. Assumes nothing.
+use Rattle.std.proofs.Common.{◌≡◌, refl, List, [], ◌∷◌, ℕ, ◌-◌, replicate}
 use Rattle.sizes.specs.Sizes.{paint-attr-size, paint-attr-table}
 use Rattle.sizes.specs.declared.width.Width.TheVariants.{W128}
 use Rattle.rules.specs.Spans.{meeting, cut_to}

@@ -1,13 +1,8 @@
 -- What the one pass holds is the tally so far, and its number that of the list and its rows. Assumes nothing.
-use mathlib.Core.Path.{◌≡◌, refl, sym, ap, ◌∙◌}
-use mathlib.Core.Bool.{Bool, true, false, ◌&&◌, ◌||◌, cond}
-use mathlib.Core.List.{List, [], ◌∷◌, ◌++◌}
-use Rattle.std.specs.Prelude.{Option, None, Some}
-use Prim.Native.Nat.{ℕ, zero, suc, ◌+◌, ◌-◌, ◌*◌, ◌≤◌, ◌<◌}
-use native.Mathlib.Omega.{arith}
-use lib.Dec.{leb, ltb, eqb}
-use lib.ListN.{length}
-use borrow.Author.Tests.{eqb-true, eqb-false, eq-eqb, ne_eqb, lt-ltb, le-leb}
+use Rattle.std.proofs.Common.{◌≡◌, refl, sym, ap, ◌∙◌, Bool, true, false, ◌&&◌, ◌||◌, cond, List, [], ◌∷◌, ◌++◌, Option, None, Some, ℕ, zero, suc, ◌+◌, ◌-◌, ◌*◌, ◌≤◌, ◌<◌, arith, leb, ltb, eqb, length}
+use Rattle.std.proofs.Common.{eqb-true, eq-eqb, ne_eqb, lt-ltb, le-leb}
+use Rattle.std.proofs.lemmas.Bool.Decides.{nat_tests}
+use borrow.Author.Tests.{eqb-false}
 use Rattle.rules.specs.Spans.{Span}
 use Rattle.rules.specs.Segments.{Segment, good-segment, follows, ordered-after, ordered, judge-segments, Cut, cut_in}
 use Rattle.row.specs.Counts.{Counts, counts}
@@ -19,7 +14,7 @@ use Rattle.segments.proofs.Judging.{AtPlace, judging}
 use Rattle.fill.specs.declared.rows.Job.{Job}
 use Rattle.fill.proofs.Runs.{at_most_one}
 use Rattle.row.specs.declared.room.Limits.{Limits}
-use Rattle.row.specs.Room.{record-at, Counted, hand_of, loaded, noted, added_to, Low}
+use Rattle.row.specs.Room.{record-at, Counted, hand_of, loaded, noted, added_to}
 use Rattle.row.proofs.RoomLaws.{good-small}
 use Rattle.fill.specs.Tallies.{Tally, job-adds, known, tallied, tally_cuts, verdict, cuts-of, none_yet, Rowed, list-number, marked_by, limits_of, stretched, counted_cut, hand_cuts}
 use Rattle.fill.proofs.JudgeLaws.{turned, Fits, took-none, took-bad, took-good, tally-more, tally-stop, fits_after, lands}
@@ -29,32 +24,16 @@ abbrev code_of : Bool → Bool → Bool → ℕ
 code_of ok full deep = cond ok (cond full 10 (cond deep 11 0)) 5
 
 never-four : (ok full deep : Bool) → code_of ok full deep ≡ 4 → ⊥
-never-four false full deep e = omega arith
-never-four true true deep e = omega arith
-never-four true false true e = omega arith
-never-four true false false e = omega arith
+never-four ok full deep e = grind (arith, nat_tests)
 
 code-kept : (ok full deep : Bool) → code_of ok full deep ≡ code_of (ok && true) full deep
-code-kept true full deep = refl
-code-kept false full deep = refl
+code-kept ok full deep = grind (arith, nat_tests)
 
 code-broken : (ok full deep : Bool) → 5 ≡ code_of (ok && false) full deep
-code-broken true full deep = refl
-code-broken false full deep = refl
+code-broken ok full deep = grind (arith, nat_tests)
 
 noted-is : (ok full deep f g : Bool) → noted (code_of ok full deep) f g ≡ code_of ok (full || f) (deep || g)
-noted-is false full deep true g = refl
-noted-is false full deep false true = refl
-noted-is false full deep false false = refl
-noted-is true true deep true g = refl
-noted-is true true deep false true = refl
-noted-is true true deep false false = refl
-noted-is true false true true g = refl
-noted-is true false true false true = refl
-noted-is true false true false false = refl
-noted-is true false false true g = refl
-noted-is true false false false true = refl
-noted-is true false false false false = refl
+noted-is ok full deep f g = grind (arith, nat_tests)
 
 -- the hand h has the tally t, and an order that is kept if ok
 pub record Holds (j : Job) (rows : List ℕ) (h : Counted) (ok : Bool) (t : Tally) : Type 0 where
@@ -206,12 +185,7 @@ bad-either a = go (eqb a 4)
     go false = refl
 
 all_told : (ok full deep : Bool) → code_of ok full deep ≡ list-number (cond ok 0 5) (cond full 10 (cond deep 11 0))
-all_told true true deep = refl
-all_told true false true = refl
-all_told true false false = refl
-all_told false true deep = refl
-all_told false false true = refl
-all_told false false false = refl
+all_told ok full deep = grind (arith, nat_tests)
 
 -- the number of the segments from a to b
 abbrev whole : Job → List ℕ → List ℕ → ℕ → ℕ → ℕ
@@ -274,11 +248,6 @@ module _ {j : Job} {n : ℕ} {rows ws : List ℕ} {a b : ℕ} {s : Segment} {h :
         v.holds.code ∙ all_told v.ok v.tally.full v.tally.deep
         ∙ ap (λ (x : ℕ). list-number x (cond v.tally.full 10 (cond v.tally.deep 11 0))) (order-told v.ok refl)
         ∙ ap (λ (y : ℕ). list-number (judge-segments false (segs ws a (b - a))) y) rows_told
-
-  pub low-marked : (f : Bool) → 2 * i ≤ 8000000000000000000 → Low (marked_by h f)
-  low-marked f l =
-      let m = marks j rows h v.ok v.tally v.holds f in
-      record { renders = omega (arith, m.renders, v.fits.renders); depths = omega (arith, m.depths, v.fits.depths) }
 
   module _ {g : Segment} (l : i < b) (e : g ≡ seg-at ws i) where
     pub bad-here : good-segment g ≡ false → 4 ≡ whole j rows ws a b

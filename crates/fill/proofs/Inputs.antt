@@ -1,18 +1,11 @@
 -- The inputs of a fill: paints as words, and the scene of a judged screen. Assumes nothing.
-use mathlib.Core.Path.{◌≡◌, refl, sym, ap, ◌∙◌}
-use mathlib.Core.Bool.{Bool, true, false, ◌&&◌}
-use mathlib.Core.List.{List}
-use Prim.Native.Nat.{ℕ, zero, suc, ◌+◌, ◌*◌, ◌/◌, ◌≤◌, ◌<◌}
-use native.Mathlib.Omega.{arith}
-use lib.Dec.{leb, ltb, eqb}
-use lib.ListN.{length, get_or}
-use borrow.Author.Tests.{leb-true, ltb-true}
+use Rattle.std.proofs.Common.{◌≡◌, refl, sym, ap, ◌∙◌, Bool, true, false, ◌&&◌, List, ℕ, zero, suc, ◌+◌, ◌*◌, ◌/◌, ◌≤◌, ◌<◌, arith, ltb, eqb, length, get_or, ltb-true}
+use Rattle.std.proofs.lemmas.Bool.Decides.{nat_tests}
 use Rattle.rules.specs.Boxes.{Box, scene-tiles}
 use Rattle.rules.specs.Spans.{good-range}
 use Rattle.rules.specs.Blends.{good-blend, is-default}
 use Rattle.rules.specs.Plans.{eligible}
-use Rattle.rules.specs.Inputs.{Paint, good-paint, good-handle, good-thread, good-panel, few-paints, good-draw, good-fill, draw-paint}
-use Rattle.rules.proofs.All.{both}
+use Rattle.rules.specs.Inputs.{Paint, good-paint, good-handle, good-thread, good-panel, few-paints, good-fill, draw-paint}
 use Rattle.rect.specs.Rects.{box_of, Small}
 use Rattle.rect.proofs.Boxes.{small-viewport, view}
 use Rattle.screen.specs.declared.Screen.{Screen}
@@ -71,24 +64,9 @@ pub record GoodDraw (ps ss : List ℕ) (d : Draw) : Type 0 where
 
 pub draw-facts : (ps ss : List ℕ) (d : Draw) → good-fill (paints-of ps) (segs-of ss) (draw-of d) ≡ true → GoodDraw ps ss d
 draw-facts ps ss d g =
-    let t = good-thread d.thread in
-    let a = leb d.start d.end in
-    let b = leb d.end (length (segs-of ss)) in
-    let p = ltb d.paint (length (paints-of ps)) in
-    let q = good-paint (draw-paint (paints-of ps) (draw-of d)) in
-    let r = good-blend (draw-of d).blend in
-    let m = good-handle d.mask in
-    let h7 = both (few-paints (length (paints-of ps))) (good-draw (paints-of ps) (segs-of ss) (draw-of d)) g in
-    let h6 = both (t && (a && b) && p && q && r && m) (good-panel d.panel) h7.1 in
-    let h5 = both (t && (a && b) && p && q && r) m h6.0 in
-    let h4 = both (t && (a && b) && p && q) r h5.0 in
-    let h3 = both (t && (a && b) && p) q h4.0 in
-    let h2 = both (t && (a && b)) p h3.0 in
-    let h1 = both t (a && b) h2.0 in
-    let h0 = both a b h1.1 in
-    let y : d.end ≤ length (segs-of ss) = leb-true _ _ h0.1 in
-    let z : d.paint < length (paints-of ps) = ltb-true _ _ h2.1 in
-    record { range = leb-true _ _ h0.0; ends = rw (segs-count ss) at y; paint = rw (paints-count ps) at z }
+    let y : d.end ≤ length (segs-of ss) = grind (arith, nat_tests) in
+    let z : d.paint < length (paints-of ps) = grind (arith, nat_tests) in
+    record { range = grind (arith, nat_tests); ends = rw (segs-count ss) at y; paint = rw (paints-count ps) at z }
 
 -- the scene
 pub scene-is : (v c : Box) (s : Scene) → SceneOf v c s → s ≡ scene-at v c

@@ -1,14 +1,9 @@
 -- What a stretch adds to the counts of a row, and the tally's turns. Assumes nothing.
-use mathlib.Core.Path.{◌≡◌, refl, sym, ap, ◌∙◌}
-use mathlib.Core.Bool.{Bool, true, false, ◌||◌, cond}
-use mathlib.Core.List.{List, [], ◌∷◌, ◌++◌, foldl}
-use Rattle.std.specs.Prelude.{Option, None, Some}
-use Prim.Native.Nat.{ℕ, zero, suc, ◌+◌, ◌-◌, ◌*◌, ◌/◌, ◌%◌, ◌≤◌, ◌<◌}
-use native.Mathlib.Nat.{mul-le-mul_right, mul-lt-mul_of_pos_right}
-use native.Mathlib.Omega.{arith}
-use lib.Dec.{leb, ltb, eqb}
-use lib.ListN.{length}
-use borrow.Author.Tests.{le-leb, lt-leb, leb-true, leb-false}
+use Rattle.std.proofs.Common.{◌≡◌, refl, sym, ap, ◌∙◌, Bool, true, false, ◌||◌, cond, List, [], ◌∷◌, ◌++◌, Option, None, Some, ℕ, zero, suc, ◌+◌, ◌-◌, ◌*◌, ◌/◌, ◌%◌, ◌≤◌, ◌<◌, mul-le-mul_right}
+use Rattle.std.proofs.Common.{mul-lt-mul_of_pos_right, arith, leb, ltb, eqb, length, le-leb, leb-true, leb-false}
+use mathlib.Core.List.{foldl}
+use Rattle.std.proofs.lemmas.Bool.Decides.{nat_tests}
+use borrow.Author.Tests.{lt-leb}
 use Rattle.rules.specs.Lists.{times, keep}
 use Rattle.rules.specs.Spans.{Span, span}
 use Rattle.rules.specs.Split.{Part, regular, buckets, split, raised, lowered}
@@ -147,11 +142,7 @@ module _ (w : Width) (s : Span) (e : Bool) (a : Option ℕ) where
     found-pieces h = sym (found-more w s x y p q h) ∙ is-split t
 
 pub edge-small : (a b : ℕ) → edge_count a b ≤ 1
-edge-small a b = go (ltb a b)
-  where
-    go : (t : Bool) → cond t 1 0 ≤ 1
-    go true = omega arith
-    go false = omega arith
+edge-small a b = grind (arith, nat_tests)
 
 -- .. which is little
 few-added : (v : ℕ) (e : Bool) (s : Span) (a : Option ℕ) → ((added v e s a).renders ≤ 2) × ((added v e s a).depths ≤ 1)

@@ -1,13 +1,7 @@
 -- The tally's verdict is the rules' answer, and what is not refused has room. Assumes nothing.
-use mathlib.Core.Path.{◌≡◌, refl, sym, ap, ◌∙◌}
-use mathlib.Core.Bool.{Bool, true, false, ◌&&◌, ◌||◌, cond}
-use mathlib.Core.List.{List, [], ◌∷◌}
-use Rattle.std.specs.Prelude.{Option, None, Some}
-use Prim.Native.Nat.{ℕ, zero, suc, ◌*◌, ◌≤◌, ◌<◌}
-use native.Mathlib.Omega.{arith}
-use lib.Dec.{ltb, eqb}
-use lib.ListN.{length, get_or}
-use borrow.Author.Tests.{ltb-false, eqb-true, eqb-false, ne_eqb}
+use Rattle.std.proofs.Common.{◌≡◌, refl, sym, ap, ◌∙◌, Bool, true, false, ◌&&◌, ◌||◌, cond, List, [], ◌∷◌, Option, None, Some, ℕ, zero, suc, ◌*◌, ◌≤◌, ◌<◌, arith, ltb, eqb, length, get_or, ltb-false, eqb-true, ne_eqb}
+use Rattle.std.proofs.lemmas.Bool.Decides.{nat_tests}
+use borrow.Author.Tests.{eqb-false}
 use Rattle.rules.specs.Lists.{every, join, change}
 use Rattle.rules.specs.Boxes.{Box}
 use Rattle.rules.specs.Segments.{Segment, good-segment, Cut, cut_in}
@@ -254,16 +248,7 @@ module _ (j : Job) (v : Box) (n : ℕ) (w : Words) (m : j.layers ≤ 16) (l : Lo
       (cond (passes Words word-ops (word 0) j.c (puts_of j ks) (done j (puts_of j ks) (cut (sizes j.c j.d) n w))) 10
       (cond (passes Words word-ops (word 1) j.d (puts_of j ks) (done j (puts_of j ks) (cut (sizes j.c j.d) n w))) 11 0))
       4
-  verdict-is q {ks} a r = verdict-any a ∙ go (good_rows (frame_at j v) j.layers (puts_of j ks) (cut (sizes j.c j.d) n w)) refl
-    where
-      go : (b : Bool) → good_rows (frame_at j v) j.layers (puts_of j ks) (cut (sizes j.c j.d) n w) ≡ b
-          → cond b (flags (run j w.state none_yet ks)) 4
-          ≡ cond b
-          (cond (passes Words word-ops (word 0) j.c (puts_of j ks) (done j (puts_of j ks) (cut (sizes j.c j.d) n w))) 10
-          (cond (passes Words word-ops (word 1) j.d (puts_of j ks) (done j (puts_of j ks) (cut (sizes j.c j.d) n w))) 11 0))
-          4
-      go true e = flags-are q a r e
-      go false e = refl
+  verdict-is q {ks} a r = let f = flags-are q a r in verdict-any a ∙ grind (arith, nat_tests)
 
 -- the cut segments of good segments are on rows
 module _ {j : Job} {n : ℕ} {rows : List ℕ} (o : Rowed j n rows) where

@@ -1,28 +1,17 @@
 -- A fill's number, for each way through its judge. Assumes nothing.
-use mathlib.Core.Path.{◌≡◌, refl, sym, ap, ◌∙◌}
-use mathlib.Core.Bool.{Bool, true, false, ◌&&◌, ◌||◌, not, cond}
-use mathlib.Core.List.{List}
-use Rattle.std.specs.Prelude.{Option, None, Some}
-use Prim.Native.Nat.{ℕ, ◌+◌, ◌-◌, ◌*◌, ◌%◌, ◌≤◌, ◌<◌}
-use native.Mathlib.Omega.{arith}
-use lib.Dec.{ltb, eqb}
-use lib.ListN.{length}
-use borrow.Author.Tests.{eqb-true, eqb-false, eq-eqb, ne_eqb, lt-ltb, le-ltb}
+use Rattle.std.proofs.Common.{◌≡◌, refl, sym, ◌∙◌, Bool, true, false, ◌||◌, cond, List, Option, None, Some, ℕ, ◌+◌, ◌-◌, ◌*◌, ◌≤◌, ◌<◌, arith, ltb, eqb, length, eq-eqb, ne_eqb, lt-ltb, le-ltb}
+use Rattle.std.proofs.lemmas.Bool.Decides.{nat_tests}
 use Rattle.sizes.specs.Sizes.{paint-attr-table}
-use Rattle.rules.specs.Lists.{every}
-use Rattle.rules.specs.Answers.{Done, BadRecord}
 use Rattle.rules.specs.Boxes.{rows_of}
-use Rattle.rules.specs.Segments.{Segment, good-segment, ordered, judge-segments}
+use Rattle.rules.specs.Segments.{Segment, judge-segments}
 use Rattle.rules.specs.Inputs.{good-fill}
 use Rattle.rules.specs.Attributes.{attrs-full}
 use Rattle.rules.specs.Steps.{done, passes, refusal}
-use Rattle.rules.proofs.All.{both, never}
 use Rattle.row.specs.Words.{Words, word, word-ops}
 use Rattle.row.specs.Arena.{sizes, Long, count-rows}
 use Rattle.row.specs.Building.{rows_at, screen-at, good_rows, step_number}
 use Rattle.rect.specs.Rects.{box_of}
 use Rattle.screen.specs.Screens.{frame-of, state-of}
-use Rattle.screen.specs.Judging.{judged}
 use Rattle.screen.proofs.ScreenLaws as laws
 use Rattle.rect.proofs.Boxes.{view}
 use Rattle.screen.proofs.ScreenLaws.{few_rows, clip, good-clip-of, layer-count}
@@ -35,99 +24,45 @@ use Rattle.fill.specs.Filling as filling
 use Rattle.row.proofs.RowsLaws.{rows-counted}
 use Rattle.fill.specs.Filling.{puts_of}
 use Rattle.fill.specs.Tallies.{Tally, tally_cuts, verdict, cuts-of, none_yet, Rowed, list-number}
-use Rattle.fill.proofs.Hands.{bad-either}
 use Rattle.fill.proofs.Rising.{rising}
 use Rattle.fill.proofs.Judged.{run, flags, verdict-any, verdict-is, all-landed}
 use Rattle.fill.specs.declared.Draw.{Draw}
-use Rattle.fill.specs.Fills.{draw-of, paints-of, job_of, Passing, FillLent, fill-plan, good-lists, first_number, first-of-lent, fill_number}
+use Rattle.fill.specs.Fills.{draw-of, paints-of, job_of, Passing, FillLent, fill-plan, first_number, first-of-lent, fill_number}
 use Rattle.fill.proofs.Inputs.{GoodDraw, draw-facts, scene-of-it}
 use Rattle.fill.proofs.Planned.{good-unless, state-frame, plan-layers, plan-next, refused-bad, refused-are, puts-are, rows_are, attrs-same, attrs-more, not_full, full-attrs, room-for-one}
-
--- what the screen and the lengths say
-opened : (j : ℕ) (g : Bool) → cond (eqb j Done) (cond g Done BadRecord) j ≡ 0 → (j ≡ 0) × (g ≡ true)
-opened j g h = go (eqb j Done) g refl h
-  where
-    go : (b g : Bool) → eqb j Done ≡ b → cond b (cond g Done BadRecord) j ≡ 0 → (j ≡ 0) × (g ≡ true)
-    go true true e k = (eqb-true j 0 e, refl)
-    go true false e k = absurd (omega arith)
-    go false g e k = absurd (eqb-false j 0 e k)
 
 module _ (l : FillLent) (ps ss : List ℕ) where
   pub right-lengths : first-of-lent l ps ss ≡ 0 → Passed l.screen (length l.words.state) (length l.words.render) (length l.words.fills) (rows_of (box_of l.screen.viewport)) × (length l.paint-attrs ≡ paint-attr-table)
   unfolding first_number
-  right-lengths z =
-      let t = eqb (length l.paint-attrs) paint-attr-table in
-      let p = eqb (length ps % 4) 0 in
-      let h = opened (judged l.screen (length l.words.state) (length l.words.render) (length l.words.fills)) (good-lists (length l.paint-attrs) (length ps) (length ss)) z in (
-        passed l.screen (length l.words.state) (length l.words.render) (length l.words.fills) h.0,
-        eqb-true _ _ (both t p (both (t && p) (eqb (length ss % 5) 0) h.1).0).0,
-      )
+  right-lengths z = (passed l.screen (length l.words.state) (length l.words.render) (length l.words.fills) (grind (arith, nat_tests)), grind (arith, nat_tests))
 
--- numbers that the tally can say
-four : (g : Bool) (t : Tally) → cond g (flags t) 4 ≡ 4 → g ≡ false
-four false t h = refl
-four true t h = go t.full t.deep h
-  where
-    go : (a b : Bool) → ◌≡◌ {A = ℕ} (cond a 10 (cond b 11 0)) 4 → true ≡ false
-    go true b h = absurd (omega arith)
-    go false true h = absurd (omega arith)
-    go false false h = absurd (omega arith)
-
-not-four : (g : Bool) (t : Tally) → (cond g (flags t) 4 ≡ 4 → ⊥) → g ≡ true
-not-four true t h = refl
-not-four false t h = absurd (h refl)
-
--- numbers that the list can say
-zero-else : (ss : List Segment) → (judge-segments false ss ≡ 4 → ⊥) → (judge-segments false ss ≡ 5 → ⊥) → judge-segments false ss ≡ 0
-unfolding judge-segments
-zero-else ss = go (every good-segment ss) (ordered ss)
-  where
-    go : (x y : Bool) → (◌≡◌ {A = ℕ} (cond (not x) 4 (cond (not y) 5 0)) 4 → ⊥) → (◌≡◌ {A = ℕ} (cond (not x) 4 (cond (not y) 5 0)) 5 → ⊥) → ◌≡◌ {A = ℕ} (cond (not x) 4 (cond (not y) 5 0)) 0
-    go true true f g = refl
-    go true false f g = absurd (g refl)
-    go false y f g = absurd (f refl)
+-- the rows that are full say 10 or 11, and no 5
+said : (a b : Bool) → (◌≡◌ {A = ℕ} (cond a 10 (cond b 11 0)) 4 → ⊥) × (◌≡◌ {A = ℕ} (cond a 10 (cond b 11 0)) 5 → ⊥)
+said a b = (λ e. grind (arith, nat_tests), λ e. grind (arith, nat_tests))
 
 never-five : (o : Option Tally) → verdict o ≡ 5 → ⊥
 never-five None e = omega arith
-never-five (Some t) e = go t.full t.deep e
-  where
-    go : (a b : Bool) → ◌≡◌ {A = ℕ} (cond a 10 (cond b 11 0)) 5 → ⊥
-    go true b e = omega arith
-    go false true e = omega arith
-    go false false e = omega arith
+never-five (Some t) e = (said t.full t.deep).1 e
 
--- the number of a list, a, and of its rows, v, taken apart
-module _ (a v : ℕ) where
-  four-by : {P : Type 0} → list-number a v ≡ 4 → (a ≡ 4 → P) → ((a ≡ 4 → ⊥) → v ≡ 4 → P) → P
-  four-by {P} e f g = go (eqb a 4) refl (eqb v 4) refl (eqb a 0) e
-    where
-      go : (x : Bool) → eqb a 4 ≡ x → (y : Bool) → eqb v 4 ≡ y → (z : Bool) → cond x 4 (cond y 4 (cond z v a)) ≡ 4 → P
-      go true p y r z e = f (eqb-true a 4 p)
-      go false p true r z e = g (eqb-false a 4 p) (eqb-true v 4 r)
-      go false p false r true e = absurd (eqb-false v 4 r e)
-      go false p false r false e = absurd (eqb-false a 4 p e)
+-- the list says 4, 5 or 0
+zero-else : (ss : List Segment) → (judge-segments false ss ≡ 4 → ⊥) → (judge-segments false ss ≡ 5 → ⊥) → judge-segments false ss ≡ 0
+unfolding judge-segments
+zero-else ss f g = grind (arith, nat_tests)
 
-  not-bad : (list-number a v ≡ 4 → ⊥) → (a ≡ 4 → ⊥) × (v ≡ 4 → ⊥)
-  not-bad n = (λ e. n (ap (λ (x : ℕ). list-number x v) e), λ e. n (ap (λ (y : ℕ). list-number a y) e ∙ sym (bad-either a)))
+-- a fill's number n by what its list, a, and its rows, v, say: 4 first, then the list's; k is what comes after
+abbrev by-both : ℕ → ℕ → ℕ → ℕ
+by-both a v k = cond (eqb a 4 || eqb v 4) 4 (cond (eqb a 0) k a)
 
-  five-by : list-number a v ≡ 5 → (v ≡ 5 → ⊥) → a ≡ 5
-  five-by e f = go (eqb a 4) (eqb v 4) (eqb a 0) e
-    where
-      go : (x y z : Bool) → cond x 4 (cond y 4 (cond z v a)) ≡ 5 → a ≡ 5
-      go true y z e = absurd (omega arith)
-      go false true z e = absurd (omega arith)
-      go false false true e = absurd (f e)
-      go false false false e = e
+-- r is the rules' refusal, g whether the records are good, f what the rows say if they are
+as-one : (n a v f r k : ℕ) (g : Bool) → n ≡ cond g r 4 → ((a ≡ 0 → ⊥) → r ≡ a) → ((a ≡ 4 → ⊥) → v ≡ cond g f 4) → (f ≡ 4 → ⊥) → (a ≡ 0 → g ≡ true → r ≡ k)
+    → n ≡ by-both a v k
+as-one n a v f r k g e own rows four last = grind (arith, nat_tests)
 
-  not_five : (list-number a v ≡ 4 → ⊥) → (list-number a v ≡ 5 → ⊥) → a ≡ 5 → ⊥
-  not_five m n e = n (ap (λ (x : ℕ). list-number x v) e ∙ rw (ne_eqb v 4 (not-bad m).1))
+first-is : (n a v k : ℕ) → n ≡ list-number a v → (v ≡ 5 → ⊥) → (eqb n 4 || eqb n 5) ≡ true → n ≡ by-both a v k
+first-is n a v k e five h = grind (arith, nat_tests)
 
-  rows-number : a ≡ 0 → (v ≡ 4 → ⊥) → list-number a v ≡ v
-  rows-number e k = ap (λ (x : ℕ). list-number x v) e ∙ rw (ne_eqb v 4 k)
-
-or-true : (x : Bool) → (x || true) ≡ true
-or-true true = refl
-or-true false = refl
+rest-is : (n a v k : ℕ) → n ≡ list-number a v → ((a ≡ 4 → ⊥) → (a ≡ 5 → ⊥) → a ≡ 0) → (eqb n 4 || eqb n 5) ≡ false → (by-both a v k ≡ k) × (n ≡ v)
+rest-is n a v k e zero h = (grind (arith, nat_tests), grind (arith, nat_tests))
 
 either_way : (g : Bool) {n : ℕ} → n ≡ 4 → 4 ≡ cond g n 4
 either_way true e = sym e
@@ -190,141 +125,89 @@ module _ (l : FillLent) (ps ss : List ℕ) (d : Draw) where
       pub list-asked : Rowed (job_of l.screen ps d) (count-rows l.words.state) l.words.state × (d.start ≤ d.end) × (5 * d.end ≤ length ss)
       list-asked = (rw (rows-counted l.words.state (rows_of (box_of l.screen.viewport)) rowed.long) rowed, drawn.range, omega (arith, drawn.ends))
 
-      bad-list : judge-segments false (segs.segs ss d.start (d.end - d.start)) ≡ 4 → 4 ≡ fill_number l ps ss d
-      bad-list e = own-four (refused-are l.screen ps ss d drawn q ∙ e)
+      abbrev of-list : ℕ
+      of-list = judge-segments false (segs.segs ss d.start (d.end - d.start))
+
+      abbrev of-rows : ℕ
+      of-rows = verdict (tally_cuts (job_of l.screen ps d) l.words.state none_yet (cuts-of (job_of l.screen ps d) ss d.start d.end))
 
       pub good-are : good-records
           ≡ good_rows (frame-of l.screen) l.screen.layers (puts_of (job_of l.screen ps d) (cuts-of (job_of l.screen ps d) ss d.start d.end)) (rows_at (frame-of l.screen) l.words)
       good-are = rw (puts-are l.screen ps ss d drawn passing, state-frame l.screen)
 
-      module _ (h : judge-segments false (segs.segs ss d.start (d.end - d.start)) ≡ 4 → ⊥) where
-        pub all-good : every good-segment (segs.segs ss d.start (d.end - d.start)) ≡ true
-        all-good = good-unless _ h
+      own-list : (of-list ≡ 0 → ⊥) → rules-number ≡ of-list
+      own-list h = let r = refused-are l.screen ps ss d drawn q in own-number (λ z. h (sym r ∙ z)) ∙ r
 
-        -- 4 exactly if a record is bad
-        any-verdict : verdict (tally_cuts (job_of l.screen ps d) l.words.state none_yet (cuts-of (job_of l.screen ps d) ss d.start d.end))
-            ≡ cond good-records (flags (run (job_of l.screen ps d) l.words.state none_yet (cuts-of (job_of l.screen ps d) ss d.start d.end))) 4
-        any-verdict =
-            rw good-are
-            (verdict-any (job_of l.screen ps d) (box_of l.screen.viewport) (rows_of (box_of l.screen.viewport)) l.words rowed.layers long
-            (all-landed rowed (segs.segs ss d.start (d.end - d.start)) all-good))
+      -- 4 exactly if a record is bad
+      any-verdict : (of-list ≡ 4 → ⊥) → of-rows ≡ cond good-records (flags (run (job_of l.screen ps d) l.words.state none_yet (cuts-of (job_of l.screen ps d) ss d.start d.end))) 4
+      any-verdict h =
+          rw good-are
+          (verdict-any (job_of l.screen ps d) (box_of l.screen.viewport) (rows_of (box_of l.screen.viewport)) l.words rowed.layers long
+          (all-landed rowed (segs.segs ss d.start (d.end - d.start)) (good-unless _ h)))
 
-        bad-record : verdict (tally_cuts (job_of l.screen ps d) l.words.state none_yet (cuts-of (job_of l.screen ps d) ss d.start d.end)) ≡ 4 → 4 ≡ fill_number l ps ss d
-        bad-record e = rw (after_first, four good-records (run (job_of l.screen ps d) l.words.state none_yet (cuts-of (job_of l.screen ps d) ss d.start d.end)) (sym any-verdict ∙ e))
+      -- what comes after the list's number
+      abbrev later : ℕ
+      later = cond (ltb 1048577 (l.screen.next_draw_id + 1)) 8 (cond (attrs-full (fill-plan l.screen ps ss d).attrs) 9 of-rows)
 
-        module _ (k : verdict (tally_cuts (job_of l.screen ps d) l.words.state none_yet (cuts-of (job_of l.screen ps d) ss d.start d.end)) ≡ 4 → ⊥) where
-          records : good-records ≡ true
-          records = not-four good-records (run (job_of l.screen ps d) l.words.state none_yet (cuts-of (job_of l.screen ps d) ss d.start d.end)) (λ e. k (any-verdict ∙ e))
+      module _ (e : of-list ≡ 0) (records : good-records ≡ true) where
+        -- the tally's verdict is the rules' last two tests
+        last-tests : of-rows
+            ≡ cond (passes Words word-ops (word 0) l.screen.c (puts_of (job_of l.screen ps d) (cuts-of (job_of l.screen ps d) ss d.start d.end)) (filling.done (job_of l.screen ps d) (puts_of (job_of l.screen ps d) (cuts-of (job_of l.screen ps d) ss d.start d.end)) (rows_at (frame-of l.screen) l.words))) 10
+            (cond (passes Words word-ops (word 1) l.screen.d (puts_of (job_of l.screen ps d) (cuts-of (job_of l.screen ps d) ss d.start d.end)) (filling.done (job_of l.screen ps d) (puts_of (job_of l.screen ps d) (cuts-of (job_of l.screen ps d) ss d.start d.end)) (rows_at (frame-of l.screen) l.words))) 11 0)
+        last-tests =
+            verdict-is (job_of l.screen ps d) (box_of l.screen.viewport) (rows_of (box_of l.screen.viewport)) l.words rowed.layers long
+            (few_rows (box_of l.screen.viewport) passing.view) (all-landed rowed (segs.segs ss d.start (d.end - d.start)) (good-unless (segs.segs ss d.start (d.end - d.start)) (λ f. omega arith)))
+            (rising (segs.origin (job_of l.screen ps d).scene) (segs.bounds (job_of l.screen ps d).scene) (segs.segs ss d.start (d.end - d.start)) (listed.judged (segs.segs ss d.start (d.end - d.start)) e).order)
+            ∙ rw (sym good-are ∙ records)
 
-          by-rules : fill_number l ps ss d ≡ rules-number
-          by-rules = after_first ∙ rw records
+        done-c : (done Words word-ops (fill-plan l.screen ps ss d) (screen-at (state-of l.screen) l.words)).state.frame ≡ frame-of l.screen
+        unfolding done
+        done-c = state-frame l.screen
 
-          bad-order : {n : ℕ} → n ≡ judge-segments false (segs.segs ss d.start (d.end - d.start)) → (n ≡ 0 → ⊥) → n ≡ fill_number l ps ss d
-          bad-order {n} e f =
-              let r : (fill-plan l.screen ps ss d).refused ≡ n = refused-are l.screen ps ss d drawn q ∙ sym e in
-              sym r ∙ sym (own-number (λ t. f (sym r ∙ t))) ∙ sym by-rules
+        rules-are : rules-number ≡ later
+        unfolding refusal
+        rules-are =
+            rw (
+              last-tests,
+              done-c,
+              rows_are l.screen ps ss d drawn l.words passing,
+              puts-are l.screen ps ss d drawn passing,
+              eq-eqb (fill-plan l.screen ps ss d).refused 0 (refused-are l.screen ps ss d drawn q ∙ e),
+              plan-layers l.screen ps ss d,
+              layer-count l.screen,
+              le-ltb 16 l.screen.layers rowed.layers,
+              plan-next l.screen ps ss d,
+            )
 
-          module _ (e : judge-segments false (segs.segs ss d.start (d.end - d.start)) ≡ 0) where
-            not-refused : (fill-plan l.screen ps ss d).refused ≡ 0
-            not-refused = refused-are l.screen ps ss d drawn q ∙ e
-
-            -- the tally's verdict is the rules' last two tests
-            last-tests : verdict (tally_cuts (job_of l.screen ps d) l.words.state none_yet (cuts-of (job_of l.screen ps d) ss d.start d.end))
-                ≡ cond (passes Words word-ops (word 0) l.screen.c (puts_of (job_of l.screen ps d) (cuts-of (job_of l.screen ps d) ss d.start d.end)) (filling.done (job_of l.screen ps d) (puts_of (job_of l.screen ps d) (cuts-of (job_of l.screen ps d) ss d.start d.end)) (rows_at (frame-of l.screen) l.words))) 10
-                (cond (passes Words word-ops (word 1) l.screen.d (puts_of (job_of l.screen ps d) (cuts-of (job_of l.screen ps d) ss d.start d.end)) (filling.done (job_of l.screen ps d) (puts_of (job_of l.screen ps d) (cuts-of (job_of l.screen ps d) ss d.start d.end)) (rows_at (frame-of l.screen) l.words))) 11 0)
-            last-tests =
-                verdict-is (job_of l.screen ps d) (box_of l.screen.viewport) (rows_of (box_of l.screen.viewport)) l.words rowed.layers long
-                (few_rows (box_of l.screen.viewport) passing.view) (all-landed rowed (segs.segs ss d.start (d.end - d.start)) all-good)
-                (rising (segs.origin (job_of l.screen ps d).scene) (segs.bounds (job_of l.screen ps d).scene) (segs.segs ss d.start (d.end - d.start)) (listed.judged (segs.segs ss d.start (d.end - d.start)) e).order)
-                ∙ rw (sym good-are ∙ records)
-
-            done-c : (done Words word-ops (fill-plan l.screen ps ss d) (screen-at (state-of l.screen) l.words)).state.frame ≡ frame-of l.screen
-            unfolding done
-            done-c = state-frame l.screen
-
-            tests : rules-number ≡ cond (ltb 1048577 (l.screen.next_draw_id + 1)) 8 (cond (attrs-full (fill-plan l.screen ps ss d).attrs) 9 (verdict (tally_cuts (job_of l.screen ps d) l.words.state none_yet (cuts-of (job_of l.screen ps d) ss d.start d.end))))
-            unfolding refusal
-            tests =
-                rw (
-                  last-tests,
-                  done-c,
-                  rows_are l.screen ps ss d drawn l.words passing,
-                  puts-are l.screen ps ss d drawn passing,
-                  eq-eqb (fill-plan l.screen ps ss d).refused 0 not-refused,
-                  plan-layers l.screen ps ss d,
-                  layer-count l.screen,
-                  le-ltb 16 l.screen.layers rowed.layers,
-                  plan-next l.screen ps ss d,
-                )
-
-            number_is : fill_number l ps ss d ≡ cond (ltb 1048577 (l.screen.next_draw_id + 1)) 8 (cond (attrs-full (fill-plan l.screen ps ss d).attrs) 9 (verdict (tally_cuts (job_of l.screen ps d) l.words.state none_yet (cuts-of (job_of l.screen ps d) ss d.start d.end))))
-            number_is = by-rules ∙ tests
-
-            no-id : 1048576 < l.screen.next_draw_id → 8 ≡ fill_number l ps ss d
-            no-id f = rw (number_is, lt-ltb 1048577 (l.screen.next_draw_id + 1) (omega arith))
-
-            module _ (f : l.screen.next_draw_id ≤ 1048576) where
-              an-id : ltb 1048577 (l.screen.next_draw_id + 1) ≡ false
-              an-id = le-ltb 1048577 (l.screen.next_draw_id + 1) (omega arith)
-
-              no-attr : (d.start ≡ d.end → ⊥) → 1024 ≤ l.screen.paint_attrs → 9 ≡ fill_number l ps ss d
-              no-attr u v = rw (number_is, an-id, attrs-more l.screen ps ss d drawn u, full-attrs l.screen passing d v)
-
-              by-tally : (d.start ≡ d.end → ⊥) → l.screen.paint_attrs < 1024
-                  → verdict (tally_cuts (job_of l.screen ps d) l.words.state none_yet (cuts-of (job_of l.screen ps d) ss d.start d.end)) ≡ fill_number l ps ss d
-              by-tally u v = rw (number_is, an-id, attrs-more l.screen ps ss d drawn u, room-for-one l.screen passing d v)
-
-              empty-done : d.start ≡ d.end → 0 ≡ fill_number l ps ss d
-              unfolding tally_cuts
-              empty-done u = rw (number_is, an-id, attrs-same l.screen ps ss d drawn u, not_full l.screen passing, listed.segs-end ss d.start d.end (omega arith))
+      tests : fill_number l ps ss d ≡ by-both of-list of-rows later
+      tests =
+          as-one (fill_number l ps ss d) of-list of-rows _ rules-number later good-records after_first own-list any-verdict (said _ _).0 rules-are
 
       -- by the number of the one pass
-      module _ {n : ℕ} (w : n ≡ list-number (judge-segments false (segs.segs ss d.start (d.end - d.start))) (verdict (tally_cuts (job_of l.screen ps d) l.words.state none_yet (cuts-of (job_of l.screen ps d) ss d.start d.end)))) where
-        abbrev of-list : ℕ
-        of-list = judge-segments false (segs.segs ss d.start (d.end - d.start))
-
-        abbrev of-rows : ℕ
-        of-rows = verdict (tally_cuts (job_of l.screen ps d) l.words.state none_yet (cuts-of (job_of l.screen ps d) ss d.start d.end))
-
-        list-four : n ≡ 4 → 4 ≡ fill_number l ps ss d
-        list-four e = four-by of-list of-rows (sym w ∙ e) bad-list bad-record
-
-        list-five : n ≡ 5 → 5 ≡ fill_number l ps ss d
-        list-five e =
-            let o = not-bad of-list of-rows (λ f. omega (arith, e, w, f)) in
-            let f = five-by of-list of-rows (sym w ∙ e) (never-five (tally_cuts (job_of l.screen ps d) l.words.state none_yet (cuts-of (job_of l.screen ps d) ss d.start d.end))) in
-            bad-order o.0 o.1 (sym f) (λ z. omega arith)
-
+      module _ {n : ℕ} (w : n ≡ list-number of-list of-rows) where
         pub list-first : (eqb n 4 || eqb n 5) ≡ true → n ≡ fill_number l ps ss d
-        list-first e = go (eqb n 4) refl (eqb n 5) refl e
-          where
-            go : (x : Bool) → eqb n 4 ≡ x → (y : Bool) → eqb n 5 ≡ y → (x || y) ≡ true → n ≡ fill_number l ps ss d
-            go true p y q e = let z = eqb-true n 4 p in z ∙ list-four z
-            go false p true q e = let z = eqb-true n 5 q in z ∙ list-five z
-            go false p false q e = never (sym e)
+        list-first h = first-is n of-list of-rows later w (never-five (tally_cuts (job_of l.screen ps d) l.words.state none_yet (cuts-of (job_of l.screen ps d) ss d.start d.end))) h ∙ sym tests
 
         module _ (h : (eqb n 4 || eqb n 5) ≡ false) where
-          f : n ≡ 4 → ⊥
-          f e = never ((rw (eq-eqb n 4 e) at h))
+          rest : (by-both of-list of-rows later ≡ later) × (n ≡ of-rows)
+          rest = rest-is n of-list of-rows later w (zero-else (segs.segs ss d.start (d.end - d.start))) h
 
-          g : n ≡ 5 → ⊥
-          g e = never (sym (or-true (eqb n 4)) ∙ (rw (eq-eqb n 5 e) at h))
-
-          sound : (of-list ≡ 4 → ⊥) × (of-rows ≡ 4 → ⊥)
-          sound = not-bad of-list of-rows (λ e. f (w ∙ e))
-
-          in_order : of-list ≡ 0
-          in_order = zero-else (segs.segs ss d.start (d.end - d.start)) sound.0 (not_five of-list of-rows (λ e. f (w ∙ e)) (λ e. g (w ∙ e)))
+          number_is : fill_number l ps ss d ≡ later
+          number_is = tests ∙ rest.0
 
           pub list-no-id : 1048576 < l.screen.next_draw_id → 8 ≡ fill_number l ps ss d
-          list-no-id = no-id sound.0 sound.1 in_order
+          list-no-id f = rw (number_is, lt-ltb 1048577 (l.screen.next_draw_id + 1) (omega arith))
 
-          module _ (i : l.screen.next_draw_id ≤ 1048576) where
+          module _ (f : l.screen.next_draw_id ≤ 1048576) where
+            an-id : ltb 1048577 (l.screen.next_draw_id + 1) ≡ false
+            an-id = le-ltb 1048577 (l.screen.next_draw_id + 1) (omega arith)
+
             pub list-empty : d.start ≡ d.end → 0 ≡ fill_number l ps ss d
-            list-empty = empty-done sound.0 sound.1 in_order i
+            unfolding tally_cuts
+            list-empty u = rw (number_is, an-id, attrs-same l.screen ps ss d drawn u, not_full l.screen passing, listed.segs-end ss d.start d.end (omega arith))
 
             pub list-no-attr : (d.start ≡ d.end → ⊥) → 1024 ≤ l.screen.paint_attrs → 9 ≡ fill_number l ps ss d
-            list-no-attr = no-attr sound.0 sound.1 in_order i
+            list-no-attr u v = rw (number_is, an-id, attrs-more l.screen ps ss d drawn u, full-attrs l.screen passing d v)
 
             pub list-rows : (d.start ≡ d.end → ⊥) → l.screen.paint_attrs < 1024 → n ≡ fill_number l ps ss d
-            list-rows u v = w ∙ rows-number of-list of-rows in_order sound.1 ∙ by-tally sound.0 sound.1 in_order i u v
+            list-rows u v = rest.1 ∙ rw (number_is, an-id, attrs-more l.screen ps ss d drawn u, room-for-one l.screen passing d v)

@@ -1,15 +1,8 @@
 -- The plan of a fill, by the code's own numbers. Assumes nothing.
-use mathlib.Core.Path.{◌≡◌, refl, sym, ap, ◌∙◌}
-use mathlib.Core.Bool.{Bool, true, false, not, cond}
-use mathlib.Core.List.{List, [], ◌∷◌}
-use Prim.Native.Nat.{ℕ, ◌+◌, ◌-◌, ◌≤◌, ◌<◌}
-use native.Mathlib.Omega.{arith}
-use lib.Dec.{ltb}
-use lib.ListN.{length, length-append}
-use borrow.Author.Tests.{lt-ltb, le-ltb}
+use Rattle.std.proofs.Common.{◌≡◌, refl, sym, ap, ◌∙◌, true, false, List, [], ◌∷◌, ℕ, ◌+◌, ◌-◌, ◌≤◌, ◌<◌, arith, ltb, length, length-append, lt-ltb, le-ltb}
+use Rattle.std.proofs.lemmas.Bool.Decides.{nat_tests}
 use Rattle.rules.specs.Lists.{join, every, is-empty}
-use Rattle.rules.specs.Answers.{Done, BadRecord, BadOrder}
-use Rattle.rules.specs.Segments.{Segment, good-segment, ordered, judge-segments, cut_in, cuts}
+use Rattle.rules.specs.Segments.{Segment, good-segment, judge-segments, cut_in, cuts}
 use Rattle.rules.specs.Inputs.{good-fill, draw-segments}
 use Rattle.rules.specs.Attributes.{Attrs, attrs-full}
 use Rattle.rules.specs.Plans.{with-paint, draw-puts, plan-fill}
@@ -34,11 +27,7 @@ use Rattle.fill.proofs.Inputs.{GoodDraw, scene-of-it}
 -- a list that is not refused by 4 has good segments
 pub good-unless : (xs : List Segment) → (judge-segments false xs ≡ 4 → ⊥) → every good-segment xs ≡ true
 unfolding judge-segments
-good-unless xs h = go (every good-segment xs) (ordered xs) refl h
-  where
-    go : (g o : Bool) → every good-segment xs ≡ g → (cond (not g) BadRecord (cond (not o) BadOrder Done) ≡ 4 → ⊥) → every good-segment xs ≡ true
-    go true o e k = e
-    go false o e k = absurd (k refl)
+good-unless xs h = grind (arith, nat_tests)
 
 module _ (s : Screen) where
   pub state-frame : (state-of s).frame ≡ frame-of s

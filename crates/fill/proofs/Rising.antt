@@ -1,12 +1,6 @@
 -- The rows of an ordered list's cut segments do not fall. Assumes nothing.
-use mathlib.Core.Path.{◌≡◌, refl}
-use mathlib.Core.Bool.{Bool, true, false, ◌&&◌, ◌||◌}
-use mathlib.Core.List.{List, [], ◌∷◌, ◌++◌}
-use Rattle.std.specs.Prelude.{Option, None, Some}
-use Prim.Native.Nat.{ℕ, ◌-◌, ◌/◌, ◌≤◌}
-use native.Mathlib.Omega.{arith}
-use lib.Dec.{leb, ltb, eqb}
-use borrow.Author.Tests.{ltb-true, eqb-true}
+use Rattle.std.proofs.Common.{◌≡◌, true, List, [], ◌∷◌, ◌++◌, Option, None, Some, ℕ, ◌-◌, ◌/◌, ◌≤◌, arith}
+use Rattle.std.proofs.lemmas.Bool.Decides.{nat_tests}
 use Rattle.rules.specs.Lists.{join}
 use Rattle.rules.specs.Boxes.{Box}
 use Rattle.rules.specs.Spans.{span, Stretch, cut_to}
@@ -24,11 +18,7 @@ lower {r} h (then {r = q} {k = k} g a) = then {r = r} {k = k} (omega arith) a
 
 -- one is not above the next
 not-below : (s t : Segment) → follows s t ≡ true → s.row ≤ t.row
-not-below s t e = go (ltb s.row t.row) refl e
-  where
-    go : (b : Bool) → ltb s.row t.row ≡ b → (b || eqb s.row t.row && leb s.end t.first) ≡ true → s.row ≤ t.row
-    go true q h = omega (arith, ltb-true s.row t.row q)
-    go false q h = omega (arith, eqb-true s.row t.row (both (eqb s.row t.row) (leb s.end t.first) h).0)
+not-below s t e = grind (arith, nat_tests)
 
 module _ (v b : Box) where
   at_row : {r : ℕ} (row : ℕ) (m : Option Stretch) {ls : List Cut} → r ≤ row - v.y0 / 4 → Rising (row - v.y0 / 4) ls → Rising r (localised v row m ++ ls)

@@ -1,11 +1,5 @@
 -- What a fill's puts do to a screen's rows of words. Assumes nothing.
-use mathlib.Core.Path.{◌≡◌, refl, sym, ap, ◌∙◌}
-use mathlib.Core.Bool.{Bool, true, false}
-use mathlib.Core.List.{List, [], ◌∷◌, ◌++◌}
-use Rattle.std.specs.Prelude.{Option, None, Some}
-use Prim.Native.Nat.{ℕ, ◌+◌, ◌-◌, ◌≤◌, ◌<◌}
-use native.Mathlib.Omega.{arith}
-use lib.ListN.{length, get_or}
+use Rattle.std.proofs.Common.{◌≡◌, refl, sym, ap, ◌∙◌, Bool, true, false, List, [], ◌∷◌, ◌++◌, Option, None, Some, ℕ, ◌+◌, ◌-◌, ◌≤◌, ◌<◌, arith, length, get_or}
 use Rattle.rules.specs.Lists.{join, change}
 use Rattle.rules.specs.Segments.{Segment, Cut, good-segment, cut_in}
 use Rattle.rules.specs.Plans.{Put, on, draw-act, draw-puts}
@@ -22,9 +16,7 @@ use Rattle.row.proofs.ActsLaws.{drawn-alpha, drawn_plain, drawn-sound, Sound, so
 use Rattle.row.specs.Arena.{nowhere, Sizes, sizes, cut, lay, Long}
 use Rattle.row.proofs.RowsLaws.{cut-length, lay-cut}
 use Rattle.row.specs.Cmds.{Short}
-use Rattle.segments.specs.declared.Scene.{Scene}
-use Rattle.segments.specs.declared.Placed.{Placed}
-use Rattle.segments.specs.Segs.{seg-at, segs, origin, bounds, placed_of}
+use Rattle.segments.specs.Segs.{seg-at, segs, origin, bounds}
 use Rattle.segments.proofs.Laws.{segs-end, segs-first, good-first, good-rest, landed}
 use Rattle.fill.specs.declared.rows.Job.{Job}
 use Rattle.fill.specs.Filling.{draws, puts_of, one-put, puts, done, Roomy, none-put, one_more, Fits, FillReady}
@@ -62,10 +54,6 @@ module _ (j : Job) (g : Segment) (rs : List Words) where
         → Room (get_or rs k.row nowhere) (draws j k.stretch.tiles k.stretch.alpha (get_or rs k.row nowhere))
     unfolding draw-puts
     one-room h m = room_of (rw (one-some, ← e) at m) h
-
--- a segment as the code has placed it
-pub placed_at : (s : Scene) {p q : Option Placed} {g h : Segment} → p ≡ q → placed_of p ≡ cut_in (origin s) (bounds s) g → g ≡ h → placed_of q ≡ cut_in (origin s) (bounds s) h
-placed_at s e a b = rw (← e, ← b) a
 
 -- what is left of a good segment lies on a row, which has room for it
 pub on-its-row : (j : Job) (n : ℕ) (w : Words) (g : Segment) (k : Cut) → Fits j n w → k ∷ [] ≡ cut_in (origin j.scene) (bounds j.scene) g → good-segment g ≡ true
@@ -128,9 +116,6 @@ module _ (j : Job) (m : j.layers ≤ 16) where
 pub record Filling (j : Job) (n : ℕ) (ws : List ℕ) (a b : ℕ) (w₀ : Words) (i : ℕ) (w : Words) : Type 0 where
   pub rest : FillReady j n ws i b w
   pub all : done j (puts j ws i (b - i)) (cut (sizes j.c j.d) n w) ≡ done j (puts j ws a (b - a)) (cut (sizes j.c j.d) n w₀)
-
-pub begun : {j : Job} {n : ℕ} {ws : List ℕ} {a b : ℕ} {w : Words} → FillReady j n ws a b w → Filling j n ws a b w a w
-begun r = record { rest = r; all = refl }
 
 module _ {j : Job} {n : ℕ} {ws : List ℕ} {a b : ℕ} {w₀ : Words} {i : ℕ} {w : Words} (v : Filling j n ws a b w₀ i w) where
   pub filled : b ≤ i → w ≡ lay (done j (puts j ws a (b - a)) (cut (sizes j.c j.d) n w₀))

@@ -1,12 +1,6 @@
 -- A judge may look at each count as the puts run, and need not look back: counts never fall. Assumes nothing.
-use mathlib.Core.Path.{◌≡◌, refl, sym, ap, ◌∙◌}
-use mathlib.Core.Bool.{Bool, true, false, ◌||◌}
-use mathlib.Core.List.{List, [], ◌∷◌}
-use Prim.Native.Nat.{ℕ, zero, suc, ◌≤◌}
-use native.Mathlib.Omega.{arith}
-use lib.Dec.{ltb, eqb}
-use lib.ListN.{get_or}
-use borrow.Author.Tests.{ltb-false, le-ltb, eqb-true}
+use Rattle.std.proofs.Common.{◌≡◌, refl, sym, ap, ◌∙◌, Bool, true, false, ◌||◌, List, [], ◌∷◌, ℕ, zero, suc, ◌≤◌, arith, ltb, eqb, get_or, ltb-false, le-ltb, eqb-true}
+use Rattle.std.proofs.lemmas.Bool.Decides.{nat_tests}
 use Rattle.rules.specs.Lists.{some_of, change}
 use Rattle.rules.specs.Plans.{Put}
 use Rattle.rules.specs.Steps.{do-puts, row-passes, passes}
@@ -36,12 +30,7 @@ abbrev pub SaneAt : List Words → Put → Type 0
 SaneAt rs p = Sane (get_or rs p.row nowhere)
 
 same_or : (a b y : Bool) → (y ≡ false → a ≡ b) → (a || y) ≡ (b || y)
-same_or true true y h = refl
-same_or false false y h = refl
-same_or true false true h = refl
-same_or false true true h = refl
-same_or true false false h = h refl
-same_or false true false h = h refl
+same_or a b y h = grind (arith, nat_tests)
 
 -- a put anywhere leaves a record that can be counted so
 pub sane-after : (j : Job) (p : Put) (rs : List Words) (x : ℕ) → j.layers ≤ 16 → Sane (get_or rs x nowhere) → Sane (get_or (change (acted (bucket-tiles j.width) j.layers p.act) p.row rs) x nowhere)

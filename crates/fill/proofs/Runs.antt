@@ -1,14 +1,9 @@
 -- A run of segments on one row: on the row's words it is one change of the screen's rows. Assumes nothing.
-use mathlib.Core.Path.{◌≡◌, refl, sym, ap, ◌∙◌}
-use mathlib.Core.Bool.{Bool, true, false, ◌&&◌, cond}
-use mathlib.Core.List.{List, [], ◌∷◌, ◌++◌, append_assoc}
-use Rattle.std.specs.Prelude.{Option, None, Some}
-use Prim.Native.Nat.{ℕ, zero, suc, ◌+◌, ◌-◌, ◌*◌, ◌/◌, ◌≤◌, ◌<◌}
-use native.Mathlib.Omega.{arith}
-use lib.Dec.{leb, ltb, eqb}
-use lib.ListN.{length, get_or, take, drop}
+use Rattle.std.proofs.Common.{◌≡◌, refl, sym, ap, ◌∙◌, Bool, true, false, ◌&&◌, cond, List, [], ◌∷◌, ◌++◌, append_assoc, Option, None, Some, ℕ, zero, suc, ◌+◌, ◌-◌, ◌*◌, ◌/◌, ◌≤◌, ◌<◌, arith, leb, ltb}
+use Rattle.std.proofs.Common.{eqb, length, get_or, take, drop, leb-true, ltb-true, ltb-false, ne_eqb, eqb-true}
+use Rattle.std.proofs.lemmas.Bool.Decides.{nat_tests}
 use borrow.Rule.Slice.PartMut.{put_mid}
-use borrow.Author.Tests.{leb-true, ltb-true, ltb-false, ne_eqb, eqb-true, eqb-false}
+use borrow.Author.Tests.{eqb-false}
 use Rattle.rules.specs.Lists.{join, every, change, times}
 use Rattle.rules.specs.Boxes.{Box}
 use Rattle.rules.specs.Spans.{span, Stretch, moved, shifted, cut_to}
@@ -21,7 +16,7 @@ use Rattle.rules.proofs.laws.Changes.{change-same}
 use Rattle.sizes.specs.Widths.{bucket-tiles}
 use Rattle.row.specs.Words.{Words, words, word, put_buf, put_command, Room, Grown}
 use Rattle.row.specs.Cmds.{Short}
-use Rattle.row.proofs.WordsLaws.{cmd-levels, buf-levels, buf-grown, grown-trans}
+use Rattle.row.proofs.WordsLaws.{cmd-levels, buf-levels, buf-grown}
 use Rattle.row.specs.Acts.{ensured}
 use Rattle.row.proofs.ActsLaws.{Sound, sound-trans, same-sound, room_after, ensured-sound, first_room, drawn-sound, drawn-alpha}
 use Rattle.row.specs.declared.rows.Place.{Place}
@@ -285,23 +280,12 @@ module _ {j : Job} {ws : List ℕ} {row a b : ℕ} {w₀ : Words} {i : ℕ} {w :
   run_sound : Sound w₀ w
   run_sound = let o = own_room v.ready in rw v.is (draw-sound j v.ready.layers (cuts-in j ws a i) w₀ o.state o.levels)
 
-  run-grown : Grown w₀ w
-  run-grown = run_sound.grown
-
   -- where the run ends, it has begun
   pub row-left : ((seg-at ws i).row ≡ row → ⊥) → a < i
-  row-left n = go (eqb a i) refl
-    where
-      go : (t : Bool) → eqb a i ≡ t → a < i
-      go true e = absurd (n (rw (eqb-true a i e) at v.ready.here))
-      go false e = let z = eqb-false a i e in omega (arith, v.start, z)
+  row-left n = let f : a ≡ i → ⊥ = λ e. n (rw e at v.ready.here) in omega (arith, v.start)
 
   pub solid-met : (seg-at ws i).kind ≡ 0 → a < i
-  solid-met n = go (eqb a i) refl
-    where
-      go : (t : Bool) → eqb a i ≡ t → a < i
-      go true e = absurd ((rw (eqb-true a i e) at v.ready.index) n)
-      go false e = let z = eqb-false a i e in omega (arith, v.start, z)
+  solid-met n = let f : a ≡ i → ⊥ = λ e. (rw e at v.ready.index) n in omega (arith, v.start)
 
   module _ (h : i < b) where
     pub good-next : good-segment (seg-at ws i) ≡ true
@@ -309,11 +293,10 @@ module _ {j : Job} {ws : List ℕ} {row a b : ℕ} {w₀ : Words} {i : ℕ} {w :
 
     module _ (p : (seg-at ws i).row ≡ row) where
       on-to : OnRow ws row a (i + 1)
-      on-to x q r = go (eqb x i) refl
-        where
-          go : (t : Bool) → eqb x i ≡ t → (seg-at ws x).row ≡ row
-          go true e = rw (eqb-true x i e) p
-          go false e = let z = eqb-false x i e in v.same x q (omega (arith, z))
+      on-to x q r =
+          let last : x ≡ i → (seg-at ws x).row ≡ row = λ e. rw e p in
+          let before = v.same x q in
+          grind (arith, nat_tests)
 
       pub runs_past : [] ≡ cut_in (origin j.scene) (bounds j.scene) (seg-at ws i) → Running j ws row a b w₀ (i + 1) w
       runs_past e =
@@ -346,9 +329,6 @@ module _ {j : Job} {ws : List ℕ} {row a b : ℕ} {w₀ : Words} {i : ℕ} {w :
 pub run-done : {j : Job} {ws : List ℕ} {row a b : ℕ} {w u : Words} {i : ℕ} {x : Words} → RunReady j ws row a b w → u ≡ ensured j.layers w → Running j ws row a b u i x → a < i
     → (a < i) × (i ≤ b) × OnRow ws row a i × (x ≡ run_of j ws a i w)
 run-done {j} {ws} {row} {a} {b} {w} {u} {i} {x} v e r h = (h, r.stop, r.same, r.is ∙ ap (run_of j ws a i) e ∙ same-run v i h)
-
-pub whole-grown : {j : Job} {ws : List ℕ} {row a b : ℕ} {w u : Words} {i : ℕ} {x : Words} → RunReady j ws row a b w → u ≡ ensured j.layers w → Running j ws row a b u i x → Grown w x
-whole-grown v e r = grown-trans (rw e (layered v).grown) (run-grown r)
 
 -- on the whole screen
 module _ {j : Job} {n : ℕ} {ws : List ℕ} {a b : ℕ} {w : Words} (v : FillReady j n ws a b w) (h : a < b) where

@@ -1,13 +1,6 @@
 -- A sure look: upper bounds of a row's counts that stay within its limits keep the tally's flags down. Assumes nothing.
-use mathlib.Core.Path.{◌≡◌, refl, sym, ap, ◌∙◌}
-use mathlib.Core.Bool.{Bool, true, false, ◌&&◌, ◌||◌, cond}
-use mathlib.Core.List.{List, [], ◌∷◌, ◌++◌}
-use Rattle.std.specs.Prelude.{None, Some}
-use Prim.Native.Nat.{ℕ, ◌+◌, ◌-◌, ◌*◌, ◌/◌, ◌≤◌, ◌<◌}
-use native.Mathlib.Omega.{arith}
-use lib.Dec.{eqb, leb, ltb}
-use lib.ListN.{length, get_or}
-use borrow.Author.Tests.{eqb-true, eq-eqb, ne_eqb, lt-ltb, le-ltb, le-leb, leb-true, leb-false}
+use Rattle.std.proofs.Common.{◌≡◌, refl, sym, ap, ◌∙◌, Bool, true, false, ◌||◌, cond, List, [], ◌∷◌, ◌++◌, None, Some, ℕ, ◌+◌, ◌-◌, ◌*◌, ◌/◌, ◌≤◌, ◌<◌, arith, eqb, leb, length, get_or, eqb-true, eq-eqb, ne_eqb, lt-ltb, le-ltb, le-leb}
+use Rattle.std.proofs.lemmas.Bool.Decides.{nat_tests}
 use Rattle.rules.specs.Spans.{Span, moved}
 use Rattle.rules.specs.Segments.{Segment, good-segment, follows, judge-segments, Cut, cut_in}
 use Rattle.sizes.specs.Widths.{bucket-tiles}
@@ -22,45 +15,26 @@ use Rattle.segments.proofs.Judging.{AtPlace}
 use Rattle.fill.specs.declared.rows.Job.{Job}
 use Rattle.fill.proofs.Runs.{piece, at_most_one}
 use Rattle.fill.specs.Tallies.{Tally, added, job-adds, known, stored, tallied, tally_cuts, verdict, cuts-of, none_yet, Rowed}
-use Rattle.fill.specs.Sure.{Few, Roomed, RoomAt, number_in}
+use Rattle.fill.specs.Sure.{Roomed, RoomAt, number_in}
 use Rattle.fill.proofs.JudgeLaws.{few-commands, few-depths, added-alpha, added-plain, turned, took-none, took-good, tally-more}
 use Rattle.fill.proofs.Hands.{nowhere, first-follows, none_before}
 
--- that a solid segment's index is 0 says all that there is to ask of its sum
-solid-test : (a x : ℕ) (t : Bool) → x < 4294967296 → eqb a 0 ≡ t → t ≡ (t && ltb (a + x) 4294967296)
-solid-test a x true h q = let e = eqb-true a 0 q in sym (lt-ltb (a + x) 4294967296 (omega arith))
-solid-test a x false h q = refl
-
--- that a sum is below the limit, tested without the sum
-sum-test : (a x : ℕ) (t : Bool) → x ≤ 4294967295 → leb a (4294967295 - x) ≡ t → t ≡ ltb (a + x) 4294967296
-sum-test a x true h q = let e = leb-true a (4294967295 - x) q in sym (lt-ltb (a + x) 4294967296 (omega arith))
-sum-test a x false h q = let e = leb-false a (4294967295 - x) q in sym (le-ltb (a + x) 4294967296 (omega arith))
-
-one : (k : ℕ) → k ≤ 1 → (k ≡ 0 → ⊥) → k ≡ 1
-one k h z = omega arith
-
 module _ (s : Segment) (k : s.kind ≤ 1) (r : s.row < 8192) (o : s.first < s.end) (e : s.end ≤ 8192) where
   solid-good : s.kind ≡ 0 → eqb s.alpha 0 ≡ good-segment s
-  solid-good z =
-      rw (le-leb s.kind 1 k, lt-ltb s.row 8192 r, lt-ltb s.first s.end o, le-leb s.end 8192 e, ne_eqb s.kind 1 (λ q. omega arith))
-      (solid-test s.alpha (16 * (s.end - s.first)) _ (omega arith) refl)
+  solid-good z = grind (arith, nat_tests)
 
   alpha-good : (s.kind ≡ 0 → ⊥) → leb s.alpha (4294967295 - 16 * (s.end - s.first)) ≡ good-segment s
-  alpha-good z =
-      rw (le-leb s.kind 1 k, lt-ltb s.row 8192 r, lt-ltb s.first s.end o, le-leb s.end 8192 e, eq-eqb s.kind 1 (one s.kind k z))
-      (sum-test s.alpha (16 * (s.end - s.first)) _ (omega arith) refl)
+  alpha-good z = grind (arith, nat_tests)
 
 -- n, where solids may be split
 abbrev pub split_off : Bool → ℕ → ℕ
 split_off e n = cond e n 0
 
 pub split-none : (e : Bool) → 0 ≡ split_off e 0
-split-none true = refl
-split-none false = refl
+split-none e = grind (arith, nat_tests)
 
 pub split_one : (e : Bool) → split_off e 1 ≤ 1
-split_one true = omega arith
-split_one false = omega arith
+split_one e = grind (arith, nat_tests)
 
 -- the segments from a to i are good, on one row and in order; the last ends at x, and n may be split
 pub data Ran (e : Bool) (ws : List ℕ) (row a : ℕ) : ℕ → ℕ → ℕ → Type 0 where
@@ -288,10 +262,6 @@ set_out r o h l =
     record { rowed = o; within = l; before = omega arith; few = omega arith; walk = λ z. record { next = 0; sure = sure-so-far o (omega arith); rises = omega arith; ran = not_yet } }
 
 module _ {j : Job} {n : ℕ} {rows ws : List ℕ} {a b r f e m i : ℕ} (v : Walking j n rows ws a b r f e m i) where
-  -- as many as a usize counts
-  pub few-here : i ≤ 4611686018427387904 → Few (i - f) m
-  few-here h = record { among = omega (arith, v.few); small = omega arith }
-
   -- the run has room, and the next row begins
   pub turns-over : (q : ℕ) → r < q → RoomAt j rows r (i - f) m → Walking j n rows ws a b q i 0 0 i
   turns-over q h o =

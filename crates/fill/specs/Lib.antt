@@ -2,3 +2,4 @@ pub mod Fills
 pub mod Filling
 pub mod Tallies
 pub mod Sure
+pub mod Named

@@ -1,5 +1,5 @@
-// Judging a fill's segments and the rows that they come to (answers 4, 5, 10 and 11), in one pass, before anything is done: by a sure look,
-// and exactly where that look is not sure. Parts.
+//! Judging a fill's segments and the rows that they come to (answers 4, 5, 10 and 11), in one pass, before anything is done: by a sure look,
+//! and exactly where that look is not sure. Parts.
 ghost use Rattle.std.specs.Prelude.{◌≡◌, true, false, ◌-◌, ◌*◌, ◌≤◌, ◌<◌, length};
 ghost use Rattle.sizes.specs.Sizes.{tile-end, most-layers, most-room, row-size};
 ghost use Rattle.sizes.specs.Refusals.{answer_number};
@@ -186,7 +186,7 @@ fn is_sure(rows: &[u32], list: &[u32], start: usize, end: usize, job: Job) -> bo
     row < TILE_END && has_room_at(rows, job, row, i - from, split)
 }
 
-// The segments from start to end of a list: 4 for a bad one or for the bad record of a row that gets one, then 5 for their order, then 10, then 11.
+/// The segments from start to end of a list: 4 for a bad one or for the bad record of a row that gets one, then 5 for their order, then 10, then 11.
 pub fn judge_list(
     rows: &[u32],
     list: &[u32],

@@ -1,5 +1,5 @@
-// A fill (rules 3 to 7; bucketer.rs, generate_fill): judged, then done. `fill` is a public call; the others are parts of it, and `is_eligible` also of the
-// story of a tile.
+//! A fill (rules 3 to 7; bucketer.rs, generate_fill): judged, then done. `fill` is a public call; the others are parts of it, and `is_eligible` also of the
+//! story of a tile.
 #![tactic(auto)]
 
 ghost use Rattle.std.specs.Prelude.{◌≡◌, ◌||◌, ◌+◌, ◌/◌, ◌≤◌, ◌<◌, eqb, length};
@@ -26,8 +26,8 @@ use sizes::{HANDLE_END, LAST_ID, MOST_ATTRS, MOST_RECORDS, PAINT_TABLE, PANEL_EN
 pub mod judge;
 pub mod rows;
 
-// Segments start to end of a list, painted with the paint at a place of a paint list (record.rs, RecordedFill). The thread is that of their alpha values;
-// `mask` is a handle, or 0 for none.
+/// Segments start to end of a list, painted with the paint at a place of a paint list (record.rs, RecordedFill). The thread is that of their alpha values;
+/// `mask` is a handle, or 0 for none.
 #[derive(Clone, Copy)]
 pub struct Draw {
     pub thread: u32,
@@ -74,7 +74,7 @@ fn is_good_fill(paints: &[u32], segments: &[u32], draw: Draw) -> bool
     paints.len() / 4 <= MOST_RECORDS && is_good_draw(paints, segments, draw)
 }
 
-// Rule 6: whether the solid segments of a draw may become depth fills. No layer is open, the blend is the default, there is no mask, and the paint is opaque.
+/// Rule 6: whether the solid segments of a draw may become depth fills. No layer is open, the blend is the default, there is no mask, and the paint is opaque.
 #[tactic(auto, using(crate::proofs::Inputs::eligible_at))]
 pub fn is_eligible(layers: u32, paints: &[u32], draw: Draw) -> bool
     requires { draw.paint < length paints.now / 4 }
@@ -177,8 +177,8 @@ fn take(screen: &mut Screen, more: u32)
     screen.painting = false;
 }
 
-// Rules 3 to 7. The lists are lent as words, four a paint and five a segment. BadViewport, BadArena, BadRecord, BadOrder, Ids, FullAttrs, FullRow or FullDepth:
-// refused, the screen and every lent word stay.
+/// Rules 3 to 7. The lists are lent as words, four a paint and five a segment. BadViewport, BadArena, BadRecord, BadOrder, Ids, FullAttrs, FullRow or FullDepth:
+/// refused, the screen and every lent word stay.
 pub fn fill(
     screen: &mut Screen,
     rows: &mut Rows<'_>,

@@ -1,19 +1,17 @@
-// The doing half of a fill (rules 3 to 7; bucketer.rs, generate and push_fill), over a whole screen's words. Parts: each has a `requires`, which `fill` has
-// judged.
+//! The doing half of a fill (rules 3 to 7; bucketer.rs, generate and push_fill), over a whole screen's words. Parts: each has a `requires`, which `fill` has
+//! judged.
 ghost use Rattle.std.specs.Prelude.{◌≡◌, true, ◌+◌, ◌*◌, ◌-◌, ◌≤◌, ◌<◌, length, get_or};
 ghost use Rattle.sizes.specs.Sizes.{most-layers};
 ghost use Rattle.rules.specs.Lists.{change};
 ghost use Rattle.rules.specs.Segments.{good-segment};
 ghost use Rattle.span.specs.Spans.{tiles};
-ghost use Rattle.sizes.specs.Widths.{bucket-tiles};
 ghost use Rattle.row.specs.Words.{words, Room};
-ghost use Rattle.row.specs.Row.{held, Same};
 ghost use Rattle.row.specs.Rows.{all-held, SameRows};
 ghost use Rattle.row.specs.Cmds.{Short};
-ghost use Rattle.row.specs.Acts.{drawn};
-ghost use Rattle.row.specs.Arena.{nowhere, sizes, cut, lay, count-rows};
+ghost use Rattle.row.specs.Arena.{nowhere, sizes, lay, count-rows};
 ghost use Rattle.segments.specs.Segs.{seg-at};
-ghost use Rattle.fill.specs.Filling.{draws, one-put, puts, done, run_of, OnRow, Roomy, Fits, FillReady, RunReady};
+ghost use Rattle.fill.specs.Filling.{draws, one-put, puts, done, run_of, OnRow, Fits, FillReady, RunReady};
+ghost use Rattle.fill.specs.Named.{RoomToDraw, RoomToPut, draws_placed, job_rows};
 
 use row::acts::{ensure_row_layers, is_unsplit, push_fill};
 use row::{Row, Rows, place_of};
@@ -22,8 +20,8 @@ use sizes::LEVELS;
 use sizes::width::Width;
 use span::Stretch;
 
-// What stays the same over all the segments of a fill: the scene, room for c commands and d depth fills in a row, how many layers are open, whether solid
-// segments are eligible (rule 6), the place of the attribute, the draw's id, and the width of a depth bucket.
+/// What stays the same over all the segments of a fill: the scene, room for c commands and d depth fills in a row, how many layers are open, whether solid
+/// segments are eligible (rule 6), the place of the attribute, the draw's id, and the width of a depth bucket.
 #[derive(Clone, Copy)]
 pub struct Job {
     pub scene: Scene,
@@ -36,7 +34,7 @@ pub struct Job {
     pub width: Width,
 }
 
-// Segments of a list from start to end at most, that stand on one row, numbered as in the scene.
+/// Segments of a list from start to end at most, that stand on one row, numbered as in the scene.
 #[derive(Clone, Copy)]
 pub struct Run {
     pub start: usize,
@@ -72,9 +70,9 @@ fn push_row(state: &mut [u32], render: &mut [u32], fills: &mut [u32], job: Job, 
 // What is left of a segment, on its row.
 fn fill_row(state: &mut [u32], render: &mut [u32], fills: &mut [u32], job: Job, placed: Placed)
     requires { Fits job (count-rows state.old) (words state.old render.old fills.old) × (placed.row < count-rows state.old) × Short (tiles placed.stretch.tiles)
-        × Room (get_or (cut (sizes job.c job.d) (count-rows state.old) (words state.old render.old fills.old)) placed.row nowhere) (draws job (tiles placed.stretch.tiles) placed.stretch.alpha (get_or (cut (sizes job.c job.d) (count-rows state.old) (words state.old render.old fills.old)) placed.row nowhere)) }
-    ensures { cut (sizes job.c job.d) (count-rows state.old) (words state.new render.new fills.new)
-        ≡ change (draws job (tiles placed.stretch.tiles) placed.stretch.alpha) placed.row (cut (sizes job.c job.d) (count-rows state.old) (words state.old render.old fills.old)) }
+        × RoomToDraw job placed (get_or (job_rows job (count-rows state.old) (words state.old render.old fills.old)) placed.row nowhere) }
+    ensures { job_rows job (count-rows state.old) (words state.new render.new fills.new)
+        ≡ change (draws_placed job placed) placed.row (job_rows job (count-rows state.old) (words state.old render.old fills.old)) }
 {
     let p = place_of(job.c, job.d, placed.row as usize);
     push_row(
@@ -89,10 +87,10 @@ fn fill_row(state: &mut [u32], render: &mut [u32], fills: &mut [u32], job: Job, 
 // One segment of the list.
 fn fill_segment(rows: &mut Rows<'_>, segs: &[u32], i: usize, job: Job)
     requires { Fits job (count-rows rows.old.state.now) (all-held rows.old) × (5 * i + 5 ≤ length segs.now) × (good-segment (seg-at segs.now i) ≡ true)
-        × Roomy (one-put job segs.now i) (cut (sizes job.c job.d) (count-rows rows.old.state.now) (all-held rows.old)) (done job (one-put job segs.now i) (cut (sizes job.c job.d) (count-rows rows.old.state.now) (all-held rows.old))) }
+        × RoomToPut job segs.now i (job_rows job (count-rows rows.old.state.now) (all-held rows.old)) }
     ensures same { SameRows rows.old rows.new }
-    ensures rows { cut (sizes job.c job.d) (count-rows rows.old.state.now) (all-held rows.new)
-        ≡ done job (one-put job segs.now i) (cut (sizes job.c job.d) (count-rows rows.old.state.now) (all-held rows.old)) }
+    ensures rows { job_rows job (count-rows rows.old.state.now) (all-held rows.new)
+        ≡ done job (one-put job segs.now i) (job_rows job (count-rows rows.old.state.now) (all-held rows.old)) }
 {
     if let Some(placed) = place(segment_at(segs, i), job.scene) {
         fill_row(rows.state, rows.render, rows.fills, job, placed);
@@ -147,8 +145,8 @@ fn fill_run(
 ) -> usize
     requires { FillReady job (count-rows state.old) segs.now start «end» (words state.old render.old fills.old) × (start < «end») × ((seg-at segs.now start).kind ≡ 0 → ⊥) }
     ensures { (start < result) × (result ≤ «end»)
-        × (cut (sizes job.c job.d) (count-rows state.old) (words state.new render.new fills.new)
-        ≡ done job (puts job segs.now start (result - start)) (cut (sizes job.c job.d) (count-rows state.old) (words state.old render.old fills.old))) }
+        × (job_rows job (count-rows state.old) (words state.new render.new fills.new)
+        ≡ done job (puts job segs.now start (result - start)) (job_rows job (count-rows state.old) (words state.old render.old fills.old))) }
 {
     let first = segment_at(segs, start);
     let Some(placed) = place(first, job.scene) else {
@@ -170,12 +168,12 @@ fn fill_run(
     )
 }
 
-// The segments from start to end of a list that is judged: solid ones one by one, those with alpha in runs.
+/// The segments from start to end of a list that is judged: solid ones one by one, those with alpha in runs.
 pub fn fill_rows(rows: &mut Rows<'_>, segs: &[u32], start: usize, end: usize, job: Job)
     requires { FillReady job (count-rows rows.old.state.now) segs.now start «end» (all-held rows.old) }
     ensures same { SameRows rows.old rows.new }
     ensures rows { all-held rows.new
-        ≡ lay (done job (puts job segs.now start («end» - start)) (cut (sizes job.c job.d) (count-rows rows.old.state.now) (all-held rows.old))) }
+        ≡ lay (done job (puts job segs.now start («end» - start)) (job_rows job (count-rows rows.old.state.now) (all-held rows.old))) }
 {
     let mut i = start;
     while i < end {

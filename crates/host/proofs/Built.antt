@@ -1,12 +1,6 @@
 -- What a call gives at the screen that a host's words stand for is what it gives at the words.
-use mathlib.Core.Path.{◌≡◌, ap, ◌∙◌}
-use mathlib.Core.Bool.{true}
-use mathlib.Core.List.{List}
-use Rattle.std.specs.Prelude.{Option, Some}
-use Prim.Native.Nat.{ℕ}
+use Rattle.std.proofs.Common.{◌≡◌, ap, ◌∙◌, true, List, Option, Some, ℕ, ℤ, leb}
 use lib.Ieee.{Float}
-use lib.IntN.{ℤ}
-use lib.Dec.{leb}
 use Rattle.rules.specs.Answers.{Answer, answer}
 use Rattle.rules.specs.Setups.{Setup, frame}
 use Rattle.rect.specs.declared.Rect.{Rect}

@@ -1,13 +1,5 @@
 -- A call's own 3, 2 and 1 are those of the judge that it asks first: whatever comes after that judge is past 3.
-use mathlib.Core.Path.{◌≡◌, refl, sym, ap, ◌∙◌}
-use mathlib.Core.Bool.{Bool, true, false, ◌&&◌, ◌||◌, not, cond}
-use mathlib.Core.List.{List, [], ◌∷◌}
-use Rattle.std.specs.Prelude.{Option, None, Some}
-use Prim.Native.Nat.{ℕ, suc, ◌/◌}
-use native.Mathlib.Omega.{arith}
-use lib.ListN.{length}
-use lib.Dec.{ltb, eqb}
-use borrow.Author.Tests.{eqb-true, le-ltb}
+use Rattle.std.proofs.Common.{◌≡◌, refl, sym, ap, ◌∙◌, Bool, true, false, ◌&&◌, ◌||◌, not, cond, List, [], ◌∷◌, Option, None, Some, ℕ, suc, ◌/◌, arith, length, ltb, eqb, eqb-true, le-ltb}
 use Rattle.sizes.specs.Sizes.{piece-size, open-layer-table, opacity-count, paint-attr-table, filter-paint-table}
 use Rattle.sizes.specs.Widths.{bucket-tiles}
 use Rattle.rules.specs.Answers.{Answer, answer, first_of, Done, BadRecord, BadOrder, BadRun, NoRoom}
@@ -61,7 +53,7 @@ use Rattle.depth.specs.Listing.{listing, writing}
 use Rattle.paint.specs.Summaries.{good-summary}
 use Rattle.host.specs.State.{before_4}
 use Rattle.host.specs.Border.{arenas_number, in-sections, file_number}
-use Rattle.host.proofs.Kept.{on-done, gone-on}
+use Rattle.paint.proofs.Kept.{on-done, gone-on}
 
 -- a number that is 0 or past 3 gives way to the border's 4
 late-4 : (n : ℕ) → Late n → before_4 n ≡ BadRecord

@@ -1,11 +1,5 @@
 -- Results in lent words of a fixed length.
-use mathlib.Core.Path.{◌≡◌, ap, ◌∙◌}
-use mathlib.Core.Bool.{Bool}
-use mathlib.Core.List.{List, []}
-use Rattle.std.specs.Prelude.{Some, Result, Ok, Err}
-use Prim.Native.Nat.{ℕ}
-use lib.ListN.{length}
-use lib.Dec.{eqb}
+use Rattle.std.proofs.Common.{◌≡◌, ap, ◌∙◌, Bool, List, [], Some, Result, Ok, Err, ℕ, length, eqb}
 use Rattle.sizes.specs.declared.answers.Refusal.{Refusal}
 use Rattle.rules.specs.Answers.{Answer, answer}
 use Rattle.rules.specs.Spans.{Span}

@@ -1,16 +1,7 @@
 -- Runs that `coarse_visible_runs` lists in words of a call's own, and the same runs written as spans. The words have room for as many runs
 -- as any row has, so that they are listed as in a list of spans. Assumes nothing.
-use mathlib.Core.Path.{◌≡◌, refl, sym, ap, ◌∙◌}
-use mathlib.Core.Bool.{Bool, true, false, ◌&&◌, cond}
-use mathlib.Core.List.{List, [], ◌∷◌, ◌++◌, append_assoc}
-use Rattle.std.specs.Prelude.{Option, None, Some}
-use Prim.Native.Nat.{ℕ, zero, suc, ◌*◌, ◌/◌, ◌≤◌, min}
-use native.Mathlib.Nat.{not-suc-le-zero, le_of_suc-le-suc}
-use native.Mathlib.Omega.{arith}
-use lib.ListN.{length, get_or, take, drop, length-append, take-append-drop}
-use lib.Seq.{length-take-le}
-use lib.Dec.{ltb, eqb}
-use borrow.Author.Tests.{eq-eqb, eqb-true, ltb-true}
+use Rattle.std.proofs.Common.{◌≡◌, refl, sym, ap, ◌∙◌, Bool, true, false, ◌&&◌, cond, List, [], ◌∷◌, ◌++◌, append_assoc, Option, None, Some, ℕ, zero, suc, ◌*◌, ◌/◌, ◌≤◌, min, not-suc-le-zero}
+use Rattle.std.proofs.Common.{le_of_suc-le-suc, arith, length, get_or, take, drop, length-append, take-append-drop, length-take-le, ltb, eqb, eq-eqb, eqb-true, ltb-true}
 use Rattle.sizes.specs.Sizes.{bucket-end, state-size}
 use Rattle.sizes.specs.Widths.{bucket-tiles}
 use Rattle.rules.proofs.All.{both}

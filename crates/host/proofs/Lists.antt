@@ -1,10 +1,6 @@
 -- Lists of a known length, word by word.
-use mathlib.Core.Path.{◌≡◌}
-use mathlib.Core.List.{List, [], ◌∷◌}
-use Prim.Native.Nat.{ℕ, zero, suc}
+use Rattle.std.proofs.Common.{◌≡◌, List, [], ◌∷◌, ℕ, zero, suc, arith, length}
 use native.Mathlib.Nat.{suc_inj}
-use native.Mathlib.Omega.{arith}
-use lib.ListN.{length}
 
 -- P of n words, whatever they are
 abbrev pub of_words : ℕ → (List ℕ → Type 0) → Type 0

@@ -1,11 +1,5 @@
 -- `coarse_why` on a host's words: where they stand for no screen, what the border answers; else what the call gives at the screen.
-use Rattle.std.specs.Prelude.{Option, None, Some}
-use Prim.Native.Nat.{ℕ}
-use mathlib.Core.Path.{◌≡◌, sym, ap, ◌∙◌}
-use mathlib.Core.Bool.{◌&&◌}
-use mathlib.Core.List.{List}
-use lib.ListN.{length}
-use lib.Dec.{leb, eqb}
+use Rattle.std.proofs.Common.{Option, None, Some, ℕ, ◌≡◌, sym, ap, ◌∙◌, ◌&&◌, List, length, leb, eqb}
 use Rattle.rules.specs.Answers.{Answer, answer}
 use Rattle.rules.specs.Setups.{Setup}
 use Rattle.rules.proofs.laws.Answers.{settle-number}

@@ -1,11 +1,5 @@
 -- Tables of the lengths that `coarse_sizes` gives are those that a reset asks for.
-use mathlib.Core.Path.{◌≡◌, refl, ap}
-use mathlib.Core.Bool.{Bool, true, false, ◌&&◌, not}
-use mathlib.Core.List.{List, [], ◌∷◌}
-use Prim.Native.Nat.{ℕ}
-use lib.ListN.{length, get_or}
-use native.Mathlib.Omega.{arith}
-use borrow.Author.Tests.{eq-eqb}
+use Rattle.std.proofs.Common.{◌≡◌, refl, ap, Bool, true, false, ◌&&◌, not, List, [], ◌∷◌, ℕ, length, get_or, arith, eq-eqb}
 use Rattle.sizes.specs.declared.answers.Refusal.{Refusal}
 use Rattle.sizes.specs.declared.answers.Refusal.TheVariants.{BadViewport}
 use Rattle.sizes.specs.Refusals.{number_of}
@@ -21,23 +15,9 @@ use Rattle.screen.specs.declared.Lengths.{Lengths}
 use Rattle.screen.specs.Judging.{judged_reset}
 use Rattle.host.specs.declared.state.SetupWords.{SetupWords}
 use Rattle.host.specs.Asked.{asked_setup}
-use Rattle.host.specs.Sizes.{size-words, size_number, sizes-of, size_call}
-use Rattle.host.proofs.Refused.{Refused, settled, asked-kept}
-
--- so many words of each table, in the order of a reset
-abbrev pub length-words : Lengths → List ℕ
-length-words l =
-    l.render
-    ∷ l.fills
-    ∷ l.depth
-    ∷ l.rows
-    ∷ l.painting
-    ∷ l.layers
-    ∷ l.opacities
-    ∷ l.paint_attrs
-    ∷ l.layer_attrs
-    ∷ l.filter_paints
-    ∷ []
+use Rattle.host.specs.Sizes.{length-words, size-words, size_number, sizes-of, size_call}
+use Rattle.paint.proofs.Kept.{Refused, unsettled}
+use Rattle.host.proofs.Refused.{asked-kept}
 
 pub sized : (f : Frame) (l : Lengths) → size_number f 10 ≡ 0 → length-words l ≡ size-words f → judged_reset f l ≡ 0
 unfolding judged_reset
@@ -59,7 +39,7 @@ pub size-refused : (v : Rect) (w : SetupWords) (old : List ℕ) → Refused (siz
 unfolding size_call
 size-refused v w old =
     asked-kept (asked_setup w) _ old (λ (q : Setup). sizes-of (frame q (box_of v)) old)
-    (λ q. let f = frame q (box_of v) in settled (size_number f (length old)) old (size-words f))
+    (λ q. let f = frame q (box_of v) in unsettled (size_number f (length old)) old (size-words f))
 
 -- a frame whose viewport is not good
 pub no-view : (f : Frame) (ss : List ℕ) (r : Refusal) → (good_viewport f.viewport ≡ false) × (r ≡ BadViewport) → answer (number_of r) ss ≡ sizes-of f ss

@@ -1,12 +1,5 @@
 -- The story of a tile is refused with no number below 4, so that before the border's own 4 come just the recording's 3, 2 and 1.
-use lib.ListN.{length}
-use Prim.Native.Nat.{ℕ, zero, suc}
-use native.Mathlib.Omega.{arith}
-use mathlib.Core.Path.{◌≡◌, refl, ◌∙◌}
-use mathlib.Core.Bool.{Bool, true, false, cond, ◌||◌, ◌&&◌, not}
-use mathlib.Core.List.{List, [], ◌∷◌}
-use Rattle.std.specs.Prelude.{Option, None, Some}
-use lib.Dec.{eqb, leb, ltb}
+use Rattle.std.proofs.Common.{length, ℕ, zero, suc, arith, ◌≡◌, refl, ◌∙◌, Bool, true, false, cond, ◌||◌, ◌&&◌, not, List, [], ◌∷◌, Option, None, Some, eqb, leb, ltb}
 use Rattle.sizes.specs.Sizes.{most-layers, most-attrs, most-filters, last-id}
 use Rattle.rules.specs.Lists.{slice, is-empty}
 use Rattle.rules.specs.Answers.{Answer, settle, Done, NoLayer, first_of, Deep, Ids, FullAttrs}

@@ -1,13 +1,6 @@
 -- Where the host's words stand for no screen, each call gives what the judge that it asks first says at the border.
-use mathlib.Core.Path.{◌≡◌}
-use mathlib.Core.Bool.{true}
-use mathlib.Core.List.{List}
-use Rattle.std.specs.Prelude.{None}
-use Prim.Native.Nat.{ℕ}
-use lib.ListN.{length}
-use lib.Dec.{leb, eqb}
+use Rattle.std.proofs.Common.{◌≡◌, true, List, None, ℕ, length, leb, eqb, ℤ}
 use lib.Ieee.{Float}
-use lib.IntN.{ℤ}
 use Rattle.rules.specs.Answers.{answer}
 use Rattle.rules.specs.Spans.{Span}
 use Rattle.rules.specs.Setups.{Setup, frame}

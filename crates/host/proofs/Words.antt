@@ -1,13 +1,5 @@
 -- A screen as words and back.
-use mathlib.Core.Path.{◌≡◌, refl}
-use mathlib.Core.Bool.{Bool, true, false, ◌&&◌, cond}
-use mathlib.Core.List.{List}
-use Rattle.std.specs.Prelude.{Option, None, Some}
-use Prim.Native.Nat.{ℕ, zero, suc, ◌≤◌, ◌<◌}
-use native.Mathlib.Omega.{arith}
-use lib.ListN.{length, get_or}
-use lib.Dec.{leb, ltb, eqb}
-use borrow.Author.Tests.{eqb-true, leb-true, lt-ltb, le-ltb}
+use Rattle.std.proofs.Common.{◌≡◌, refl, Bool, true, false, ◌&&◌, cond, List, Option, None, Some, ℕ, zero, suc, ◌≤◌, arith, length, get_or, leb, eqb, eqb-true, leb-true}
 use Rattle.sizes.specs.Sizes.{state-size}
 use Rattle.sizes.specs.declared.width.Width.{Width}
 use Rattle.sizes.specs.declared.width.Width.TheVariants.{W64, W128, W256}
@@ -80,19 +72,6 @@ read_back s = by s.painting s.width refl refl
     by false W64 e f = rw (e, f)
     by false W128 e f = rw (e, f)
     by false W256 e f = rw (e, f)
-
--- what is past 3 gives way to the border's 4
-pub past-3 : (n : ℕ) → 4 ≤ n → 4 ≡ before_4 n
-unfolding before_4
-past-3 n h = rw (le-ltb n 4 h) (by (ltb 0 n))
-  where
-    by : (b : Bool) → 4 ≡ cond (b && false) n 4
-    by true = refl
-    by false = refl
-
-pub up-to-3 : (n : ℕ) → (n ≡ 0 → ⊥) → n < 4 → n ≡ before_4 n
-unfolding before_4
-up-to-3 n h g = rw (lt-ltb 0 n (omega (arith, h)), lt-ltb n 4 g)
 
 -- A refusal at the border: g has the call's own 1, 2 and 3.
 pub refused-on : {T : Type 0} (h : Option Screen) (st : List ℕ) (t : T) (f : Screen → Answer T) (g : Screen → ℕ) (r : ℕ) → None ≡ h → r ≡ refused_at st g

@@ -9,6 +9,7 @@ use Rattle.rules.specs.Setups.{frame}
 use Rattle.rules.specs.Walk.{good-room}
 use Rattle.rect.specs.declared.Rect.{Rect}
 use Rattle.rect.specs.Rects.{box_of}
+use Rattle.screen.specs.declared.Lengths.{Lengths}
 use Rattle.host.specs.declared.state.SetupWords.{SetupWords}
 use Rattle.host.specs.Asked.{asked_setup, in-setup}
 
@@ -25,6 +26,21 @@ size-words f =
     ∷ rows_of f.viewport * row-size
     ∷ rows_of f.viewport * 2
     ∷ fixed
+
+-- as many words of each table as are lent, in that order
+abbrev pub length-words : Lengths → List ℕ
+length-words l =
+    l.render
+    ∷ l.fills
+    ∷ l.depth
+    ∷ l.rows
+    ∷ l.painting
+    ∷ l.layers
+    ∷ l.opacities
+    ∷ l.paint_attrs
+    ∷ l.layer_attrs
+    ∷ l.filter_paints
+    ∷ []
 
 abbrev pub size_number : Frame → ℕ → ℕ
 size_number f n =

@@ -1,5 +1,5 @@
-// What a call answers where the host's own words are refused by 4: a state that is no screen's, the flag of a clip or of a picture.
-// Each asks the judge that the call itself asks first, so that 3, 2 and 1 come before that 4. Parts of the calls.
+//! What a call answers where the host's own words are refused by 4: a state that is no screen's, the flag of a clip or of a picture.
+//! Each asks the judge that the call itself asks first, so that 3, 2 and 1 come before that 4. Parts of the calls.
 ghost use Rattle.std.specs.Prelude.{◌≡◌, true, length};
 ghost use Rattle.sizes.specs.Refusals.{answer_number};
 ghost use Rattle.rules.specs.Boxes.{good_viewport};
@@ -45,7 +45,7 @@ fn judge_arenas(viewport: Rect, setup: Setup, lent: &Lent<'_>) -> Result<(), Ref
     judge_lent(fresh(seen, setup.c, setup.d, setup.width), lent)
 }
 
-// The number of a reset: 2 or 1 as it would answer, else 4.
+/// The number of a reset: 2 or 1 as it would answer, else 4.
 #[tactic(auto, unfolding(crate::specs::State::refused_at))]
 pub fn refuse_reset(state: &StateWords, viewport: Rect, setup: Setup, lent: &Lent<'_>) -> u32
     ensures { result ≡ refused_at (words_in state.now) (λ (s : Numbers). arenas_number (frame setup viewport) (arenas-in lent.now)) }
@@ -61,7 +61,7 @@ fn judge_file(file: &[u32], setup: Setup, lent: &Lent<'_>) -> Result<(), Refusal
     judge_arenas(box_at(file, 1), setup, lent)
 }
 
-// The number of a recording, or of a question about one: 3, 2 or 1 as it would answer, else 4.
+/// The number of a recording, or of a question about one: 3, 2 or 1 as it would answer, else 4.
 #[tactic(auto, unfolding(crate::specs::State::refused_at))]
 pub fn refuse_recording(state: &StateWords, file: &[u32], setup: Setup, lent: &Lent<'_>) -> u32
     ensures { result ≡ refused_at (words_in state.now) (λ (s : Numbers). file_number file.now (setup-of setup) (arenas-in lent.now)) }
@@ -69,7 +69,7 @@ pub fn refuse_recording(state: &StateWords, file: &[u32], setup: Setup, lent: &L
     before_4(judge_file(file, setup, lent))
 }
 
-// The number of a recording where the words' setup is refused: 3 for the file's form comes first, and there is no viewport to judge.
+/// The number of a recording where the words' setup is refused: 3 for the file's form comes first, and there is no viewport to judge.
 pub fn refuse_setup(file: &[u32], refusal: Refusal) -> u32
     ensures { result ≡ unasked_number file.now refusal }
 {
@@ -79,7 +79,7 @@ pub fn refuse_setup(file: &[u32], refusal: Refusal) -> u32
     }
 }
 
-// The number of a building step: 2 or 1 as it would answer, else 4.
+/// The number of a building step: 2 or 1 as it would answer, else 4.
 #[tactic(auto, unfolding(crate::specs::State::refused_at))]
 pub fn refuse_build(state: &StateWords, rows: &Rows<'_>) -> u32
     ensures { result ≡ refused_at (words_in state.now) (λ (s : Numbers). judged s (length rows.now.state.now) (length rows.now.render.now) (length rows.now.fills.now)) }
@@ -92,7 +92,7 @@ pub fn refuse_build(state: &StateWords, rows: &Rows<'_>) -> u32
     ))
 }
 
-// The number of a beginning of painting: 2 or 1 as it would answer, else 4.
+/// The number of a beginning of painting: 2 or 1 as it would answer, else 4.
 #[tactic(auto, unfolding(crate::specs::State::refused_at))]
 pub fn refuse_begin(state: &StateWords, depth: usize, painting: usize) -> u32
     ensures { result ≡ refused_at (words_in state.now) (λ (s : Numbers). begin_number s depth painting) }
@@ -100,7 +100,7 @@ pub fn refuse_begin(state: &StateWords, depth: usize, painting: usize) -> u32
     before_4(judge_begin(screen_at(state), depth, painting))
 }
 
-// The number of a painting step, or of a whole row's steps: 2 or 1 as it would answer, else 4.
+/// The number of a painting step, or of a whole row's steps: 2 or 1 as it would answer, else 4.
 #[tactic(auto, unfolding(crate::specs::State::refused_at))]
 pub fn refuse_step(
     state: &StateWords,
@@ -114,7 +114,7 @@ pub fn refuse_step(
     before_4(judge_step(screen_at(state), row, stored, depth, painting))
 }
 
-// The number of a call for the runs of a row: 2 or 1 as it would answer, else 4.
+/// The number of a call for the runs of a row: 2 or 1 as it would answer, else 4.
 #[tactic(auto, unfolding(crate::specs::State::refused_at))]
 pub fn refuse_runs(state: &StateWords, row: usize, depth: usize) -> u32
     ensures { result ≡ refused_at (words_in state.now) (λ (s : Numbers). runs_number s row depth) }
@@ -122,7 +122,7 @@ pub fn refuse_runs(state: &StateWords, row: usize, depth: usize) -> u32
     before_4(judge_runs(screen_at(state), row, depth))
 }
 
-// The number of `can_skip`: 2 as it would answer, or 1 for C or D, else 4.
+/// The number of `can_skip`: 2 as it would answer, or 1 for C or D, else 4.
 #[tactic(auto, unfolding(crate::specs::State::refused_at))]
 pub fn refuse_skip(state: &StateWords, row: usize, rows: usize) -> u32
     ensures { result ≡ refused_at (words_in state.now) (λ (s : Numbers). skip_number s row rows) }

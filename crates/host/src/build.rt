@@ -1,4 +1,4 @@
-// The calls of reset, of the building steps and of a recording. `state` has the screen's 17 words; tables are lent as `Lent` names them.
+//! The calls of reset, of the building steps and of a recording. `state` has the screen's 17 words; tables are lent as `Lent` names them.
 ghost use Rattle.std.specs.Prelude.{◌≡◌};
 ghost use Rattle.rules.specs.Answers.{answer};
 ghost use Rattle.screen.specs.Tables.{Tables};
@@ -25,7 +25,7 @@ use sizes::answers::Refusal;
 use walk::bucket_recording;
 use walk::read::props_at;
 
-// What is drawn: segments start to end of a list, with the paint at a place of a list. Laid out as in C.
+/// What is drawn: segments start to end of a list, with the paint at a place of a list. Laid out as in C.
 #[repr(C)]
 #[derive(Clone, Copy)]
 pub struct DrawWords {
@@ -74,7 +74,7 @@ fn put_reset(state: &mut StateWords, screen: Screen, done: Result<Screen, Refusa
     }
 }
 
-// Rule 1: a fresh screen of a viewport, in pixels, in a setup. Words that ask for no setup are refused at once, by 2 or 4.
+/// Rule 1: a fresh screen of a viewport, in pixels, in a setup. Words that ask for no setup are refused at once, by 2 or 4.
 #[unsafe(no_mangle)]
 #[tactic(auto, using(crate::proofs::HostAsked::reset_unasked))]
 pub extern "C" fn coarse_reset(
@@ -111,7 +111,7 @@ pub extern "C" fn coarse_reset(
     put_reset(state, screen, done)
 }
 
-// Rule 2: the words of a recording file, in a setup. Words that ask for no setup are refused by 2 or 4, after 3 for the file's form.
+/// Rule 2: the words of a recording file, in a setup. Words that ask for no setup are refused by 2 or 4, after 3 for the file's form.
 #[unsafe(no_mangle)]
 #[tactic(auto, using(crate::proofs::HostAsked::recording_unasked))]
 pub extern "C" fn coarse_bucket_recording(
@@ -147,7 +147,7 @@ pub extern "C" fn coarse_bucket_recording(
     leave(state, screen, done)
 }
 
-// Rules 3 to 7: segments start to end of a list, five words each, painted with the paint at a place of a paint list, four words each. Refused as `fill`.
+/// Rules 3 to 7: segments start to end of a list, five words each, painted with the paint at a place of a paint list, four words each. Refused as `fill`.
 #[unsafe(no_mangle)]
 #[tactic(auto, using(crate::proofs::Unheld::fill_unheld))]
 pub extern "C" fn coarse_fill(
@@ -182,7 +182,7 @@ pub extern "C" fn coarse_fill(
     leave(state, screen, done)
 }
 
-// What a push is given: the opacity is the bits of an f32; the clip is there if the flag is 1. Laid out as in C.
+/// What a push is given: the opacity is the bits of an f32; the clip is there if the flag is 1. Laid out as in C.
 #[repr(C)]
 #[derive(Clone, Copy)]
 pub struct PropsWords {
@@ -220,7 +220,7 @@ impl PropsWords {
     }
 }
 
-// What a filter fill is given; the picture's handle is there if has_pixmap is 1. Laid out as in C.
+/// What a filter fill is given; the picture's handle is there if has_pixmap is 1. Laid out as in C.
 #[repr(C)]
 #[derive(Clone, Copy)]
 pub struct FilterWords {
@@ -262,8 +262,8 @@ fn props_of(
     }
 }
 
-// Rule 8. The opacity is the bits of an f32; flag 1: the clip has a box, a range of segments and a thread, 0: there is none, any other is 4. Refused as
-// `push_layer`.
+/// Rule 8. The opacity is the bits of an f32; flag 1: the clip has a box, a range of segments and a thread, 0: there is none, any other is 4. Refused as
+/// `push_layer`.
 #[unsafe(no_mangle)]
 #[tactic(auto, using(crate::proofs::Unheld::push_unheld))]
 pub extern "C" fn coarse_push_layer(
@@ -293,7 +293,7 @@ pub extern "C" fn coarse_push_layer(
     leave(state, screen, done)
 }
 
-// Rules 9 and 10. The segments are the list that the layer's clip names a range of, five words each. Refused as `pop_layer`.
+/// Rules 9 and 10. The segments are the list that the layer's clip names a range of, five words each. Refused as `pop_layer`.
 #[unsafe(no_mangle)]
 #[tactic(auto, using(crate::proofs::Unheld::pop_unheld))]
 pub extern "C" fn coarse_pop_layer(
@@ -335,8 +335,8 @@ fn pixmap_of(flag: u32, handle: u32) -> Option<u32>
     (flag == 1).then_some(handle)
 }
 
-// Rule 11: a picture drawn into a box, from a source origin, in pixels; paint_count is the length of the paint list, panel the layer's. has_pixmap 1: the
-// picture is the one whose handle is pixmap, 0: there is none, any other is 4. Refused as `filter_fill`.
+/// Rule 11: a picture drawn into a box, from a source origin, in pixels; paint_count is the length of the paint list, panel the layer's. has_pixmap 1: the
+/// picture is the one whose handle is pixmap, 0: there is none, any other is 4. Refused as `filter_fill`.
 #[unsafe(no_mangle)]
 #[tactic(auto, using(crate::proofs::Unheld::filter_unheld))]
 pub extern "C" fn coarse_filter_fill(

@@ -1,4 +1,4 @@
-// How many words a host lends.
+//! How many words a host lends.
 ghost use Rattle.std.specs.Prelude.{◌≡◌, ◌∷◌, true, length};
 ghost use Rattle.sizes.specs.Refusals.{answer_number};
 ghost use Rattle.rules.specs.Answers.{answer};
@@ -66,8 +66,8 @@ fn put_lengths(viewport: Rect, setup: Setup, sizes: &mut [usize]) -> Result<(), 
     put_lengths_of(fresh(seen, setup.c, setup.d, setup.width), sizes)
 }
 
-// How many words are lent for a viewport in a setup. sizes: render, fills, depth, rows, painting, layers, opacities, paint_attrs, layer_attrs, filter_paints.
-// Words that ask for no setup are refused at once, by 2 or 4; then 2 for the viewport, 1 for C or D, 4 where sizes has not ten places.
+/// How many words are lent for a viewport in a setup. sizes: render, fills, depth, rows, painting, layers, opacities, paint_attrs, layer_attrs, filter_paints.
+/// Words that ask for no setup are refused at once, by 2 or 4; then 2 for the viewport, 1 for C or D, 4 where sizes has not ten places.
 #[unsafe(no_mangle)]
 #[tactic(auto, using(crate::proofs::HostAsked::sizes_unasked))]
 pub extern "C" fn coarse_sizes(viewport: Corners, setup: SetupWords, sizes: &mut [usize]) -> u32

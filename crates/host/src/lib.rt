@@ -1,5 +1,5 @@
-// The calls for a host in C or Rust: words, and slices of words or of spans. A slice crosses as a pointer and a length. Each call gives the rules' number, 0
-// where it is done. All `coarse_` functions are public calls: they have no `requires`. The others are parts of them.
+//! The calls for a host in C or Rust: words, and slices of words or of spans. A slice crosses as a pointer and a length. Each call gives the rules' number, 0
+//! where it is done. All `coarse_` functions are public calls: they have no `requires`. The others are parts of them.
 #![tactic(auto)]
 
 mod border;

@@ -1,4 +1,4 @@
-// The calls of painting, of the runs of a row, of `can_skip` and of the split. Each refuses as the call of its name in `paint` or `depth`.
+//! The calls of painting, of the runs of a row, of `can_skip` and of the split. Each refuses as the call of its name in `paint` or `depth`.
 ghost use Rattle.std.specs.Prelude.{◌≡◌, ◌≤◌};
 ghost use Rattle.sizes.specs.Widths.{bucket-tiles};
 ghost use Rattle.rules.specs.Answers.{answer};
@@ -31,7 +31,7 @@ use sizes::answers::Refusal;
 use sizes::width::Width;
 use span::{BucketRange, TileSpan};
 
-// What painting only reads of a screen's tables. Laid out as in C.
+/// What painting only reads of a screen's tables. Laid out as in C.
 #[repr(C)]
 #[derive(Clone, Copy)]
 pub struct StoredWords<'a> {
@@ -42,7 +42,7 @@ pub struct StoredWords<'a> {
     pub layer_attrs: &'a [u32],
 }
 
-// What painting writes: the depth words, and where each row's painting stands. A screen may be painted in several places, each with its own. Laid out as in C.
+/// What painting writes: the depth words, and where each row's painting stands. A screen may be painted in several places, each with its own. Laid out as in C.
 #[repr(C)]
 #[derive(Drop)]
 pub struct CanvasWords<'a> {
@@ -65,7 +65,7 @@ impl<'a> StoredWords<'a> {
     }
 }
 
-// Clears the depth words and sets every row to its first step, at nesting 0.
+/// Clears the depth words and sets every row to its first step, at nesting 0.
 #[unsafe(no_mangle)]
 #[tactic(auto, using(crate::proofs::Unheld::begin_unheld))]
 pub extern "C" fn coarse_begin_painting(state: &mut StateWords, canvas: &mut CanvasWords<'_>) -> u32
@@ -149,7 +149,7 @@ fn judged_step(
     put_step(done, res)
 }
 
-// The next step of a row; its pieces in list. res: 1 if none was left, else 0; how many pieces are listed.
+/// The next step of a row; its pieces in list. res: 1 if none was left, else 0; how many pieces are listed.
 #[unsafe(no_mangle)]
 pub extern "C" fn coarse_paint_step(
     state: &StateWords,
@@ -215,7 +215,7 @@ fn judged_row(
     put_step(done, res)
 }
 
-// A row's steps from where it stands to its end, or up to the first that is refused. res: 1 if the row has come to its end, else 0; how many pieces are listed.
+/// A row's steps from where it stands to its end, or up to the first that is refused. res: 1 if the row has come to its end, else 0; how many pieces are listed.
 #[unsafe(no_mangle)]
 pub extern "C" fn coarse_paint_row(
     state: &StateWords,
@@ -252,7 +252,7 @@ pub extern "C" fn coarse_paint_row(
     put_step(done, res)
 }
 
-// The runs of the tiles first to end whose buckets hold 0, two words each in list; count: how many.
+/// The runs of the tiles first to end whose buckets hold 0, two words each in list; count: how many.
 #[unsafe(no_mangle)]
 #[tactic(auto, using(crate::proofs::Unheld::unset_unheld))]
 pub extern "C" fn coarse_unset_runs(
@@ -273,7 +273,7 @@ pub extern "C" fn coarse_unset_runs(
     put_runs(runs, count)
 }
 
-// The runs of the tiles first to end whose buckets hold at most the id, two words each in list; count: how many.
+/// The runs of the tiles first to end whose buckets hold at most the id, two words each in list; count: how many.
 #[unsafe(no_mangle)]
 #[tactic(auto, using(crate::proofs::Unheld::visible_unheld))]
 pub extern "C" fn coarse_visible_runs(
@@ -295,7 +295,7 @@ pub extern "C" fn coarse_visible_runs(
     put_runs(runs, count)
 }
 
-// Lists the unset runs of the buckets first to end, as buckets, and stores the id there; count: how many. Done, it ends painting.
+/// Lists the unset runs of the buckets first to end, as buckets, and stores the id there; count: how many. Done, it ends painting.
 #[unsafe(no_mangle)]
 #[tactic(auto, using(crate::proofs::Unheld::write_unheld))]
 pub extern "C" fn coarse_unset_runs_and_write(
@@ -324,7 +324,7 @@ pub extern "C" fn coarse_unset_runs_and_write(
     put_runs(runs, count)
 }
 
-// Whether a draw over the tiles first to end need not look at the row's depth words; yes: 1 or 0.
+/// Whether a draw over the tiles first to end need not look at the row's depth words; yes: 1 or 0.
 #[unsafe(no_mangle)]
 #[tactic(auto, using(crate::proofs::Unheld::skip_unheld))]
 pub extern "C" fn coarse_can_skip(
@@ -345,8 +345,8 @@ pub extern "C" fn coarse_can_skip(
     put_skip(skip, yes)
 }
 
-// Rule 7: the parts of an opaque span, at so many pixels a bucket. parts: nine words, three a part, left to right (1 for tiles or 2 for buckets, first, end),
-// then zeros. 2 for no width of a bucket, 4 for another length of parts, 12 for no range.
+/// Rule 7: the parts of an opaque span, at so many pixels a bucket. parts: nine words, three a part, left to right (1 for tiles or 2 for buckets, first, end),
+/// then zeros. 2 for no width of a bucket, 4 for another length of parts, 12 for no range.
 #[unsafe(no_mangle)]
 #[tactic(auto, unfolding(crate::specs::Painting::split_call))]
 pub extern "C" fn coarse_split_opaque_span(

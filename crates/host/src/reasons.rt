@@ -1,4 +1,4 @@
-// The call that says why a tile of a recording shows what it shows.
+//! The call that says why a tile of a recording shows what it shows.
 ghost use Rattle.std.specs.Prelude.{◌≡◌, ◌&&◌, [], ◌∷◌, length, leb, eqb};
 ghost use Rattle.sizes.specs.Refusals.{answer_number};
 ghost use Rattle.rules.specs.Answers.{answer};
@@ -15,7 +15,7 @@ use screen::Lent;
 use sizes::answers::Refusal;
 use tile::{Asked, Reason, why};
 
-// Which tile of the recording's screen is asked about, and which attribute: a draw's (layer 0) or a layer's (1). Laid out as in C.
+/// Which tile of the recording's screen is asked about, and which attribute: a draw's (layer 0) or a layer's (1). Laid out as in C.
 #[repr(C)]
 #[derive(Clone, Copy)]
 pub struct QuestionWords {
@@ -25,7 +25,7 @@ pub struct QuestionWords {
     pub attribute: u32,
 }
 
-// A reason's case, its number, and two panels. Laid out as in C.
+/// A reason's case, its number, and two panels. Laid out as in C.
 #[repr(C)]
 #[derive(Clone, Copy)]
 pub struct ReasonWords {
@@ -78,9 +78,9 @@ fn is_good_question(layer: u32, n: usize) -> bool
     layer <= 1 && n == REASON
 }
 
-// A recording is bucketed, and answers for a paint's attribute (layer 0) or a layer's (1) at one tile. res: the reason's case (0 unknown attribute, 1 no
-// segment, 2 cut away, 3 row untouched, 4 hidden, 5 shown), the attribute that hides or the place in the tile's list, the asked attribute's panel, and that of
-// the attribute that hides. Refused as the recording call, by 4 also where layer is above 1 or res has not four words; then by 12 off the screen.
+/// A recording is bucketed, and answers for a paint's attribute (layer 0) or a layer's (1) at one tile. res: the reason's case (0 unknown attribute, 1 no
+/// segment, 2 cut away, 3 row untouched, 4 hidden, 5 shown), the attribute that hides or the place in the tile's list, the asked attribute's panel, and that of
+/// the attribute that hides. Refused as the recording call, by 4 also where layer is above 1 or res has not four words; then by 12 off the screen.
 #[unsafe(no_mangle)]
 #[tactic(auto, using(crate::proofs::HostAsked::why_unasked))]
 pub extern "C" fn coarse_why(

@@ -1,4 +1,4 @@
-// What a host's call leaves in its result words: a refused call leaves them as they were.
+//! What a host's call leaves in its result words: a refused call leaves them as they were.
 ghost use Rattle.std.specs.Prelude.{◌≡◌, [], length};
 ghost use Rattle.rules.specs.Answers.{answer};
 ghost use Rattle.depth.specs.Answers.{parts_of, skip_of, split_of};
@@ -11,7 +11,7 @@ use depth::Split;
 use paint::Stepped;
 use sizes::answers::Refusal;
 
-// What a painting call gives: 1 if no step of the row is left, else 0; how many pieces are listed. Laid out as in C.
+/// What a painting call gives: 1 if no step of the row is left, else 0; how many pieces are listed. Laid out as in C.
 #[repr(C)]
 #[derive(Clone, Copy)]
 pub struct PaintedWords {
@@ -19,7 +19,7 @@ pub struct PaintedWords {
     pub pieces: usize,
 }
 
-// What a painting call gives, where it is not refused. It gives the number of the call, as all here do.
+/// What a painting call gives, where it is not refused. It gives the number of the call, as all here do.
 pub fn put_step(done: Result<Stepped, Refusal>, res: &mut PaintedWords) -> u32
     ensures { answer result (painted_in res.new) ≡ step-result (painted_in res.old) (painted_of done) }
 {
@@ -35,7 +35,7 @@ pub fn put_step(done: Result<Stepped, Refusal>, res: &mut PaintedWords) -> u32
     }
 }
 
-// The number of runs, where they are not refused.
+/// The number of runs, where they are not refused.
 pub fn put_runs(runs: Result<usize, Refusal>, count: &mut usize) -> u32
     ensures { answer result (one count.new) ≡ count_left (one count.old) (out runs []) }
 {
@@ -48,7 +48,7 @@ pub fn put_runs(runs: Result<usize, Refusal>, count: &mut usize) -> u32
     }
 }
 
-// 1 for yes and 0 for no, where it is not refused.
+/// 1 for yes and 0 for no, where it is not refused.
 pub fn put_skip(skip: Result<bool, Refusal>, yes: &mut u32) -> u32
     ensures { answer result (one yes.new) ≡ skip-left (one yes.old) (skip_of skip) }
 {
@@ -81,7 +81,7 @@ fn words_of(split: Split) -> [u32; 9]
     }
 }
 
-// The nine words of the parts, where the span is not refused.
+/// The nine words of the parts, where the span is not refused.
 pub fn put_split(parts: &mut [u32], split: Result<Split, Refusal>) -> u32
     requires { length parts.old ≡ 9 }
     ensures { answer result parts.new ≡ split-left parts.old (split_of split) }

@@ -1,5 +1,5 @@
-// The visible runs of a row as spans in a lent slice of them: found as `coarse_visible_runs` finds them, over tile numbers in words of the
-// call's own, and written as spans.
+//! The visible runs of a row as spans in a lent slice of them: found as `coarse_visible_runs` finds them, over tile numbers in words of the
+//! call's own, and written as spans.
 ghost use Rattle.std.specs.Prelude.{◌≡◌, ◌*◌, ◌/◌, min};
 ghost use Rattle.sizes.specs.Sizes.{bucket-end};
 ghost use Rattle.rules.specs.Answers.{answer};
@@ -62,8 +62,8 @@ fn found_spans(
     }
 }
 
-// The runs of the tiles first to end whose buckets hold at most the id, as spans at the list's start; count: how many. Refused as `coarse_visible_runs`, by 14
-// where the list is shorter; the spans after the runs stay. At id 0 they are the unset runs.
+/// The runs of the tiles first to end whose buckets hold at most the id, as spans at the list's start; count: how many. Refused as `coarse_visible_runs`, by 14
+/// where the list is shorter; the spans after the runs stay. At id 0 they are the unset runs.
 #[unsafe(no_mangle)]
 pub extern "C" fn coarse_visible_spans(
     state: &StateWords,

@@ -1,4 +1,4 @@
-// A screen's numbers as a host holds them, and what a host asks a screen to be. Laid out as in C.
+//! A screen's numbers as a host holds them, and what a host asks a screen to be. Laid out as in C.
 ghost use Rattle.std.specs.Prelude.{◌≡◌};
 ghost use Rattle.sizes.specs.Refusals.{answer_number};
 ghost use Rattle.rect.specs.Rects.{mode_of};
@@ -11,7 +11,7 @@ use screen::{Screen, Setup};
 use sizes::answers::{Refusal, answer_number};
 use sizes::width::Width;
 
-// A box, in pixels.
+/// A box, in pixels.
 #[repr(C)]
 #[derive(Clone, Copy)]
 pub struct Corners {
@@ -21,8 +21,8 @@ pub struct Corners {
     pub y1: u32,
 }
 
-// A screen's own numbers: the viewport, the clip box, C, D, the next id, the counts of paint attributes, layer attributes, filter paints and open layers, 1 if
-// painting has begun, else 0, and a bucket's width: 0 for 128 pixels, 1 for 64, 2 for 256. So numbers that are all 0 are a screen's.
+/// A screen's own numbers: the viewport, the clip box, C, D, the next id, the counts of paint attributes, layer attributes, filter paints and open layers, 1 if
+/// painting has begun, else 0, and a bucket's width: 0 for 128 pixels, 1 for 64, 2 for 256. So numbers that are all 0 are a screen's.
 #[repr(C)]
 #[derive(Clone, Copy)]
 pub struct StateWords {
@@ -39,8 +39,8 @@ pub struct StateWords {
     pub width: u32,
 }
 
-// What a screen is asked to be, as a host gives it: room for C render commands and D depth fills in each row; the mode is 0 exact, 1 snapping; the width of a
-// bucket is 64, 128 or 256 pixels. Laid out as in C.
+/// What a screen is asked to be, as a host gives it: room for C render commands and D depth fills in each row; the mode is 0 exact, 1 snapping; the width of a
+/// bucket is 64, 128 or 256 pixels. Laid out as in C.
 #[repr(C)]
 #[derive(Clone, Copy)]
 pub struct SetupWords {
@@ -60,7 +60,7 @@ fn mode_at(word: u32) -> Mode
     }
 }
 
-// What such words ask for. BadViewport, 2, where the width is none; BadRecord, 4, where the mode is none. C and D are judged by the call.
+/// What such words ask for. BadViewport, 2, where the width is none; BadRecord, 4, where the mode is none. C and D are judged by the call.
 #[tactic(auto, unfolding(crate::specs::Asked::asked_setup))]
 pub fn read_setup(words: SetupWords) -> Result<Setup, Refusal>
     ensures { asked-for result ≡ asked_setup words }
@@ -77,7 +77,7 @@ pub fn read_setup(words: SetupWords) -> Result<Setup, Refusal>
     })
 }
 
-// The width of a screen's word that is 0, 1 or 2.
+/// The width of a screen's word that is 0, 1 or 2.
 pub fn width_at(word: u32) -> Width
     ensures { result ≡ width-at word }
 {
@@ -99,7 +99,7 @@ fn width_word(width: Width) -> u32
     }
 }
 
-// The box of four words.
+/// The box of four words.
 pub fn box_of(c: Corners) -> Rect
     ensures { result ≡ rect c.x0 c.y0 c.x1 c.y1 }
 {
@@ -111,7 +111,7 @@ pub fn box_of(c: Corners) -> Rect
     }
 }
 
-// The screen of such words, whatever the last two: painting has begun only if its word is 1, a width that is none is 128 pixels.
+/// The screen of such words, whatever the last two: painting has begun only if its word is 1, a width that is none is 128 pixels.
 pub fn screen_at(state: &StateWords) -> Screen
     ensures { result ≡ screen-at (words_in state.now) }
 {
@@ -130,7 +130,7 @@ pub fn screen_at(state: &StateWords) -> Screen
     }
 }
 
-// The screen of a state, if the last two words are good and what else the host gives is.
+/// The screen of a state, if the last two words are good and what else the host gives is.
 #[tactic(auto, unfolding(crate::specs::State::screen_of))]
 pub fn screen_of(state: &StateWords, good: bool) -> Option<Screen>
     ensures { result ≡ screen_of good (words_in state.now) }
@@ -141,7 +141,7 @@ pub fn screen_of(state: &StateWords, good: bool) -> Option<Screen>
     Some(screen_at(state))
 }
 
-// The number of a call whose words are refused by 4 at the border, by what the call's own judge says: 1, 2 and 3 come first.
+/// The number of a call whose words are refused by 4 at the border, by what the call's own judge says: 1, 2 and 3 come first.
 #[tactic(auto, unfolding(crate::specs::State::before_4))]
 pub fn before_4(judged: Result<(), Refusal>) -> u32
     ensures { result ≡ before_4 (answer_number judged) }
@@ -154,7 +154,7 @@ pub fn before_4(judged: Result<(), Refusal>) -> u32
     }
 }
 
-// The words of a screen.
+/// The words of a screen.
 pub fn put_screen(state: &mut StateWords, screen: Screen)
     ensures { words_in state.new ≡ screen-words screen }
 {
@@ -183,7 +183,7 @@ pub fn put_screen(state: &mut StateWords, screen: Screen)
     };
 }
 
-// What a call gave: its screen's words are stored, and its number given.
+/// What a call gave: its screen's words are stored, and its number given.
 pub fn leave(state: &mut StateWords, screen: Screen, done: Result<(), Refusal>) -> u32
     ensures { (result ≡ answer_number done) × (words_in state.new ≡ screen-words screen) }
 {

@@ -1,5 +1,5 @@
-// One look at what a painting call is lent, without a branch where there need be none: yes only where the exact judge says 0. Where it says no, that judge is
-// asked, and says which number. Parts of the calls.
+//! One look at what a painting call is lent, without a branch where there need be none: yes only where the exact judge says 0. Where it says no, that judge is
+//! asked, and says which number. Parts of the calls.
 ghost use Rattle.std.specs.Prelude.{◌≡◌, ◌≤◌, ◌<◌, ◌*◌, ◌-◌, ◌&&◌, Some, true, leb, ltb, eqb, length};
 ghost use Rattle.rules.specs.Boxes.{good_viewport, box};
 ghost use Rattle.rect.specs.Rects.{same-box};
@@ -84,7 +84,7 @@ fn is_long(
             & (stored.layer_attrs.len() == LAYER_TABLE))
 }
 
-// The buckets of a row, at most 64, only where a painting step would not be refused for its screen, its row or what is lent; else 65.
+/// The buckets of a row, at most 64, only where a painting step would not be refused for its screen, its row or what is lent; else 65.
 #[inline(always)]
 pub fn sure_buckets(
     state: &StateWords,

@@ -1,4 +1,4 @@
-// The ten tables that a host lends, in one struct. Laid out as in C.
+//! The ten tables that a host lends, in one struct. Laid out as in C.
 
 #[repr(C)]
 #[derive(Drop)]

@@ -1,12 +1,6 @@
 -- What the doing half of a filter fill asks, and what it leaves. Assumes nothing.
-use mathlib.Core.Path.{◌≡◌}
-use mathlib.Core.Bool.{true, false}
-use mathlib.Core.List.{List}
-use Rattle.std.specs.Prelude.{None, unwrap_or}
-use Prim.Native.Nat.{ℕ, ◌+◌, ◌/◌, ◌≤◌, ◌<◌}
-use native.Mathlib.Omega.{arith}
-use lib.IntN.{ℤ}
-use lib.ListN.{length}
+use Rattle.std.proofs.Common.{◌≡◌, true, false, List, None, ℕ, ◌+◌, ◌/◌, ◌≤◌, ◌<◌, arith, ℤ, length}
+use Rattle.std.specs.Prelude.{unwrap_or}
 use Rattle.sizes.specs.Sizes.{paint-attr-table, filter-paint-table}
 use Rattle.rules.specs.Lists.{range}
 use Rattle.rules.specs.Boxes.{span_of}

@@ -1,16 +1,10 @@
 -- A filter fill's number and what it leaves, way by way through the code. Assumes nothing.
-use mathlib.Core.Path.{◌≡◌, refl, sym, ap, ◌∙◌}
-use mathlib.Core.Bool.{Bool, true, false, ◌&&◌, ◌||◌, cond}
-use mathlib.Core.List.{List, [], ◌∷◌, map, append-nil}
-use Rattle.std.specs.Prelude.{Option, None, Some, unwrap_or}
-use Prim.Native.Nat.{ℕ, suc, ◌+◌, ◌-◌, ◌*◌, ◌/◌, ◌≤◌, ◌<◌}
+use Rattle.std.proofs.Common.{◌≡◌, refl, sym, ap, ◌∙◌, Bool, true, false, ◌&&◌, ◌||◌, cond, List, [], ◌∷◌, map, append-nil, Option, None, Some, ℕ, ◌+◌, ◌-◌, ◌*◌, ◌/◌, ◌≤◌, ◌<◌, arith, eqb, ltb, leb, ℤ}
+use Rattle.std.proofs.Common.{pos, length, drop, length-append, take-append-drop, drop_at, eqb-true, ne_eqb, le-ltb, leb-true, leb-false, ltb-true}
+use Rattle.std.specs.Prelude.{unwrap_or}
 use native.Mathlib.Nat.{min-le_right}
-use native.Mathlib.Omega.{arith}
-use lib.Dec.{eqb, ltb, leb}
-use lib.IntN.{ℤ, pos, sub_ℕ}
-use lib.ListN.{length, drop, length-append, take-append-drop}
-use lib.Seq.{drop_at, drop-length}
-use borrow.Author.Tests.{eq-eqb, ne_eqb, le-ltb, lt-ltb, leb-true, leb-false, ltb-true}
+use lib.IntN.{sub_ℕ}
+use lib.Seq.{drop-length}
 use Rattle.sizes.specs.Sizes.{paint-attr-size, paint-attr-table, filter-paint-size, filter-paint-table}
 use Rattle.rules.specs.Lists.{range, join, is_none}
 use Rattle.rules.specs.Inputs.{good-pixmap, good-filter, few-paints, good-panel}
@@ -44,7 +38,8 @@ use Rattle.row.specs.Room.{rows_told}
 use Rattle.layers.specs.Band.{band_number, each, OnRows}
 use Rattle.layers.proofs.RowsLaws.{puts-each}
 use Rattle.layers.proofs.Numbers.{band-answer, band-step, band-room, paint-adds, run-told}
-use Rattle.layers.proofs.Passing.{passed-whole, rows-within, decide, surely, below}
+use Rattle.std.proofs.lemmas.Bool.Decides.{nat_tests}
+use Rattle.layers.proofs.Passing.{passed-whole, rows-within, either}
 use Rattle.layers.specs.Filter.{FilterGiven, filter-of, good-given, paint-from, attrs-of, FilterLent, lent, plan-of, filter-number, filter-paint-words, after, filtered, own-box}
 
 frame_is : (s : Screen) → (state-of s).frame ≡ frame-of s
@@ -136,20 +131,43 @@ module _ (g : FilterGiven) (s : Screen) (k : good_screen s ≡ true) (v : good_v
 abbrev pub judged-at : Screen → Words → ℕ
 judged-at s w = judged s (length w.state) (length w.render) (length w.fills)
 
+-- once the screen's own numbers are good, a step's number is k unless what is lent or given is wrong
+right : (n : ℕ) (a b g : Bool) (r k : ℕ) → n ≡ 0 → cond g r 4 ≡ k
+    → cond (eqb (cond (eqb n 0) (cond (a && b) 0 4) n) 0) (cond g r 4) (cond (eqb n 0) (cond (a && b) 0 4) n) ≡ cond (a && b && true) k 4
+right n a b g r k z e = grind (arith, nat_tests)
+
+wrong : (n : ℕ) (a b g : Bool) (r k : ℕ) → n ≡ 0 → r ≡ 4
+    → cond (eqb (cond (eqb n 0) (cond (a && b) 0 4) n) 0) (cond g r 4) (cond (eqb n 0) (cond (a && b) 0 4) n) ≡ cond (a && b && false) k 4
+wrong n a b g r k z e = grind (arith, nat_tests)
+
+-- the tests of a fill that draws, in the code's numbers
+as-coded : (k n a l f : ℕ) → l ≤ 1024 → ((k ≡ 4 → ⊥) → cond (eqb k 10) 10 0 ≡ k)
+    → cond (eqb k 4) 4 (cond (ltb 1048577 (n + 1)) 8 (cond (ltb 1024 (a + 1) || ltb 1024 l || ltb 256 (f + 1)) 9 (cond (eqb k 10) 10 0)))
+    ≡ cond (eqb k 4) 4 (cond (ltb 1048576 n) 8 (cond (leb 1024 a || leb 256 f) 9 k))
+as-coded k n a l f h t = grind (arith, nat_tests)
+
+-- a number 0, taken apart
+all-right : (a b c : Bool) (k : ℕ) → cond (a && b && c) k 4 ≡ 0 → (a ≡ true) × (b ≡ true) × (c ≡ true) × (k ≡ 0)
+all-right a b c k e = (grind (arith, nat_tests), grind (arith, nat_tests), grind (arith, nat_tests), grind (arith, nat_tests))
+
+all-free : (k n a f : ℕ) → cond (eqb k 4) 4 (cond (ltb 1048576 n) 8 (cond (leb 1024 a || leb 256 f) 9 k)) ≡ 0 → (n < 1048577) × (a < 1024) × (f < 256) × (k ≡ 0)
+all-free k n a f e = (grind (arith, nat_tests), grind (arith, nat_tests), grind (arith, nat_tests), grind (arith, nat_tests))
+
 module _ (g : FilterGiven) (s : Screen) (w : Words) (ps : List ℕ) (fs : List ℤ) where
-  pub bad-screen : (judged-at s w ≡ 0 → ⊥) → judged-at s w ≡ filter-number g (lent s w ps fs)
-  unfolding filter-number step_number
-  bad-screen h = rw (ne_eqb (judged-at s w) 0 h, ne_eqb (judged-at s w) 0 h)
+  -- what the rows of a box say
+  abbrev pub rows-in : Box → ℕ
+  rows-in b = band_number s.c s.d s.layers w.state (range (b.y0 / 4) ((b.y1 + 3) / 4))
+
+  abbrev drawing : Box → ℕ
+  drawing b = cond (eqb (rows-in b) 4) 4 (cond (ltb 1048576 s.next_draw_id) 8 (cond (leb 1024 s.paint_attrs || leb 256 s.filter_paints) 9 (rows-in b)))
+
+  -- what is told of a box once the screen's own numbers are good
+  abbrev pub told : Box → ℕ
+  told b =
+      cond (eqb (length ps) paint-attr-table && eqb (length fs) filter-paint-table && good-given g)
+      (cond (draws-nothing (filter-of g) b) 0 (drawing b)) 4
 
   module _ (z : judged-at s w ≡ 0) where
-    pub bad-attrs : (length ps ≡ paint-attr-table → ⊥) → 4 ≡ filter-number g (lent s w ps fs)
-    unfolding filter-number step_number
-    bad-attrs h = rw (z, ne_eqb _ _ h)
-
-    pub bad-paints : length ps ≡ paint-attr-table → (length fs ≡ filter-paint-table → ⊥) → 4 ≡ filter-number g (lent s w ps fs)
-    unfolding filter-number step_number
-    bad-paints e h = rw (z, eq-eqb _ _ e, ne_eqb _ _ h)
-
     -- the screen's own facts
     pub fit : Passed s (length w.state) (length w.render) (length w.fills) (rows_of (box_of s.viewport))
     fit = passed s (length w.state) (length w.render) (length w.fills) z
@@ -157,108 +175,78 @@ module _ (g : FilterGiven) (s : Screen) (w : Words) (ps : List ℕ) (fs : List �
     pub whole : Whole (frame-of s) w
     whole = passed-whole s w fit
 
-    module _ (e : length ps ≡ paint-attr-table) (f : length fs ≡ filter-paint-table) where
-      either_way : (plan-of g s).refused ≡ 4 → (t : Bool) → 4 ≡ cond t (refusal Words word-ops (plan-of g s) (done Words word-ops (plan-of g s) (screen-at (state-of s) w))) 4
-      unfolding refusal
-      either_way r true = rw r
-      either_way r false = refl
+    abbrev stepped : ℕ
+    stepped = step_number 0 (good_rows (frame-of s) s.layers (plan-of g s).puts (rows_at (frame-of s) w)) (plan-of g s) (screen-at (state-of s) w)
 
-      pub bad-given : good-given g ≡ false → 4 ≡ filter-number g (lent s w ps fs)
-      unfolding filter-number step_number
-      bad-given h =
-          rw (z, eq-eqb _ _ e, eq-eqb _ _ f)
-          (either_way (ap (λ (p : Plan). p.refused) (plan-bad g s h)) (good_rows (frame-of s) s.layers (plan-of g s).puts (rows_at (frame-of s) w)))
+    refused-4 : good-given g ≡ false → refusal Words word-ops (plan-of g s) (done Words word-ops (plan-of g s) (screen-at (state-of s) w)) ≡ 4
+    unfolding refusal
+    refused-4 h = rw (plan-bad g s h)
 
-      -- of the rows x to b
-      number_is : (x b : ℕ) → b ≤ rows_of (box_of s.viewport) → (plan-of g s).refused ≡ 0 → (plan-of g s).puts ≡ map (on (own-act g s)) (range x b) → length (plan-of g s).layers ≡ s.layers
-          → filter-number g (lent s w ps fs) ≡ band-answer (band_number s.c s.d s.layers w.state (range x b)) (plan-of g s)
-      unfolding filter-number
-      number_is x b m r q n =
-          rw (z, eq-eqb _ _ e, eq-eqb _ _ f)
-          (band-step s w whole (own-act g s) x b m (plan-of g s) r q
-          (λ t. rw n (paint-adds _ s.layers (span_of (own-box g s)) s.paint_attrs (bounds s fit.screen).deep)))
+    -- of the rows x to b
+    number_is : (x b : ℕ) → b ≤ rows_of (box_of s.viewport) → (plan-of g s).refused ≡ 0 → (plan-of g s).puts ≡ map (on (own-act g s)) (range x b) → length (plan-of g s).layers ≡ s.layers
+        → stepped ≡ band-answer (band_number s.c s.d s.layers w.state (range x b)) (plan-of g s)
+    number_is x b m r q n =
+        band-step s w whole (own-act g s) x b m (plan-of g s) r q
+        (λ t. rw n (paint-adds _ s.layers (span_of (own-box g s)) s.paint_attrs (bounds s fit.screen).deep))
 
-      module _ (h : good-given g ≡ true) where
-        pub nothing-number : draws-nothing (filter-of g) (own-box g s) ≡ true → 0 ≡ filter-number g (lent s w ps fs)
-        unfolding band-answer band_number rows_told
-        nothing-number d =
-            let q = plan-nothing g s fit.screen h d in
-            let b = bounds s fit.screen in
-            sym
-            (number_is 0 0 (omega arith) (ap (λ (p : Plan). p.refused) q) (ap (λ (p : Plan). p.puts) q) (ap (λ (p : Plan). length p.layers) q ∙ layer-count s)
-            ∙ rw (q, layer-count s, le-ltb 16 s.layers b.deep, next-is s, le-ltb 1048577 s.next_draw_id b.ids, same_full s fit.screen))
+    nothing-is : good-given g ≡ true → draws-nothing (filter-of g) (own-box g s) ≡ true → stepped ≡ 0
+    unfolding band-answer band_number rows_told
+    nothing-is h d =
+        let q = plan-nothing g s fit.screen h d in
+        let b = bounds s fit.screen in
+        number_is 0 0 (omega arith) (ap (λ (p : Plan). p.refused) q) (ap (λ (p : Plan). p.puts) q) (ap (λ (p : Plan). length p.layers) q ∙ layer-count s)
+        ∙ rw (q, layer-count s, le-ltb 16 s.layers b.deep, next-is s, le-ltb 1048577 s.next_draw_id b.ids, same_full s fit.screen)
 
-        module _ (d : draws-nothing (filter-of g) (own-box g s) ≡ false) where
-          is-drawn : plan-of g s ≡ drawn-plan s fit.screen g
-          is-drawn = plan-drawn g s fit.screen h d
+    drawing-is : good-given g ≡ true → draws-nothing (filter-of g) (own-box g s) ≡ false → stepped ≡ drawing (own-box g s)
+    unfolding band-answer
+    drawing-is h d =
+        let q = plan-drawn g s fit.screen h d in
+        let b = bounds s fit.screen in
+        number_is ((own-box g s).y0 / 4) (((own-box g s).y1 + 3) / 4) (run-within g s fit.screen fit.view)
+        (ap (λ (p : Plan). p.refused) q ∙ drawn-fine s fit.screen g) (ap (λ (p : Plan). p.puts) q ∙ drawn-puts s fit.screen g)
+        (ap (λ (p : Plan). length p.layers) q ∙ drawn-open s fit.screen g)
+        ∙ ap (band-answer (rows-in (own-box g s))) q
+        ∙ rw (
+          drawn-open s fit.screen g,
+          le-ltb 16 s.layers b.deep,
+          drawn-next s fit.screen g,
+          drawn-paints s fit.screen g,
+          drawn-layers s fit.screen g,
+          drawn-filters s fit.screen g,
+        )
+        (as-coded (rows-in (own-box g s)) s.next_draw_id s.paint_attrs s.layer_attrs s.filter_paints b.layer-attrs
+        (run-told s.c s.d s.layers w.state (range ((own-box g s).y0 / 4) (((own-box g s).y1 + 3) / 4))))
 
-          abbrev pub rows-number : ℕ
-          rows-number = band_number s.c s.d s.layers w.state (range ((own-box g s).y0 / 4) (((own-box g s).y1 + 3) / 4))
+    abbrev lens-p : Bool
+    lens-p = eqb (length ps) paint-attr-table
 
-          drawn-number : filter-number g (lent s w ps fs) ≡ band-answer rows-number (drawn-plan s fit.screen g)
-          drawn-number =
-              number_is ((own-box g s).y0 / 4) (((own-box g s).y1 + 3) / 4) (run-within g s fit.screen fit.view)
-              (ap (λ (p : Plan). p.refused) is-drawn ∙ drawn-fine s fit.screen g) (ap (λ (p : Plan). p.puts) is-drawn ∙ drawn-puts s fit.screen g)
-              (ap (λ (p : Plan). length p.layers) is-drawn ∙ drawn-open s fit.screen g)
-              ∙ ap (band-answer rows-number) is-drawn
+    abbrev lens-f : Bool
+    lens-f = eqb (length fs) filter-paint-table
 
-          answer-is : band-answer rows-number (drawn-plan s fit.screen g)
-              ≡ cond (eqb rows-number 4) 4
-              (cond (ltb 1048577 (s.next_draw_id + 1)) 8
-              (cond (ltb 1024 (s.paint_attrs + 1) || ltb 1024 s.layer_attrs || ltb 256 (s.filter_paints + 1)) 9 (cond (eqb rows-number 10) 10 0)))
-          unfolding band-answer
-          answer-is =
-              rw (
-                drawn-open s fit.screen g,
-                le-ltb 16 s.layers (bounds s fit.screen).deep,
-                drawn-next s fit.screen g,
-                drawn-paints s fit.screen g,
-                drawn-layers s fit.screen g,
-                drawn-filters s fit.screen g,
-              )
+    bad-way : good-given g ≡ false → filter-number g (lent s w ps fs) ≡ told (own-box g s)
+    unfolding filter-number step_number
+    bad-way h =
+        rw h
+        (wrong (judged-at s w) lens-p lens-f (good_rows (frame-of s) s.layers (plan-of g s).puts (rows_at (frame-of s) w)) _
+        (cond (draws-nothing (filter-of g) (own-box g s)) 0 (drawing (own-box g s))) z (refused-4 h))
 
-          module _ (k : ℕ) (r : k ≡ rows-number) where
-            few-layers : ltb 1024 s.layer_attrs ≡ false
-            few-layers = le-ltb 1024 s.layer_attrs (bounds s fit.screen).layer-attrs
+    good-way : good-given g ≡ true → (k : ℕ) → stepped ≡ k → cond (draws-nothing (filter-of g) (own-box g s)) 0 (drawing (own-box g s)) ≡ k
+        → filter-number g (lent s w ps fs) ≡ told (own-box g s)
+    unfolding filter-number step_number
+    good-way h k e q =
+        rw (h, q) (right (judged-at s w) lens-p lens-f (good_rows (frame-of s) s.layers (plan-of g s).puts (rows_at (frame-of s) w)) _ k z e)
 
-            pub bad-rows : k ≡ 4 → 4 ≡ filter-number g (lent s w ps fs)
-            bad-rows q = sym (drawn-number ∙ answer-is ∙ rw (← r, q))
+    pub own-tests : filter-number g (lent s w ps fs) ≡ told (own-box g s)
+    own-tests =
+        either (good-given g)
+        (λ h.
+        either (draws-nothing (filter-of g) (own-box g s))
+        (λ d. good-way h 0 (nothing-is h d) (rw d))
+        (λ d. good-way h (drawing (own-box g s)) (drawing-is h d) (rw d)))
+        bad-way
 
-            module _ (q : k ≡ 4 → ⊥) where
-              pub no-ids : 1048577 ≤ s.next_draw_id → 8 ≡ filter-number g (lent s w ps fs)
-              no-ids m = sym (drawn-number ∙ answer-is ∙ rw (← r, ne_eqb k 4 q, lt-ltb 1048577 (s.next_draw_id + 1) (omega arith)))
-
-              module _ (i : s.next_draw_id < 1048577) where
-                pub no-attrs : 1024 ≤ s.paint_attrs → 9 ≡ filter-number g (lent s w ps fs)
-                no-attrs m = sym (drawn-number ∙ answer-is ∙ rw (← r, ne_eqb k 4 q, le-ltb 1048577 (s.next_draw_id + 1) (omega arith), lt-ltb 1024 (s.paint_attrs + 1) (omega arith)))
-
-                module _ (j : s.paint_attrs < 1024) where
-                  pub no-paints : 256 ≤ s.filter_paints → 9 ≡ filter-number g (lent s w ps fs)
-                  no-paints m =
-                      sym
-                      (drawn-number ∙ answer-is
-                      ∙ rw (
-                        ← r,
-                        ne_eqb k 4 q,
-                        le-ltb 1048577 (s.next_draw_id + 1) (omega arith),
-                        le-ltb 1024 (s.paint_attrs + 1) (omega arith),
-                        few-layers,
-                        lt-ltb 256 (s.filter_paints + 1) (omega arith),
-                      ))
-
-                  pub else-number : s.filter_paints < 256 → k ≡ filter-number g (lent s w ps fs)
-                  else-number m =
-                      sym
-                      (drawn-number ∙ answer-is
-                      ∙ rw (
-                        ← r,
-                        ne_eqb k 4 q,
-                        le-ltb 1048577 (s.next_draw_id + 1) (omega arith),
-                        le-ltb 1024 (s.paint_attrs + 1) (omega arith),
-                        few-layers,
-                        le-ltb 256 (s.filter_paints + 1) (omega arith),
-                      )
-                      (rw (← r) at (run-told s.c s.d s.layers w.state (range ((own-box g s).y0 / 4) (((own-box g s).y1 + 3) / 4)) (λ t. q (r ∙ t)))))
+    pub tests : (b : Rect) → box_of b ≡ own-box g s → filter-number g (lent s w ps fs) ≡ told (box_of b)
+    tests b x = own-tests ∙ ap told (sym x)
 
 -- the box and the rows that the code finds
 module _ (g : FilterGiven) (s : Screen) (w : Words) (z : judged-at s w ≡ 0) (b : Rect) (e : box_of b ≡ own-box g s) where
@@ -280,10 +268,6 @@ module _ (g : FilterGiven) (s : Screen) (w : Words) (z : judged-at s w ≡ 0) (b
       let h : (b.y1 + 3) / 4 ≤ rows_of (box_of s.viewport) = rw bottom-is (run-within g s ok.screen ok.view) in
       let o = passed-whole s w ok in
       ((bounds s ok.screen).deep, o.c, omega (arith, o.rows), omega (arith, ok.row_words))
-
-  pub number-of-rows : (k : ℕ) → k ≡ band_number s.c s.d s.layers w.state (range (b.y0 / 4) ((b.y1 + 3) / 4))
-      → k ≡ band_number s.c s.d s.layers w.state (range ((own-box g s).y0 / 4) (((own-box g s).y1 + 3) / 4))
-  number-of-rows k h = rw (top-is, bottom-is) at h
 
 handle-small : (o : Option ℕ) → good-pixmap o ≡ true → unwrap_or o 0 < 2147483648
 handle-small None q = omega arith
@@ -335,35 +319,30 @@ pub record Free (g : FilterGiven) (s : Screen) (w : Words) : Type 0 where
   pub on : OnRows s s.layers (acted (bucket-tiles s.width) s.layers (own-act g s)) ((own-box g s).y0 / 4) (((own-box g s).y1 + 3) / 4) w
 
 module _ (g : FilterGiven) (s : Screen) (w : Words) (ps : List ℕ) (fs : List ℤ) (q : filter-number g (lent s w ps fs) ≡ 0) where
-  not-zero : {n : ℕ} → suc n ≡ filter-number g (lent s w ps fs) → ⊥
-  not-zero e = omega (arith, e, q)
+  zero : judged-at s w ≡ 0
+  unfolding filter-number step_number
+  zero = grind (arith, nat_tests)
+
+  facts : (eqb (length ps) paint-attr-table ≡ true) × (eqb (length fs) filter-paint-table ≡ true) × (good-given g ≡ true)
+      × (cond (draws-nothing (filter-of g) (own-box g s)) 0 (drawing g s w ps fs (own-box g s)) ≡ 0)
+  facts = all-right _ _ (good-given g) _ (sym (own-tests g s w ps fs zero) ∙ q)
 
   pub ready : FilterReady g s w ps fs
-  ready =
-      let z : judged-at s w ≡ 0 = decide (judged-at s w) 0 (λ h. h (bad-screen g s w ps fs h ∙ q)) in
-      let a : length ps ≡ paint-attr-table = decide (length ps) paint-attr-table (λ h. not-zero (bad-attrs g s w ps fs z h)) in
-      let b : length fs ≡ filter-paint-table = decide (length fs) filter-paint-table (λ h. not-zero (bad-paints g s w ps fs z a h)) in
-      record { zero = z; attrs = a; paints = b; good = surely (good-given g) (λ h. not-zero (bad-given g s w ps fs z a b h)) }
+  ready = record { zero = zero; attrs = eqb-true _ _ facts.0; paints = eqb-true _ _ facts.1; good = facts.2 }
 
   module _ (d : draws-nothing (filter-of g) (own-box g s) ≡ false) where
     pub free : Free g s w
     free =
-        let y = ready in
-        let k = rows-number g s w ps fs y.zero y.attrs y.paints y.good d in
-        let n : k ≡ 4 → ⊥ = λ t. not-zero (bad-rows g s w ps fs y.zero y.attrs y.paints y.good d k refl t) in
-        let i : s.next_draw_id < 1048577 = below s.next_draw_id 1048577 (λ h. not-zero (no-ids g s w ps fs y.zero y.attrs y.paints y.good d k refl n h)) in
-        let j : s.paint_attrs < 1024 = below s.paint_attrs 1024 (λ h. not-zero (no-attrs g s w ps fs y.zero y.attrs y.paints y.good d k refl n i h)) in
-        let m : s.filter_paints < 256 = below s.filter_paints 256 (λ h. not-zero (no-paints g s w ps fs y.zero y.attrs y.paints y.good d k refl n i j h)) in
-        let t : k ≡ 0 = else-number g s w ps fs y.zero y.attrs y.paints y.good d k refl n i j m ∙ q in
-        let f = fit g s w ps fs y.zero in
+        let t = all-free (rows-in g s w ps fs (own-box g s)) s.next_draw_id s.paint_attrs s.filter_paints (rw d at facts.3) in
+        let f = fit g s w ps fs zero in
         let c : s.layers ≤ 16 = (bounds s f.screen).deep in
         record {
-          id = i;
-          attr = j;
-          paint = m;
+          id = t.0;
+          attr = t.1;
+          paint = t.2;
           on =
               band-room s w (passed-whole s w f) (own-act g s) ((own-box g s).y0 / 4) (((own-box g s).y1 + 3) / 4) (run-within g s f.screen f.view) s.layers c
-              c (paint-adds _ s.layers (span_of (own-box g s)) s.paint_attrs c) t;
+              c (paint-adds _ s.layers (span_of (own-box g s)) s.paint_attrs c) t.3;
         }
 
     -- the box's tiles

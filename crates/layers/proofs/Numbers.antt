@@ -1,13 +1,7 @@
 -- What the judged number of a run of rows says of a step that does one act on each of them. Assumes nothing.
-use mathlib.Core.Path.{◌≡◌, refl, ap, ◌∙◌}
-use mathlib.Core.Bool.{Bool, true, false, ◌&&◌, ◌||◌, cond}
-use mathlib.Core.List.{List, [], ◌∷◌, map}
-use Rattle.std.specs.Prelude.{None}
-use Prim.Native.Nat.{ℕ, zero, suc, ◌+◌, ◌-◌, ◌*◌, ◌≤◌, ◌<◌}
-use native.Mathlib.Omega.{arith}
-use lib.Dec.{ltb, eqb}
-use lib.ListN.{length, get_or}
-use borrow.Author.Tests.{ltb-false, le-ltb, eqb-true, eqb-false}
+use Rattle.std.proofs.Common.{◌≡◌, refl, ap, ◌∙◌, Bool, true, false, ◌&&◌, ◌||◌, cond, List, [], ◌∷◌, map, None, ℕ, zero, suc, ◌+◌, ◌-◌, ◌*◌, ◌≤◌, ◌<◌, arith, ltb, eqb, length, get_or, ltb-false, le-ltb, eqb-true}
+use Rattle.std.proofs.lemmas.Bool.Decides.{nat_tests}
+use borrow.Author.Tests.{eqb-false}
 use Rattle.sizes.specs.Widths.{bucket-tiles}
 use Rattle.rules.specs.Lists.{every, some_of, count-from, range, times}
 use Rattle.rules.specs.Answers.{first_of}
@@ -265,10 +259,4 @@ paint-adds v n t i h w l k =
 -- a run's number is 4, 10 or 0
 pub run-told : (c d n : ℕ) (ws rs : List ℕ) → (band_number c d n ws rs ≡ 4 → ⊥) → cond (eqb (band_number c d n ws rs) 10) 10 0 ≡ band_number c d n ws rs
 unfolding band_number rows_told
-run-told c d n ws rs h =
-    by (every (λ (r : ℕ). good_row c d n (record-at ws r)) rs) (some_of (λ (r : ℕ). is-full c n (record-at ws r)) rs) h
-  where
-    by : (g f : Bool) → (told g f ≡ 4 → ⊥) → cond (eqb (told g f) 10) 10 0 ≡ told g f
-    by true true h = refl
-    by true false h = refl
-    by false f h = absurd (h refl)
+run-told c d n ws rs h = grind (arith, nat_tests)

@@ -1,11 +1,5 @@
 -- A screen that was judged good is whole, and a box on it lies within its rows. Assumes nothing.
-use mathlib.Core.Path.{◌≡◌, refl}
-use mathlib.Core.Bool.{Bool, true, false}
-use Prim.Native.Nat.{ℕ, ◌+◌, ◌/◌, ◌≤◌, ◌<◌}
-use native.Mathlib.Omega.{arith}
-use lib.Dec.{eqb, leb}
-use lib.ListN.{length}
-use borrow.Author.Tests.{eqb-true, eqb-false, leb-true, leb-false}
+use Rattle.std.proofs.Common.{◌≡◌, refl, Bool, true, false, ℕ, ◌+◌, ◌/◌, ◌≤◌, arith, length}
 use Rattle.row.specs.Building.{Whole}
 use Rattle.screen.specs.Screens.{frame-of}
 use Rattle.rules.specs.Boxes.{Box, height, rows_of, good_viewport}
@@ -30,21 +24,7 @@ rows-within v g y h =
     let e = view v g in
     omega (arith, e.y0-by-4, e.y1-by-4, e.in-order-y)
 
--- a number is one that is not any other
-pub decide : (a b : ℕ) → ((a ≡ b → ⊥) → ⊥) → a ≡ b
-decide a b f = by (eqb a b) refl
-  where
-    by : (t : Bool) → eqb a b ≡ t → a ≡ b
-    by true e = eqb-true a b e
-    by false e = absurd (f (eqb-false a b e))
-
-pub surely : (b : Bool) → (b ≡ false → ⊥) → b ≡ true
-surely true f = refl
-surely false f = absurd (f refl)
-
-pub below : (a b : ℕ) → (b ≤ a → ⊥) → a < b
-below a b f = by (leb b a) refl
-  where
-    by : (t : Bool) → leb b a ≡ t → a < b
-    by true e = absurd (f (leb-true b a e))
-    by false e = leb-false b a e
+-- a Boolean is one or the other
+pub either : {P : Type 0} (b : Bool) → (b ≡ true → P) → (b ≡ false → P) → P
+either true f g = f refl
+either false f g = g refl

@@ -1,15 +1,7 @@
 -- A push's number and what it leaves, way by way through the code. Assumes nothing.
-use mathlib.Core.Path.{◌≡◌, refl, sym, ap, ◌∙◌}
-use mathlib.Core.Bool.{Bool, true, false, ◌&&◌, not, cond}
-use mathlib.Core.List.{List, [], ◌∷◌, map}
-use Rattle.std.specs.Prelude.{Option, None, Some}
-use Prim.Native.Nat.{ℕ, suc, ◌+◌, ◌-◌, ◌*◌, ◌≤◌, ◌<◌}
+use Rattle.std.proofs.Common.{◌≡◌, refl, sym, ap, ◌∙◌, Bool, true, false, ◌&&◌, not, cond, List, [], ◌∷◌, map, Option, None, Some, ℕ, ◌+◌, ◌-◌, ◌*◌, ◌≤◌, ◌<◌, arith, eqb, ltb, length, set, eqb-true, ne_eqb, le-ltb}
 use native.Mathlib.Nat.{min-le_right}
-use native.Mathlib.Omega.{arith}
-use lib.Dec.{eqb, ltb}
-use lib.ListN.{length, set}
 use lib.Ieee.{Float}
-use borrow.Author.Tests.{eq-eqb, ne_eqb, le-ltb, lt-ltb}
 use Rattle.sizes.specs.Sizes.{open-layer-size, open-layer-table, opacity-count}
 use Rattle.rules.specs.Lists.{range}
 use Rattle.rules.specs.Answers.{answer}
@@ -20,7 +12,6 @@ use Rattle.rules.specs.Inputs.{good-props}
 use Rattle.rules.specs.Attributes.{attrs-full}
 use Rattle.rules.specs.Plans.{touch, on, Layer, layer-box, plan-push}
 use Rattle.rules.specs.Steps.{done, refusal}
-use Rattle.rules.proofs.All.{both}
 use Rattle.cmd.specs.Attrs.{words-at}
 use Rattle.row.specs.Words.{Words, word-ops}
 use Rattle.row.specs.Arena.{lay}
@@ -40,7 +31,8 @@ use Rattle.screen.specs.Layers.{clip-of as clip-in, props-of, good-pattern, good
 use Rattle.layers.specs.Band.{band_number, each, OnRows}
 use Rattle.layers.proofs.RowsLaws.{puts-each}
 use Rattle.layers.proofs.Numbers.{Adding, band-answer, band-step, band-room, touch-adds, run-told}
-use Rattle.layers.proofs.Passing.{passed-whole, rows-within, decide, surely, below}
+use Rattle.std.proofs.lemmas.Bool.Decides.{nat_tests}
+use Rattle.layers.proofs.Passing.{passed-whole, rows-within, either}
 use Rattle.layers.specs.declared.push.Run.{Run}
 use Rattle.layers.specs.Push.{PushLent, lent, plan-of, push-number, after, pushed, no_run, box-run, touch_run, on-layer}
 
@@ -114,20 +106,26 @@ module _ (p : LayerProps) (s : Screen) (g : good_screen s ≡ true) (v : good_vi
 abbrev pub judged-at : Screen → Words → ℕ
 judged-at s w = judged s (length w.state) (length w.render) (length w.fills)
 
+-- refused by 4 for what is given
+wrong : (n : ℕ) (a b c g : Bool) (r k : ℕ) → n ≡ 0 → r ≡ 4
+    → cond (eqb (cond (eqb n 0) (cond (a && b && c) 0 4) n) 0) (cond g r 4) (cond (eqb n 0) (cond (a && b && c) 0 4) n) ≡ cond (a && b && (c && false)) k 4
+wrong n a b c g r k z e = grind (arith, nat_tests)
+
+-- a number 0, taken apart
+all-right : (a b c : Bool) (k n : ℕ) → cond (a && b && c) (cond (eqb k 4) 4 (cond (ltb 16 n) 6 k)) 4 ≡ 0 → (a ≡ true) × (b ≡ true) × (n ≤ 16) × (k ≡ 0)
+all-right a b c k n e = (grind (arith, nat_tests), grind (arith, nat_tests), grind (arith, nat_tests), grind (arith, nat_tests))
+
 module _ (p : LayerProps) (s : Screen) (w : Words) (ls : List ℕ) (os : List Float) where
-  pub bad-screen : (judged-at s w ≡ 0 → ⊥) → judged-at s w ≡ push-number p (lent s w ls os)
-  unfolding push-number step_number
-  bad-screen h = rw (ne_eqb (judged-at s w) 0 h, ne_eqb (judged-at s w) 0 h)
+  abbrev pub rows-number : ℕ
+  rows-number = band_number s.c s.d s.layers w.state (range (own-run p s).a (own-run p s).b)
+
+  -- what is told once the screen's own numbers are good
+  abbrev pub told : ℕ
+  told =
+      cond (eqb (length ls) open-layer-table && eqb (length os) opacity-count && good-given p)
+      (cond (eqb rows-number 4) 4 (cond (ltb 16 (s.layers + 1)) 6 rows-number)) 4
 
   module _ (z : judged-at s w ≡ 0) where
-    pub bad_layers : (length ls ≡ open-layer-table → ⊥) → 4 ≡ push-number p (lent s w ls os)
-    unfolding push-number step_number
-    bad_layers h = rw (z, ne_eqb _ _ h)
-
-    pub bad_opacities : length ls ≡ open-layer-table → (length os ≡ opacity-count → ⊥) → 4 ≡ push-number p (lent s w ls os)
-    unfolding push-number step_number
-    bad_opacities e h = rw (z, eq-eqb _ _ e, ne_eqb _ _ h)
-
     -- the screen's own facts
     pub fit : Passed s (length w.state) (length w.render) (length w.fills) (rows_of (box_of s.viewport))
     fit = passed s (length w.state) (length w.render) (length w.fills) z
@@ -135,70 +133,37 @@ module _ (p : LayerProps) (s : Screen) (w : Words) (ls : List ℕ) (os : List Fl
     pub whole : Whole (frame-of s) w
     whole = passed-whole s w fit
 
-    module _ (e : length ls ≡ open-layer-table) (f : length os ≡ opacity-count) where
-      either_way : (plan-of p s).refused ≡ 4 → (g : Bool) → 4 ≡ cond g (refusal Words word-ops (plan-of p s) (done Words word-ops (plan-of p s) (screen-at (state-of s) w))) 4
-      unfolding refusal
-      either_way r true = rw r
-      either_way r false = refl
+    plan-bad : good-props (props-of p) ≡ false → refusal Words word-ops (plan-of p s) (done Words word-ops (plan-of p s) (screen-at (state-of s) w)) ≡ 4
+    unfolding refusal plan-push
+    plan-bad h = rw h
 
-      plan-bad : good-props (props-of p) ≡ false → (plan-of p s).refused ≡ 4
-      unfolding plan-push
-      plan-bad h = rw h
+    band-is : good-props (props-of p) ≡ true
+        → step_number 0 (good_rows (frame-of s) s.layers (plan-of p s).puts (rows_at (frame-of s) w)) (plan-of p s) (screen-at (state-of s) w)
+        ≡ cond (eqb rows-number 4) 4 (cond (ltb 16 (s.layers + 1)) 6 (cond (eqb rows-number 10) 10 0))
+    unfolding band-answer
+    band-is h =
+        let b = bounds s fit.screen in
+        band-step s w whole touch (own-run p s).a (own-run p s).b (run-within p s fit.screen fit.view) (plan-of p s)
+        (plan-fine p s fit.screen h) (plan-puts p s fit.screen) (plan-adds p s fit.screen)
+        ∙ rw (plan-deep p s fit.screen, plan-next p s fit.screen, le-ltb 1048577 s.next_draw_id b.ids, plan-attrs p s fit.screen)
 
-      bad-pattern : good-pattern p.opacity p.nan ≡ false → 4 ≡ push-number p (lent s w ls os)
-      unfolding push-number step_number
-      bad-pattern h = rw (z, eq-eqb _ _ e, eq-eqb _ _ f, h)
+    bad-way : good-props (props-of p) ≡ false → push-number p (lent s w ls os) ≡ told
+    unfolding push-number step_number
+    bad-way h =
+        rw h
+        (wrong (judged-at s w) (eqb (length ls) open-layer-table) (eqb (length os) opacity-count) (good-pattern p.opacity p.nan)
+        (good_rows (frame-of s) s.layers (plan-of p s).puts (rows_at (frame-of s) w)) _
+        (cond (eqb rows-number 4) 4 (cond (ltb 16 (s.layers + 1)) 6 rows-number)) z (plan-bad h))
 
-      bad-rest : good-pattern p.opacity p.nan ≡ true → good-props (props-of p) ≡ false → 4 ≡ push-number p (lent s w ls os)
-      unfolding push-number step_number
-      bad-rest g h =
-          rw (z, eq-eqb _ _ e, eq-eqb _ _ f, g)
-          (either_way (plan-bad h) (good_rows (frame-of s) s.layers (plan-of p s).puts (rows_at (frame-of s) w)))
+    good-way : good-props (props-of p) ≡ true → push-number p (lent s w ls os) ≡ told
+    unfolding push-number step_number
+    good-way h =
+        let b = band-is h in
+        let t = run-told s.c s.d s.layers w.state (range (own-run p s).a (own-run p s).b) in
+        grind (arith, nat_tests)
 
-      pub bad-props : good-given p ≡ false → 4 ≡ push-number p (lent s w ls os)
-      bad-props h = by (good-pattern p.opacity p.nan) refl h
-        where
-          by : (b : Bool) → good-pattern p.opacity p.nan ≡ b → (b && good-props (props-of p)) ≡ false → 4 ≡ push-number p (lent s w ls os)
-          by true g h = bad-rest g h
-          by false g h = bad-pattern g
-
-      module _ (good : good-given p ≡ true) where
-        own-pattern : good-pattern p.opacity p.nan ≡ true
-        own-pattern = (both (good-pattern p.opacity p.nan) (good-props (props-of p)) good).0
-
-        h : good-props (props-of p) ≡ true
-        h = (both (good-pattern p.opacity p.nan) (good-props (props-of p)) good).1
-
-        abbrev pub rows-number : ℕ
-        rows-number = band_number s.c s.d s.layers w.state (range (own-run p s).a (own-run p s).b)
-
-        number_is : push-number p (lent s w ls os) ≡ band-answer rows-number (plan-of p s)
-        unfolding push-number
-        number_is =
-            rw (z, eq-eqb _ _ e, eq-eqb _ _ f, own-pattern)
-            (band-step s w whole touch (own-run p s).a (own-run p s).b (run-within p s fit.screen fit.view) (plan-of p s)
-            (plan-fine p s fit.screen h) (plan-puts p s fit.screen) (plan-adds p s fit.screen))
-
-        answer-is : band-answer rows-number (plan-of p s) ≡ cond (eqb rows-number 4) 4 (cond (ltb 16 (s.layers + 1)) 6 (cond (eqb rows-number 10) 10 0))
-        unfolding band-answer
-        answer-is =
-            let b = bounds s fit.screen in
-            rw (plan-deep p s fit.screen, plan-next p s fit.screen, le-ltb 1048577 s.next_draw_id b.ids, plan-attrs p s fit.screen)
-
-        module _ (k : ℕ) (r : k ≡ rows-number) where
-          pub bad-rows : k ≡ 4 → 4 ≡ push-number p (lent s w ls os)
-          bad-rows q = sym (number_is ∙ answer-is ∙ rw (← r, q))
-
-          module _ (q : k ≡ 4 → ⊥) where
-            pub deep : 16 ≤ s.layers → 6 ≡ push-number p (lent s w ls os)
-            deep m = sym (number_is ∙ answer-is ∙ rw (← r, ne_eqb k 4 q, lt-ltb 16 (s.layers + 1) (omega arith)))
-
-            pub else-number : s.layers < 16 → k ≡ push-number p (lent s w ls os)
-            else-number m =
-                sym
-                (number_is ∙ answer-is
-                ∙ rw (← r, ne_eqb k 4 q, le-ltb 16 (s.layers + 1) (omega arith))
-                (rw (← r) at (run-told s.c s.d s.layers w.state (range (own-run p s).a (own-run p s).b) (λ t. q (r ∙ t)))))
+    pub tests : push-number p (lent s w ls os) ≡ told
+    tests = either (good-props (props-of p)) good-way bad-way
 
 -- the box and the rows that the code finds
 module _ (p : LayerProps) (s : Screen) (w : Words) (z : judged-at s w ≡ 0) (b : Rect) (e : box_of b ≡ own-box p s) where
@@ -232,28 +197,22 @@ pub record PushReady (p : LayerProps) (s : Screen) (w : Words) (ls : List ℕ) (
   pub on : OnRows s (s.layers + 1) (acted (bucket-tiles s.width) (s.layers + 1) touch) (own-run p s).a (own-run p s).b w
 
 module _ (p : LayerProps) (s : Screen) (w : Words) (ls : List ℕ) (os : List Float) (q : push-number p (lent s w ls os) ≡ 0) where
-  not-zero : {n : ℕ} → suc n ≡ push-number p (lent s w ls os) → ⊥
-  not-zero e = omega (arith, e, q)
+  zero : judged-at s w ≡ 0
+  unfolding push-number step_number
+  zero = grind (arith, nat_tests)
 
   pub ready : PushReady p s w ls os
   ready =
-      let z : judged-at s w ≡ 0 = decide (judged-at s w) 0 (λ h. h (bad-screen p s w ls os h ∙ q)) in
-      let a : length ls ≡ open-layer-table = decide (length ls) open-layer-table (λ h. not-zero (bad_layers p s w ls os z h)) in
-      let b : length os ≡ opacity-count = decide (length os) opacity-count (λ h. not-zero (bad_opacities p s w ls os z a h)) in
-      let g : good-given p ≡ true = surely (good-given p) (λ h. not-zero (bad-props p s w ls os z a b h)) in
-      let k = rows-number p s w ls os z a b g in
-      let n : k ≡ 4 → ⊥ = λ t. not-zero (bad-rows p s w ls os z a b g k refl t) in
-      let m : s.layers < 16 = below s.layers 16 (λ h. not-zero (deep p s w ls os z a b g k refl n h)) in
-      let t : k ≡ 0 = else-number p s w ls os z a b g k refl n m ∙ q in
-      let f = fit p s w ls os z in
+      let t = all-right (eqb (length ls) open-layer-table) (eqb (length os) opacity-count) (good-given p) (rows-number p s w ls os) (s.layers + 1) (sym (tests p s w ls os zero) ∙ q) in
+      let f = fit p s w ls os zero in
       record {
-        zero = z;
-        layers = a;
-        opacities = b;
-        free = m;
+        zero = zero;
+        layers = eqb-true _ _ t.0;
+        opacities = eqb-true _ _ t.1;
+        free = omega (arith, t.2);
         on =
-            band-room s w (passed-whole s w f) touch (own-run p s).a (own-run p s).b (run-within p s f.screen f.view) (s.layers + 1) (omega arith)
-            (omega arith) (touch-adds _ s.layers (omega arith)) t;
+            band-room s w (passed-whole s w f) touch (own-run p s).a (own-run p s).b (run-within p s f.screen f.view) (s.layers + 1) (omega (arith, t.2))
+            (omega (arith, t.2)) (touch-adds _ s.layers (omega (arith, t.2))) t.3;
       }
 
 -- what it leaves

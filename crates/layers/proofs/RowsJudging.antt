@@ -1,10 +1,5 @@
 -- A row of a run, as the one judge of room counts it. Assumes nothing.
-use mathlib.Core.Path.{◌≡◌, ap, ◌∙◌}
-use mathlib.Core.Bool.{true, cond}
-use mathlib.Core.List.{List}
-use Prim.Native.Nat.{ℕ, ◌+◌, ◌-◌, ◌≤◌}
-use native.Mathlib.Omega.{arith}
-use lib.ListN.{get_or}
+use Rattle.std.proofs.Common.{◌≡◌, ap, ◌∙◌, true, cond, List, ℕ, ◌+◌, ◌-◌, ◌≤◌, arith, get_or}
 use Rattle.row.specs.Building.{good_row}
 use Rattle.row.specs.Room.{Counted, limits, loaded, added_to, Found}
 use Rattle.row.proofs.RoomLaws.{good-small, commands-told}

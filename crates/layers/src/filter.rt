@@ -1,4 +1,4 @@
-// A filter fill (rule 11; bucketer.rs, generate_filter_layer_fill). `filter_fill` is a public call; the others are parts of it.
+//! A filter fill (rule 11; bucketer.rs, generate_filter_layer_fill). `filter_fill` is a public call; the others are parts of it.
 ghost use Rattle.std.specs.Prelude.{◌≡◌, ◌||◌, ◌≤◌, ◌+◌};
 ghost use Rattle.std.proofs.Math.IntN.{sub_ℕ};
 ghost use Rattle.sizes.specs.Sizes.{most-attrs, most-filters, most-records};
@@ -24,8 +24,8 @@ use sizes::{
     PANEL_END,
 };
 
-// Where a filter layer is drawn, a box in pixels of the scene, and the pixel of its picture that comes to the box's corner (vello_common,
-// FilterLayerPlacement).
+/// Where a filter layer is drawn, a box in pixels of the scene, and the pixel of its picture that comes to the box's corner (vello_common,
+/// FilterLayerPlacement).
 #[derive(Clone, Copy)]
 pub struct Placement {
     pub dest: Rect,
@@ -33,8 +33,8 @@ pub struct Placement {
     pub source_y: u32,
 }
 
-// What a filter layer draws: its placement; the picture's handle, counted from 0, or none; how many paints the paint list has, after which the filter paints
-// are counted; the layer's panel.
+/// What a filter layer draws: its placement; the picture's handle, counted from 0, or none; how many paints the paint list has, after which the filter paints
+/// are counted; the layer's panel.
 #[derive(Clone, Copy)]
 pub struct FilterFill {
     pub placement: Placement,
@@ -67,7 +67,7 @@ impl FilterFill {
     }
 }
 
-// The dest box, made local and met with the clip box: pixels, local to the viewport.
+/// The dest box, made local and met with the clip box: pixels, local to the viewport.
 pub fn filter_box(viewport: Rect, clip: Rect, dest: Rect) -> Rect
     ensures { box_of result ≡ meet (to-local (box_of viewport) (box_of dest)) (box_of clip) }
 {
@@ -83,7 +83,7 @@ fn shift(source: u32, dest: u32) -> i32
     (source as i32) - (dest as i32)
 }
 
-// Whether there is no picture, or the box is empty: the fill is done and takes nothing.
+/// Whether there is no picture, or the box is empty: the fill is done and takes nothing.
 pub fn draws_nothing(pixmap: Option<u32>, bbox: Rect) -> bool
     ensures { result ≡ (is_none pixmap || empty-box (box_of bbox)) }
 {
@@ -206,8 +206,8 @@ fn draw(
     take(screen, 1);
 }
 
-// Rule 11: one id, one filter paint, one attribute, and a fill on each row of the box; or nothing. BadViewport, BadArena, BadRecord, Ids, FullAttrs or FullRow:
-// refused, the screen and every lent word stay.
+/// Rule 11: one id, one filter paint, one attribute, and a fill on each row of the box; or nothing. BadViewport, BadArena, BadRecord, Ids, FullAttrs or FullRow:
+/// refused, the screen and every lent word stay.
 pub fn filter_fill(
     screen: &mut Screen,
     rows: &mut Rows<'_>,

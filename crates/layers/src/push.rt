@@ -1,4 +1,4 @@
-// A push (rule 8; bucketer.rs, push_layer). `push_layer` is a public call; the others are parts of it.
+//! A push (rule 8; bucketer.rs, push_layer). `push_layer` is a public call; the others are parts of it.
 ghost use Rattle.std.specs.Prelude.{◌≡◌, ◌≤◌};
 ghost use Rattle.sizes.specs.Sizes.{most-layers};
 ghost use Rattle.sizes.specs.Refusals.{answer_number};
@@ -82,8 +82,8 @@ fn judge_push(
     judged
 }
 
-// Rule 8: one more layer is open. Its opacity is copied, bit for bit. BadViewport, BadArena, BadRecord, Deep or FullRow: refused, the screen and every lent
-// word stay.
+/// Rule 8: one more layer is open. Its opacity is copied, bit for bit. BadViewport, BadArena, BadRecord, Deep or FullRow: refused, the screen and every lent
+/// word stay.
 pub fn push_layer(
     screen: &mut Screen,
     rows: &mut Rows<'_>,

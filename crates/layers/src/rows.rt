@@ -1,4 +1,4 @@
-// The rows a to b of a screen (b is not among them): judged, and the same act done on each. Parts: each has a `requires`, which the steps have judged.
+//! The rows a to b of a screen (b is not among them): judged, and the same act done on each. Parts: each has a `requires`, which the steps have judged.
 ghost use Rattle.std.specs.Prelude.{◌≡◌, ◌≤◌, ◌*◌, length, None, eqb};
 ghost use Rattle.sizes.specs.Sizes.{most-layers, most-room, most-rows, row-size};
 ghost use Rattle.sizes.specs.Widths.{bucket-tiles};
@@ -25,7 +25,7 @@ use screen::Screen;
 use sizes::answers::Refusal;
 use span::TileSpan;
 
-// The rows a to b: 4 for the record of one of them, then 10 if one more command, with the PushBufs that the row lacks, passes C.
+/// The rows a to b: 4 for the record of one of them, then 10 if one more command, with the PushBufs that the row lacks, passes C.
 #[tactic(auto, unfolding(crate::specs::Band::band_number))]
 pub fn judge_rows(screen: Screen, rows: &[u32], a: usize, b: usize) -> Result<(), Refusal>
     requires { (screen.layers ≤ most-layers) × (screen.c ≤ most-room) × (b ≤ most-rows) × (b * row-size ≤ length rows.now) }
@@ -45,14 +45,14 @@ pub fn judge_rows(screen: Screen, rows: &[u32], a: usize, b: usize) -> Result<()
     found.answer()
 }
 
-// Whether rows were refused for the record of one of them, 4: that comes before a step's own 6, 8 and 9.
+/// Whether rows were refused for the record of one of them, 4: that comes before a step's own 6, 8 and 9.
 pub fn is_bad_record(judged: Result<(), Refusal>) -> bool
     ensures { result ≡ eqb (answer_number judged) BadRecord }
 {
     matches!(judged, Err(Refusal::BadRecord))
 }
 
-// What is done on each row, with n layers open.
+/// What is done on each row, with n layers open.
 #[derive(Clone, Copy)]
 pub enum Act {
     // Rule 5 alone.
@@ -122,7 +122,7 @@ fn on_rows(screen: Screen, rows: &mut Rows<'_>, a: usize, b: usize, n: u32, act:
     }
 }
 
-// Rule 8: rule 5 on each of the rows a to b, n layers being open.
+/// Rule 8: rule 5 on each of the rows a to b, n layers being open.
 pub fn touch_rows(screen: Screen, rows: &mut Rows<'_>, a: usize, b: usize, n: u32)
     requires { OnRows screen n (acted (bucket-tiles screen.width) n touch) a b (all-held rows.old) }
     ensures same { SameRows rows.old rows.new }
@@ -131,7 +131,7 @@ pub fn touch_rows(screen: Screen, rows: &mut Rows<'_>, a: usize, b: usize, n: u3
     on_rows(screen, rows, a, b, n, Act::Touch);
 }
 
-// Rule 11: a solid fill that is no depth fill, over a span of tiles, on each of the rows a to b, n layers being open.
+/// Rule 11: a solid fill that is no depth fill, over a span of tiles, on each of the rows a to b, n layers being open.
 pub fn paint_rows(
     screen: Screen,
     rows: &mut Rows<'_>,

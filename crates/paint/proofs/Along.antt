@@ -1,11 +1,5 @@
 -- Commands that one look settles, one after the other. Assumes nothing.
-use mathlib.Core.Path.{◌≡◌, refl, ◌∙◌}
-use mathlib.Core.List.{List, [], ◌∷◌, append_assoc}
-use Prim.Native.Nat.{ℕ, ◌+◌, ◌-◌, ◌*◌, ◌≤◌, ◌<◌}
-use native.Mathlib.Omega.{arith}
-use lib.ListN.{length, drop, take-append-drop, length-drop}
-use lib.Seq.{drop-drop}
-use borrow.Author.Tests.{lt-ltb, le-ltb}
+use Rattle.std.proofs.Common.{◌≡◌, refl, ◌∙◌, List, [], ◌∷◌, append_assoc, ℕ, ◌+◌, ◌-◌, ◌*◌, ◌≤◌, ◌<◌, arith, length, drop, take-append-drop, length-drop, drop-drop, lt-ltb, le-ltb}
 use Rattle.sizes.specs.Sizes.{piece-size}
 use Rattle.rules.specs.Attributes.{Attrs}
 use Rattle.rules.specs.Lists.{join}

@@ -1,13 +1,6 @@
 -- On a row in which nothing is forged a step is the rules' step. Assumes nothing.
-use mathlib.Core.Path.{◌≡◌, refl, sym, ap, ◌∙◌}
-use mathlib.Core.Bool.{Bool, true, false, cond}
-use mathlib.Core.List.{List, []}
-use Rattle.std.specs.Prelude.{Option, None, Some}
-use Prim.Native.Nat.{ℕ, ◌≤◌, ◌<◌, ◌+◌, ◌-◌}
-use native.Mathlib.Omega.{arith}
-use lib.ListN.{length, get_or, length-map, get_or-eq_default}
-use lib.Dec.{ltb}
-use borrow.Author.Tests.{le-ltb, ltb-true, ltb-false}
+use Rattle.std.proofs.Common.{◌≡◌, refl, sym, ap, ◌∙◌, Bool, true, false, cond, List, [], Option, None, Some, ℕ, ◌≤◌, ◌<◌, ◌+◌, ◌-◌, arith, length, get_or, ltb, le-ltb, ltb-true, ltb-false}
+use lib.ListN.{length-map, get_or-eq_default}
 use Rattle.sizes.specs.declared.width.Width.{Width}
 use Rattle.sizes.specs.Widths.{bucket-tiles}
 use Rattle.rules.specs.Commands.{Command, paint-fill, layer-fill, push-buf, pop-buf, DepthFill}
@@ -35,13 +28,6 @@ module _ (v : ℕ) (a b : Attrs) (s : Same a b) (p : Painter) where
   unfolding paint-depth
   same-depth f = rw (s.paint-ids f.attribute, s.paint-panels f.attribute)
 
-  same-command : (c : Command) → paint-command v a c p ≡ paint-command v b c p
-  unfolding paint-command paint-fill-runs
-  same-command (paint-fill t x i) = rw (s.paint-ids i, s.paint-panels i)
-  same-command (layer-fill t x i) = rw (s.layer-ids i, s.layer-panels i)
-  same-command (push-buf t) = refl
-  same-command pop-buf = refl
-
   same-shown : (u : Summary) (c : Command) → command-shown v a u c p ≡ command-shown v b u c p
   unfolding command-shown fill-shown paint-command
   same-shown u (paint-fill t x i) = rw (s.paint-ids i, s.paint-panels i)
@@ -64,16 +50,6 @@ module _ (v : ℕ) (a b : Attrs) (s : Same a b) (p : Painter) where
   unfolding command-step
   same-command-step u None = refl
   same-command-step u (Some c) = rw (same_good p.nesting c, same-shown u c)
-
-  same-paint : (t u : Bool) (r : Row) → paint-when v a t u r p ≡ paint-when v b t u r p
-  unfolding paint-when
-  same-paint true u r = same-depth _
-  same-paint false true r = same-command _
-  same-paint false false r = refl
-
-  pub same_step : (r : Row) → paint-step v a r p ≡ paint-step v b r p
-  unfolding paint-step
-  same_step r = same-paint _ _ r
 
 pub same_row : (v : ℕ) (a b : Attrs) → Same a b → (w : RowLent) → painted-row v a w ≡ painted-row v b w
 unfolding painted-row next-step

@@ -1,16 +1,9 @@
 -- The runs of a fill by the row's summary, way by way. Assumes nothing.
-use mathlib.Core.Path.{◌≡◌, ap, ◌∙◌}
-use mathlib.Core.Bool.{Bool, true, false}
-use mathlib.Core.List.{List, [], ◌∷◌}
-use Prim.Native.Nat.{ℕ, ◌≤◌, ◌<◌, ◌/◌}
-use native.Mathlib.Omega.{arith}
-use lib.ListN.{length, set}
-use borrow.Author.Tests.{le-leb, le-ltb, lt-ltb}
+use Rattle.std.proofs.Common.{◌≡◌, ap, ◌∙◌, Bool, true, false, List, [], ◌∷◌, ℕ, ◌≤◌, ◌<◌, ◌/◌, arith, length, set, le-leb, le-ltb, lt-ltb, Result, Ok, Err}
 use Rattle.rules.specs.Spans.{Span}
 use Rattle.rules.specs.Depth.{Summary, can_skip, can_skip_answer, listed, visible_answer}
 use Rattle.sizes.specs.declared.answers.Refusal.{Refusal}
 use Rattle.sizes.specs.declared.answers.Refusal.TheVariants.{NoRoom}
-use Rattle.std.specs.Prelude.{Result, Ok, Err}
 use Rattle.std.specs.Result.{result_unwrap_or}
 use Rattle.depth.proofs.Once.{skip-once}
 use Rattle.depth.specs.Answers.{skip_of}

@@ -1,11 +1,5 @@
--- Steps of rows, by computation: what the definition says of small words. Assumes nothing.
-use mathlib.Core.Path.{◌≡◌, refl}
-use mathlib.Core.Bool.{true, false}
-use mathlib.Core.List.{List, [], ◌∷◌}
-use Rattle.std.specs.Prelude.{None, Some}
-use Prim.Native.Nat.{ℕ, zero, suc, ◌<◌}
-use native.Mathlib.Omega.{arith}
-use lib.ListN.{get_or}
+-- Tests: steps of rows, by computation: what the definition says of small words. Assumes nothing.
+use Rattle.std.proofs.Common.{◌≡◌, refl, true, false, List, [], ◌∷◌, None, Some, ℕ, zero, suc, ◌<◌, arith, get_or}
 use Rattle.sizes.specs.declared.width.Width.TheVariants.{W128}
 use Rattle.sizes.specs.Widths.{bucket-tiles}
 use Rattle.rules.specs.Spans.{span}

@@ -1,14 +1,5 @@
 -- What callers may use of a row's step. Assumes nothing.
-use mathlib.Core.Path.{◌≡◌, refl, sym, ap, ◌∙◌}
-use mathlib.Core.Bool.{Bool, true, false, cond}
-use mathlib.Core.List.{List, [], ◌∷◌}
-use mathlib.Core.Logic.{◌⊎◌, inl, inr}
-use Rattle.std.specs.Prelude.{Option, None, Some}
-use Prim.Native.Nat.{ℕ, suc, ◌≤◌, ◌+◌, ◌-◌, ◌*◌, ◌/◌}
-use native.Mathlib.Omega.{arith}
-use lib.ListN.{length}
-use lib.Dec.{ltb}
-use borrow.Author.Tests.{le-ltb}
+use Rattle.std.proofs.Common.{◌≡◌, refl, ap, ◌∙◌, Bool, true, false, cond, List, [], ◌∷◌, Option, None, Some, ℕ, suc, ◌+◌, ◌-◌, ◌/◌, length, ltb}
 use Rattle.sizes.specs.declared.width.Width.{Width}
 use Rattle.sizes.specs.Sizes.{piece-size}
 use Rattle.sizes.specs.Widths.{bucket-tiles}
@@ -20,17 +11,10 @@ use Rattle.rules.specs.Rows.{Row}
 use Rattle.rules.specs.Attributes.{Attrs}
 use Rattle.rules.specs.Painting as rules
 use Rattle.rules.specs.Painting.{paint-depth, paint-command, paint-step}
-use Rattle.paint.specs.Answers.{Painted}
 use Rattle.paint.specs.Painting.{word, attrs-at, RowLent, lent, StepOut, out, painter-at, good-paint, good-command, fill-shown, command-shown, depth-step, command-step, depth-fill-at, command-at, bad-row, refused, left, next-step, settled, painted-row}
-use Rattle.paint.specs.Summaries.{good-summary, summary-at, Sound}
+use Rattle.paint.specs.Summaries.{summary-at, Sound}
 use Rattle.paint.specs.Standing.{Stands, PainterReady, Holds}
-use Rattle.paint.proofs.Steps.{then_finished, good_counts}
 use Rattle.paint.proofs.ByRules.{held, same_row, next}
-
--- the contract's equation allows one result
-pub once : (r q : Painted) (d d' p p' l l' : List ℕ) → out r d p l ≡ out q d' p' l' → (r ≡ q) × (d ≡ d') × (p ≡ p') × (l ≡ l')
-once r q d d' p p' l l' e =
-    (ap (λ (o : StepOut). o.answer) e, ap (λ (o : StepOut). o.depth) e, ap (λ (o : StepOut). o.painting) e, ap (λ (o : StepOut). o.list) e)
 
 -- Nothing is forged, and the summary is sound for the depth words: the step is the rules' step of the row. It is refused, by 14, only if the list is shorter than its pieces.
 module _ (width : Width) (a : Attrs) (ps : List ℕ) (paints : ℕ) (ls : List ℕ) (layers : ℕ) (h : Holds a ps paints ls layers)
@@ -45,43 +29,6 @@ module _ (width : Width) (a : Attrs) (ps : List ℕ) (paints : ℕ) (ls : List �
 
   pub by-rules : painted-row v (attrs-at ps paints ls layers) (lent s re fi D P l) ≡ settled (Some (paint-step v a r (painter-at D P))) D P l
   by-rules = same_row v (attrs-at ps paints ls layers) a (held a ps paints ls layers h) (lent s re fi D P l) ∙ stands
-
-  fits : length (paint-step v a r (painter-at D P)).pieces ≤ length l / piece-size
-      → settled (Some (paint-step v a r (painter-at D P))) D P l ≡ left (paint-step v a r (painter-at D P)) l
-  unfolding settled
-  fits m = rw (le-ltb _ _ m)
-
-  pub by-rules-done : length (paint-step v a r (painter-at D P)).pieces ≤ length l / piece-size
-      → painted-row v (attrs-at ps paints ls layers) (lent s re fi D P l) ≡ left (paint-step v a r (painter-at D P)) l
-  by-rules-done m = by-rules ∙ fits m
-
--- Every row. The number is 0, 4 or 14, and any but 0 leaves every word as it was.
-abbrev pub Kept : StepOut → List ℕ → List ℕ → List ℕ → Type 0
-Kept o d p l = (o.depth ≡ d) × (o.painting ≡ p) × (o.list ≡ l)
-
-abbrev pub Settled : StepOut → List ℕ → List ℕ → List ℕ → Type 0
-Settled o d p l =
-    (o.answer.number ≡ 0) ⊎ (((o.answer.number ≡ 4) ⊎ (o.answer.number ≡ 14)) × Kept o d p l)
-
-settles : (o : Option rules.Painted) (d p l : List ℕ) → Settled (settled o d p l) d p l
-unfolding settled
-settles None d p l = inr (inl refl, (refl, refl, refl))
-settles (Some o) d p l = go (ltb (length l / piece-size) (length o.pieces))
-  where
-    go : (t : Bool) → Settled (cond t (out (refused 14) d p l) (left o l)) d p l
-    go true = inr (inr refl, (refl, refl, refl))
-    go false = inl refl
-
-pub done-or-kept : (v : ℕ) (a : Attrs) (w : RowLent) → Settled (painted-row v a w) w.depth w.painting w.list
-unfolding painted-row
-done-or-kept v a w = settles (next-step v a w) w.depth w.painting w.list
-
--- After the last step: finished, no piece, and nothing changes.
-pub at-the-end : (v : ℕ) (ps : List ℕ) (paints : ℕ) (ls : List ℕ) (layers : ℕ) (s re fi D P l : List ℕ)
-    → 4 * word s 0 ≤ length re → 2 * word s 1 ≤ length fi → word P 1 ≤ 16 → good-summary s ≡ true → word P 0 ≡ word s 1 + word s 0 → length P ≡ 2
-    → painted-row v (attrs-at ps paints ls layers) (lent s re fi D P l) ≡ out (record { number = 0; finished = true; pieces = 0 }) D P l
-at-the-end v ps paints ls layers s re fi D P l h1 h2 h3 h0 e two =
-    sym (then_finished v (attrs-at ps paints ls layers) D P l s re fi (good_counts s re fi P h1 h2 h3 (omega arith) h0 D l) (omega arith) (omega arith) two)
 
 -- A step leaves as many depth words as there were, and two painting words.
 length-written : (id : ℕ) (r : Span) (i : ℕ) (bs : List ℕ) → length (written_from i id r bs) ≡ length bs

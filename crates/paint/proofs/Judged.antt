@@ -1,10 +1,6 @@
 -- What the judges' numbers say. Assumes nothing.
-use mathlib.Core.Path.{◌≡◌, refl}
-use mathlib.Core.Bool.{Bool, true, false, ◌&&◌, not, cond}
-use Prim.Native.Nat.{ℕ, ◌≤◌, ◌<◌}
-use native.Mathlib.Omega.{arith}
-use lib.Dec.{leb, eqb}
-use borrow.Author.Tests.{eqb-true, eqb-false, leb-false, not-false}
+use Rattle.std.proofs.Common.{◌≡◌, refl, Bool, true, false, ◌&&◌, not, cond, ℕ, ◌≤◌, ◌<◌, arith, leb, eqb, eqb-true, leb-false}
+use borrow.Author.Tests.{eqb-false, not-false}
 use Rattle.rules.specs.Boxes.{good_viewport}
 use Rattle.rules.specs.Walk.{good-room}
 use Rattle.rect.specs.Rects.{box_of}

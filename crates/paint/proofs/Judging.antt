@@ -1,18 +1,11 @@
 -- What the tests of a step say of the attributes and their ids. Assumes nothing.
-use mathlib.Core.Path.{◌≡◌, refl, ap, ◌∙◌}
-use mathlib.Core.Bool.{Bool, true, false, ◌&&◌}
-use mathlib.Core.List.{List, map}
-use Prim.Native.Nat.{ℕ, zero, suc, ◌≤◌, ◌<◌, ◌+◌}
-use native.Mathlib.Nat.{add-zero, zero-add, not-suc-le-zero, le_of_suc-le-suc}
-use native.Mathlib.Omega.{arith}
-use lib.ListN.{length, get_or, length-map}
-use lib.Dec.{ltb}
-use borrow.Author.Tests.{lt-ltb, le-ltb, ltb-true}
+use Rattle.std.proofs.Common.{◌≡◌, refl, ap, ◌∙◌, Bool, true, false, ◌&&◌, List, map, ℕ, zero, suc, ◌≤◌, ◌<◌, ◌+◌, add-zero, zero-add, not-suc-le-zero, le_of_suc-le-suc, arith, length, get_or, ltb}
+use Rattle.std.proofs.Common.{lt-ltb, le-ltb, ltb-true, Option, None, Some, Ok, Err, ok_or}
+use lib.ListN.{length-map}
 use Rattle.rules.specs.Lists.{count-from}
 use Rattle.rules.specs.Inputs.{good-panel}
 use Rattle.rules.specs.Attributes.{PaintAttr, LayerAttr, Attrs, no-paint, no-layer}
 use Rattle.rules.specs.Painting.{paint-id, paint-panel, layer-id, layer-panel}
-use Rattle.std.specs.Prelude.{Option, None, Some, Ok, Err, ok_or}
 use Rattle.sizes.specs.declared.answers.Refusal.{Refusal}
 use Rattle.cmd.specs.Reading.{only_if}
 use Rattle.rules.proofs.All.{and_right}

@@ -15,7 +15,6 @@ pub mod ScreenParts
 pub mod ScreenRuns
 pub mod ScreenLaws
 pub mod ScreenExample
-pub mod Once
 pub mod WholeRuns
 pub mod WholeParts
 pub mod Looks
@@ -23,3 +22,4 @@ pub mod Saying
 pub mod Along
 pub mod WholeLaws
 pub mod Putting
+pub mod Kept

@@ -1,21 +1,14 @@
 -- What a call over runs leaves at the start of the result list, and the pieces made of it. Assumes nothing.
-use mathlib.Core.Path.{◌≡◌, refl, sym, ap, ◌∙◌}
-use mathlib.Core.Bool.{Bool, true, false, cond}
-use mathlib.Core.List.{List, [], ◌∷◌, ◌++◌, map, append_assoc}
-use Prim.Native.Nat.{ℕ, zero, suc, ◌≤◌, ◌<◌, ◌+◌, ◌-◌, ◌*◌, ◌/◌}
-use native.Mathlib.Nat.{not-suc-le-zero, le_of_suc-le-suc}
-use native.Mathlib.Omega.{arith}
-use lib.ListN.{length, get_or, take, drop, length-append, length-drop, length-map, take-append-drop}
-use lib.Seq.{length-take-le, take-length, take-suc, drop-append-add, drop-append-le, drop-drop}
-use lib.Dec.{ltb}
-use borrow.Author.Tests.{ltb-false}
+use Rattle.std.proofs.Common.{◌≡◌, refl, sym, ap, ◌∙◌, Bool, true, false, cond, List, [], ◌∷◌, ◌++◌, map, append_assoc, ℕ, zero, suc, ◌≤◌, ◌<◌, ◌+◌, ◌-◌, ◌*◌, ◌/◌, not-suc-le-zero, le_of_suc-le-suc}
+use Rattle.std.proofs.Common.{arith, length, get_or, take, drop, length-append, length-drop, take-append-drop, length-take-le, take-suc, drop-drop, ltb, ltb-false, Ok, Err}
+use lib.ListN.{length-map}
+use lib.Seq.{take-length, drop-append-add, drop-append-le}
 use Rattle.sizes.specs.Sizes.{piece-size}
 use Rattle.rules.specs.Answers as rules
 use Rattle.rules.specs.Lists.{join}
 use Rattle.rules.specs.Spans.{Span, span}
 use Rattle.rules.specs.Depth as rule
 use Rattle.rules.specs.Painting.{Piece}
-use Rattle.std.specs.Prelude.{Ok, Err}
 use Rattle.sizes.specs.declared.answers.Refusal.{Refusal}
 use Rattle.sizes.specs.Refusals.{number_of}
 use Rattle.sizes.proofs.Refusals.{not_done}

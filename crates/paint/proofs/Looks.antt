@@ -1,12 +1,6 @@
 -- What one look shows of a fill. Assumes nothing.
-use mathlib.Core.Path.{◌≡◌, refl, ◌∙◌}
-use mathlib.Core.Bool.{Bool, true, false, cond}
-use mathlib.Core.List.{List, [], ◌∷◌, map}
-use Prim.Native.Nat.{ℕ, ◌+◌, ◌-◌, ◌*◌, ◌/◌, ◌%◌, ◌≤◌, ◌<◌, min, max}
-use native.Mathlib.Omega.{arith}
-use lib.ListN.{length, get_or}
-use lib.Dec.{ltb, eqb}
-use borrow.Author.Tests.{lt-ltb, le-leb, lt-leb, eqb-true, ltb-true}
+use Rattle.std.proofs.Common.{◌≡◌, refl, ◌∙◌, true, false, List, [], ◌∷◌, map, ℕ, ◌+◌, ◌-◌, ◌*◌, ◌/◌, ◌%◌, ◌≤◌, ◌<◌, min, max, arith, length, get_or, eqb, lt-ltb, le-leb}
+use borrow.Author.Tests.{lt-leb}
 use Rattle.rules.specs.Spans.{Span, span, common}
 use Rattle.rules.specs.Depth.{Summary, can_skip, is-visible, runs-in, tiles-of, runs, visible-runs}
 use Rattle.sizes.specs.declared.width.Width.{Width}
@@ -53,9 +47,6 @@ module _ (D : List ℕ) (id a e : ℕ) (f : e ≤ length D) where
   pub hidden-on : (i : ℕ) → Hidden D id a e i → i < e → id < get_or D i 0 → Hidden D id a e (i + 1)
   hidden-on i r h g =
       record { past = omega (arith, r.past); within = omega arith; rest = r.rest ∙ runs_closed (is-visible id) D e f i h (lt-leb _ _ g) }
-
-  pub hidden-stop : (i : ℕ) → Hidden D id a e i → get_or D i 0 ≤ id → HiddenTo D id a e i
-  hidden-stop i r g = record { past = r.past; within = r.within; found = r.rest; other = λ z. le-leb _ _ g }
 
   pub hidden-end : (i : ℕ) → Hidden D id a e i → e ≤ i → HiddenTo D id a e i
   hidden-end i r h = record { past = r.past; within = r.within; found = r.rest; other = λ z. absurd (omega arith) }
@@ -110,18 +101,6 @@ module _ (v : ℕ) (u : Summary) (D : List ℕ) (id : ℕ) (s : Span) (h : s.fir
 -- the tiles are there if the buckets that they meet are
 tiles-there : (w : Width) (g n : ℕ) → (g + (bucket-tiles w - 1)) / bucket-tiles w ≤ n → g ≤ bucket-tiles w * n
 tiles-there w g n h = each (λ w. (g + (w - 1)) / w ≤ n → g ≤ w * n) (λ h. omega arith) (λ h. omega arith) (λ h. omega arith) w h
-
--- what is said
-pub none_said : (v : ℕ) (u : Summary) (D : List ℕ) (id t w x : ℕ) → FillSaid v u D id t w x 0 0 0
-none_said v u D id t w x =
-    record {
-      no-push = λ h. omega arith;
-      no-pop = λ h. omega arith;
-      good = λ h. absurd (omega arith);
-      whole = λ h. absurd (omega arith);
-      hidden = λ h. absurd (omega arith);
-      partly = λ h. absurd (omega arith);
-    }
 
 -- .. of a fill in order, whose buckets end at e and are there
 module _ (width : Width) (u : Summary) (D : List ℕ) (id t w x : ℕ) (h : w / 65536 < w % 65536) (g : w % 65536 ≤ 8192)
@@ -192,11 +171,3 @@ module _ (width : Width) (u : Summary) (D : List ℕ) (id t w x : ℕ) (h : w / 
         some-hidden r =
             let o = rw (p, q) at r in
             part-said 6 (omega arith) (record { past = o.past; within = rw q at m; fits = rw q at f; found = o.found; other = r.other m })
-
--- a fill's alpha index can be moved over its width
-pub index-moves : (t w x n : ℕ) → Fills t w x → n ≤ w % 65536 - w / 65536 → x + 16 * n < 4294967296
-index-moves t w x n f h = go (eqb (t % 2) 1) f.index
-  where
-    go : (b : Bool) → cond b (eqb x 0) (ltb (x + 16 * (w % 65536 - w / 65536)) 4294967296) ≡ true → x + 16 * n < 4294967296
-    go true e = omega (arith, eqb-true x 0 e, f.high)
-    go false e = omega (arith, ltb-true (x + 16 * (w % 65536 - w / 65536)) 4294967296 e)

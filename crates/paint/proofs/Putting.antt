@@ -1,11 +1,7 @@
 -- A fill's runs put into the list as the search finds them. Assumes nothing.
-use mathlib.Core.Path.{◌≡◌, refl, sym, ap, ◌∙◌}
-use mathlib.Core.Bool.{Bool, true, false}
-use mathlib.Core.List.{List, [], ◌∷◌, ◌++◌, append_assoc, append-nil}
-use Prim.Native.Nat.{ℕ, ◌+◌, ◌*◌, ◌≤◌}
-use native.Mathlib.Omega.{arith}
-use lib.ListN.{length, take, drop, get_or, length-append, take-append-drop}
-use lib.Seq.{take_at, drop-append-add, drop-drop, length-take-le}
+use Rattle.std.proofs.Common.{◌≡◌, refl, sym, ap, ◌∙◌, Bool, true, false, List, [], ◌∷◌, ◌++◌, append_assoc, append-nil, ℕ, ◌+◌, ◌*◌, ◌≤◌, arith, length, take, drop, get_or, length-append}
+use Rattle.std.proofs.Common.{take-append-drop, take_at, drop-drop, length-take-le, ltb, leb-true, ltb-true, ltb-false}
+use lib.Seq.{drop-append-add}
 use Rattle.sizes.specs.Sizes.{piece-size}
 use Rattle.rules.specs.Lists.{join}
 use Rattle.rules.specs.Spans.{Span, span}
@@ -18,8 +14,6 @@ use Rattle.paint.specs.declared.whole.pieces.Cut.{Cut}
 use Rattle.paint.specs.Cuts.{LookedCut, FirstRun, cut_words, met}
 use Rattle.depth.specs.declared.search.Run.{Run}
 use Rattle.sizes.specs.Widths.{bucket-tiles}
-use lib.Dec.{ltb}
-use borrow.Author.Tests.{leb-true, ltb-true, ltb-false}
 
 -- words after words
 module _ (xs : List ℕ) (at : ℕ) (vs ws : List ℕ) (h : at + length vs ≤ length xs) where

@@ -1,13 +1,6 @@
 -- What is said of a command, and what its step then leaves. Assumes nothing.
-use mathlib.Core.Path.{◌≡◌, refl, sym, ap, ◌∙◌}
-use mathlib.Core.Bool.{Bool, true, false}
-use mathlib.Core.List.{List, [], ◌∷◌, ◌++◌, map}
-use mathlib.Core.Logic.{◌⊎◌, inl, inr}
-use Rattle.std.specs.Prelude.{Option, None, Some}
-use Prim.Native.Nat.{ℕ, zero, suc, ◌+◌, ◌-◌, ◌*◌, ◌/◌, ◌%◌, ◌≤◌, ◌<◌}
-use native.Mathlib.Omega.{arith}
-use lib.ListN.{length, length-map}
-use borrow.Author.Tests.{lt-ltb, le-ltb, le-leb, eqb-true, eq-eqb}
+use Rattle.std.proofs.Common.{◌≡◌, refl, sym, ap, ◌∙◌, Bool, true, false, List, [], ◌∷◌, ◌++◌, map, ◌⊎◌, inl, inr, Option, None, Some, ℕ, zero, suc, ◌+◌, ◌-◌, ◌*◌, ◌/◌, ◌%◌, ◌≤◌, ◌<◌, arith, length, lt-ltb, le-ltb, le-leb, eqb-true, eq-eqb}
+use lib.ListN.{length-map}
 use Rattle.sizes.specs.Sizes.{piece-size}
 use Rattle.rules.specs.Lists.{join}
 use Rattle.rules.specs.Spans.{Span, common, moved}
@@ -81,16 +74,6 @@ module _ (v : ℕ) (attrs : Attrs) (u : Summary) (D : List ℕ) (m : ℕ) where
         rw (e, n, le-ltb (length l / piece-size) (length rs) (omega arith), pieces-same layer a rs)
 
   module _ (t w x i : ℕ) where
-    pub said-none : Said v attrs u D m t w x i 0 0 0 0
-    said-none =
-        record {
-          whole = λ h. absurd (omega arith);
-          hidden = λ h. absurd (omega arith);
-          pushed = λ h. absurd (omega arith);
-          popped = λ h. absurd (omega arith);
-          partly = λ h. absurd (omega arith);
-        }
-
     -- buffers
     said_push : (c : Option Span) → m < 16 → command_of t w x i ≡ Some (push-buf c) → Said v attrs u D m t w x i 3 0 0 0
     unfolding command-step command-shown paint-command

@@ -1,9 +1,5 @@
--- The rules' worked example painted to its end, its two rows by turns, by computation. Assumes nothing.
-use mathlib.Core.Path.{◌≡◌, refl}
-use mathlib.Core.Bool.{Bool, true, false}
-use mathlib.Core.List.{List, [], ◌∷◌, ◌++◌}
-use Prim.Native.Nat.{ℕ, ◌+◌, ◌-◌, ◌*◌}
-use lib.ListN.{replicate, take}
+-- Tests: the rules' worked example painted to its end, its two rows by turns, by computation. Assumes nothing.
+use Rattle.std.proofs.Common.{◌≡◌, refl, Bool, true, false, List, [], ◌∷◌, ◌++◌, ℕ, ◌+◌, ◌-◌, ◌*◌, replicate, take}
 use Rattle.sizes.specs.Sizes.{paint-attr-size, paint-attr-table, layer-attr-size, layer-attr-table, piece-size}
 use Rattle.sizes.specs.declared.width.Width.TheVariants.{W128}
 use Rattle.rules.specs.Boxes.{good_viewport}

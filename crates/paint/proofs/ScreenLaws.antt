@@ -1,73 +1,22 @@
--- What callers may use: each contract's equation allows one result, and a step of a row leaves the others as they were. Assumes nothing.
-use mathlib.Core.Path.{◌≡◌, refl, sym, ap, ◌∙◌}
-use mathlib.Core.Bool.{Bool, true, false, ◌&&◌, cond}
-use Rattle.std.specs.Prelude.{Some}
-use mathlib.Core.List.{List}
-use Prim.Native.Nat.{ℕ, zero, suc, ◌<◌, ◌*◌}
-use native.Mathlib.Omega.{arith}
-use lib.ListN.{length, drop}
-use lib.Dec.{eqb}
-use borrow.Author.Tests.{eq-eqb, eqb-true}
+-- What callers may use of a painting step: it leaves the other rows as they were, and where nothing is forged it is the rules' step. Assumes nothing.
+use Rattle.std.proofs.Common.{◌≡◌, refl, sym, ap, ◌∙◌, Bool, true, false, ◌&&◌, cond, Some, List, ℕ, zero, suc, ◌<◌, ◌*◌, arith, length, drop, eqb, eq-eqb, eqb-true}
 use Rattle.sizes.specs.Sizes.{paint-attr-table, layer-attr-table}
 use Rattle.sizes.specs.Widths.{bucket-tiles}
-use Rattle.rules.specs.Answers as rules
-use Rattle.rules.specs.Answers.{answer}
 use Rattle.rules.specs.Attributes.{Attrs}
 use Rattle.rules.specs.Rows.{Row}
 use Rattle.rules.specs.Painting.{paint-step}
-use Rattle.depth.proofs.Once.{out_once}
-use Rattle.row.proofs.RowsLaws.{part-0, part-suc, less, head-0, tail-0, head-suc, tail-suc, part-long}
+use Rattle.row.proofs.RowsLaws.{part-0, part-suc, less, tail-0, head-suc, tail-suc, part-long}
 use Rattle.screen.specs.declared.Screen.{Screen}
-use Rattle.std.specs.Prelude.{Result}
-use Rattle.sizes.specs.declared.answers.Refusal.{Refusal}
-use Rattle.sizes.specs.Refusals.{answer_number}
-use Rattle.paint.specs.declared.pieces.Stepped.{Stepped}
-use Rattle.paint.specs.Answers.{painted_of}
-use Rattle.paint.proofs.Once.{number_once, painted_once}
 use Rattle.rules.proofs.All.{and_left, and_right}
 use Rattle.paint.specs.Painting.{attrs-at, RowLent, StepOut, out, painter-at, refused, settled, painted-row}
 use Rattle.paint.specs.Summaries.{summary-at, Sound}
 use Rattle.paint.specs.Standing.{Stands, PainterReady, Holds}
 use Rattle.paint.proofs.CommandLaws.{by-rules, same-lengths}
 use Rattle.paint.specs.Judging.{count, wide}
-use Rattle.paint.specs.Beginning.{Canvas, canvas}
 use Rattle.paint.specs.Stepping.{part, with_part, Attributes, own, in_place, number, row_step, stepped}
-use Rattle.paint.specs.DirectRuns.{Wrote, wrote}
 use Rattle.paint.proofs.Judged.{step-there}
 
--- One result.
-pub begin-once : (r q : Result Unit Refusal) (s t : Screen) (d e p o : List ℕ)
-    → answer (answer_number r) (canvas s d p) ≡ answer (answer_number q) (canvas t e o)
-    → (r ≡ q) × (s ≡ t) × (d ≡ e) × (p ≡ o)
-begin-once r q s t d e p o h = (
-  number_once r q (ap (λ (x : rules.Answer Canvas). x.number) h),
-  ap (λ (x : rules.Answer Canvas). x.value.screen) h,
-  ap (λ (x : rules.Answer Canvas). x.value.depth) h,
-  ap (λ (x : rules.Answer Canvas). x.value.painting) h,
-)
-
-pub step-once : (r q : Result Stepped Refusal) (d e p o l m : List ℕ) → out (painted_of r) d p l ≡ out (painted_of q) e o m
-    → (r ≡ q) × (d ≡ e) × (p ≡ o) × (l ≡ m)
-step-once r q d e p o l m h = (
-  painted_once r q (ap (λ (x : StepOut). x.answer) h),
-  ap (λ (x : StepOut). x.depth) h,
-  ap (λ (x : StepOut). x.painting) h,
-  ap (λ (x : StepOut). x.list) h,
-)
-
-pub write-once : (r q : Result ℕ Refusal) (s t : Screen) (l m d e : List ℕ) → wrote r s l d ≡ wrote q t m e → (r ≡ q) × (s ≡ t) × (l ≡ m) × (d ≡ e)
-write-once r q s t l m d e h =
-    let o = out_once r q l m (ap (λ (x : Wrote). x.listed) h) in
-    (o.0, ap (λ (x : Wrote). x.screen) h, o.1, ap (λ (x : Wrote). x.depth) h)
-
--- A part that is put in its place stands there, ..
-pub part-own : (k n r : ℕ) (xs ys : List ℕ) → r < n → length xs ≡ n * k → length ys ≡ k → part k r (with_part k r xs ys) ≡ ys
-part-own k zero r xs ys h l m = absurd (omega arith)
-part-own k (suc n) zero xs ys h l m = part-0 k 0 _ ∙ head-0 k 0 xs ys n l m
-part-own k (suc n) (suc r) xs ys h l m =
-    sym (part-suc k r _) ∙ rw (tail-suc k r xs ys n l m) (part-own k n r (drop k xs) ys (omega arith) (less n k xs l) m)
-
--- .. and every other row's part is as it was
+-- a part that is put in its place leaves every other row's as it was
 pub part-other : (k n r q : ℕ) (xs ys : List ℕ) → r < n → q < n → (q ≡ r → ⊥) → length xs ≡ n * k → length ys ≡ k
     → part k q (with_part k r xs ys) ≡ part k q xs
 part-other k zero r q xs ys h g d l m = absurd (omega arith)

@@ -1,13 +1,5 @@
 -- A row's own part of a screen's words. Assumes nothing.
-use mathlib.Core.Path.{◌≡◌, sym}
-use mathlib.Core.Bool.{true, ◌&&◌}
-use mathlib.Core.List.{List}
-use Prim.Native.Nat.{ℕ, ◌≤◌, ◌<◌, ◌+◌, ◌-◌, ◌*◌}
-use native.Mathlib.Omega.{arith}
-use lib.ListN.{length, take, drop, length-drop}
-use lib.Seq.{length-take-le}
-use lib.Dec.{eqb, leb}
-use borrow.Author.Tests.{ne_eqb, eqb-true, leb-true}
+use Rattle.std.proofs.Common.{◌≡◌, sym, true, ◌&&◌, List, ℕ, ◌≤◌, ◌<◌, ◌+◌, ◌-◌, ◌*◌, arith, length, take, drop, length-drop, length-take-le, eqb, leb, ne_eqb, eqb-true, leb-true}
 use borrow.Rule.Slice.PartMut.{put_mid}
 use Rattle.sizes.specs.Sizes.{paint-attr-table, layer-attr-table}
 use Rattle.row.proofs.RowsLaws.{within, small}

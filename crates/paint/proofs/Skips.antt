@@ -1,16 +1,7 @@
 -- Where a summary is sound, a fill's runs by the summary are its visible runs, and painting keeps it sound. Assumes nothing.
-use mathlib.Core.Path.{◌≡◌, refl, sym, ap, ◌∙◌}
-use mathlib.Core.Bool.{Bool, true, false, ◌&&◌, ◌||◌, cond}
-use mathlib.Core.List.{List, [], ◌∷◌, map}
-use mathlib.Core.Logic.{◌⊎◌, inl, inr, ⊎_elim}
-use Rattle.std.specs.Prelude.{Option, None, Some}
-use Prim.Native.Nat.{ℕ, zero, suc, ◌≤◌, ◌<◌, ◌+◌, ◌-◌, ◌*◌, ◌/◌}
-use native.Mathlib.Nat.{add-zero, add-suc, suc-add, zero-add, mul_comm, suc-mul, mul-le-mul_right}
-use native.Mathlib.Omega.{arith}
-use lib.ListN.{length, get_or, drop, replicate, length-drop}
-use lib.Seq.{length-take-le, get_or-take, get_or-drop}
-use lib.Dec.{leb, ltb}
-use borrow.Author.Tests.{eq-eqb, le-leb, leb-true, ltb-true, ltb-false}
+use Rattle.std.proofs.Common.{◌≡◌, refl, sym, ap, ◌∙◌, Bool, true, false, ◌&&◌, ◌||◌, cond, List, [], ◌∷◌, map, ◌⊎◌, inl, inr, ⊎_elim, Option, None, Some, ℕ, zero, suc, ◌≤◌, ◌<◌, ◌+◌, ◌-◌, ◌*◌, ◌/◌}
+use Rattle.std.proofs.Common.{add-zero, add-suc, suc-add, zero-add, mul_comm, suc-mul, mul-le-mul_right, arith, length, get_or, drop, replicate, length-drop, length-take-le, get_or-take, get_or-drop}
+use Rattle.std.proofs.Common.{leb, ltb, eq-eqb, le-leb, leb-true, ltb-true, ltb-false}
 use Rattle.sizes.specs.declared.width.Width.{Width}
 use Rattle.sizes.specs.Widths.{bucket-tiles}
 use Rattle.rules.specs.Lists.{slice}

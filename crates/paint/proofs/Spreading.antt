@@ -1,10 +1,6 @@
 -- Runs at a list's start become pieces, from the last to the first. Assumes nothing.
-use mathlib.Core.Path.{◌≡◌, refl, sym, subst, ◌∙◌}
-use mathlib.Core.List.{List, [], ◌∷◌, ◌++◌, map, append_assoc}
-use Prim.Native.Nat.{ℕ, zero, suc, ◌≤◌, ◌<◌, ◌+◌, ◌-◌, ◌*◌}
-use native.Mathlib.Omega.{arith}
-use lib.ListN.{length, take, drop, length-append, length-map}
-use lib.Seq.{length-take-le, drop_at}
+use Rattle.std.proofs.Common.{◌≡◌, refl, sym, subst, ◌∙◌, List, [], ◌∷◌, ◌++◌, map, append_assoc, ℕ, zero, suc, ◌≤◌, ◌<◌, ◌+◌, ◌-◌, ◌*◌, arith, length, take, drop, length-append, length-take-le, drop_at}
+use lib.ListN.{length-map}
 use Rattle.sizes.specs.Sizes.{piece-size}
 use Rattle.rules.specs.Lists.{join}
 use Rattle.rules.specs.Spans.{Span}
@@ -53,9 +49,6 @@ module _ (w : ℕ) (b : Brush) where
     pub fits : (j : ℕ) → j < k → Fits w b (run_at l j)
     pub rest : words k l ≡ words n l₀
 
-  pub spread-first : (l : List ℕ) (n : ℕ) → piece-size * n ≤ length l → ((j : ℕ) → j < n → Fits w b (run_at l j)) → Spreading l n n l
-  spread-first l n h g = record { kept = refl; room = h; fits = g; rest = refl }
-
   module _ (l : List ℕ) (k : ℕ) (h : piece-size * suc k ≤ length l) where
     next : List ℕ
     next = words-at l (piece-size * k) (piece-words (piece (run_at l k)))
@@ -91,9 +84,6 @@ module _ (w : ℕ) (b : Brush) where
         }
 
   module _ (l₀ : List ℕ) (n k : ℕ) (l : List ℕ) (s : Spreading l₀ n k l) where
-    pub spread-fits : 0 < k → Fits w b (run_at l (k - 1))
-    spread-fits h = s.fits (k - 1) (omega arith)
-
     pub spread-again : (l' : List ℕ) → 0 < k → l' ≡ words-at l (piece-size * (k - 1)) (piece-words (piece (run_at l (k - 1)))) → Spreading l₀ n (k - 1) l'
     unfolding next
     spread-again l' h e =

@@ -1,31 +1,22 @@
 -- The step that is judged and the step that is done, way by way. Assumes nothing.
-use mathlib.Core.Path.{◌≡◌, refl, sym, ap, ◌∙◌}
-use mathlib.Core.Bool.{Bool, true, false, ◌||◌, not}
-use mathlib.Core.List.{List, [], ◌∷◌, map}
-use Rattle.std.specs.Prelude.{Option, None, Some, option_map, Ok, ok_or}
+use Rattle.std.proofs.Common.{◌≡◌, refl, sym, ap, ◌∙◌, Bool, true, false, ◌||◌, not, List, [], ◌∷◌, map, Option, None, Some, option_map, Ok, ok_or, ℕ, zero, suc, ◌≤◌, ◌<◌, ◌+◌, ◌-◌, ◌*◌, ◌/◌, arith, length, ltb, lt-ltb, le-ltb, ltb-false}
 use Rattle.sizes.specs.declared.answers.Refusal.TheVariants.{BadRecord}
-use Prim.Native.Nat.{ℕ, zero, suc, ◌≤◌, ◌<◌, ◌+◌, ◌-◌, ◌*◌, ◌/◌}
-use native.Mathlib.Omega.{arith}
-use lib.ListN.{length}
-use lib.Dec.{ltb}
-use borrow.Author.Tests.{lt-ltb, le-ltb, ltb-false}
 use Rattle.sizes.specs.Sizes.{piece-size}
 use Rattle.rules.specs.Attributes.{Attrs, no-attrs}
-use Rattle.rules.specs.Spans.{Span}
 use Rattle.rules.specs.Commands as rule
 use Rattle.cmd.specs.Reading.{depth_fill_of}
 use Rattle.rules.specs.Depth.{Summary, write-runs, written}
 use Rattle.rules.specs.Painting as rules
 use Rattle.rules.specs.Painting.{gives, depth-piece, paint-depth, paint-command}
 use Rattle.span.specs.declared.TileSpan.{TileSpan}
-use Rattle.span.specs.Spans.{tiles, buckets, Moves}
+use Rattle.span.specs.Spans.{tiles, buckets}
 use Rattle.cmd.specs.declared.command.Fill.{Fill}
 use Rattle.cmd.specs.declared.command.RenderCmd.{RenderCmd}
 use Rattle.cmd.specs.declared.command.RenderCmd.TheVariants.{PaintFill, LayerFill, PushBuf, PopBuf}
 use Rattle.cmd.specs.declared.depth_fill.DepthFill.{DepthFill}
 use Rattle.cmd.specs.Commands.{command}
 use Rattle.cmd.specs.DepthFills.{depth-fill}
-use Rattle.cmd.specs.Good.{GoodAlpha, GoodCommand}
+use Rattle.cmd.specs.Good.{GoodCommand}
 use Rattle.cmd.proofs.BothWays.{depth-reads-good, reads-good}
 use Rattle.paint.specs.Answers.{Painted, Advanced, advanced}
 use Rattle.paint.specs.Painting.{word, RowLent, lent, StepOut, out, painter-at, good-paint, good-layer, fill-shown, command-shown, depth-step, command-step, depth-fill-at, command-at, bad-row, next-step, refused, listed, settled, painted-row}
@@ -179,10 +170,6 @@ module _ (wide : ℕ) (attrs : Attrs) (D P l : List ℕ) where
 
 -- the counts of a row that is not forged
 module _ (s r f P : List ℕ) where
-  pub good_counts : 4 * word s 0 ≤ length r → 2 * word s 1 ≤ length f → word P 1 ≤ 16 → word P 0 ≤ word s 1 + word s 0 → good-summary s ≡ true
-      → (D l : List ℕ) → bad-row (lent s r f D P l) ≡ false
-  good_counts h1 h2 h3 h4 h0 D l = rw (le-ltb _ _ h1, le-ltb _ _ h2, le-ltb _ _ h3, le-ltb _ _ h4, h0)
-
   pub record Counts : Type 0 where
     pub renders : 4 * word s 0 ≤ length r
     pub depths : 2 * word s 1 ≤ length f
@@ -209,20 +196,3 @@ depth_good n s i r f h e =
 -- what a command that was read gives
 pub command_good : (ws : List ℕ) (k : ℕ) (r : Option RenderCmd) (c : RenderCmd) → option_map command r ≡ command-at ws k → r ≡ Some c → GoodCommand (command c)
 command_good ws k r c h e = reads-good _ _ _ _ (command c) (sym h ∙ ap (option_map command) e)
-
-moves : (a : Option ℕ) (s : Span) → GoodAlpha s a → Moves a (s.end - s.first)
-moves None s g = tt
-moves (Some a) s g = g
-
-abbrev pub GoodFill : Fill → Type 0
-GoodFill f = (f.span.first ≤ f.span.end) × (f.span.end ≤ 8192) × Moves f.alpha (f.span.end - f.span.first)
-
-pub paint_good : (c : RenderCmd) (f : Fill) → c ≡ PaintFill f → GoodCommand (command c) → GoodFill f
-paint_good c f e g =
-    let h : GoodCommand (command (PaintFill f)) = rw e at g in
-    (h.0.in_order, h.0.in-limit, moves f.alpha (tiles f.span) h.1)
-
-pub layer_good : (c : RenderCmd) (f : Fill) → c ≡ LayerFill f → GoodCommand (command c) → GoodFill f
-layer_good c f e g =
-    let h : GoodCommand (command (LayerFill f)) = rw e at g in
-    (h.0.in_order, h.0.in-limit, moves f.alpha (tiles f.span) h.1)

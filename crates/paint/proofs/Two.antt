@@ -1,9 +1,5 @@
 -- A row's painting words are two. Assumes nothing.
-use mathlib.Core.Path.{◌≡◌, refl}
-use mathlib.Core.List.{List, [], ◌∷◌}
-use Prim.Native.Nat.{ℕ}
-use native.Mathlib.Omega.{arith}
-use lib.ListN.{length, set}
+use Rattle.std.proofs.Common.{◌≡◌, refl, List, [], ◌∷◌, ℕ, arith, length, set}
 use Rattle.paint.specs.Answers.{word}
 
 pub two_set : (p : List ℕ) (x : ℕ) → length p ≡ 2 → set p 0 x ≡ x ∷ word p 1 ∷ []

@@ -1,15 +1,6 @@
 -- A row's steps in their place on the screen. Assumes nothing.
-use mathlib.Core.Path.{◌≡◌, refl, sym, ap, ◌∙◌}
-use mathlib.Core.Bool.{Bool, true, false, cond}
-use mathlib.Core.List.{List, ◌++◌}
-use Rattle.std.specs.Prelude.{Option, None, Some}
-use Prim.Native.Nat.{ℕ, zero, suc, ◌+◌, ◌-◌, ◌*◌, ◌/◌}
-use native.Mathlib.Nat.{zero-add}
-use native.Mathlib.Omega.{arith}
-use lib.ListN.{length, take, drop, length-drop}
-use lib.Seq.{length-take-le, take_at, drop_at}
-use lib.Dec.{ltb}
-use borrow.Author.Tests.{eq-eqb, ne_eqb}
+use Rattle.std.proofs.Common.{◌≡◌, refl, sym, ap, ◌∙◌, Bool, true, false, cond, List, ◌++◌, Option, None, Some, ℕ, zero, suc, ◌+◌, ◌-◌, ◌*◌, ◌/◌, zero-add, arith, length, take, drop, length-drop}
+use Rattle.std.proofs.Common.{length-take-le, take_at, drop_at, ltb, eq-eqb, ne_eqb}
 use borrow.Rule.Slice.PartMut.{put_mid, put_same, take_put}
 use Rattle.sizes.specs.Sizes.{piece-size}
 use Rattle.sizes.specs.Widths.{bucket-tiles}
@@ -25,7 +16,7 @@ use Rattle.paint.specs.Painting.{attrs-at, RowLent, lent, StepOut, out, refused,
 use Rattle.paint.proofs.CommandLaws.{same-lengths}
 use Rattle.paint.specs.Judging.{wide}
 use Rattle.paint.specs.Stepping.{part, with_part, Within, Attributes, own-parts, put-parts, own, in_place, number, row_step, stepped}
-use Rattle.paint.proofs.ScreenParts.{part-is, put_is, part_length, ready}
+use Rattle.paint.proofs.ScreenParts.{part-is, put_is, ready}
 use Rattle.paint.specs.Running.{goes_on, ended, one_more, run, most, standing, own-step, own-run, row-run, call_step, row-painted}
 use Rattle.paint.proofs.WholeRuns.{stops, more}
 
@@ -58,9 +49,6 @@ module _ (k r : ℕ) (xs ys : List ℕ) (h : Within k r xs) (e : length ys ≡ k
 
   pub put-long : length (with_part k r xs ys) ≡ length xs
   put-long = put-length (r * k) k xs ys h.ends e
-
-pub cut-length : (k r : ℕ) (xs : List ℕ) → Within k r xs → length (take (r * k + k - r * k) (drop (r * k) xs)) ≡ k
-cut-length k r xs h = rw (part-is k r xs) (part_length k r xs h)
 
 pub part-of-length : (k r : ℕ) (xs : List ℕ) → Within k r xs → length (part k r xs) ≡ k
 part-of-length k r xs h = length-take-le k (drop (r * k) xs) (rw length-drop (omega (arith, h.ends)))

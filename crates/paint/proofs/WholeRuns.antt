@@ -1,14 +1,7 @@
 -- A row's steps one by one. Assumes nothing.
-use mathlib.Core.Path.{◌≡◌, refl, sym, ap, ◌∙◌}
-use mathlib.Core.Bool.{Bool, true, false, ◌&&◌}
-use mathlib.Core.List.{List, ◌++◌, append-nil}
-use Rattle.std.specs.Prelude.{Option, None, Some}
-use Prim.Native.Nat.{ℕ, zero, suc, ◌+◌, ◌-◌, ◌*◌, ◌/◌, ◌≤◌, ◌<◌}
-use native.Mathlib.Omega.{arith}
-use lib.ListN.{length, take, drop, length-drop}
-use lib.Seq.{take_all, drop-length}
-use lib.Dec.{ltb, eqb}
-use borrow.Author.Tests.{ltb-false, eq-eqb, ne_eqb}
+use Rattle.std.proofs.Common.{◌≡◌, refl, sym, ap, ◌∙◌, Bool, true, false, ◌&&◌, List, ◌++◌, append-nil, Option, None, Some, ℕ, zero, suc, ◌+◌, ◌-◌, ◌*◌, ◌/◌, ◌≤◌, ◌<◌, arith, length, take, drop}
+use Rattle.std.proofs.Common.{length-drop, take_all, ltb, eqb, ltb-false, eq-eqb, ne_eqb}
+use lib.Seq.{drop-length}
 use borrow.Rule.Slice.PartMut.{put_mid, Post-is}
 use Rattle.sizes.specs.Sizes.{piece-size}
 use Rattle.rules.specs.Attributes.{Attrs}
@@ -83,9 +76,6 @@ module _ (step : List ℕ → List ℕ → List ℕ → StepOut) where
     pub record Rest (start now : StepOut) (k : ℕ) : Type 0 where
       pub few : k ≤ limit
       pub whole : run step (limit - k) k now ≡ run step limit 0 start
-
-    pub rest_all : (g : StepOut) → Rest g g 0
-    rest_all g = let e : limit - 0 ≡ limit = omega arith in record { few = omega arith; whole = rw e }
 
     -- steps that are done together
     pub rest-far : {start now next : StepOut} {k n : ℕ} → Rest start now k → n ≤ limit - k → Onward step n now next → Rest start next (k + n)

@@ -1,17 +1,9 @@
 -- Where the rules' runs lie. Assumes nothing.
-use mathlib.Core.Path.{◌≡◌, refl}
-use mathlib.Core.Bool.{Bool, true, false, cond}
-use mathlib.Core.List.{List, [], ◌∷◌, map}
-use Prim.Native.Nat.{ℕ, zero, suc, ◌≤◌, ◌<◌, ◌+◌, ◌-◌, ◌*◌, ◌/◌}
-use native.Mathlib.Nat.{not-suc-le-zero, le_of_suc-le-suc, mul-le-mul}
-use native.Mathlib.Omega.{arith}
-use lib.ListN.{length, get_or, length-take, length-drop}
-use lib.Dec.{ltb, eqb}
-use borrow.Author.Tests.{ltb-true}
+use Rattle.std.proofs.Common.{◌≡◌, refl, Bool, true, false, cond, List, [], ◌∷◌, map, ℕ, zero, suc, ◌≤◌, ◌<◌, ◌+◌, ◌-◌, ◌*◌, ◌/◌, not-suc-le-zero, le_of_suc-le-suc, mul-le-mul, arith, length, get_or}
+use Rattle.std.proofs.Common.{length-take, length-drop, ltb, eqb, ltb-true, Option, None, Some}
 use Rattle.rules.specs.Lists.{slice}
 use Rattle.rules.specs.Spans.{Span, span, common}
 use Rattle.rules.specs.Depth.{Summary, join-run, bucket-runs, runs-in, runs, tiles-of, is-unset, is-visible, visible-runs, write-runs}
-use Rattle.std.specs.Prelude.{Option, None, Some}
 use Rattle.sizes.specs.declared.width.Width.{Width}
 use Rattle.span.specs.Spans.{Moves}
 use Rattle.sizes.specs.Widths.{bucket-tiles}

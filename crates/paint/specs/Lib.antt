@@ -12,3 +12,4 @@ pub mod Running
 pub mod Kinds
 pub mod Rows
 pub mod Cuts
+pub mod Named

@@ -1,5 +1,5 @@
-// Painting over a whole screen: begin, what is judged before a row is painted, the runs of a row's depth words, `can_skip`. `begin_painting`, `unset_runs`,
-// `visible_runs`, `unset_runs_and_write` and `can_skip` are public calls: they have no `requires`. The others are parts.
+/// Painting over a whole screen: begin, what is judged before a row is painted, the runs of a row's depth words, `can_skip`. `begin_painting`, `unset_runs`,
+/// `visible_runs`, `unset_runs_and_write` and `can_skip` are public calls: they have no `requires`. The others are parts.
 pub mod begin;
 pub mod judge;
 pub mod rows;

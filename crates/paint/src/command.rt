@@ -1,4 +1,4 @@
-// Painting one row by one step, over its own words. Parts: where a function asks something, its callers have judged it.
+/// Painting one row by one step, over its own words. Parts: where a function asks something, its callers have judged it.
 pub mod fills;
 pub mod marks;
 pub mod reading;

@@ -1,5 +1,5 @@
-// Pieces, seven words each, and what a painting step leaves: pieces in the list, and one step more. Parts: where a function asks something, its callers have
-// judged it.
+//! Pieces, seven words each, and what a painting step leaves: pieces in the list, and one step more. Parts: where a function asks something, its callers have
+//! judged it.
 ghost use Rattle.std.specs.Prelude.{◌≡◌, Ok, [], ◌∷◌, map, ℕ, ◌+◌, ◌*◌, ◌-◌, ◌≤◌, ◌<◌, length};
 ghost use Rattle.sizes.specs.Sizes.{piece-size};
 ghost use Rattle.rules.specs.Spans.{Span, span};
@@ -11,14 +11,14 @@ ghost use Rattle.paint.specs.Answers.{word, painted_of, listed, advanced};
 
 use sizes::PIECE;
 
-// What a step has painted. finished: no step was left. pieces: how many stand in the list.
+/// What a step has painted. finished: no step was left. pieces: how many stand in the list.
 #[derive(Clone, Copy)]
 pub struct Stepped {
     pub finished: bool,
     pub pieces: usize,
 }
 
-// A step is done: in the row's two words, one step more and the nesting after it; and so many pieces in the list.
+/// A step is done: in the row's two words, one step more and the nesting after it; and so many pieces in the list.
 #[tactic(auto, using(crate::proofs::Two::two_both))]
 pub fn advance(painting: &mut [u32], nesting: u32, pieces: usize) -> Stepped
     requires { (length painting.old ≡ 2) × (word painting.old 0 < 4294967295) }
@@ -32,8 +32,8 @@ pub fn advance(painting: &mut [u32], nesting: u32, pieces: usize) -> Stepped
     }
 }
 
-// A piece as it stands in the list. `tag`: 1 and 2 paint, solid and alpha, 3 and 4 layer; tiles from `first` to `end`; `alpha`: its alpha index, or 0.
-// `nesting`: how many buffers are open.
+/// A piece as it stands in the list. `tag`: 1 and 2 paint, solid and alpha, 3 and 4 layer; tiles from `first` to `end`; `alpha`: its alpha index, or 0.
+/// `nesting`: how many buffers are open.
 #[derive(Clone, Copy)]
 pub struct PieceWords {
     pub tag: u32,
@@ -46,7 +46,7 @@ pub struct PieceWords {
 }
 
 impl PieceWords {
-    // Written as piece k of the list.
+    /// Written as piece k of the list.
     pub fn put(self, list: &mut [u32], k: usize)
         requires { piece-size * k + piece-size ≤ length list.old }
         ensures { list.new ≡ words-at list.old (piece-size * k) (words_of self) }
@@ -62,7 +62,7 @@ impl PieceWords {
     }
 }
 
-// A list of pieces that is lent, of which the first `count` are written.
+/// A list of pieces that is lent, of which the first `count` are written.
 #[derive(Drop)]
 pub struct Pieces<'a> {
     pub list: &'a mut [u32],
@@ -71,7 +71,7 @@ pub struct Pieces<'a> {
 }
 
 impl<'a> Pieces<'a> {
-    // A list whose first `count` pieces are written before.
+    /// A list whose first `count` pieces are written before.
     pub fn new(list: &'a mut [u32], count: usize) -> Pieces<'a>
         requires { piece-size * count ≤ length list.old }
         ensures same { result.list.ghost_name ≡ list.entry.ghost_name }
@@ -81,14 +81,14 @@ impl<'a> Pieces<'a> {
         Pieces { list, count }
     }
 
-    // How many words of the list are left.
+    /// How many words of the list are left.
     pub fn left(&self) -> usize
         ensures { result + piece-size * self.now.count ≡ length self.now.list.now }
     {
         self.list.len() - PIECE * self.count
     }
 
-    // One piece more.
+    /// One piece more.
     pub fn push(&mut self, piece: PieceWords)
         requires { piece-size * self.old.count + piece-size ≤ length self.old.list.now }
         ensures same { self.new.list.ghost_name ≡ self.old.list.ghost_name }
@@ -112,7 +112,7 @@ fn tag(layer: bool, alpha: Option<u32>) -> u32
     }
 }
 
-// What the pieces of one step have in common. `first` is the tile that the alpha index belongs to.
+/// What the pieces of one step have in common. `first` is the tile that the alpha index belongs to.
 #[derive(Clone, Copy)]
 pub struct Brush {
     pub layer: bool,
@@ -142,7 +142,7 @@ impl Brush {
     }
 }
 
-// The n runs at the list's start, two words each, in units of `width` tiles, become n pieces in their place, from the last to the first.
+/// The n runs at the list's start, two words each, in units of `width` tiles, become n pieces in their place, from the last to the first.
 pub fn spread(list: &mut [u32], n: usize, width: u32, brush: Brush)
     requires { (piece-size * n ≤ length list.old) × ((k : ℕ) → k < n → Fits width brush (run_at list.old k)) }
     ensures { list.new ≡ laid (map (λ (r : Span). brush-piece brush (tiles-of width r)) (runs-at n list.old)) list.old }

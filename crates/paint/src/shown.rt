@@ -1,5 +1,5 @@
-// What of a fill is shown on a row, by the row's depth summary where that is enough and else by its depth words. Parts: where a function
-// asks something, its callers have judged it.
+/// What of a fill is shown on a row, by the row's depth summary where that is enough and else by its depth words. Parts: where a function
+/// asks something, its callers have judged it.
 pub mod runs;
 pub mod summary;
 

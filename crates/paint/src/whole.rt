@@ -1,11 +1,12 @@
-// A row painted from where it stands: one step, or all of them. `paint_step` and `paint_row` are public calls: they have no `requires`. The
-// others are their parts.
+//! A row painted from where it stands: one step, or all of them. `paint_step` and `paint_row` are public calls: they have no `requires`. The
+//! others are their parts.
 ghost use Rattle.std.specs.Prelude.{◌≡◌, ◌≤◌};
 ghost use Rattle.sizes.specs.Widths.{bucket-tiles};
 ghost use Rattle.paint.specs.Answers.{painted_of};
-ghost use Rattle.paint.specs.Painting.{attrs-at, lent, out};
+ghost use Rattle.paint.specs.Painting.{out};
 ghost use Rattle.paint.specs.Judging.{wide};
-ghost use Rattle.paint.specs.Stepping.{attributes, StepReady, stepped};
+ghost use Rattle.paint.specs.Stepping.{StepReady, stepped};
+ghost use Rattle.paint.specs.Named.{row_lent, row_attrs, used_attrs};
 ghost use Rattle.paint.specs.Running.{most, row-run, row-painted};
 
 use crate::canvas::judge::judge_step;
@@ -33,9 +34,9 @@ fn row_part(
     list: &mut [u32],
     limit: usize,
 ) -> Result<Stepped, Refusal>
-    requires { (limit ≤ most) × StepReady (wide screen) screen.c screen.d screen.paint_attrs screen.layer_attrs row (attributes stored.now.paint_attrs.now stored.now.layer_attrs.now) (lent stored.now.rows.now stored.now.render.now stored.now.fills.now depth.old painting.old list.old) }
+    requires { (limit ≤ most) × StepReady (wide screen) screen.c screen.d screen.paint_attrs screen.layer_attrs row (row_attrs stored.now) (row_lent stored.now depth.old painting.old list.old) }
     ensures { out (painted_of result) depth.new painting.new list.new
-        ≡ row-run (bucket-tiles screen.width) limit (attrs-at stored.now.paint_attrs.now screen.paint_attrs stored.now.layer_attrs.now screen.layer_attrs) (wide screen) screen.c screen.d row (lent stored.now.rows.now stored.now.render.now stored.now.fills.now depth.old painting.old list.old) }
+        ≡ row-run (bucket-tiles screen.width) limit (used_attrs screen stored.now) (wide screen) screen.c screen.d row (row_lent stored.now depth.old painting.old list.old) }
 {
     let b = screen.buckets();
     let u = row * b;
@@ -61,8 +62,8 @@ fn row_part(
     )
 }
 
-// One step of one row: its depth fills last to first, then its render commands in order, then finished, as often as asked. The pieces stand at the list's
-// start. BadViewport, BadArena, BadRecord, BadRun for no such row, Open or NoRoom: refused, every word stays.
+/// One step of one row: its depth fills last to first, then its render commands in order, then finished, as often as asked. The pieces stand at the list's
+/// start. BadViewport, BadArena, BadRecord, BadRun for no such row, Open or NoRoom: refused, every word stays.
 pub fn paint_step(
     screen: Screen,
     row: usize,
@@ -72,14 +73,14 @@ pub fn paint_step(
     list: &mut [u32],
 ) -> Result<Stepped, Refusal>
     ensures { out (painted_of result) depth.new painting.new list.new
-        ≡ stepped screen row (attributes stored.now.paint_attrs.now stored.now.layer_attrs.now) (lent stored.now.rows.now stored.now.render.now stored.now.fills.now depth.old painting.old list.old) }
+        ≡ stepped screen row (row_attrs stored.now) (row_lent stored.now depth.old painting.old list.old) }
 {
     judge_step(screen, row, stored, depth.len(), painting.len())?;
     row_part(screen, row, stored, depth, painting, list, 1)
 }
 
-// The row's next steps, one after the other, until one is refused or the row is finished; refused where the first step is. The pieces stand one after the other
-// in the list. finished: no step is left. At most 2,049 steps, which no row passes: C, D and the one that finds nothing left.
+/// The row's next steps, one after the other, until one is refused or the row is finished; refused where the first step is. The pieces stand one after the other
+/// in the list. finished: no step is left. At most 2,049 steps, which no row passes: C, D and the one that finds nothing left.
 pub fn paint_row(
     screen: Screen,
     row: usize,
@@ -89,7 +90,7 @@ pub fn paint_row(
     list: &mut [u32],
 ) -> Result<Stepped, Refusal>
     ensures { out (painted_of result) depth.new painting.new list.new
-        ≡ row-painted screen row (attributes stored.now.paint_attrs.now stored.now.layer_attrs.now) (lent stored.now.rows.now stored.now.render.now stored.now.fills.now depth.old painting.old list.old) }
+        ≡ row-painted screen row (row_attrs stored.now) (row_lent stored.now depth.old painting.old list.old) }
 {
     judge_step(screen, row, stored, depth.len(), painting.len())?;
     row_part(screen, row, stored, depth, painting, list, 2049)

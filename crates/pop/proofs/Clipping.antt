@@ -1,13 +1,6 @@
 -- Closing, and counting, by a clip's segments. Assumes nothing.
-use mathlib.Core.Path.{◌≡◌, refl, sym, ap, ◌∙◌}
-use mathlib.Core.Bool.{Bool, true, false, ◌||◌, cond}
-use mathlib.Core.List.{List, [], ◌∷◌, ◌++◌}
-use Rattle.std.specs.Prelude.{Option}
-use Prim.Native.Nat.{ℕ, ◌+◌, ◌-◌, ◌≤◌, ◌<◌}
-use native.Mathlib.Omega.{arith}
-use lib.Dec.{ltb, eqb}
-use lib.ListN.{length, get_or}
-use borrow.Author.Tests.{eq-eqb, ne_eqb, le-ltb, ltb-false}
+use Rattle.std.proofs.Common.{◌≡◌, refl, sym, ap, ◌∙◌, Bool, true, false, ◌||◌, cond, List, [], ◌∷◌, ◌++◌, ℕ, ◌+◌, ◌-◌, ◌≤◌, ◌<◌, arith, ltb, eqb, length, get_or, eq-eqb, ne_eqb, le-ltb, ltb-false}
+use Rattle.std.proofs.lemmas.Bool.Decides.{nat_tests}
 use Rattle.rules.specs.Lists.{some_of, every, join, change, range}
 use Rattle.rules.specs.Segments.{Segment, good-segment, Cut, cut_in}
 use Rattle.rules.specs.Commands.{layer-fill}
@@ -20,8 +13,7 @@ use Rattle.row.specs.Cmds.{Short}
 use Rattle.row.specs.Arena.{nowhere}
 use Rattle.row.specs.Building.{rows_at, Whole}
 use Rattle.segments.specs.declared.Scene.{Scene}
-use Rattle.segments.specs.declared.Placed.{Placed}
-use Rattle.segments.specs.Segs.{seg-at, segs, origin, bounds, placed_of, Starts}
+use Rattle.segments.specs.Segs.{seg-at, segs, origin, bounds, Starts}
 use Rattle.segments.proofs.Laws.{segs-end, segs-first, good-first, good-rest, landed}
 use Rattle.row.specs.Room.{Counted as Hand, hand_of, limits, loaded, added_to}
 use Rattle.pop.specs.Closing.{row_of, touched-in, so_far, runs-full, runs_on, done-puts, Roomy, Fillable, clip-puts, Clips, Clean, Counted}
@@ -29,10 +21,6 @@ use Rattle.pop.proofs.Touched.{touched-same}
 use Rattle.pop.proofs.Closed.{closing, Close, closes-row}
 use Rattle.pop.proofs.Running.{at-found}
 use Rattle.pop.proofs.Rooms.{records, touched-inside, room-one, room-more}
-
--- a segment as the code has placed it
-pub placed_at : (s : Scene) {p q : Option Placed} {g h : Segment} → p ≡ q → placed_of p ≡ cut_in (origin s) (bounds s) g → g ≡ h → placed_of q ≡ cut_in (origin s) (bounds s) h
-placed_at s e a b = rw (← e, ← b) a
 
 -- .. has tiles that fit a command
 pub placed-short : (s : Scene) (g : Segment) (k : Cut) → good-segment g ≡ true → Starts (origin s) (bounds s) → k ∷ [] ≡ cut_in (origin s) (bounds s) g → Short k.stretch.tiles
@@ -201,11 +189,7 @@ module _ (c d n : ℕ) (xs : List ℕ) (rs : List Words) (h : Hand) (o : Clean d
 
       else-so : (h.row ≡ k.row → ⊥) → word 0 (row_of rs k.row) ≡ so
       unfolding so
-      else-so r = go (eqb h.row 8192)
-        where
-          go : (x : Bool) → word 0 (row_of rs k.row) ≡ so_far rs (cond x 0 (h.row + 1)) (h.renders - 1) k.row
-          go true = rw (ne_eqb (k.row + 1) 0 (λ (z : k.row + 1 ≡ 0). omega arith))
-          go false = rw (ne_eqb (k.row + 1) (h.row + 1) (λ (z : k.row + 1 ≡ h.row + 1). r (omega arith)))
+      else-so r = grind (arith, nat_tests)
 
       -- .. or on another, whose record is s
       pub counted-else : {u w : Hand} (s : List ℕ) → (h.row ≡ k.row → ⊥) → u ≡ loaded (limits c d n 1) s h.code k.row
@@ -237,13 +221,10 @@ module _ {c d : ℕ} {xs : List ℕ} {rs : List Words} {ws : List ℕ} {start j 
       here = sym (o.runs (join (cut_in (origin e) (bounds e)) (segs ws (i + 1) (j - (i + 1))))) ∙ (rw (segs-first ws i j h) at v.rest)
 
       pub counting-full : (u.code ≡ 0 → ⊥) → true ≡ runs-full c xs rs 0 0 (join (cut_in (origin e) (bounds e)) (segs ws start (j - start)))
-      counting-full p = go (eqb u.code 10) refl here
-        where
-          go : (x : Bool) → eqb u.code 10 ≡ x → (x || runs_on c xs rs u (join (cut_in (origin e) (bounds e)) (segs ws (i + 1) (j - (i + 1)))))
-              ≡ runs-full c xs rs 0 0 (join (cut_in (origin e) (bounds e)) (segs ws start (j - start)))
-              → true ≡ runs-full c xs rs 0 0 (join (cut_in (origin e) (bounds e)) (segs ws start (j - start)))
-          go true q t = t
-          go false q t = absurd (p (o.clean q).code)
+      counting-full p =
+          let clean : eqb u.code 10 ≡ false → u.code ≡ 0 = λ q. (o.clean q).code in
+          let t = here in
+          grind (arith, nat_tests)
 
       pub counting-on : u.code ≡ 0 → Counting c d xs rs ws start j e (i + 1) u
       counting-on p =

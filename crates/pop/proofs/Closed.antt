@@ -1,13 +1,6 @@
 -- What closing LayerFills and PopBufs do to each row, and when they pass its room. Assumes nothing.
-use mathlib.Core.Path.{◌≡◌, refl, sym, ap, ◌∙◌}
-use mathlib.Core.Bool.{Bool, true, false, ◌||◌, cond}
-use mathlib.Core.List.{List, [], ◌∷◌, ◌++◌, map}
-use Rattle.std.specs.Prelude.{Option}
-use Prim.Native.Nat.{ℕ, zero, suc, ◌+◌, ◌≤◌, ◌<◌}
-use native.Mathlib.Omega.{arith}
-use lib.Dec.{ltb, eqb}
-use lib.ListN.{length}
-use borrow.Author.Tests.{eq-eqb, ne_eqb, eqb-true, eqb-false, le-ltb}
+use Rattle.std.proofs.Common.{◌≡◌, refl, sym, ap, ◌∙◌, Bool, true, false, ◌||◌, cond, List, [], ◌∷◌, ◌++◌, map, Option, ℕ, zero, suc, ◌+◌, ◌≤◌, ◌<◌, arith, ltb, eqb, length, eq-eqb, ne_eqb, eqb-true, le-ltb}
+use borrow.Author.Tests.{eqb-false}
 use Rattle.rules.specs.Lists.{some_of, keep, change, count-from}
 use Rattle.rules.specs.Spans.{Span}
 use Rattle.rules.specs.Commands.{Command, layer-fill}
@@ -20,7 +13,7 @@ use Rattle.row.proofs.WordsLaws.{cmd-renders, cmd-depths, cmd-levels, cmd-ends, 
 use Rattle.row.specs.Arena.{nowhere}
 use Rattle.row.specs.Acts.{acted}
 use Rattle.pop.specs.Closing.{row_of, touched-in, done-puts}
-use Rattle.pop.proofs.Touched.{below}
+use Rattle.pop.proofs.Touched.{below, some-other}
 
 -- every row has its record's words
 abbrev pub Records : List Words → Type 0
@@ -167,19 +160,11 @@ module _ (v m : ℕ) where
       (pops-row is (change (acted v m pop) r rs) (rw (change-length (acted v m pop) r rs) qs) (pop-records r rs q l) x (omega (arith, g, p.levels)))
 
 -- a row among touched rows is put on once
-or-false : (b : Bool) → (b || false) ≡ b
-or-false true = refl
-or-false false = refl
-
 module _ (t : Act) (n : ℕ) (rs : List Words) where
   put_other : (x i : ℕ) (k : Bool) (l : List ℕ) → (x ≡ i → ⊥) → count-on x (map (on t) (keep k i l)) ≡ count-on x (map (on t) l)
   unfolding count-on
   put_other x i true l h = rw (ne_eqb i x (λ (e : i ≡ x). h (sym e))) (omega arith)
   put_other x i false l h = refl
-
-  some-else : (x i : ℕ) (k : Bool) (l : List ℕ) → (x ≡ i → ⊥) → some_of (eqb x) (keep k i l) ≡ some_of (eqb x) l
-  some-else x i true l h = rw (ne_eqb x i h)
-  some-else x i false l h = refl
 
   put-here : (x i : ℕ) (k : Bool) (l : List ℕ) → x ≡ i → some_of (eqb x) l ≡ false → count-on x (map (on t) l) ≡ 0
       → count-on x (map (on t) (keep k i l)) ≡ cond (some_of (eqb x) (keep k i l)) 1 0
@@ -208,7 +193,11 @@ module _ (t : Act) (n : ℕ) (rs : List Words) where
       go false e f =
           let i : x ≡ a → ⊥ = eqb-false x a e in
           put_other x a (eqb (word 5 (row_of rs a)) n) (touched-in n rs (count-from (suc a) k)) i ∙ f
-          ∙ ap (λ (b : Bool). cond b 1 0) (sym (some-else x a (eqb (word 5 (row_of rs a)) n) (touched-in n rs (count-from (suc a) k)) i))
+          ∙ ap (λ (b : Bool). cond b 1 0) (sym (some-other n rs x a (eqb (word 5 (row_of rs a)) n) (touched-in n rs (count-from (suc a) k)) i))
+
+or-true : (b : Bool) → (b || true) ≡ true
+or-true true = refl
+or-true false = refl
 
 -- every element is found
 pub members : (xs : List ℕ) → All (λ (x : ℕ). some_of (eqb x) xs ≡ true) xs
@@ -217,10 +206,6 @@ members (x ∷ xs) =
     let h : some_of (eqb x) (x ∷ xs) ≡ true = rw (eq-eqb x x refl) in
     cons h (all_map (λ (y : ℕ) (e : some_of (eqb y) xs ≡ true). found y e) (members xs))
   where
-    or-true : (b : Bool) → (b || true) ≡ true
-    or-true true = refl
-    or-true false = refl
-
     found : (y : ℕ) → some_of (eqb y) xs ≡ true → some_of (eqb y) (x ∷ xs) ≡ true
     found y e = rw e (or-true (eqb y x))
 
@@ -246,10 +231,6 @@ module _ (g : ℕ → Bool) where
   found_some x [] h e = never (sym h)
   found_some x (y ∷ ys) h e = go (eqb x y) refl h (λ i. found_some x ys i e)
     where
-      or-true : (b : Bool) → (b || true) ≡ true
-      or-true true = refl
-      or-true false = refl
-
       go : (b : Bool) → eqb x y ≡ b → (b || some_of (eqb x) ys) ≡ true → (some_of (eqb x) ys ≡ true → some_of g ys ≡ true) → (g y || some_of g ys) ≡ true
       go true i k f = let z : x ≡ y = eqb-true x y i in rw (← z) (rw e)
       go false i k f = rw (f k) (or-true (g y))

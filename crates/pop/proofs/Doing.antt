@@ -1,20 +1,13 @@
 -- What a number 0 gives the doing half, and what it leaves. Assumes nothing.
-use mathlib.Core.Path.{◌≡◌, refl, sym, ap, ◌∙◌, subst}
-use mathlib.Core.Bool.{Bool, true, false, ◌&&◌, ◌||◌}
-use mathlib.Core.List.{List, [], ◌++◌, map}
-use Rattle.std.specs.Prelude.{None, Some}
-use Prim.Native.Nat.{ℕ, zero, suc, ◌+◌, ◌-◌, ◌/◌, ◌≤◌, ◌<◌}
-use native.Mathlib.Omega.{arith}
-use lib.Dec.{ltb, eqb}
-use lib.ListN.{length}
-use borrow.Author.Tests.{eqb-true, eqb-false, ltb-true, ltb-false}
+use Rattle.std.proofs.Common.{◌≡◌, refl, sym, ap, ◌∙◌, subst, Bool, true, false, ◌||◌, List, [], ◌++◌, map, None, Some, ℕ, ◌+◌, ◌-◌, ◌/◌, ◌≤◌, ◌<◌, arith, eqb, length, eqb-true}
+use Rattle.std.proofs.lemmas.Bool.Decides.{nat_tests}
+use borrow.Author.Tests.{eqb-false}
 use Rattle.sizes.specs.Widths.{bucket-tiles}
 use Rattle.rules.specs.Lists.{join, range}
 use Rattle.rules.specs.Boxes.{Box, rows_of, rows_in, span_of, scene-tiles}
 use Rattle.rules.specs.Segments.{judge-segments, Cut, cut_in}
 use Rattle.rules.specs.Plans.{Layer, Put, on, close, pop, clip-box, closing, close-puts}
 use Rattle.rules.specs.Steps.{done}
-use Rattle.rules.proofs.All.{both}
 use Rattle.row.specs.Words.{Words, word-ops}
 use Rattle.row.specs.Cmds.{Short}
 use Rattle.row.specs.Arena.{lay}
@@ -66,9 +59,7 @@ module _ {s : code.Screen} {t ws : List ℕ} {w : Words} (j : Judged s t ws w) w
   tests : (good_layer (open_at t (s.layers - 1)) ≡ true) × (good_own_box view layer.bounds ≡ true) × (good_own_box view parent ≡ true)
   tests =
       let g = sym (open-first t view s.layers j.some) ∙ j.layer in
-      let a = both (good_layer (open_at t (s.layers - 1)) && good_own_box view layer.bounds) (good_own_box view parent) g in
-      let b = both (good_layer (open_at t (s.layers - 1))) (good_own_box view layer.bounds) a.0 in
-      (b.0, b.1, a.1)
+      (grind (arith, nat_tests), grind (arith, nat_tests), grind (arith, nat_tests))
 
   own-box : OwnBox view layer.bounds
   own-box = own-facts view layer.bounds tests.1
@@ -107,14 +98,10 @@ module _ {s : code.Screen} {t ws : List ℕ} {w : Words} (j : Judged s t ws w) w
   -- with one: its range lies in the list, which is good
   module _ (c : (layer-at t (s.layers - 1)).props.clip ≡ Some (clip-in t (s.layers - 1))) where
     pub clip-within : (clip-in t (s.layers - 1)).end ≤ length ws / 5
-    clip-within = go (ltb (length ws / 5) (clip-in t (s.layers - 1)).end) refl
-      where
-        four : ◌≡◌ {A = ℕ} 4 0 → ⊥
-        four z = omega arith
-
-        go : (b : Bool) → ltb (length ws / 5) (clip-in t (s.layers - 1)).end ≡ b → (clip-in t (s.layers - 1)).end ≤ length ws / 5
-        go true z = absurd (four (number-long s (lent w t [] []) ws j.some seen bottom (clip-in t (s.layers - 1)) c ranged.range (ltb-true _ _ z) ∙ j.rows))
-        go false z = ltb-false _ _ z
+    clip-within =
+        let f : length ws / 5 < (clip-in t (s.layers - 1)).end → ⊥ =
+        λ h. omega (arith, number-long s (lent w t [] []) ws j.some seen bottom (clip-in t (s.layers - 1)) c ranged.range h ∙ j.rows) in
+        omega arith
 
     module _ (d : Scene) (e : SceneOf (box_of s.viewport) (clip-box (box_of s.viewport) (layers-in t (s.layers - 1))) d) where
       abbrev ks : List Cut
@@ -157,16 +144,11 @@ module _ {s : code.Screen} {t ws : List ℕ} {w : Words} (j : Judged s t ws w) w
   unfolding scene-tiles a-scene
   a-scene-of = record { corner = refl; area = refl }
 
-  one : (n : ℕ) → n ≤ 1 → (n ≡ 0 → ⊥) → n ≡ 1
-  one zero h g = absurd (g refl)
-  one (suc zero) h g = refl
-  one (suc (suc n)) h g = absurd (omega arith)
-
   pub flag-none : (open_at t (s.layers - 1)).flag ≡ 0 → (layer-at t (s.layers - 1)).props.clip ≡ None
   flag-none z = without-clip t (s.layers - 1) z
 
   pub flag-some : ((open_at t (s.layers - 1)).flag ≡ 0 → ⊥) → (layer-at t (s.layers - 1)).props.clip ≡ Some (clip-in t (s.layers - 1))
-  flag-some z = has-clip t (s.layers - 1) (one (open_at t (s.layers - 1)).flag ranged.flag z)
+  flag-some z = has-clip t (s.layers - 1) (omega (arith, ranged.flag))
 
   pub ready : Set s t ws w
   ready = go (eqb (open_at t (s.layers - 1)).flag 0) refl

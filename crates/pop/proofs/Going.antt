@@ -1,10 +1,5 @@
 -- A loop over the rows from a to b that acts on the touched ones. Assumes nothing.
-use mathlib.Core.Path.{◌≡◌, refl, ap, ◌∙◌}
-use mathlib.Core.Bool.{Bool, true, false}
-use mathlib.Core.List.{List, [], ◌∷◌, map}
-use Prim.Native.Nat.{ℕ, ◌+◌, ◌-◌, ◌≤◌, ◌<◌}
-use native.Mathlib.Omega.{arith}
-use lib.Dec.{eqb}
+use Rattle.std.proofs.Common.{◌≡◌, ap, ◌∙◌, Bool, true, false, List, [], ◌∷◌, map, ℕ, ◌+◌, ◌-◌, ◌≤◌, ◌<◌, arith, eqb}
 use Rattle.rules.specs.Lists.{keep, change, range}
 use Rattle.rules.specs.Plans.{Act, on}
 use Rattle.rules.specs.Steps.{do-puts}
@@ -20,9 +15,6 @@ use Rattle.pop.proofs.Touched.{range-first, range-end, all-range, all-touched, t
 pub record Going (t : Act) (P : Words → Type 0) (v m n a b : ℕ) (start : List Words) (r : ℕ) (now : List Words) : Type 0 where
   pub ready : All (λ (x : ℕ). P (row_of now x)) (touched-in n now (range r b))
   pub rest : done-puts v m (map (on t) (touched-in n now (range r b))) now ≡ done-puts v m (map (on t) (touched-in n start (range a b))) start
-
-pub going_start : (t : Act) (P : Words → Type 0) (v m n a b : ℕ) (rs : List Words) → All (λ (x : ℕ). P (row_of rs x)) (touched-in n rs (range a b)) → Going t P v m n a b rs a rs
-going_start t P v m n a b rs p = record { ready = p; rest = refl }
 
 module _ {t : Act} {P : Words → Type 0} {v m n a b : ℕ} {start : List Words} {r : ℕ} {now : List Words} (g : Going t P v m n a b start r now) where
   pub going_done : b ≤ r → now ≡ done-puts v m (map (on t) (touched-in n start (range a b))) start

@@ -1,17 +1,10 @@
 -- What the code's tests say of rows, one by one and in a run. Assumes nothing.
-use mathlib.Core.Path.{◌≡◌, refl, sym, ap, ◌∙◌}
-use mathlib.Core.Bool.{Bool, true, false, ◌&&◌, ◌||◌, not, cond}
-use mathlib.Core.List.{List, [], ◌∷◌, map}
-use Rattle.std.specs.Prelude.{None, Result, Ok, Err}
+use Rattle.std.proofs.Common.{◌≡◌, refl, sym, ap, ◌∙◌, Bool, true, false, ◌&&◌, ◌||◌, not, cond, List, [], ◌∷◌, map, None, Result, Ok, Err, ℕ, ◌+◌, ◌-◌, ◌*◌, ◌≤◌, ◌<◌, arith, ltb, eqb, length, get_or, eq-eqb, ne_eqb}
 use Rattle.std.specs.Result.{is_err}
 use Rattle.sizes.specs.declared.answers.Refusal.{Refusal}
 use Rattle.sizes.specs.Refusals.{answer_number}
 use Rattle.sizes.proofs.Refusals.{not_done}
-use Prim.Native.Nat.{ℕ, ◌+◌, ◌-◌, ◌*◌, ◌≤◌, ◌<◌}
-use native.Mathlib.Omega.{arith}
-use lib.Dec.{leb, ltb, eqb}
-use lib.ListN.{length, get_or}
-use borrow.Author.Tests.{eq-eqb, ne_eqb, leb-true, ltb-true}
+use Rattle.std.proofs.lemmas.Bool.Decides.{nat_tests}
 use Rattle.rules.specs.Lists.{some_of, keep, change, range}
 use Rattle.rules.specs.Spans.{Span}
 use Rattle.rules.specs.Commands.{layer-fill}
@@ -23,7 +16,7 @@ use Rattle.row.specs.Words.{Words, word, put_command, end_buf}
 use Rattle.row.specs.Cmds.{Short}
 use Rattle.row.specs.Arena.{sizes, cut, Arenas}
 use Rattle.row.proofs.RowsLaws.{within}
-use Rattle.row.specs.Building.{good-union, good-level, good-top, good-summary, good_row}
+use Rattle.row.specs.Building.{good-level, good-top, good_row}
 use Rattle.row.specs.declared.room.Limits.{Limits}
 use Rattle.row.specs.Room.{Counted as Hand, record-at, limits, loaded, added_to, rows_told, Found}
 use Rattle.row.proofs.RoomLaws.{good-small, commands-told}
@@ -67,16 +60,9 @@ pub record Touched (c d n : ℕ) (s : List ℕ) : Type 0 where
 pub good-touched : (c d n : ℕ) (s : List ℕ) → good_row c d n s ≡ true → get_or s 5 0 ≡ n → 1 ≤ n → Touched c d n s
 unfolding good_row
 good-touched c d n s g e h =
-    let a = leb (get_or s 0 0) c in
-    let b = leb (get_or s 1 0) d in
-    let l = leb (get_or s 5 0) n in
-    let h4 = both (a && b && l && good-summary s) (good-top (get_or s 5 0) s) g in
-    let h3 = both (a && b && l) (good-summary s) h4.0 in
-    let h2 = both (a && b) l h3.0 in
-    let h1 = both a b h2.0 in
-    let t : good-level n s ≡ true = rw (e, ne_eqb n 0 (λ (z : n ≡ 0). omega arith)) at h4.1 in
-    let p = both (ltb (get_or s (3 + 3 * n) 0) (get_or s 0 0)) (good-union (get_or s (3 + 3 * n + 1) 0) (get_or s (3 + 3 * n + 2) 0)) t in
-    record { commands = leb-true (get_or s 0 0) c h1.0; depths = leb-true (get_or s 1 0) d h1.1; place = ltb-true (get_or s (3 + 3 * n) 0) (get_or s 0 0) p.0 }
+    let top : good-top (get_or s 5 0) s ≡ true = grind (arith, nat_tests) in
+    let t : good-level n s ≡ true = rw (e, ne_eqb n 0 (λ (z : n ≡ 0). omega arith)) at top in
+    record { commands = grind (arith, nat_tests); depths = grind (arith, nat_tests); place = grind (arith, nat_tests) }
 
 -- the place that the code reads
 module _ (c d n : ℕ) (w : Words) (g : good_row c d n w.state ≡ true) (e : word 5 w ≡ n) {p q : ℕ} (i : q ≡ n) (j : p ≡ get_or w.state (3 + 3 * q) 0) where
@@ -88,10 +74,6 @@ module _ (c d n : ℕ) (w : Words) (g : good_row c d n w.state ≡ true) (e : wo
 
   pub tag_at : eqb (get_or w.render (4 * p) 0) 5 ≡ good-pop c d n w
   tag_at = rw at_place (pop-tag c d n w e g)
-
-or-none : (b : Bool) → b ≡ (b || false)
-or-none true = refl
-or-none false = refl
 
 -- one row, touched or not
 module _ (n : ℕ) (rs : List Words) (r : ℕ) where

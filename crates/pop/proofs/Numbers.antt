@@ -1,13 +1,7 @@
 -- A pop's number, way by way, and what stands when it is 0. Assumes nothing.
-use mathlib.Core.Path.{◌≡◌, refl, sym, ap, ◌∙◌}
-use mathlib.Core.Bool.{Bool, true, false, ◌&&◌, ◌||◌, not, cond}
-use mathlib.Core.List.{List, [], ◌∷◌, ◌++◌, map}
-use Rattle.std.specs.Prelude.{None, Some}
-use Prim.Native.Nat.{ℕ, zero, suc, ◌+◌, ◌-◌, ◌*◌, ◌/◌, ◌%◌, ◌≤◌, ◌<◌}
-use native.Mathlib.Omega.{arith}
-use lib.Dec.{leb, ltb, eqb}
-use lib.ListN.{length, length-append}
-use borrow.Author.Tests.{ne_eqb, eqb-true, eqb-false, le-ltb, lt-ltb, le-leb, lt-leb, ltb-true, ltb-false, leb-true, leb-false}
+use Rattle.std.proofs.Common.{◌≡◌, refl, sym, ap, ◌∙◌, Bool, true, false, ◌&&◌, ◌||◌, not, cond, List, [], ◌∷◌, ◌++◌, map, None, Some, ℕ, zero, suc, ◌+◌, ◌-◌, ◌/◌, ◌≤◌, ◌<◌, arith, leb, ltb, eqb}
+use Rattle.std.proofs.Common.{length, length-append, eqb-true, le-ltb, le-leb}
+use borrow.Author.Tests.{lt-leb}
 use Rattle.sizes.specs.Widths.{bucket-tiles}
 use Rattle.rules.specs.Lists.{some_of, join, slice}
 use Rattle.rules.specs.Answers.{first_of}
@@ -19,26 +13,27 @@ use Rattle.sizes.specs.Sizes.{open-layer-table, opacity-count, layer-attr-table}
 use Rattle.rules.specs.Attributes.{attrs-full}
 use Rattle.rules.specs.Plans.{bucket, Layer, close, pop, Put, on, Plan, clip-box, clip-segments, clip-fits, close-puts, closing, with-layer, plan-pop}
 use Rattle.rules.specs.Steps.{Screen, done, passes, refusal}
-use Rattle.rules.specs.Walk.{good-room}
-use Rattle.rules.proofs.All.{All, all-over, both}
+use Rattle.rules.proofs.All.{All, all-over}
 use Rattle.row.specs.Words.{Words, word, word-ops}
 use Rattle.rect.specs.Rects.{box_of}
 use Rattle.screen.specs.declared.Screen as code
-use Rattle.screen.specs.Screens.{frame-of, state-of, good_screen}
-use Rattle.screen.specs.Judging.{good-rooms, judged}
-use Rattle.screen.proofs.ScreenLaws as screens
-use Rattle.screen.proofs.ScreenLaws.{Bounds, bounds, few_rows, paint-count, layer-attr-count, filter-count}
+use Rattle.screen.specs.Screens.{frame-of, state-of}
+use Rattle.screen.specs.Judging.{judged}
+use Rattle.screen.proofs.ScreenLaws.{Bounds, bounds, paint-count, layer-attr-count, filter-count}
+use Rattle.screen.proofs.Passed.{passed}
+use Rattle.layers.proofs.Passing.{passed-whole}
 use Rattle.segments.specs.declared.Scene.{Scene}
 use Rattle.segments.specs.Segs.{segs, segs-of, origin, bounds as scene-bounds, SceneOf}
 use Rattle.segments.proofs.Laws.{segs-slice, segs-count, cut-in-scene, judged as judged-list}
 use Rattle.row.specs.Building.{rows_at, Whole, screen-at, step_number}
 use Rattle.screen.specs.Layers.{layer-at, open_at, good_layer, good_own_box}
-use Rattle.pop.specs.Closing.{touched-in, good-pops, full_by, pops-number, runs-full, done-puts}
+use Rattle.pop.specs.Closing.{touched-in, good-pops, full_by, runs-full, done-puts}
 use Rattle.pop.proofs.Closed.{Close, closing as a-closing, members}
 use Rattle.pop.proofs.Running.{cuts-sorted}
 use Rattle.pop.proofs.Rooms.{touched-inside}
 use Rattle.pop.proofs.Clipping.{close-all, close-in}
 use Rattle.pop.specs.Pop.{PopLent, lent, layers-in, own-rows, good-open, good_lengths, late, first, state-in, pop-plan, number-after, number, Judged}
+use Rattle.std.proofs.lemmas.Bool.Decides.{nat_tests}
 use Rattle.pop.proofs.Ready.{Closeable, all-fine, full_is, deep_is, full-plain, full-clip}
 
 -- 2, 1 and 4 are not given: a good viewport, the words of its rows, good counts
@@ -47,43 +42,10 @@ pub record Screened (s : code.Screen) (w : Words) : Type 0 where
   pub whole : Whole (frame-of s) w
   pub bounds : Bounds s
 
-three : (a b c : Bool) → ◌≡◌ {A = ℕ} (cond (not a) 2 (cond (not b) 1 (cond (not c) 4 0))) 0 → (a ≡ true) × (b ≡ true) × (c ≡ true)
-three true true true e = (refl, refl, refl)
-three true true false e = absurd (omega arith)
-three true false c e = absurd (omega arith)
-three false b c e = absurd (omega arith)
-
-module _ (s : code.Screen) (w : Words) where
-  n : ℕ
-  n = rows_of (box_of s.viewport)
-
-  pub screened : judged s (length w.state) (length w.render) (length w.fills) ≡ 0 → Screened s w
-  unfolding judged
-  screened e =
-      let n = rows_of (box_of s.viewport) in
-      let a = length w.state in
-      let r = length w.render in
-      let i = length w.fills in
-      let t = three (good_viewport (box_of s.viewport)) (good-rooms n s.c s.d r i) (eqb a (n * 54) && good_screen s) e in
-      let gc = good-room s.c in
-      let gd = good-room s.d in
-      let er = eqb r (n * (4 * s.c)) in
-      let ef = eqb i (n * (2 * s.d)) in
-      let h3 = both (gc && gd && er) ef t.1 in
-      let h2 = both (gc && gd) er h3.0 in
-      let h1 = both gc gd h2.0 in
-      let k = both (eqb a (n * 54)) (good_screen s) t.2 in
-      record {
-        view = t.0;
-        whole =
-            record {
-              rows = few_rows (box_of s.viewport) t.0;
-              c = (screens.room s.c h1.0).few;
-              d = (screens.room s.d h1.1).few;
-              long = record { state = eqb-true a (n * 54) k.0; render = eqb-true r (n * (4 * s.c)) h2.1; fills = eqb-true i (n * (2 * s.d)) h3.1 };
-            };
-        bounds = bounds s k.1;
-      }
+pub screened : (s : code.Screen) (w : Words) → judged s (length w.state) (length w.render) (length w.fills) ≡ 0 → Screened s w
+screened s w e =
+    let p = passed s (length w.state) (length w.render) (length w.fills) e in
+    record { view = p.view; whole = passed-whole s w p; bounds = bounds s p.screen }
 
 -- the innermost of n open layers
 module _ (t : List ℕ) where
@@ -107,7 +69,15 @@ module _ (t : List ℕ) where
   open-first v zero h = absurd (omega arith)
   open-first v (suc n) h = let e : suc n - 1 ≡ n = omega arith in rw e
 
--- the tests before the rows
+-- the tests before the rows, first to last
+in_order : (n : ℕ) (a b g : Bool) (r : ℕ) → let f : ℕ = first_of ((not (eqb n 0), n) ∷ (not a, 4) ∷ (not b, 4) ∷ []) in
+    cond (eqb f 0) (cond g r 4) f ≡ cond (eqb n 0) (cond a (cond b (cond g r 4) 4) 4) n
+in_order n a b g r = grind (arith, nat_tests)
+
+all-right : (n : ℕ) (a b : Bool) (r : ℕ) → cond (eqb n 0) (cond a (cond b r 4) 4) n ≡ 0 → (n ≡ 0) × (a ≡ true) × (b ≡ true) × (r ≡ 0)
+all-right n a b r e = (grind (arith, nat_tests), grind (arith, nat_tests), grind (arith, nat_tests), grind (arith, nat_tests))
+
+-- opacities and attributes are not read after them
 module _ (s : code.Screen) (l : PopLent) (ws : List ℕ) where
   abbrev lens : Bool
   lens = good_lengths (length l.layers) (length l.opacities) (length l.attrs) (length ws)
@@ -118,48 +88,22 @@ module _ (s : code.Screen) (l : PopLent) (ws : List ℕ) where
   abbrev numbered : ℕ
   numbered = judged s (length l.words.state) (length l.words.render) (length l.words.fills)
 
-  by_first : {k : ℕ} → first s l ws ≡ k → (k ≡ 0 → ⊥) → k ≡ number s l ws
-  unfolding number-after step_number
-  by_first {k} e h = rw (e, ne_eqb k 0 h)
+  pub tests : number s l ws ≡ cond (eqb numbered 0) (cond lens (cond opened (number-after s (lent l.words l.layers [] []) ws 0) 4) 4) numbered
+  unfolding number-after step_number first
+  tests =
+      in_order numbered lens opened (good-pops s.c s.d s.layers (rows_at (frame-of s) l.words) (own-rows (layers-in l.layers s.layers)))
+      (refusal Words word-ops (pop-plan s l ws) (done Words word-ops (pop-plan s l ws) (screen-at (state-in s l.layers) l.words)))
 
-  pub by-screen : {k : ℕ} → k ≡ numbered → (k ≡ 0 → ⊥) → k ≡ number s l ws
-  unfolding first
-  by-screen {k} e h = let p : first s l ws ≡ k = rw (← e, ne_eqb k 0 h) in by_first p h
-
-  pub by_lengths : numbered ≡ 0 → lens ≡ false → 4 ≡ number s l ws
-  unfolding first
-  by_lengths e h = let p : first s l ws ≡ 4 = rw (e, h) in by_first p (λ (z : 4 ≡ 0). omega arith)
-
-  pub by-open : numbered ≡ 0 → lens ≡ true → opened ≡ false → 4 ≡ number s l ws
-  unfolding first
-  by-open e g h = let p : first s l ws ≡ 4 = rw (e, g, h) in by_first p (λ (z : 4 ≡ 0). omega arith)
-
-  pub all_first : numbered ≡ 0 → lens ≡ true → opened ≡ true → first s l ws ≡ 0
-  unfolding first
-  all_first e g h = rw (e, g, h)
-
-  open_none : s.layers ≡ 0 → opened ≡ true
-  unfolding good-open
-  open_none h = rw h
-
-  pub by-none : numbered ≡ 0 → lens ≡ true → s.layers ≡ 0 → 7 ≡ number s l ws
-  unfolding number-after step_number own-rows layers-in plan-pop refusal good-pops
-  by-none e g h = rw (all_first e g (open_none h), h)
+  pub none-left : s.layers ≡ 0 → (opened ≡ true) × (number-after s (lent l.words l.layers [] []) ws 0 ≡ 7)
+  unfolding good-open number-after step_number own-rows layers-in plan-pop refusal good-pops
+  none-left h = (rw h, rw h)
 
 -- the tests after it
 shift : (m : ℕ) → ltb 1048577 (m + 1) ≡ ltb 1048576 m
-shift m = go (ltb 1048576 m) refl
-  where
-    go : (b : Bool) → ltb 1048576 m ≡ b → ltb 1048577 (m + 1) ≡ b
-    go true e = lt-ltb 1048577 (m + 1) (omega (arith, ltb-true 1048576 m e))
-    go false e = le-ltb 1048577 (m + 1) (omega (arith, ltb-false 1048576 m e))
+shift m = grind (arith, nat_tests)
 
 one-attr : (m : ℕ) → ltb 1024 (m + 1) ≡ leb 1024 m
-one-attr m = go (leb 1024 m) refl
-  where
-    go : (b : Bool) → leb 1024 m ≡ b → ltb 1024 (m + 1) ≡ b
-    go true e = lt-ltb 1024 (m + 1) (omega (arith, leb-true 1024 m e))
-    go false e = le-ltb 1024 (m + 1) (omega (arith, leb-false 1024 m e))
+one-attr m = grind (arith, nat_tests)
 
 or-end : (b : Bool) → (b || false) ≡ b
 or-end true = refl
@@ -308,15 +252,9 @@ module _ (s : code.Screen) (l : PopLent) (ws : List ℕ) (low : 1 ≤ s.layers) 
       unfolding judge-segments late
       number-long h i =
           let z : listed ≡ 4 = rw (e, le-leb c.start c.end h, lt-leb c.end (length (segs-of ws)) (rw (segs-count ws) i)) in
-          four good ∙ ap (λ (k : ℕ). late good k s.next_draw_id s.layer_attrs false) (sym z)
-          ∙ number-late false (λ y q. absurd (bad (sym z ∙ q))) (λ y q. absurd (bad (sym z ∙ q)))
-        where
-          bad : ◌≡◌ {A = ℕ} 4 0 → ⊥
-          bad z = omega arith
-
-          four : (b : Bool) → 4 ≡ late b 4 s.next_draw_id s.layer_attrs false
-          four true = refl
-          four false = refl
+          let four : 4 ≡ late good 4 s.next_draw_id s.layer_attrs false = grind (arith, nat_tests) in
+          four ∙ ap (λ (k : ℕ). late good k s.next_draw_id s.layer_attrs false) (sym z)
+          ∙ number-late false (λ y q. absurd (omega arith)) (λ y q. absurd (omega arith))
 
       module _ (h : c.start ≤ c.end) (i : c.end ≤ length ws / 5) where
         pub the-list : segs ws c.start (c.end - c.start) ≡ slice c.start c.end (segs-of ws)
@@ -351,32 +289,6 @@ module _ (s : code.Screen) (l : PopLent) (ws : List ℕ) (low : 1 ≤ s.layers) 
               (λ y z. let v = clip-closeable y s.layer_attrs ks in
               rw puts-scene (deep_is v (length (layers-in l.layers (s.layers - 1)))))
 
--- a number 0, taken apart
-pub zero-first : (s : code.Screen) (l : PopLent) (ws : List ℕ) → number s l ws ≡ 0 → first s l ws ≡ 0
-zero-first s l ws e = go (eqb (first s l ws) 0) refl
-  where
-    go : (b : Bool) → eqb (first s l ws) 0 ≡ b → first s l ws ≡ 0
-    go true p = eqb-true (first s l ws) 0 p
-    go false p = by_first s l ws refl (eqb-false (first s l ws) 0 p) ∙ e
-
-module _ (s : code.Screen) (l : PopLent) (ws : List ℕ) (e : first s l ws ≡ 0) where
-  pub zero-tests : (judged s (length l.words.state) (length l.words.render) (length l.words.fills) ≡ 0)
-      × (good_lengths (length l.layers) (length l.opacities) (length l.attrs) (length ws) ≡ true) × (good-open (box_of s.viewport) l.layers s.layers ≡ true)
-  unfolding first
-  zero-tests = go (eqb (judged s (length l.words.state) (length l.words.render) (length l.words.fills)) 0) refl _ refl _ refl e
-    where
-      n : ℕ
-      n = judged s (length l.words.state) (length l.words.render) (length l.words.fills)
-
-      go : (a : Bool) → eqb n 0 ≡ a → (b : Bool) → good_lengths (length l.layers) (length l.opacities) (length l.attrs) (length ws) ≡ b
-          → (c : Bool) → good-open (box_of s.viewport) l.layers s.layers ≡ c
-          → cond (not a) n (cond (not b) 4 (cond (not c) 4 0)) ≡ 0
-          → (n ≡ 0) × (good_lengths (length l.layers) (length l.opacities) (length l.attrs) (length ws) ≡ true) × (good-open (box_of s.viewport) l.layers s.layers ≡ true)
-      go true p true q true r z = (eqb-true n 0 p, q, r)
-      go true p true q false r z = absurd (omega arith)
-      go true p false q c r z = absurd (omega arith)
-      go false p b q c r z = absurd (eqb-false n 0 p z)
-
 pub record Passed (g : Bool) (r n a : ℕ) (f : Bool) : Type 0 where
   pub good : g ≡ true
   pub listed : r ≡ 0
@@ -386,149 +298,21 @@ pub record Passed (g : Bool) (r n a : ℕ) (f : Bool) : Type 0 where
 
 pub late-zero : (good : Bool) (listed next attrs : ℕ) (full : Bool) → late good listed next attrs full ≡ 0 → Passed good listed next attrs full
 unfolding late
-late-zero false r n a f z = absurd (omega arith)
-late-zero true r n a f z = go (eqb r 0) refl (ltb 1048576 n) refl (leb 1024 a) refl f refl z
-  where
-    go : (b : Bool) → eqb r 0 ≡ b → (c : Bool) → ltb 1048576 n ≡ c → (d : Bool) → leb 1024 a ≡ d → (e : Bool) → f ≡ e
-        → cond b (cond c 8 (cond d 9 (cond e 10 0))) r ≡ 0 → Passed true r n a f
-    go true p false q false h false i z = record { good = refl; listed = eqb-true r 0 p; ids = ltb-false 1048576 n q; attrs = leb-false 1024 a h; room = i }
-    go true p false q false h true i z = absurd (omega arith)
-    go true p false q true h e i z = absurd (omega arith)
-    go true p true q d h e i z = absurd (omega arith)
-    go false p c q d h e i z = absurd (eqb-false r 0 p z)
-
--- the numbers after the first, test by test
--- the number k of the rows: 4 if one is not good, 10 if one is full with x commands more
-module _ (c d n x : ℕ) (rs : List Words) (is : List ℕ) {k : ℕ} (e : k ≡ pops-number c d n x rs is) where
-  pub rows-bad : k ≡ 4 → good-pops c d n rs is ≡ false
-  unfolding pops-number
-  rows-bad h = go (good-pops c d n rs is) (full_by c x rs (touched-in n rs is)) (sym e ∙ h)
-    where
-      go : (g f : Bool) → ◌≡◌ {A = ℕ} (cond g (cond f 10 0) 4) 4 → g ≡ false
-      go true true h = absurd (omega arith)
-      go true false h = absurd (omega arith)
-      go false f h = refl
-
-  pub rows-good : (k ≡ 4 → ⊥) → good-pops c d n rs is ≡ true
-  unfolding pops-number
-  rows-good h = go (good-pops c d n rs is) (full_by c x rs (touched-in n rs is)) (λ z. h (e ∙ z))
-    where
-      go : (g f : Bool) → (◌≡◌ {A = ℕ} (cond g (cond f 10 0) 4) 4 → ⊥) → g ≡ true
-      go true f h = refl
-      go false f h = absurd (h refl)
-
-  pub rows-full : k ≡ 10 → full_by c x rs (touched-in n rs is) ≡ true
-  unfolding pops-number
-  rows-full h = go (good-pops c d n rs is) (full_by c x rs (touched-in n rs is)) (sym e ∙ h)
-    where
-      go : (g f : Bool) → ◌≡◌ {A = ℕ} (cond g (cond f 10 0) 4) 10 → f ≡ true
-      go true true h = refl
-      go true false h = absurd (omega arith)
-      go false f h = absurd (omega arith)
-
-  module _ (p : k ≡ 4 → ⊥) where
-    pub rows-roomy : (k ≡ 10 → ⊥) → full_by c x rs (touched-in n rs is) ≡ false
-    unfolding pops-number
-    rows-roomy h = go (good-pops c d n rs is) (full_by c x rs (touched-in n rs is)) (λ z. p (e ∙ z)) (λ z. h (e ∙ z))
-      where
-        go : (g f : Bool) → (◌≡◌ {A = ℕ} (cond g (cond f 10 0) 4) 4 → ⊥) → (◌≡◌ {A = ℕ} (cond g (cond f 10 0) 4) 10 → ⊥) → f ≡ false
-        go true true p h = absurd (h refl)
-        go true false p h = refl
-        go false f p h = absurd (p refl)
-
-    pub rows-ten : (k ≡ 0 → ⊥) → k ≡ 10
-    unfolding pops-number
-    rows-ten h = e ∙ go (good-pops c d n rs is) (full_by c x rs (touched-in n rs is)) (λ z. p (e ∙ z)) (λ z. h (e ∙ z))
-      where
-        go : (g f : Bool) → (◌≡◌ {A = ℕ} (cond g (cond f 10 0) 4) 4 → ⊥) → (◌≡◌ {A = ℕ} (cond g (cond f 10 0) 4) 0 → ⊥) → ◌≡◌ {A = ℕ} (cond g (cond f 10 0) 4) 10
-        go true true p h = refl
-        go true false p h = absurd (h refl)
-        go false f p h = absurd (p refl)
-
-    -- nothing comes between
-    pub rows_last : (next attrs : ℕ) → next ≤ 1048576 → attrs < 1024 → k ≡ late (good-pops c d n rs is) 0 next attrs (full_by c x rs (touched-in n rs is))
-    unfolding pops-number late
-    rows_last next attrs i j = e ∙ rw (rows-good p, le-ltb 1048576 next i, lt-leb 1024 attrs j)
-
-module _ (g : Bool) (r n a : ℕ) (f : Bool) where
-  pub late-rows : g ≡ false → 4 ≡ late g r n a f
-  unfolding late
-  late-rows h = rw h
-
-  module _ (h : g ≡ true) where
-    pub late-list : {k : ℕ} → k ≡ r → (k ≡ 0 → ⊥) → k ≡ late g r n a f
-    unfolding late
-    late-list {k} i j = i ∙ rw (h, ne_eqb r 0 (λ (z : r ≡ 0). j (i ∙ z)))
-
-    module _ (z : r ≡ 0) where
-      pub late-ids : 1048576 < n → 8 ≡ late g r n a f
-      unfolding late
-      late-ids i = rw (h, z, lt-ltb 1048576 n i)
-
-      pub late-attrs : n ≤ 1048576 → 1024 ≤ a → 9 ≡ late g r n a f
-      unfolding late
-      late-attrs i j = rw (h, z, le-ltb 1048576 n i, le-leb 1024 a j)
-
-      pub late-full : n ≤ 1048576 → a < 1024 → f ≡ true → 10 ≡ late g r n a f
-      unfolding late
-      late-full i j k = rw (h, z, le-ltb 1048576 n i, lt-leb 1024 a j, k)
-
-      pub late-done : n ≤ 1048576 → a < 1024 → f ≡ false → 0 ≡ late g r n a f
-      unfolding late
-      late-done i j k = rw (h, z, le-ltb 1048576 n i, lt-leb 1024 a j, k)
-
-pub either-one : (a b : Bool) → a ≡ true → (a || b) ≡ true
-either-one a b e = rw e
-
-pub either-two : (a b : Bool) → a ≡ false → b ≡ true → (a || b) ≡ true
-either-two a b e i = rw (e, i)
-
-pub either-none : (a b : Bool) → a ≡ false → b ≡ false → (a || b) ≡ false
-either-none a b e i = rw (e, i)
+late-zero g r n a f z = record { good = grind (arith, nat_tests); listed = grind (arith, nat_tests); ids = grind (arith, nat_tests); attrs = grind (arith, nat_tests); room = grind (arith, nat_tests) }
 
 pub lengths-facts : (t o a w : ℕ) → good_lengths t o a w ≡ true → (t ≡ open-layer-table) × (o ≡ opacity-count) × (a ≡ layer-attr-table)
 unfolding good_lengths
-lengths-facts t o a w g =
-    let h3 = both (eqb t open-layer-table && eqb o opacity-count && eqb a layer-attr-table) (eqb (w % 5) 0) g in
-    let h2 = both (eqb t open-layer-table && eqb o opacity-count) (eqb a layer-attr-table) h3.0 in
-    let h1 = both (eqb t open-layer-table) (eqb o opacity-count) h2.0 in
-    (eqb-true t open-layer-table h1.0, eqb-true o opacity-count h1.1, eqb-true a layer-attr-table h2.1)
+lengths-facts t o a w g = (grind (arith, nat_tests), grind (arith, nat_tests), grind (arith, nat_tests))
 
-pub above-0 : (n : ℕ) → (n ≡ 0 → ⊥) → 1 ≤ n
-above-0 zero h = absurd (h refl)
-above-0 (suc n) h = omega arith
+module _ (s : code.Screen) (l : PopLent) (ws : List ℕ) (e : number s l ws ≡ 0) where
+  all-zero : (numbered s l ws ≡ 0) × (lens s l ws ≡ true) × (opened s l ws ≡ true) × (number-after s (lent l.words l.layers [] []) ws 0 ≡ 0)
+  all-zero = all-right (numbered s l ws) (lens s l ws) (opened s l ws) _ (sym (tests s l ws) ∙ e)
 
-module _ (s : code.Screen) (l : PopLent) (ws : List ℕ) where
-  -- opacities and attributes are not read after the first tests
-  less-lent : number-after s (lent l.words l.layers [] []) ws 0 ≡ number-after s l ws 0
-  unfolding number-after
-  less-lent = refl
-
-  pub by-opened : judged s (length l.words.state) (length l.words.render) (length l.words.fills) ≡ 0
-      → good_lengths (length l.layers) (length l.opacities) (length l.attrs) (length ws) ≡ true
-      → cond (good-open (box_of s.viewport) l.layers s.layers) (number-after s (lent l.words l.layers [] []) ws 0) 4 ≡ number s l ws
-  by-opened e h = go (good-open (box_of s.viewport) l.layers s.layers) refl
-    where
-      go : (b : Bool) → good-open (box_of s.viewport) l.layers s.layers ≡ b → cond b (number-after s (lent l.words l.layers [] []) ws 0) 4 ≡ number s l ws
-      go true p = less-lent ∙ ap (number-after s l ws) (sym (all_first s l ws e h p))
-      go false p = by-open s l ws e h p
+  pub zero-lengths : (length l.layers ≡ open-layer-table) × (length l.opacities ≡ opacity-count) × (length l.attrs ≡ layer-attr-table)
+  zero-lengths = lengths-facts (length l.layers) (length l.opacities) (length l.attrs) (length ws) all-zero.1
 
   -- a number 0 is what the doing half requires
-  pub zero-judged : number s l ws ≡ 0 → Judged s l.layers ws l.words
-  zero-judged e =
-      let f = zero-first s l ws e in
-      let t = zero-tests s l ws f in
-      record {
-        screen = t.0;
-        table = (lengths-facts (length l.layers) (length l.opacities) (length l.attrs) (length ws) t.1).0;
-        some = above-0 s.layers (λ (z : s.layers ≡ 0). seven (by-none s l ws t.0 t.1 z ∙ e));
-        layer = t.2;
-        rows = less-lent ∙ ap (number-after s l ws) (sym f) ∙ e;
-      }
-    where
-      seven : ◌≡◌ {A = ℕ} 7 0 → ⊥
-      seven z = omega arith
-
-  pub zero-lengths : number s l ws ≡ 0 → (length l.layers ≡ open-layer-table) × (length l.opacities ≡ opacity-count) × (length l.attrs ≡ layer-attr-table)
-  zero-lengths e =
-      lengths-facts (length l.layers) (length l.opacities) (length l.attrs) (length ws) (zero-tests s l ws (zero-first s l ws e)).1
+  pub zero-judged : Judged s l.layers ws l.words
+  zero-judged =
+      let z : s.layers ≡ 0 → ⊥ = λ h. omega (arith, (none-left s l ws h).1, all-zero.3) in
+      record { screen = all-zero.0; table = zero-lengths.0; some = omega (arith, z); layer = all-zero.2; rows = all-zero.3 }

@@ -1,26 +1,16 @@
 -- The innermost layer as the code reads it: its box, its parent's, its clip. Assumes nothing.
-use mathlib.Core.Path.{◌≡◌, refl, sym, ap, ◌∙◌}
-use mathlib.Core.Bool.{Bool, true, false, ◌&&◌, ◌||◌, not, cond}
-use mathlib.Core.List.{List, []}
-use Prim.Native.Nat.{ℕ, zero, suc, ◌+◌, ◌-◌, ◌/◌, ◌%◌, ◌≤◌, ◌<◌}
-use native.Mathlib.Omega.{arith}
-use lib.Dec.{leb, eqb}
-use lib.ListN.{length}
-use borrow.Author.Tests.{eqb-true, leb-true, leb-false}
+use Rattle.std.proofs.Common.{◌≡◌, sym, ap, ◌∙◌, Bool, true, false, ◌&&◌, ◌||◌, not, cond, List, [], ℕ, ◌+◌, ◌-◌, ◌/◌, ◌%◌, ◌≤◌, ◌<◌, arith, length}
+use Rattle.std.proofs.lemmas.Bool.Decides.{nat_tests}
 use Rattle.rules.specs.Lists.{join, range}
-use Rattle.rules.specs.Boxes.{Box, width, height, by_4, empty-box, rows_of, span_of, whole}
-use Rattle.rules.specs.Blends.{good-blend}
-use Rattle.rules.specs.Inputs.{good-handle, good-thread, good-panel}
+use Rattle.rules.specs.Boxes.{Box, width, height, empty-box, rows_of, span_of, whole}
 use Rattle.rules.specs.Segments.{judge-segments, cut_in}
 use Rattle.rules.specs.Plans.{clip-box}
-use Rattle.rules.proofs.All.{both}
 use Rattle.row.specs.Words.{Words}
 use Rattle.row.specs.Cmds.{Short}
 use Rattle.rect.specs.declared.Rect.{Rect}
 use Rattle.rect.specs.Rects.{box_of, Small}
 use Rattle.rect.proofs.Boxes as boxes
 use Rattle.rect.proofs.Boxes.{small-viewport}
-use Rattle.cmd.specs.Blends.{blend_of}
 use Rattle.screen.specs.declared.Screen as code
 use Rattle.screen.specs.Screens.{frame-of}
 use Rattle.segments.specs.declared.Scene.{Scene}
@@ -45,26 +35,7 @@ pub record OwnBox (v b : Box) : Type 0 where
 
 pub own-facts : (v b : Box) → good_own_box v b ≡ true → OwnBox v b
 unfolding good_own_box
-own-facts v b g =
-    let t1 = by_4 b.x0 in
-    let t2 = by_4 b.y0 in
-    let t3 = by_4 b.x1 in
-    let t4 = by_4 b.y1 in
-    let t5 = leb b.x0 32768 in
-    let t6 = leb b.y0 32768 in
-    let t7 = leb b.x1 (width v) in
-    let h7 = both (t1 && t2 && t3 && t4 && t5 && t6 && t7) (leb b.y1 (height v)) g in
-    let h6 = both (t1 && t2 && t3 && t4 && t5 && t6) t7 h7.0 in
-    let h5 = both (t1 && t2 && t3 && t4 && t5) t6 h6.0 in
-    let h4 = both (t1 && t2 && t3 && t4) t5 h5.0 in
-    let h3 = both (t1 && t2 && t3) t4 h4.0 in
-    record {
-      tiles = eqb-true (b.y1 % 4) 0 h3.1;
-      left = leb-true b.x0 32768 h4.1;
-      top = leb-true b.y0 32768 h5.1;
-      right = leb-true b.x1 (width v) h6.1;
-      bottom = leb-true b.y1 (height v) h7.1;
-    }
+own-facts v b g = record { tiles = grind (arith, nat_tests); left = grind (arith, nat_tests); top = grind (arith, nat_tests); right = grind (arith, nat_tests); bottom = grind (arith, nat_tests) }
 
 pub record Ranged (l : OpenLayer) : Type 0 where
   pub flag : l.flag ≤ 1
@@ -72,17 +43,7 @@ pub record Ranged (l : OpenLayer) : Type 0 where
 
 pub layer-facts : (l : OpenLayer) → good_layer l ≡ true → Ranged l
 unfolding good_layer
-layer-facts l g =
-    let t1 = good-blend (blend_of l.blend) in
-    let t2 = good-handle l.mask in
-    let t3 = leb l.flag 1 in
-    let t4 = leb l.start l.«end» in
-    let t5 = good-thread l.thread in
-    let h5 = both (t1 && t2 && t3 && t4 && t5) (good-panel l.panel) g in
-    let h4 = both (t1 && t2 && t3 && t4) t5 h5.0 in
-    let h3 = both (t1 && t2 && t3) t4 h4.0 in
-    let h2 = both (t1 && t2) t3 h3.0 in
-    record { flag = leb-true l.flag 1 h2.1; range = leb-true l.start l.«end» h3.1 }
+layer-facts l g = record { flag = grind (arith, nat_tests); range = grind (arith, nat_tests) }
 
 module _ {v b : Box} (o : OwnBox v b) where
   pub last_row : (b.y1 + 3) / 4 ≤ rows_of v
@@ -107,16 +68,8 @@ module _ (v : Box) (t : List ℕ) (n : ℕ) where
 
   pub parent-some : (n ≡ 1 → ⊥) → 1 ≤ n → (q : Rect) → q ≡ box_in t (n - 2) → box_of q ≡ clip-box v (layers-in t (n - 1))
   parent-some h low q e =
-      let k : 1 ≤ n - 1 = more h low in
       let z : n - 2 ≡ n - 1 - 1 = omega arith in
-      rw (layers-first t (n - 1) k) (ap box_of (e ∙ ap (box_in t) z))
-    where
-      go : (b : Bool) → leb 1 (n - 1) ≡ b → (n ≡ 1 → ⊥) → 1 ≤ n → 1 ≤ n - 1
-      go true e h low = leb-true 1 (n - 1) e
-      go false e h low = absurd (h (omega (arith, leb-false 1 (n - 1) e)))
-
-      more : (n ≡ 1 → ⊥) → 1 ≤ n → 1 ≤ n - 1
-      more h low = go (leb 1 (n - 1)) refl h low
+      rw (layers-first t (n - 1) (omega arith)) (ap box_of (e ∙ ap (box_in t) z))
 
 -- the layer y and the parent's box q as the code has read them
 module _ (s : code.Screen) (w : Words) (t ws : List ℕ) (low : 1 ≤ s.layers) (o : Screened s w) (y : OpenLayer) (e : y ≡ open_at t (s.layers - 1)) (q : Rect)
@@ -141,10 +94,7 @@ module _ (s : code.Screen) (w : Words) (t ws : List ℕ) (low : 1 ≤ s.layers) 
     opened = sym test-is ∙ sym i ∙ not-false r j
 
     tests : (good_layer y ≡ true) × (good_own_box view (box_of y.bbox) ≡ true) × (good_own_box view (box_of q) ≡ true)
-    tests =
-        let a = both (good_layer y && good_own_box view (box_of y.bbox)) (good_own_box view (box_of q)) (sym i ∙ not-false r j) in
-        let b = both (good_layer y) (good_own_box view (box_of y.bbox)) a.0 in
-        (b.0, b.1, a.1)
+    tests = (grind (arith, nat_tests), grind (arith, nat_tests), grind (arith, nat_tests))
 
     is_all : number-after s (lent w t [] []) ws 0 ≡ all
     is_all = rw opened
@@ -188,16 +138,7 @@ module _ (s : code.Screen) (w : Words) (t ws : List ℕ) (low : 1 ≤ s.layers) 
           ∙ is_all
 
       flagged : (y.flag ≡ 0 → ⊥) → (open_at t (s.layers - 1)).flag ≡ 1
-      flagged f = ap (λ (z : OpenLayer). z.flag) (sym e) ∙ go (eqb y.flag 0) refl
-        where
-          go : (b : Bool) → eqb y.flag 0 ≡ b → y.flag ≡ 1
-          go true z = absurd (f (eqb-true y.flag 0 z))
-          go false z = one y.flag (layer-facts y tests.0).flag f
-            where
-              one : (n : ℕ) → n ≤ 1 → (n ≡ 0 → ⊥) → n ≡ 1
-              one zero h g = absurd (g refl)
-              one (suc zero) h g = refl
-              one (suc (suc n)) h g = absurd (omega arith)
+      flagged f = ap (λ (z : OpenLayer). z.flag) (sym e) ∙ omega (arith, (layer-facts y tests.0).flag)
 
       module _ (f : y.flag ≡ 0 → ⊥) {x z : ℕ} (ex : x ≡ y.start) (ez : z ≡ y.«end») where
         start_is : x ≡ (clip-in t (s.layers - 1)).start

@@ -1,13 +1,6 @@
 -- A pop's screen and tables afterwards, and its refusal. Assumes nothing.
-use mathlib.Core.Path.{◌≡◌, refl, ap}
-use mathlib.Core.Bool.{Bool, true, false, cond}
-use mathlib.Core.List.{List}
-use Rattle.std.specs.Prelude.{None, Some}
-use Prim.Native.Nat.{ℕ, ◌+◌, ◌-◌}
-use lib.ListN.{get_or, length-append}
-use lib.Seq.{drop_at}
+use Rattle.std.proofs.Common.{◌≡◌, refl, ap, Bool, true, false, cond, List, None, Some, ℕ, ◌+◌, ◌-◌, get_or, length-append, drop_at, ne_eqb}
 use lib.Ieee.{Float, nan}
-use borrow.Author.Tests.{ne_eqb}
 use Rattle.rules.specs.Inputs.{Clip}
 use Rattle.rules.specs.Plans.{clip-box, clip-thread}
 use Rattle.row.specs.Words.{Words}

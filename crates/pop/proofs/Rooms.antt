@@ -1,14 +1,6 @@
 -- A screen's rows as its words have them, and room for a run of puts. Assumes nothing.
-use mathlib.Core.Path.{◌≡◌, refl, sym, ap, ◌∙◌}
-use mathlib.Core.Bool.{Bool, true, false, ◌&&◌}
-use mathlib.Core.List.{List, [], ◌∷◌, ◌++◌}
-use Prim.Native.Nat.{ℕ, ◌+◌, ◌-◌, ◌*◌, ◌≤◌, ◌<◌}
-use native.Mathlib.Omega.{arith}
-use native.Mathlib.Nat.{mul-le-mul_right}
-use lib.Dec.{leb, ltb, eqb}
-use lib.ListN.{length, get_or, take, drop}
-use lib.Seq.{get_or-take, get_or-drop}
-use borrow.Author.Tests.{leb-true, leb-false, ltb-true, ltb-false}
+use Rattle.std.proofs.Common.{◌≡◌, sym, ap, ◌∙◌, List, [], ◌∷◌, ◌++◌, ℕ, ◌+◌, ◌-◌, ◌*◌, ◌≤◌, ◌<◌, arith, eqb, length, get_or, take, drop, get_or-take, get_or-drop}
+use Rattle.std.proofs.lemmas.Bool.Decides.{nat_tests}
 use Rattle.rules.specs.Lists.{some_of, change, range}
 use Rattle.rules.specs.Plans.{Put}
 use Rattle.rules.specs.Steps.{do-puts}
@@ -43,19 +35,15 @@ module _ {cs ds rows : ℕ} {w : Words} (o : Arenas cs ds rows w) where
   pub row_word : (r i : ℕ) → r < rows → i < 54 → get_or w.state (r * 54 + i) 0 ≡ word i (row_of (cut (sizes cs ds) rows w) r)
   row_word r i h g = sym (ap (word i) (row_is r h) ∙ part-word w.state (r * 54) i g)
 
-  pub rows_long : (b : ℕ) → b ≤ rows → b * 54 ≤ length w.state
-  rows_long b h = rw o.long.state (mul-le-mul_right 54 h)
-
   -- a test of words is the rules' test
   pub touched-is : (a b n r : ℕ) → b ≤ rows → touched-word a b n w.state r ≡ some_of (eqb r) (touched-in n (cut (sizes cs ds) rows w) (range a b))
-  touched-is a b n r h = go (leb a r) refl (ltb r b) refl
-    where
-      go : (x : Bool) → leb a r ≡ x → (y : Bool) → ltb r b ≡ y → (x && y && eqb (get_or w.state (r * 54 + 5) 0) n) ≡ some_of (eqb r) (touched-in n (cut (sizes cs ds) rows w) (range a b))
-      go false p y q = sym (below n (cut (sizes cs ds) rows w) (b - a) a r (leb-false a r p))
-      go true p false q = sym (above n (cut (sizes cs ds) rows w) a b r (ltb-false r b q) (leb-true a r p))
-      go true p true q =
-          let g : r < b = ltb-true r b q in
-          ap (λ (k : ℕ). eqb k n) (row_word r 5 (omega arith) (omega arith)) ∙ sym (inside n (cut (sizes cs ds) rows w) a b r (leb-true a r p) g)
+  touched-is a b n r h =
+      let rs = cut (sizes cs ds) rows w in
+      let low = below n rs (b - a) a r in
+      let high = above n rs a b r in
+      let here = inside n rs a b r in
+      let read = row_word r 5 in
+      grind (arith, nat_tests)
 
   pub touched-inside : (a b n : ℕ) → b ≤ rows → All (λ (x : ℕ). x < length (cut (sizes cs ds) rows w)) (touched-in n (cut (sizes cs ds) rows w) (range a b))
   touched-inside a b n h =

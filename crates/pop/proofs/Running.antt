@@ -1,12 +1,6 @@
 -- Counting as cut segments run, ordered by row, is counting all of each row. Assumes nothing.
-use mathlib.Core.Path.{◌≡◌, refl, sym, ap, ◌∙◌}
-use mathlib.Core.Bool.{Bool, true, false, ◌&&◌, ◌||◌, cond}
-use mathlib.Core.List.{List, [], ◌∷◌, ◌++◌}
-use Rattle.std.specs.Prelude.{Option, None, Some}
-use Prim.Native.Nat.{ℕ, ◌+◌, ◌-◌, ◌/◌, ◌≤◌, ◌<◌}
-use native.Mathlib.Omega.{arith}
-use lib.Dec.{leb, ltb, eqb}
-use borrow.Author.Tests.{eq-eqb, ne_eqb, eqb-true, eqb-false, le-ltb, ltb-false, ltb-true}
+use Rattle.std.proofs.Common.{◌≡◌, refl, sym, ap, ◌∙◌, Bool, true, false, ◌||◌, cond, List, [], ◌∷◌, ◌++◌, Option, None, Some, ℕ, ◌+◌, ◌-◌, ◌/◌, ◌≤◌, ◌<◌, arith, ltb, eqb, eq-eqb, ne_eqb, eqb-true, le-ltb, ltb-false, ltb-true}
+use Rattle.std.proofs.lemmas.Bool.Decides.{nat_tests}
 use Rattle.rules.specs.Lists.{some_of, join}
 use Rattle.rules.specs.Boxes.{Box}
 use Rattle.rules.specs.Spans.{span, Stretch, cut_to}
@@ -29,11 +23,7 @@ pub data Sorted : List Cut → Type 0 where
 
 -- an ordered list's cut segments are sorted
 follows-row : (s t : Segment) → follows s t ≡ true → s.row ≤ t.row
-follows-row s t h = go (ltb s.row t.row) refl h
-  where
-    go : (b : Bool) → ltb s.row t.row ≡ b → (b || eqb s.row t.row && leb s.end t.first) ≡ true → s.row ≤ t.row
-    go true e g = omega (arith, ltb-true s.row t.row e)
-    go false e g = omega (arith, eqb-true s.row t.row (both (eqb s.row t.row) (leb s.end t.first) g).0)
+follows-row s t h = grind (arith, nat_tests)
 
 after-rows : (s : Segment) (ss : List Segment) → ordered-after s ss ≡ true → All (λ (t : Segment). s.row ≤ t.row) ss
 after-rows s [] h = nil
@@ -134,66 +124,46 @@ module _ (c : ℕ) (xs : List ℕ) (rs : List Words) where
 
     fits-here : ltb c (more + 1) ≡ false → Fits (k.row + 1) more ks → Fits next m (k ∷ ks)
     unfolding cuts-on
-    fits-here e f x i g = go (eqb k.row x) refl (ltb 0 (cuts-on x ks)) refl g
-      where
-        go : (b : Bool) → eqb k.row x ≡ b → (d : Bool) → ltb 0 (cuts-on x ks) ≡ d → 0 < cond b 1 0 + cuts-on x ks → so_far rs next m x + (cond b 1 0 + cuts-on x ks) + 1 ≤ c
-        go true j true p q =
-            let z : x ≡ k.row = sym (eqb-true k.row x j) in
-            let h = f x i (ltb-true 0 (cuts-on x ks) p) in
-            let w = so-far-here rs x k.row more z in
-            let y : so_far rs next m x ≡ so_far rs next m k.row = ap (so_far rs next m) z in
-            omega (arith, h, w, y)
-        go true j false p q =
-            let z : x ≡ k.row = sym (eqb-true k.row x j) in
-            let y : so_far rs next m x ≡ so_far rs next m k.row = ap (so_far rs next m) z in
-            omega (arith, y, ltb-false 0 (cuts-on x ks) p, ltb-false c (more + 1) e)
-        go false j d p q =
-            let n = eqb-false k.row x j in
-            let s : 0 < cuts-on x ks = omega (arith, q) in
-            let h = f x i s in
-            let w = so-far-else rs x (k.row + 1) more (λ (z : x + 1 ≡ k.row + 1). n (omega arith)) in
-            omega (arith, h, w, not_yet x n s)
+    fits-here e f x i g =
+        let h = f x i in
+        let here = so-far-here rs x k.row more in
+        let gone = so-far-else rs x (k.row + 1) more in
+        let later = not_yet x in
+        let same : k.row ≡ x → so_far rs next m x ≡ so_far rs next m k.row = λ z. ap (so_far rs next m) (sym z) in
+        grind (arith, nat_tests)
 
     here-fits : some_of (eqb k.row) xs ≡ true → Fits next m (k ∷ ks) → (ltb c (more + 1) ≡ false) × Fits (k.row + 1) more ks
     unfolding cuts-on
-    here-fits t f = (le-ltb c (more + 1) at-k, λ x i g. go x i g (eqb k.row x) refl)
+    here-fits t f = (le-ltb c (more + 1) at-k, λ x i g. rest x i g)
       where
-        on-k : ◌≡◌ {A = ℕ} (cond (eqb k.row k.row) 1 0) 1
-        on-k = rw (eq-eqb k.row k.row refl)
-
         at-k : more + 1 ≤ c
-        at-k = omega (arith, f k.row t (omega (arith, on-k)), on-k)
+        at-k = let h = f k.row t in grind (arith, nat_tests)
 
-        go : (x : ℕ) → some_of (eqb x) xs ≡ true → 0 < cuts-on x ks → (b : Bool) → eqb k.row x ≡ b → so_far rs (k.row + 1) more x + cuts-on x ks + 1 ≤ c
-        go x i g true j =
-            let z : x ≡ k.row = sym (eqb-true k.row x j) in
-            let o : ◌≡◌ {A = ℕ} (cond (eqb k.row x) 1 0) 1 = rw j in
-            let w = so-far-here rs x k.row more z in
-            let y : so_far rs next m x ≡ so_far rs next m k.row = ap (so_far rs next m) z in
-            omega (arith, f x i (omega (arith, o)), o, w, y)
-        go x i g false j =
-            let n = eqb-false k.row x j in
-            let o : ◌≡◌ {A = ℕ} (cond (eqb k.row x) 1 0) 0 = rw j in
-            let w = so-far-else rs x (k.row + 1) more (λ (z : x + 1 ≡ k.row + 1). n (omega arith)) in
-            omega (arith, f x i (omega (arith, o, g)), o, w, not_yet x n g)
+        rest : Fits (k.row + 1) more ks
+        rest x i g =
+            let h = f x i in
+            let here = so-far-here rs x k.row more in
+            let gone = so-far-else rs x (k.row + 1) more in
+            let later = not_yet x in
+            let same : k.row ≡ x → so_far rs next m x ≡ so_far rs next m k.row = λ z. ap (so_far rs next m) (sym z) in
+            grind (arith, nat_tests)
 
     fits-past : some_of (eqb k.row) xs ≡ false → Fits next m ks → Fits next m (k ∷ ks)
     unfolding cuts-on
     fits-past t f x i g =
-        let o : ◌≡◌ {A = ℕ} (cond (eqb k.row x) 1 0) 0 = rw (ne_eqb k.row x (apart x k.row xs i t)) in
-        omega (arith, f x i (omega (arith, g, o)), o)
+        let n = apart x k.row xs i t in
+        let h = f x i in
+        grind (arith, nat_tests)
 
     past_fits : some_of (eqb k.row) xs ≡ false → Fits next m (k ∷ ks) → Fits next m ks
     unfolding cuts-on
     past_fits t f x i g =
-        let o : ◌≡◌ {A = ℕ} (cond (eqb k.row x) 1 0) 0 = rw (ne_eqb k.row x (apart x k.row xs i t)) in
-        omega (arith, f x i (omega (arith, g, o)), o)
+        let n = apart x k.row xs i t in
+        let h = f x i in
+        grind (arith, nat_tests)
 
   onwards : (k : Cut) {ks : List Cut} → All (λ (j : Cut). k.row ≤ j.row) ks → All (λ (j : Cut). k.row + 1 ≤ j.row + 1) ks
-  onwards k a = all_map (λ (j : Cut) (h : k.row ≤ j.row). up j h) a
-    where
-      up : (j : Cut) → k.row ≤ j.row → k.row + 1 ≤ j.row + 1
-      up j h = omega arith
+  onwards k a = all_map (λ (j : Cut) (h : k.row ≤ j.row). omega arith) a
 
   pub runs_fit : (next m : ℕ) {ks : List Cut} → Sorted ks → All (λ (k : Cut). next ≤ k.row + 1) ks → runs-full c xs rs next m ks ≡ false → Fits next m ks
   unfolding runs-full cuts-on
@@ -223,10 +193,7 @@ module _ (c : ℕ) (xs : List ℕ) (rs : List Words) where
 
 -- two tests that say no together
 pub same-no : (a b : Bool) → (a ≡ false → b ≡ false) → (b ≡ false → a ≡ false) → a ≡ b
-same-no true true f g = refl
-same-no false false f g = refl
-same-no true false f g = g refl
-same-no false true f g = sym (f refl)
+same-no a b f g = grind (arith, nat_tests)
 
 pub some-none : {A : Type 0} (p : A → Bool) {xs : List A} → All (λ (x : A). p x ≡ false) xs → some_of p xs ≡ false
 some-none p nil = refl

@@ -1,12 +1,6 @@
 -- The touched ones of some rows. Assumes nothing.
-use mathlib.Core.Path.{◌≡◌, refl, sym, ap, ◌∙◌}
-use mathlib.Core.Bool.{Bool, true, false}
-use mathlib.Core.List.{List, [], ◌∷◌}
-use Prim.Native.Nat.{ℕ, zero, suc, ◌+◌, ◌-◌, ◌≤◌, ◌<◌}
-use native.Mathlib.Numerals.{add-one}
-use native.Mathlib.Omega.{arith}
-use lib.Dec.{leb, eqb}
-use borrow.Author.Tests.{eq-eqb, ne_eqb, eqb-true, eqb-false, leb-true, leb-false}
+use Rattle.std.proofs.Common.{◌≡◌, refl, sym, ap, ◌∙◌, Bool, true, false, List, [], ◌∷◌, ℕ, zero, suc, ◌+◌, ◌-◌, ◌≤◌, ◌<◌, add-one, arith, eqb, eq-eqb, ne_eqb, eqb-true}
+use borrow.Author.Tests.{eqb-false}
 use Rattle.rules.specs.Lists.{some_of, keep, change, count-from, range}
 use Rattle.rules.proofs.All.{All, nil, cons}
 use Rattle.rules.proofs.laws.Changes.{change-else}
@@ -47,11 +41,7 @@ all-keep-if P true x p ps = cons (p refl) ps
 all-keep-if P false x p ps = ps
 
 not_equal : (x a : ℕ) → a ≤ x → (x ≡ a → ⊥) → suc a ≤ x
-not_equal x a h i = go (leb (suc a) x) refl
-  where
-    go : (t : Bool) → leb (suc a) x ≡ t → suc a ≤ x
-    go true e = leb-true (suc a) x e
-    go false e = absurd (i (omega (arith, leb-false (suc a) x e)))
+not_equal x a h i = omega arith
 
 module _ (n : ℕ) where
   -- levels alone decide
@@ -83,7 +73,7 @@ module _ (n : ℕ) where
         all-keep-if (λ (y : ℕ). P y × (word 5 (row_of rs y) ≡ n)) (eqb (word 5 (row_of rs x)) n) x (λ e. (p, eqb-true _ _ e)) (all-touched ps)
 
     -- whether row x is among them
-    some-other : (x i : ℕ) (t : Bool) (l : List ℕ) → (x ≡ i → ⊥) → some_of (eqb x) (keep t i l) ≡ some_of (eqb x) l
+    pub some-other : (x i : ℕ) (t : Bool) (l : List ℕ) → (x ≡ i → ⊥) → some_of (eqb x) (keep t i l) ≡ some_of (eqb x) l
     some-other x i true l h = rw (ne_eqb x i h)
     some-other x i false l h = refl
 

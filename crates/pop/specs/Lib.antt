@@ -1,2 +1,3 @@
 pub mod Pop
 pub mod Closing
+pub mod Named

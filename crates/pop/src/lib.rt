@@ -1,30 +1,22 @@
-// A pop (rules 9 and 10; bucketer.rs, pop_layer): judged, then done, or refused with nothing changed. `pop_layer` is a public call; the others are parts of it:
-// where one asks something, its callers have judged it.
+//! A pop (rules 9 and 10; bucketer.rs, pop_layer): judged, then done, or refused with nothing changed. `pop_layer` is a public call; the others are parts of it:
+//! where one asks something, its callers have judged it.
 #![tactic(auto)]
 
-ghost use Rattle.std.specs.Prelude.{◌≡◌, true, false, ◌&&◌, ◌||◌, cond, [], map, ◌++◌, ◌+◌, ◌-◌, ◌*◌, ◌/◌, ◌≤◌, ◌<◌, length, eqb};
+ghost use Rattle.std.specs.Prelude.{◌≡◌, false, ◌&&◌, cond, ◌+◌, ◌-◌, ◌*◌, ◌/◌, ◌≤◌, ◌<◌, length, eqb};
 ghost use Rattle.sizes.specs.Sizes.{most-layers, most-attrs, last-id, open-layer-table, opacity-count, layer-attr-table};
-ghost use Rattle.sizes.specs.Widths.{bucket-tiles};
-ghost use Rattle.rules.specs.Lists.{join, range, every};
-ghost use Rattle.rules.specs.Boxes.{rows_of};
-ghost use Rattle.rules.specs.Segments.{cut_in, good-segment, judge-segments};
-ghost use Rattle.rules.specs.Plans.{on, close, pop, clip-box};
-ghost use Rattle.span.specs.Spans.{tiles};
+ghost use Rattle.rules.specs.Lists.{every};
+ghost use Rattle.rules.specs.Plans.{close, pop, clip-box};
 ghost use Rattle.rect.specs.Rects.{box_of};
-ghost use Rattle.cmd.specs.Attrs.{words-at};
 ghost use Rattle.screen.specs.Screens.{frame-of, screen-in};
 ghost use Rattle.screen.specs.Judging.{judged};
-ghost use Rattle.screen.specs.Tables.{float-0};
-ghost use Rattle.segments.specs.Segs.{segs, origin, bounds, Starts};
+ghost use Rattle.segments.specs.Segs.{origin, bounds, Starts};
 ghost use Rattle.row.specs.Rows.{all-held, SameRows};
 ghost use Rattle.screen.specs.LentLayers.{SameLayers};
 ghost use Rattle.sizes.specs.Refusals.{answer_number};
-ghost use Rattle.row.specs.Cmds.{Short};
 ghost use Rattle.row.specs.Arena.{nowhere};
-ghost use Rattle.row.specs.Building.{rows_at, Whole};
-ghost use Rattle.screen.specs.Layers.{open_at, no_words, good_layer, good_own_box};
-ghost use Rattle.pop.specs.Closing.{touched-in, good-pops, full_by, runs-full, done-puts, clip-puts, Clips, Fillable, Each};
-ghost use Rattle.pop.specs.Pop.{lent, out, layers-in, good-open, good_lengths, late, number-after, number, popped, Judged, closing-puts, words-after, attr_by, tables_after};
+ghost use Rattle.screen.specs.Layers.{open_at, good_layer, good_own_box};
+ghost use Rattle.pop.specs.Pop.{lent, out, layers-in, good_lengths, number, popped, Judged, closing-puts, words-after, attr_by, tables_after};
+ghost use Rattle.pop.specs.Named.{InScreen, WholeRows, clip_number, closed_by, lent_of, open_number, plain_number, screen_rows};
 
 use crate::rows::{
     Band, ClipPath, close_segments, close_spans, is_full_clip, judge_pop_rows, pop_rows,
@@ -79,9 +71,8 @@ fn is_good_open(viewport: Rect, layer: OpenLayer, parent: Rect) -> bool
 
 // Without a clip: 4 for the rows of the band, then 8, 9 and 10.
 fn judge_plain(screen: Screen, rows: &Rows<'_>, band: Band) -> Result<(), Refusal>
-    requires { Whole (frame-of screen) (all-held rows.now) × (band.b ≤ rows_of (box_of screen.viewport)) × (1 ≤ screen.layers) × (screen.layers ≤ most-layers) }
-    ensures { answer_number result ≡ late (good-pops screen.c screen.d screen.layers (rows_at (frame-of screen) (all-held rows.now)) (range band.a band.b)) 0 screen.next_draw_id screen.layer_attrs
-        (full_by screen.c 2 (rows_at (frame-of screen) (all-held rows.now)) (touched-in screen.layers (rows_at (frame-of screen) (all-held rows.now)) (range band.a band.b))) }
+    requires { WholeRows screen rows.now × InScreen screen band × (1 ≤ screen.layers) × (screen.layers ≤ most-layers) }
+    ensures { answer_number result ≡ plain_number screen band rows.now }
 {
     let judged = judge_pop_rows(screen, rows, band, 1);
     if is_bad_record(judged) {
@@ -104,10 +95,8 @@ fn judge_clip(
     clip: ClipPath,
     band: Band,
 ) -> Result<(), Refusal>
-    requires { Whole (frame-of screen) (all-held rows.now) × (band.b ≤ rows_of (box_of screen.viewport)) × (1 ≤ screen.layers) × (screen.layers ≤ most-layers) × (clip.start ≤ clip.«end») × (5 * clip.«end» ≤ length list.now) × Starts (origin clip.scene) (bounds clip.scene) }
-    ensures { answer_number result ≡ late (good-pops screen.c screen.d screen.layers (rows_at (frame-of screen) (all-held rows.now)) (range band.a band.b)) (judge-segments false (segs list.now clip.start (clip.«end» - clip.start))) screen.next_draw_id screen.layer_attrs
-        (full_by screen.c 1 (rows_at (frame-of screen) (all-held rows.now)) (touched-in screen.layers (rows_at (frame-of screen) (all-held rows.now)) (range band.a band.b))
-        || runs-full screen.c (touched-in screen.layers (rows_at (frame-of screen) (all-held rows.now)) (range band.a band.b)) (rows_at (frame-of screen) (all-held rows.now)) 0 0 (join (cut_in (origin clip.scene) (bounds clip.scene)) (segs list.now clip.start (clip.«end» - clip.start)))) }
+    requires { WholeRows screen rows.now × InScreen screen band × (1 ≤ screen.layers) × (screen.layers ≤ most-layers) × (clip.start ≤ clip.«end») × (5 * clip.«end» ≤ length list.now) × Starts (origin clip.scene) (bounds clip.scene) }
+    ensures { answer_number result ≡ clip_number screen band rows.now clip list.now }
 {
     let judged = judge_pop_rows(screen, rows, band, 0);
     if is_bad_record(judged) {
@@ -137,7 +126,7 @@ fn judge_open(
     list: &[u32],
 ) -> Result<(), Refusal>
     requires { (judged screen (length rows.now.state.now) (length rows.now.render.now) (length rows.now.fills.now) ≡ 0) × (length layers.now.table.now ≡ open-layer-table) × (1 ≤ screen.layers) }
-    ensures { answer_number result ≡ cond (good-open (box_of screen.viewport) layers.now.table.now screen.layers) (number-after screen (lent (all-held rows.now) layers.now.table.now [] []) list.now 0) 4 }
+    ensures { answer_number result ≡ open_number screen rows.now layers.now.table.now list.now }
 {
     let layer = layers.open_at(screen.layers - 1);
     let parent = parent_box(screen.viewport, layers, screen.layers);
@@ -167,7 +156,7 @@ fn judge_pop(
     layer_attrs: &[u32],
     list: &[u32],
 ) -> Result<(), Refusal>
-    ensures { answer_number result ≡ number screen (lent (all-held rows.now) layers.now.table.now layers.now.opacities.now layer_attrs.now) list.now }
+    ensures { answer_number result ≡ number screen (lent_of rows.now layers.now layer_attrs.now) list.now }
 {
     judge_screen(
         screen,
@@ -193,9 +182,9 @@ fn judge_pop(
 fn close_rows(screen: Screen, rows: &mut Rows<'_>, layers: &Layers<'_>, list: &[u32])
     requires { Judged screen layers.now.table.now list.now (all-held rows.old) }
     ensures same { SameRows rows.old rows.new }
-    ensures rows { rows_at (frame-of screen) (all-held rows.new)
-        ≡ done-puts (bucket-tiles screen.width) (screen.layers - 1) (closing-puts screen layers.now.table.now list.now (all-held rows.old))
-        (rows_at (frame-of screen) (all-held rows.old)) }
+    ensures rows { screen_rows screen rows.new
+        ≡ closed_by screen (closing-puts screen layers.now.table.now list.now (all-held rows.old))
+        (screen_rows screen rows.old) }
 {
     let layer = layers.open_at(screen.layers - 1);
     let band = band_of(layer.bbox);
@@ -276,8 +265,8 @@ fn close(screen: &mut Screen, parent: Rect)
     screen.painting = false;
 }
 
-// Rules 9 and 10: the innermost layer closes. The list has the segments of its clip, five words each. BadViewport, BadArena, BadRecord, BadOrder, NoLayer, Ids,
-// FullAttrs or FullRow: refused, the screen and every lent word stay.
+/// Rules 9 and 10: the innermost layer closes. The list has the segments of its clip, five words each. BadViewport, BadArena, BadRecord, BadOrder, NoLayer, Ids,
+/// FullAttrs or FullRow: refused, the screen and every lent word stay.
 pub fn pop_layer(
     screen: &mut Screen,
     rows: &mut Rows<'_>,
@@ -287,8 +276,8 @@ pub fn pop_layer(
 ) -> Result<(), Refusal>
     ensures same_rows { SameRows rows.old rows.new }
     ensures same_layers { SameLayers layers.old layers.new }
-    ensures popped { out (answer_number result) screen.new (lent (all-held rows.new) layers.new.table.now layers.new.opacities.now layer_attrs.new)
-        ≡ popped screen.old (lent (all-held rows.old) layers.old.table.now layers.old.opacities.now layer_attrs.old) list.now }
+    ensures popped { out (answer_number result) screen.new (lent_of rows.new layers.new layer_attrs.new)
+        ≡ popped screen.old (lent_of rows.old layers.old layer_attrs.old) list.now }
 {
     judge_pop(*screen, rows, layers, layer_attrs, list)?;
     let parent = parent_box(screen.viewport, layers, screen.layers);

@@ -1,25 +1,23 @@
-// The rows of a closing layer (rules 9 and 10; bucketer.rs, pop_layer): judging them, the closing LayerFills, the PopBufs. Parts: each has a `requires`, which
-// its callers have judged. The layer that closes is the innermost of `screen.layers`. A row is touched if it has that layer's PushBuf.
-ghost use Rattle.std.specs.Prelude.{◌≡◌, true, cond, [], ◌∷◌, map, ◌+◌, ◌-◌, ◌*◌, ◌≤◌, ◌<◌, length, None};
+//! The rows of a closing layer (rules 9 and 10; bucketer.rs, pop_layer): judging them, the closing LayerFills, the PopBufs. Parts: each has a `requires`, which
+//! its callers have judged. The layer that closes is the innermost of `screen.layers`. A row is touched if it has that layer's PushBuf.
+ghost use Rattle.std.specs.Prelude.{◌≡◌, true, cond, map, ◌+◌, ◌-◌, ◌*◌, ◌≤◌, ◌<◌, length, None};
 ghost use Rattle.sizes.specs.Sizes.{most-layers, most-rows, row-size};
-ghost use Rattle.sizes.specs.Widths.{bucket-tiles};
-ghost use Rattle.rules.specs.Lists.{change, join, range, every};
+ghost use Rattle.rules.specs.Lists.{change, range, every};
 ghost use Rattle.rules.specs.Answers.{FullRow};
-ghost use Rattle.rules.specs.Boxes.{rows_of};
 ghost use Rattle.rules.specs.Commands.{layer-fill};
-ghost use Rattle.rules.specs.Segments.{good-segment, cut_in};
-ghost use Rattle.rules.specs.Plans.{on, close, pop, close-puts};
+ghost use Rattle.rules.specs.Segments.{good-segment};
+ghost use Rattle.rules.specs.Plans.{on, pop};
 ghost use Rattle.span.specs.Spans.{tiles};
-ghost use Rattle.rect.specs.Rects.{box_of};
 ghost use Rattle.screen.specs.Screens.{frame-of};
-ghost use Rattle.segments.specs.Segs.{seg-at, segs, origin, bounds, Starts};
+ghost use Rattle.segments.specs.Segs.{origin, bounds, Starts, seg-at};
 ghost use Rattle.row.specs.Words.{words, put_command, end_buf, Room};
 ghost use Rattle.row.specs.Cmds.{Short};
 ghost use Rattle.row.specs.Building.{rows_at, Whole};
 ghost use Rattle.row.specs.Room.{fault_number, record-at, at-hand, Found};
 ghost use Rattle.row.specs.Rows.{all-held, SameRows};
 ghost use Rattle.sizes.specs.Refusals.{answer_number};
-ghost use Rattle.pop.specs.Closing.{row_of, touched-in, good-pop, good-pops, full-pop, pops-number, runs-full, done-puts, Roomy, Fillable, Poppable, Each, touched-word, clip-puts, Clips, pop-limits, ShallowRow, Clean, Counted};
+ghost use Rattle.pop.specs.Closing.{row_of, good-pop, full-pop, pops-number, Fillable, Poppable, Each, touched-word, clip-puts, Clips, pop-limits, ShallowRow, Clean, Counted};
+ghost use Rattle.pop.specs.Named.{FillableAt, InScreen, RoomFor, RowOf, WholeRows, clip_cuts, clip_segments, closed_by, good_band, if_touched, overfull, screen_rows, segment_cut, segment_puts, span_puts, touched};
 
 use cmd::command::Fill;
 use row::judge::is_good_row;
@@ -31,14 +29,14 @@ use sizes::answers::Refusal;
 use sizes::{LEVEL, LEVEL_BASE, LEVELS, ROW};
 use span::TileSpan;
 
-// The rows of the layer's box, from a to b, which is not among them.
+/// The rows of the layer's box, from a to b, which is not among them.
 #[derive(Clone, Copy)]
 pub struct Band {
     pub a: usize,
     pub b: usize,
 }
 
-// The segments of the layer's clip, from start to end of a list, and the scene that they are cut to: the parent's box.
+/// The segments of the layer's clip, from start to end of a list, and the scene that they are cut to: the parent's box.
 #[derive(Clone, Copy)]
 pub struct ClipPath {
     pub start: usize,
@@ -73,8 +71,8 @@ fn is_good_pop(state: &[u32], render: &[u32], fills: &[u32], c: u32, d: u32, ope
 
 // Row r of the layer's box (answer 4).
 fn judge_pop_row(screen: Screen, rows: &Rows<'_>, r: usize) -> bool
-    requires { Whole (frame-of screen) (all-held rows.now) × (r < rows_of (box_of screen.viewport)) × (1 ≤ screen.layers) × (screen.layers ≤ most-layers) }
-    ensures { result ≡ good-pop screen.c screen.d screen.layers (row_of (rows_at (frame-of screen) (all-held rows.now)) r) }
+    requires { WholeRows screen rows.now × RowOf screen r × (1 ≤ screen.layers) × (screen.layers ≤ most-layers) }
+    ensures { result ≡ good-pop screen.c screen.d screen.layers (row_of (screen_rows screen rows.now) r) }
 {
     is_good_pop(
         part(rows.state, ROW, r),
@@ -105,7 +103,7 @@ fn count_pop_row(screen: Screen, rows: &[u32], found: Fault, r: usize, more: usi
         .found
 }
 
-// The rows of the band: 4 for one of them, then 10 for a touched one, its PopBuf and `more` commands.
+/// The rows of the band: 4 for one of them, then 10 for a touched one, its PopBuf and `more` commands.
 #[inline(always)]
 pub fn judge_pop_rows(
     screen: Screen,
@@ -113,8 +111,8 @@ pub fn judge_pop_rows(
     band: Band,
     more: usize,
 ) -> Result<(), Refusal>
-    requires { Whole (frame-of screen) (all-held rows.now) × (band.b ≤ rows_of (box_of screen.viewport)) × (1 ≤ screen.layers) × (screen.layers ≤ most-layers) × (more ≤ 1) }
-    ensures { answer_number result ≡ pops-number screen.c screen.d screen.layers (more + 1) (rows_at (frame-of screen) (all-held rows.now)) (range band.a band.b) }
+    requires { WholeRows screen rows.now × InScreen screen band × (1 ≤ screen.layers) × (screen.layers ≤ most-layers) × (more ≤ 1) }
+    ensures { answer_number result ≡ pops-number screen.c screen.d screen.layers (more + 1) (screen_rows screen rows.now) (range band.a band.b) }
 {
     let mut found = Fault::Nothing;
     for r in band.a..band.b {
@@ -144,10 +142,10 @@ fn count_segment(
     band: Band,
     hand: Hand,
 ) -> Hand
-    requires { Whole (frame-of screen) (all-held rows.now) × (band.b ≤ rows_of (box_of screen.viewport)) × (5 * i + 5 ≤ length list.now) × (good-segment (seg-at list.now i) ≡ true) × Starts (origin scene) (bounds scene)
-        × (good-pops screen.c screen.d screen.layers (rows_at (frame-of screen) (all-held rows.now)) (range band.a band.b) ≡ true) × Clean screen.d (at-hand hand) }
-    ensures { Counted screen.c screen.d (touched-in screen.layers (rows_at (frame-of screen) (all-held rows.now)) (range band.a band.b)) (rows_at (frame-of screen) (all-held rows.now))
-        (at-hand hand) (cut_in (origin scene) (bounds scene) (seg-at list.now i)) (at-hand result) }
+    requires { WholeRows screen rows.now × InScreen screen band × (5 * i + 5 ≤ length list.now) × (good-segment (seg-at list.now i) ≡ true) × Starts (origin scene) (bounds scene)
+        × (good_band screen band rows.now ≡ true) × Clean screen.d (at-hand hand) }
+    ensures { Counted screen.c screen.d (touched screen band rows.now) (screen_rows screen rows.now)
+        (at-hand hand) (segment_cut scene list.now i) (at-hand result) }
 {
     let Some(placed) = place(segment_at(list, i), scene) else {
         return hand;
@@ -163,7 +161,7 @@ fn count_segment(
     load(part(rows.state, ROW, r), limits, hand.found, placed.row).add(limits, ONE_COMMAND)
 }
 
-// With a clip: whether a touched row would get more than C commands (answer 10), the LayerFills of the clip's segments and each row's PopBuf after them.
+/// With a clip: whether a touched row would get more than C commands (answer 10), the LayerFills of the clip's segments and each row's PopBuf after them.
 pub fn is_full_clip(
     screen: Screen,
     rows: &Rows<'_>,
@@ -171,10 +169,9 @@ pub fn is_full_clip(
     clip: ClipPath,
     band: Band,
 ) -> bool
-    requires { Whole (frame-of screen) (all-held rows.now) × (band.b ≤ rows_of (box_of screen.viewport)) × (clip.start ≤ clip.«end») × (5 * clip.«end» ≤ length list.now) × (every good-segment (segs list.now clip.start (clip.«end» - clip.start)) ≡ true) × Starts (origin clip.scene) (bounds clip.scene)
-        × (good-pops screen.c screen.d screen.layers (rows_at (frame-of screen) (all-held rows.now)) (range band.a band.b) ≡ true) }
-    ensures { result ≡ runs-full screen.c (touched-in screen.layers (rows_at (frame-of screen) (all-held rows.now)) (range band.a band.b)) (rows_at (frame-of screen) (all-held rows.now))
-        0 0 (join (cut_in (origin clip.scene) (bounds clip.scene)) (segs list.now clip.start (clip.«end» - clip.start))) }
+    requires { WholeRows screen rows.now × InScreen screen band × (clip.start ≤ clip.«end») × (5 * clip.«end» ≤ length list.now) × (every good-segment (clip_segments clip list.now) ≡ true) × Starts (origin clip.scene) (bounds clip.scene)
+        × (good_band screen band rows.now ≡ true) }
+    ensures { result ≡ overfull screen band rows.now (clip_cuts clip list.now) }
 {
     let mut hand = NO_ROW;
     for i in clip.start..clip.end {
@@ -208,7 +205,7 @@ fn close_at(
     r: usize,
     fill: Fill,
 )
-    requires { Whole (frame-of screen) (words state.old render.old fills.old) × (r < rows_of (box_of screen.viewport)) × Short (tiles fill.span)
+    requires { Whole (frame-of screen) (words state.old render.old fills.old) × RowOf screen r × Short (tiles fill.span)
         × Fillable (tiles fill.span) fill.alpha fill.attrs_idx (row_of (rows_at (frame-of screen) (words state.old render.old fills.old)) r) }
     ensures { rows_at (frame-of screen) (words state.new render.new fills.new)
         ≡ change (put_command (layer-fill (tiles fill.span) fill.alpha fill.attrs_idx)) r (rows_at (frame-of screen) (words state.old render.old fills.old)) }
@@ -237,7 +234,7 @@ fn pop_buf(state: &mut [u32], render: &mut [u32], fills: &mut [u32])
 
 // A PopBuf on row r.
 fn pop_at(screen: Screen, state: &mut [u32], render: &mut [u32], fills: &mut [u32], r: usize)
-    requires { Whole (frame-of screen) (words state.old render.old fills.old) × (r < rows_of (box_of screen.viewport))
+    requires { Whole (frame-of screen) (words state.old render.old fills.old) × RowOf screen r
         × Poppable (row_of (rows_at (frame-of screen) (words state.old render.old fills.old)) r) }
     ensures { rows_at (frame-of screen) (words state.new render.new fills.new)
         ≡ change end_buf r (rows_at (frame-of screen) (words state.old render.old fills.old)) }
@@ -253,11 +250,11 @@ fn pop_at(screen: Screen, state: &mut [u32], render: &mut [u32], fills: &mut [u3
 // Without a clip: a LayerFill of the layer's span on row r, if it is touched.
 #[inline(never)]
 fn close_span(screen: Screen, rows: &mut Rows<'_>, r: usize, span: TileSpan)
-    requires { Whole (frame-of screen) (all-held rows.old) × (r < rows_of (box_of screen.viewport)) × Short (tiles span)
-        × Each (Fillable (tiles span) None screen.layer_attrs) (rows_at (frame-of screen) (all-held rows.old)) (touched-in screen.layers (rows_at (frame-of screen) (all-held rows.old)) (r ∷ [])) }
+    requires { WholeRows screen rows.old × RowOf screen r × Short (tiles span)
+        × FillableAt screen span rows.old (if_touched screen r rows.old) }
     ensures same { SameRows rows.old rows.new }
-    ensures rows { rows_at (frame-of screen) (all-held rows.new)
-        ≡ done-puts (bucket-tiles screen.width) (screen.layers - 1) (map (on (close (tiles span) None screen.layer_attrs)) (touched-in screen.layers (rows_at (frame-of screen) (all-held rows.old)) (r ∷ []))) (rows_at (frame-of screen) (all-held rows.old)) }
+    ensures rows { screen_rows screen rows.new
+        ≡ closed_by screen (span_puts screen span (if_touched screen r rows.old)) (screen_rows screen rows.old) }
 {
     if rows.state[r * ROW + LEVELS] != screen.layers {
         return;
@@ -270,13 +267,13 @@ fn close_span(screen: Screen, rows: &mut Rows<'_>, r: usize, span: TileSpan)
     close_at(screen, rows.state, rows.render, rows.fills, r, fill);
 }
 
-// Rule 9 without a clip: a LayerFill of the layer's span of tiles on each touched row of the band.
+/// Rule 9 without a clip: a LayerFill of the layer's span of tiles on each touched row of the band.
 pub fn close_spans(screen: Screen, rows: &mut Rows<'_>, band: Band, span: TileSpan)
-    requires { Whole (frame-of screen) (all-held rows.old) × (band.b ≤ rows_of (box_of screen.viewport)) × Short (tiles span)
-        × Each (Fillable (tiles span) None screen.layer_attrs) (rows_at (frame-of screen) (all-held rows.old)) (touched-in screen.layers (rows_at (frame-of screen) (all-held rows.old)) (range band.a band.b)) }
+    requires { WholeRows screen rows.old × InScreen screen band × Short (tiles span)
+        × FillableAt screen span rows.old (touched screen band rows.old) }
     ensures same { SameRows rows.old rows.new }
-    ensures rows { rows_at (frame-of screen) (all-held rows.new)
-        ≡ done-puts (bucket-tiles screen.width) (screen.layers - 1) (map (on (close (tiles span) None screen.layer_attrs)) (touched-in screen.layers (rows_at (frame-of screen) (all-held rows.old)) (range band.a band.b))) (rows_at (frame-of screen) (all-held rows.old)) }
+    ensures rows { screen_rows screen rows.new
+        ≡ closed_by screen (span_puts screen span (touched screen band rows.old)) (screen_rows screen rows.old) }
 {
     for r in band.a..band.b {
         close_span(screen, rows, r, span);
@@ -285,11 +282,11 @@ pub fn close_spans(screen: Screen, rows: &mut Rows<'_>, band: Band, span: TileSp
 
 // A PopBuf on row r, if it is touched.
 fn pop_row(screen: Screen, rows: &mut Rows<'_>, r: usize)
-    requires { Whole (frame-of screen) (all-held rows.old) × (r < rows_of (box_of screen.viewport))
-        × Each Poppable (rows_at (frame-of screen) (all-held rows.old)) (touched-in screen.layers (rows_at (frame-of screen) (all-held rows.old)) (r ∷ [])) }
+    requires { WholeRows screen rows.old × RowOf screen r
+        × Each Poppable (screen_rows screen rows.old) (if_touched screen r rows.old) }
     ensures same { SameRows rows.old rows.new }
-    ensures rows { rows_at (frame-of screen) (all-held rows.new)
-        ≡ done-puts (bucket-tiles screen.width) (screen.layers - 1) (map (on pop) (touched-in screen.layers (rows_at (frame-of screen) (all-held rows.old)) (r ∷ []))) (rows_at (frame-of screen) (all-held rows.old)) }
+    ensures rows { screen_rows screen rows.new
+        ≡ closed_by screen (map (on pop) (if_touched screen r rows.old)) (screen_rows screen rows.old) }
 {
     if rows.state[r * ROW + LEVELS] != screen.layers {
         return;
@@ -297,13 +294,13 @@ fn pop_row(screen: Screen, rows: &mut Rows<'_>, r: usize)
     pop_at(screen, rows.state, rows.render, rows.fills, r);
 }
 
-// Rule 10: a PopBuf on each touched row of the band.
+/// Rule 10: a PopBuf on each touched row of the band.
 pub fn pop_rows(screen: Screen, rows: &mut Rows<'_>, band: Band)
-    requires { Whole (frame-of screen) (all-held rows.old) × (band.b ≤ rows_of (box_of screen.viewport))
-        × Each Poppable (rows_at (frame-of screen) (all-held rows.old)) (touched-in screen.layers (rows_at (frame-of screen) (all-held rows.old)) (range band.a band.b)) }
+    requires { WholeRows screen rows.old × InScreen screen band
+        × Each Poppable (screen_rows screen rows.old) (touched screen band rows.old) }
     ensures same { SameRows rows.old rows.new }
-    ensures rows { rows_at (frame-of screen) (all-held rows.new)
-        ≡ done-puts (bucket-tiles screen.width) (screen.layers - 1) (map (on pop) (touched-in screen.layers (rows_at (frame-of screen) (all-held rows.old)) (range band.a band.b))) (rows_at (frame-of screen) (all-held rows.old)) }
+    ensures rows { screen_rows screen rows.new
+        ≡ closed_by screen (map (on pop) (touched screen band rows.old)) (screen_rows screen rows.old) }
 {
     for r in band.a..band.b {
         pop_row(screen, rows, r);
@@ -319,11 +316,11 @@ fn close_segment(
     scene: Scene,
     band: Band,
 )
-    requires { Whole (frame-of screen) (all-held rows.old) × (band.b ≤ rows_of (box_of screen.viewport)) × (5 * i + 5 ≤ length list.now) × (good-segment (seg-at list.now i) ≡ true) × Starts (origin scene) (bounds scene)
-        × Roomy (bucket-tiles screen.width) (screen.layers - 1) (close-puts screen.layer_attrs (touched-in screen.layers (rows_at (frame-of screen) (all-held rows.old)) (range band.a band.b)) (cut_in (origin scene) (bounds scene) (seg-at list.now i))) (rows_at (frame-of screen) (all-held rows.old)) }
+    requires { WholeRows screen rows.old × InScreen screen band × (5 * i + 5 ≤ length list.now) × (good-segment (seg-at list.now i) ≡ true) × Starts (origin scene) (bounds scene)
+        × RoomFor screen (segment_puts screen band scene list.now i rows.old) (screen_rows screen rows.old) }
     ensures same { SameRows rows.old rows.new }
-    ensures rows { rows_at (frame-of screen) (all-held rows.new)
-        ≡ done-puts (bucket-tiles screen.width) (screen.layers - 1) (close-puts screen.layer_attrs (touched-in screen.layers (rows_at (frame-of screen) (all-held rows.old)) (range band.a band.b)) (cut_in (origin scene) (bounds scene) (seg-at list.now i))) (rows_at (frame-of screen) (all-held rows.old)) }
+    ensures rows { screen_rows screen rows.new
+        ≡ closed_by screen (segment_puts screen band scene list.now i rows.old) (screen_rows screen rows.old) }
 {
     let Some(placed) = place(segment_at(list, i), scene) else {
         return;
@@ -340,12 +337,12 @@ fn close_segment(
     close_at(screen, rows.state, rows.render, rows.fills, r, fill);
 }
 
-// Rule 9 with a clip: the LayerFills of the clip's segments, cut to the parent's box, in touched rows of the band.
+/// Rule 9 with a clip: the LayerFills of the clip's segments, cut to the parent's box, in touched rows of the band.
 pub fn close_segments(screen: Screen, rows: &mut Rows<'_>, list: &[u32], clip: ClipPath, band: Band)
     requires { Clips (frame-of screen) screen.layers screen.layer_attrs list.now clip.start clip.«end» clip.scene band.a band.b (all-held rows.old) }
     ensures same { SameRows rows.old rows.new }
-    ensures rows { rows_at (frame-of screen) (all-held rows.new)
-        ≡ done-puts (bucket-tiles screen.width) (screen.layers - 1) (clip-puts screen.layer_attrs (touched-in screen.layers (rows_at (frame-of screen) (all-held rows.old)) (range band.a band.b)) clip.scene (segs list.now clip.start (clip.«end» - clip.start))) (rows_at (frame-of screen) (all-held rows.old)) }
+    ensures rows { screen_rows screen rows.new
+        ≡ closed_by screen (clip-puts screen.layer_attrs (touched screen band rows.old) clip.scene (clip_segments clip list.now)) (screen_rows screen rows.old) }
 {
     for i in clip.start..clip.end {
         close_segment(screen, rows, list, i, clip.scene, band);

@@ -1,38 +1,23 @@
 -- The viewport of a box in each mode. Assumes nothing.
-use mathlib.Core.Path.{◌≡◌, refl}
-use mathlib.Core.Bool.{Bool, true, false, cond}
-use Prim.Native.Nat.{ℕ, ◌<◌}
-use native.Mathlib.Omega.{arith}
+use Rattle.std.proofs.Common.{◌≡◌, refl, Bool, true, false, cond, ℕ, ◌<◌, arith, Ok, Err}
 use Rattle.rules.specs.Boxes.{Box, good_viewport}
-use Rattle.rules.specs.Setups.{exact, snapping, snapped, viewport-in}
-use Rattle.rules.proofs.laws.Snapping.{same-modes}
+use Rattle.rules.specs.Setups.{snapped}
+use Rattle.rules.proofs.laws.Snapping.{far-refused}
 use Rattle.rect.specs.declared.Rect.{Rect}
-use Rattle.std.specs.Prelude.{Ok, Err}
 use Rattle.sizes.specs.declared.answers.Refusal.{Refusal}
 use Rattle.sizes.specs.declared.answers.Refusal.TheVariants.{BadViewport}
 use Rattle.rect.specs.Rects.{rect-of, seen}
-use Rattle.rect.proofs.Boxes.{view}
 
 pub seen-bad : (b : Box) → good_viewport b ≡ false → Err BadViewport ≡ seen b
 unfolding seen
 seen-bad b g = rw g
 
-is_false : (t : Bool) → (t ≡ true → ⊥) → t ≡ false
-is_false true h = absurd (h refl)
-is_false false h = refl
-
 -- an end past 32,768 stays past it
 pub too-far-right : (b : Box) → 32768 < b.x1 → Err BadViewport ≡ seen (snapped b)
-too-far-right b h = seen-bad (snapped b) (is_false _ (λ g. omega (arith, (view (snapped b) g).right, h)))
+too-far-right b h = seen-bad (snapped b) ((far-refused b).right h)
 
 pub too-far-down : (b : Box) → 32768 < b.y1 → Err BadViewport ≡ seen (snapped b)
-too-far-down b h = seen-bad (snapped b) (is_false _ (λ g. omega (arith, (view (snapped b) g).bottom, h)))
-
--- a viewport that the exact mode takes is the same in the snapping mode
-pub exact-snapped : (b : Box) → good_viewport b ≡ true → viewport-in snapping b ≡ viewport-in exact b
-exact-snapped b g =
-    let v = view b g in
-    same-modes b (record { left = v.x0-by-4; top = v.y0-by-4; right = v.x1-by-4; bottom = v.y1-by-4 })
+too-far-down b h = seen-bad (snapped b) ((far-refused b).down h)
 
 -- what an answer of `viewport_in` says
 by-test : (t : Bool) {r : Rect} (s : Rect) → Ok r ≡ cond t (Ok s) (Err BadViewport) → (t ≡ true) × (r ≡ s)

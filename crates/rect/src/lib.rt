@@ -1,5 +1,5 @@
-// Boxes in pixels (vello_common's RectU16), and how a viewport is read. Parts: `is_..` judge any numbers; the others take any too, but for the private
-// snapping.
+//! Boxes in pixels (vello_common's RectU16), and how a viewport is read. Parts: `is_..` judge any numbers; the others take any too, but for the private
+//! snapping.
 #![tactic(auto)]
 
 ghost use Rattle.std.specs.Prelude.{◌≡◌, ◌≤◌};
@@ -12,7 +12,7 @@ use sizes::answers::Refusal;
 use sizes::{MOST_HEIGHT, MOST_WIDTH};
 use span::TileSpan;
 
-// From a left and a top edge to a right and a bottom edge, in pixels; the ends are not in it.
+/// From a left and a top edge to a right and a bottom edge, in pixels; the ends are not in it.
 #[derive(Clone, Copy, PartialEq, Eq)]
 pub struct Rect {
     pub x0: u32,
@@ -21,14 +21,14 @@ pub struct Rect {
     pub y1: u32,
 }
 
-// How a viewport is read: `Exact`, as it is given, or `Snapping`, carried outward to the edges of tiles (rule 1).
+/// How a viewport is read: `Exact`, as it is given, or `Snapping`, carried outward to the edges of tiles (rule 1).
 #[derive(Clone, Copy)]
 pub enum Mode {
     Exact,
     Snapping,
 }
 
-// All zeros: what stands for a box where there is none.
+/// All zeros: what stands for a box where there is none.
 pub const NOWHERE: Rect = Rect {
     x0: 0,
     y0: 0,
@@ -37,28 +37,28 @@ pub const NOWHERE: Rect = Rect {
 };
 
 impl Rect {
-    // Pixels from left to right, 0 where the end is not after the start.
+    /// Pixels from left to right, 0 where the end is not after the start.
     pub fn width(self) -> u32
         ensures { result ≡ width (box_of self) }
     {
         self.x1.saturating_sub(self.x0)
     }
 
-    // Pixels from top to bottom, likewise.
+    /// Pixels from top to bottom, likewise.
     pub fn height(self) -> u32
         ensures { result ≡ height (box_of self) }
     {
         self.y1.saturating_sub(self.y0)
     }
 
-    // No pixel lies in it.
+    /// No pixel lies in it.
     pub fn is_empty(self) -> bool
         ensures { result ≡ empty-box (box_of self) }
     {
         self.x1 <= self.x0 || self.y1 <= self.y0
     }
 
-    // The pixels of both. Where there are none its ends may lie before its starts.
+    /// The pixels of both. Where there are none its ends may lie before its starts.
     pub fn intersect(self, other: Rect) -> Rect
         ensures { box_of result ≡ meet (box_of self) (box_of other) }
     {
@@ -70,7 +70,7 @@ impl Rect {
         }
     }
 
-    // Seen from the pixel x, y; an edge left of it or above it comes to 0.
+    /// Seen from the pixel x, y; an edge left of it or above it comes to 0.
     pub fn relative_to_origin(self, x: u32, y: u32) -> Rect
         ensures { box_of result ≡ to-local (box x y 0 0) (box_of self) }
     {
@@ -82,28 +82,28 @@ impl Rect {
         }
     }
 
-    // Ends not before starts, all at most 32,768 pixels.
+    /// Ends not before starts, all at most 32,768 pixels.
     pub fn is_bounded(self) -> bool
         ensures { result ≡ bounded (box_of self) }
     {
         self.x0 <= self.x1 && self.y0 <= self.y1 && self.x1 <= 32768 && self.y1 <= 32768
     }
 
-    // A filter's dest box: bounded, x in whole tiles; y is free.
+    /// A filter's dest box: bounded, x in whole tiles; y is free.
     pub fn is_good_dest(self) -> bool
         ensures { result ≡ good-dest (box_of self) }
     {
         self.x0 % 4 == 0 && self.x1 % 4 == 0 && self.is_bounded()
     }
 
-    // A clip's box: bounded, in whole tiles.
+    /// A clip's box: bounded, in whole tiles.
     pub fn is_good(self) -> bool
         ensures { result ≡ good-box (box_of self) }
     {
         self.y0 % 4 == 0 && self.y1 % 4 == 0 && self.is_good_dest()
     }
 
-    // The bounds of a viewport (docs/RULES.md, Measures): a good box of at most 4,096 x 2,048 pixels.
+    /// The bounds of a viewport (docs/RULES.md, Measures): a good box of at most 4,096 x 2,048 pixels.
     #[tactic(auto, unfolding(rules::specs::Boxes::good_viewport))]
     pub fn is_good_viewport(self) -> bool
         ensures { result ≡ good_viewport (box_of self) }
@@ -124,7 +124,7 @@ impl Rect {
         }
     }
 
-    // The viewport that a screen has of this box in a mode, or BadViewport, 2: the bounds are judged on the snapped box alone.
+    /// The viewport that a screen has of this box in a mode, or BadViewport, 2: the bounds are judged on the snapped box alone.
     pub fn viewport_in(self, mode: Mode) -> Result<Rect, Refusal>
         ensures { result ≡ seen (viewport-in (mode_of mode) (box_of self)) }
     {
@@ -147,7 +147,7 @@ impl Rect {
             .ok_or(Refusal::BadViewport)
     }
 
-    // A box of the same size at 0, 0: the first clip box of this viewport.
+    /// A box of the same size at 0, 0: the first clip box of this viewport.
     pub fn whole(self) -> Rect
         ensures { box_of result ≡ whole (box_of self) }
     {
@@ -159,7 +159,7 @@ impl Rect {
         }
     }
 
-    // The tiles from left to right (bucketer.rs, bbox_span); an empty box has a span of width 0 at its x0.
+    /// The tiles from left to right (bucketer.rs, bbox_span); an empty box has a span of width 0 at its x0.
     #[tactic(auto, unfolding(rules::specs::Boxes::span_of))]
     pub fn bbox_span(self) -> TileSpan
         ensures { tiles result ≡ span_of (box_of self) }

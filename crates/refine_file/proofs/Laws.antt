@@ -1,12 +1,6 @@
 -- A recording call at the words has the rules' answer: by the file's form, its viewport and arenas, its records, and then along the walk, whose
 -- steps follow one another. Said once for every state S that a reset makes and steps change, and words that R relates to it. Assumes nothing.
-use mathlib.Core.Path.{◌≡◌, refl, sym, ap, ◌∙◌}
-use mathlib.Core.Bool.{Bool, true, false, cond}
-use mathlib.Core.List.{List}
-use Rattle.std.specs.Prelude.{Option, None, Some}
-use Prim.Native.Nat.{ℕ}
-use lib.Dec.{leb, ltb, eqb}
-use borrow.Author.Tests.{le-ltb, eqb-true}
+use Rattle.std.proofs.Common.{◌≡◌, refl, sym, ap, ◌∙◌, Bool, true, false, cond, List, Option, None, Some, ℕ, leb, ltb, eqb, le-ltb, eqb-true}
 use Rattle.rules.specs.Answers.{Answer, answer, settle, Done, BadArena, BadViewport, BadForm, BadRecord, BadOrder}
 use Rattle.rules.specs.Boxes.{Box, good_viewport, rows_of}
 use Rattle.rules.specs.Rows.{Row, fresh-row, row-ops}

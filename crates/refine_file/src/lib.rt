@@ -1,2 +1,2 @@
-// Proofs only: the recording call at the words is the rules' walk of the file.
+//! Proofs only: the recording call at the words is the rules' walk of the file.
 #![tactic(auto)]

@@ -1,13 +1,7 @@
 -- Every screen that a reset and steps make is `Reaching`. Assumes nothing.
-use mathlib.Core.Path.{◌≡◌, refl, sym, ap, ◌∙◌}
-use mathlib.Core.Bool.{Bool, true, false, ◌&&◌, ◌||◌, not, cond}
-use mathlib.Core.List.{List, [], ◌∷◌, ◌++◌, map}
-use Rattle.std.specs.Prelude.{Option, None, Some}
-use Prim.Native.Nat.{ℕ, zero, suc, ◌+◌, ◌-◌, ◌/◌, ◌≤◌, ◌<◌, max}
-use native.Mathlib.Omega.{arith}
-use lib.Dec.{leb, ltb, eqb}
-use lib.ListN.{length, replicate}
-use borrow.Author.Tests.{leb-true, ltb-true, ltb-false, eqb-true, eqb-false, eq-eqb}
+use Rattle.std.proofs.Common.{◌≡◌, refl, sym, ap, ◌∙◌, Bool, true, false, ◌&&◌, ◌||◌, not, cond, List, [], ◌∷◌, ◌++◌, map, Option, None, Some, ℕ, zero, suc, ◌+◌, ◌-◌, ◌/◌, ◌≤◌, ◌<◌, max, arith, leb}
+use Rattle.std.proofs.Common.{ltb, eqb, length, replicate, leb-true, ltb-true, ltb-false, eqb-true, eq-eqb}
+use borrow.Author.Tests.{eqb-false}
 use Rattle.rules.specs.Lists.{some_of, change, count-from}
 use Rattle.rules.specs.Answers.{answer, Done, BadRecord, NoLayer}
 use Rattle.rules.specs.Boxes.{Box, meet, to-local, rows_of, rows_in, span_of, scene-tiles}
@@ -122,6 +116,17 @@ pub layer-under : (v : Box) (ls : List Layer) (c : Option Clip) → Under (layer
 layer-under v ls None = clip-under v ls
 layer-under v ls (Some c) = meet-under v (to-local v c.bounds) ls
 
+-- a filter fill's plan is refused, draws nothing, or is the one of its box
+pub filter-plans : (P : Plan → Type 0) (count : ℕ) (f : Filter) (q : ℕ) (s : State) → P (still BadRecord s) → P (still Done s)
+    → (good-filter-fill count f q ≡ true → P (plan-filter-in (filter-box s.frame.viewport (box_of s) f) count f q s)) → P (plan-filter count f q s)
+unfolding plan-filter
+filter-plans P count f q s bad done drawn = go (good-filter-fill count f q) refl (draws-nothing f (filter-box s.frame.viewport (box_of s) f))
+  where
+    go : (t : Bool) → good-filter-fill count f q ≡ t → (u : Bool) → P (cond (not t) (still BadRecord s) (cond u (still Done s) (plan-filter-in (filter-box s.frame.viewport (box_of s) f) count f q s)))
+    go true e true = done
+    go true e false = drawn e
+    go false e u = bad
+
 module _ (s : State) (n : Nested s.layers) where
   draws-in : (e : Bool) (i id : ℕ) {ks : List Cut} → All (λ (k : Cut). In (box_of s) k.row) ks → All (PutIn s.layers) (draw-puts e i id ks)
   unfolding draw-puts
@@ -155,21 +160,12 @@ module _ (s : State) (n : Nested s.layers) where
 
   filter-layers : (count : ℕ) (f : Filter) (q : ℕ) → (plan-filter count f q s).layers ≡ s.layers
   unfolding plan-filter plan-filter-in
-  filter-layers count f q = go (not (good-filter-fill count f q)) (draws-nothing f (filter-box s.frame.viewport (box_of s) f))
-    where
-      go : (t u : Bool) → (cond t (still BadRecord s) (cond u (still Done s) (plan-filter-in (filter-box s.frame.viewport (box_of s) f) count f q s))).layers ≡ s.layers
-      go true u = refl
-      go false true = refl
-      go false false = refl
+  filter-layers count f q = filter-plans (λ p. p.layers ≡ s.layers) count f q s refl refl (λ g. refl)
 
   filter-in : (count : ℕ) (f : Filter) (q : ℕ) → All (PutIn s.layers) (plan-filter count f q s).puts
-  unfolding plan-filter
-  filter-in count f q = go (not (good-filter-fill count f q)) (draws-nothing f (filter-box s.frame.viewport (box_of s) f))
-    where
-      go : (t u : Bool) → All (PutIn s.layers) (cond t (still BadRecord s) (cond u (still Done s) (plan-filter-in (filter-box s.frame.viewport (box_of s) f) count f q s))).puts
-      go true u = nil
-      go false true = nil
-      go false false = filter-in-in (filter-box s.frame.viewport (box_of s) f) (meet-under s.frame.viewport (to-local s.frame.viewport f.dest) s.layers) count f q
+  filter-in count f q =
+      filter-plans (λ p. All (PutIn s.layers) p.puts) count f q s nil nil
+      (λ g. filter-in-in (filter-box s.frame.viewport (box_of s) f) (meet-under s.frame.viewport (to-local s.frame.viewport f.dest) s.layers) count f q)
 
 -- a pop: closing fills change no levels, and each touched row loses its innermost
 pub data Closes : Put → Type 0 where
@@ -205,11 +201,7 @@ module _ (w n : ℕ) where
 
   pub pops-levels : (i k : ℕ) (is : List ℕ) (rs : List Row) → Due i k is rs → Falls i k is rs
   unfolding do-puts
-  pops-levels i k [] rs h = (omega arith, go (eqb (levels-at rs i) (suc k)) refl)
-    where
-      go : (t : Bool) → eqb (levels-at rs i) (suc k) ≡ t → levels-at rs i ≤ k
-      go true e = never (sym (h.1 (eqb-true (levels-at rs i) (suc k) e)))
-      go false e = omega (arith, eqb-false (levels-at rs i) (suc k) e, h.0)
+  pops-levels i k [] rs h = let f : levels-at rs i ≡ suc k → ⊥ = λ e. never (sym (h.1 e)) in (omega arith, omega (arith, h.0))
   pops-levels i k (j ∷ js) rs h = go (eqb i j) refl (pops-levels i k js (change (do-act Row row-ops w n pop) j rs))
     where
       go : (t : Bool) → eqb i j ≡ t → (Due i k js (change (do-act Row row-ops w n pop) j rs) → Falls i k js (change (do-act Row row-ops w n pop) j rs))
@@ -274,14 +266,10 @@ lowered w n l ls rs cs c ts i h g =
     (record { few = d.1; boxed = boxed-less ls i (levels-at rs i) m (omega (arith, d.0, e)) h.boxed.1 })
 
 has_all : (n i : ℕ) (rs : List Row) → levels-at rs i ≡ suc n → some_of (eqb i) (touched Row row-ops (suc n) 0 rs) ≡ true
-has_all n i rs e = go (ltb i (length rs)) refl
-  where
-    whole : 0 + i ≡ i
-    whole = omega arith
-
-    go : (t : Bool) → ltb i (length rs) ≡ t → some_of (eqb i) (touched Row row-ops (suc n) 0 rs) ≡ true
-    go true q = rw whole at (touched-has (suc n) 0 i rs (ltb-true i (length rs) q) e)
-    go false q = absurd (omega (arith, past-levels rs i (ltb-false i (length rs) q)))
+has_all n i rs e =
+    let whole : 0 + i ≡ i = omega arith in
+    let f : length rs ≤ i → ⊥ = λ l. omega (arith, past-levels rs i l) in
+    rw whole at (touched-has (suc n) 0 i rs (omega arith) e)
 
 popped-row : (s : Screen Row) (l : Layer) (ls : List Layer) (ss : List Segment) → ((i : ℕ) → Reached (l ∷ ls) i (levels-at s.rows i))
     → (i : ℕ) → Reached ls i (levels-at (do-puts Row row-ops (bucket s.state.frame) (length ls) (pop-of s (l ∷ ls) ss).puts s.rows) i)

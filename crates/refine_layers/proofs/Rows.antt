@@ -1,12 +1,6 @@
 -- The rows that a pop looks at are all the touched ones: `pop`'s own definition is the rules'. Assumes nothing.
-use mathlib.Core.Path.{◌≡◌, refl, sym, ap, ◌∙◌}
-use mathlib.Core.Bool.{Bool, true, false, cond}
-use mathlib.Core.List.{List, [], ◌∷◌, ◌++◌, map, append-nil}
-use Prim.Native.Nat.{ℕ, zero, suc, ◌+◌, ◌-◌, ◌/◌, ◌≤◌, ◌<◌}
-use native.Mathlib.Omega.{arith}
-use lib.Dec.{ltb, leb, eqb}
-use lib.ListN.{length, get_or}
-use borrow.Author.Tests.{leb-true, leb-false, ltb-true, ltb-false, ne_eqb}
+use Rattle.std.proofs.Common.{◌≡◌, refl, sym, ap, ◌∙◌, Bool, true, false, cond, List, [], ◌∷◌, ◌++◌, map, append-nil, ℕ, zero, suc, ◌+◌, ◌-◌, ◌/◌, ◌≤◌, ◌<◌, arith, ltb, leb, eqb, length, get_or}
+use Rattle.std.proofs.Common.{leb-true, leb-false, ltb-true, ltb-false, ne_eqb}
 use Rattle.rules.specs.Lists.{keep, count-from, range}
 use Rattle.rules.specs.Boxes.{rows_in}
 use Rattle.rules.specs.Rows.{Row}

@@ -1,13 +1,7 @@
 -- Attributes that are added leave those before them as they were, so rows stay fair. Assumes nothing.
-use mathlib.Core.Path.{◌≡◌, refl, ap, ◌∙◌}
-use mathlib.Core.Bool.{Bool, true, ◌&&◌}
-use mathlib.Core.List.{List, [], ◌∷◌, ◌++◌}
-use Prim.Native.Nat.{ℕ, ◌≤◌, ◌<◌}
-use native.Mathlib.Omega.{arith}
-use lib.Dec.{ltb}
-use lib.ListN.{length, get_or, length-append, get_or-append}
+use Rattle.std.proofs.Common.{◌≡◌, refl, ap, ◌∙◌, Bool, true, ◌&&◌, List, [], ◌∷◌, ◌++◌, ℕ, ◌≤◌, ◌<◌, arith, ltb, length, get_or, length-append, ltb-true, lt-ltb, le-leb}
+use lib.ListN.{get_or-append}
 use lib.Seq.{get_or-append_seam}
-use borrow.Author.Tests.{ltb-true, lt-ltb, le-leb}
 use Rattle.sizes.specs.Sizes.{last-id}
 use Rattle.rules.specs.Inputs.{good-panel}
 use Rattle.rules.specs.Commands.{Command, paint-fill, layer-fill, push-buf, pop-buf}

@@ -1,12 +1,6 @@
 -- A reset and every step keep the rows of a screen fair, and the words of each row stand for it. Assumes nothing.
-use mathlib.Core.Path.{◌≡◌, refl, sym, ap, ◌∙◌}
-use mathlib.Core.Bool.{Bool, true, false, cond}
-use mathlib.Core.List.{List}
-use Prim.Native.Nat.{ℕ, zero, suc, ◌*◌, ◌<◌}
-use native.Mathlib.Omega.{arith}
-use lib.Dec.{eqb}
-use lib.ListN.{length, get_or, replicate, get_or-map}
-use borrow.Author.Tests.{eqb-true}
+use Rattle.std.proofs.Common.{◌≡◌, refl, sym, ap, ◌∙◌, Bool, true, false, cond, List, ℕ, zero, suc, ◌*◌, ◌<◌, arith, eqb, length, get_or, replicate, eqb-true}
+use lib.ListN.{get_or-map}
 use Rattle.rules.specs.Answers.{answer, Done}
 use Rattle.rules.specs.Boxes as boxes
 use Rattle.rules.specs.Rows.{Row, fresh-row, row-ops}
@@ -21,12 +15,10 @@ use Rattle.row.proofs.RowsLaws.{cut_at}
 use Rattle.refine_row.specs.Encode.{Fine, encode}
 use Rattle.refine_row.proofs.Refines.{fresh-fine}
 use Rattle.refine_row.proofs.Screens.{cut-screen}
-use Rattle.screen.specs.Tables.{ScreenLent}
 use Rattle.screen.proofs.ScreenLaws.{few-buckets}
 use Rattle.refine_steps.specs.Sound.{Sound}
 use Rattle.refine_steps.specs.Lent.{rows_of}
 use Rattle.refine_steps.proofs.Kept.{Passing, passing}
-use Rattle.refine_steps.proofs.Refined.{BuiltBy, by-reset, by-step, built-refines}
 use Rattle.paint.specs.Standing.{Stands}
 use Rattle.paint.specs.Stepping.{part}
 use Rattle.refine_paint.specs.Fair.{FairRows}
@@ -72,11 +64,6 @@ reset-fair f i = rw (fresh_at (boxes.rows_of f.viewport) i) (record { commands =
     fresh_at zero i = refl
     fresh_at (suc n) zero = refl
     fresh_at (suc n) (suc i) = fresh_at n i
-
--- on every built screen all rows are fair
-pub built-fair : {s : Screen Row} {l : ScreenLent} → BuiltBy s l → FairRows s
-built-fair (by-reset f l z) = reset-fair _
-built-fair (by-step x s l b z) = call-fair x s (built-refines b).sound (built-fair b)
 
 -- row i's own words
 module _ (s : Screen Row) (i : ℕ) (h : i < length s.rows) where

@@ -1,11 +1,7 @@
 -- Painting at the words of a screen: a reset and building steps keep a canvas whole, and the painting calls at `lent_of` are the rules'.
 -- Assumes nothing.
-use mathlib.Core.Path.{◌≡◌, sym, ap, ◌∙◌}
-use mathlib.Core.Bool.{Bool, true, false, cond}
-use mathlib.Core.List.{List}
-use Prim.Native.Nat.{ℕ, ◌/◌}
-use lib.Dec.{eqb}
-use lib.ListN.{length, length-replicate}
+use Rattle.std.proofs.Common.{◌≡◌, sym, ap, ◌∙◌, Bool, true, false, cond, List, ℕ, ◌/◌, eqb, length}
+use lib.ListN.{length-replicate}
 use Rattle.sizes.specs.Sizes.{piece-size}
 use Rattle.rules.specs.Answers.{answer, Done}
 use Rattle.rules.specs.Boxes.{good_viewport}

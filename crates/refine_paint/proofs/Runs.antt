@@ -1,13 +1,5 @@
 -- The direct runs and `can_skip` at the words of a canvas are the rules', and the writing run keeps a canvas whole. Assumes nothing.
-use mathlib.Core.Path.{◌≡◌, refl, sym, ap, ◌∙◌}
-use mathlib.Core.Bool.{Bool, true, false, ◌||◌, cond}
-use mathlib.Core.List.{List, [], ◌∷◌}
-use Rattle.std.specs.Prelude.{Option, None, Some}
-use Prim.Native.Nat.{ℕ, ◌/◌, ◌≤◌, ◌<◌}
-use native.Mathlib.Omega.{arith}
-use lib.Dec.{leb, ltb, eqb}
-use lib.ListN.{length, get_or, length-set}
-use borrow.Author.Tests.{eq-eqb, eqb-true, le-leb, leb-false}
+use Rattle.std.proofs.Common.{◌≡◌, refl, sym, ap, ◌∙◌, Bool, true, false, ◌||◌, cond, List, [], ◌∷◌, Option, None, Some, ℕ, ◌/◌, ◌≤◌, ◌<◌, arith, leb, ltb, eqb, length, get_or, length-set, eq-eqb, eqb-true, le-leb, leb-false}
 use Rattle.rules.specs.Lists.{is-empty}
 use Rattle.rules.specs.Answers.{Answer, answer, settle, first_of, Done, BadRun, NoRoom}
 use Rattle.rules.specs.Spans.{Span, span, bad-range}

@@ -1,14 +1,7 @@
 -- A painting step at the words of a canvas is the rules' painting step. Assumes nothing.
-use mathlib.Core.Path.{◌≡◌, refl, sym, ap, ◌∙◌}
-use mathlib.Core.Bool.{Bool, true, false, ◌||◌, cond}
-use mathlib.Core.List.{List, [], ◌∷◌, ◌++◌}
-use Rattle.std.specs.Prelude.{Some}
-use Prim.Native.Nat.{ℕ, zero, suc, ◌*◌, ◌/◌, ◌≤◌, ◌<◌}
-use native.Mathlib.Omega.{arith}
-use lib.Dec.{leb, ltb, eqb}
-use lib.ListN.{length, get_or, set}
-use lib.Seq.{take_at, drop_at}
-use borrow.Author.Tests.{ne_eqb, eq-eqb, lt-leb, leb-false, ltb-false}
+use Rattle.std.proofs.Common.{◌≡◌, refl, sym, ap, ◌∙◌, Bool, true, false, ◌||◌, cond, List, [], ◌∷◌, ◌++◌, Some, ℕ, zero, suc, ◌*◌, ◌/◌, ◌≤◌, ◌<◌, arith, leb, ltb, eqb, length, get_or, set, take_at}
+use Rattle.std.proofs.Common.{drop_at, ne_eqb, eq-eqb, leb-false, ltb-false}
+use borrow.Author.Tests.{lt-leb}
 use Rattle.sizes.specs.Sizes.{paint-attr-size, paint-id-at, paint-panel-at, paint-attr-table, layer-attr-size, layer-id-at, layer-panel-at, layer-attr-table, piece-size}
 use Rattle.rules.specs.Lists.{join, is-empty}
 use Rattle.rules.specs.Answers.{settle, Done, BadRun, Open, NoRoom}

@@ -1,12 +1,7 @@
 -- Beginning and painting steps keep a canvas whole, so that each next step at its words is the rules'. Assumes nothing.
-use mathlib.Core.Path.{◌≡◌, refl, ◌∙◌}
-use mathlib.Core.Bool.{Bool, true, false, not, cond}
-use mathlib.Core.List.{List, [], ◌∷◌}
-use Prim.Native.Nat.{ℕ, zero, suc, ◌<◌}
-use lib.Dec.{leb, ltb, eqb}
-use lib.ListN.{length, get_or, set, length-set, length-replicate, get_or-replicate}
-use lib.Seq.{get_or-set_same, get_or-set_other}
-use borrow.Author.Tests.{leb-false, eqb-true, eqb-false}
+use Rattle.std.proofs.Common.{◌≡◌, refl, ◌∙◌, Bool, true, false, not, cond, List, [], ◌∷◌, ℕ, zero, suc, ◌<◌, leb, ltb, eqb, length, get_or, set, length-set, get_or-set_same, get_or-set_other, leb-false, eqb-true}
+use lib.ListN.{length-replicate, get_or-replicate}
+use borrow.Author.Tests.{eqb-false}
 use Rattle.rules.specs.Lists.{is-empty}
 use Rattle.rules.specs.Answers.{settle, first_of, Done, BadRun, Open, NoRoom}
 use Rattle.rules.specs.Rows.{fresh-row}

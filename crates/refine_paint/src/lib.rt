@@ -1,2 +1,2 @@
-// Proofs only: a painting step at the words is the rules' painting step.
+//! Proofs only: a painting step at the words is the rules' painting step.
 #![tactic(auto)]

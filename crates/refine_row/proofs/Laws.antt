@@ -1,13 +1,8 @@
 -- The row operations on words follow those of the rules. Assumes nothing.
-use mathlib.Core.Path.{◌≡◌, refl, sym, ap, ◌∙◌}
-use mathlib.Core.List.{List, [], ◌∷◌, ◌++◌, append_assoc, append-nil}
-use Rattle.std.specs.Prelude.{Option, None, Some}
-use Prim.Native.Nat.{ℕ, zero, suc, ◌+◌, ◌-◌, ◌*◌, ◌/◌, ◌%◌, ◌≤◌, ◌<◌, max}
-use native.Mathlib.Numerals.{add-one, add-two, add-three}
-use native.Mathlib.Omega.{arith}
-use lib.ListN.{length, get_or, set, length-append, length-set}
-use lib.Seq.{get_or-append-add, get_or_at, set_at}
-use borrow.Author.Tests.{ne_eqb}
+use Rattle.std.proofs.Common.{◌≡◌, refl, sym, ap, ◌∙◌, List, [], ◌∷◌, ◌++◌, append_assoc, append-nil, Option, None, Some, ℕ, zero, suc, ◌+◌, ◌-◌, ◌*◌, ◌/◌, ◌%◌, ◌≤◌, ◌<◌, max, add-one, arith, length}
+use Rattle.std.proofs.Common.{get_or, set, length-append, length-set, get_or-append-add, ne_eqb}
+use native.Mathlib.Numerals.{add-two, add-three}
+use lib.Seq.{get_or_at, set_at}
 use Rattle.rules.specs.Lists.{join, is_none, is-empty}
 use Rattle.rules.specs.Spans.{Span, hull}
 use Rattle.rules.specs.Commands.{Command, paint-fill, layer-fill, push-buf, pop-buf, DepthFill, span-word, command_words, depth-words}

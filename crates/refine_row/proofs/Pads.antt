@@ -1,10 +1,7 @@
 -- Lists padded with zeros. Assumes nothing.
-use mathlib.Core.Path.{◌≡◌, refl, sym, ap, ◌∙◌}
-use mathlib.Core.List.{List, [], ◌∷◌, ◌++◌, append_assoc}
-use Prim.Native.Nat.{ℕ, zero, suc, ◌+◌, ◌-◌, ◌≤◌, ◌<◌}
-use native.Mathlib.Omega.{arith}
-use lib.ListN.{length, take, drop, set, replicate, length-append, length-replicate, length-take}
-use lib.Seq.{sets, sets-eq, set_out, take-append-add, take-append-le, drop-append-add, take_at, set-append_left, take-set-le, take-set-lt}
+use Rattle.std.proofs.Common.{◌≡◌, refl, sym, ap, ◌∙◌, List, [], ◌∷◌, ◌++◌, append_assoc, ℕ, zero, suc, ◌+◌, ◌-◌, ◌≤◌, ◌<◌, arith, length, take, drop, set, replicate, length-append, length-take, take_at}
+use lib.ListN.{length-replicate}
+use lib.Seq.{sets, sets-eq, set_out, take-append-add, take-append-le, drop-append-add, set-append_left, take-set-le, take-set-lt}
 use Rattle.refine_row.specs.Encode.{padded}
 
 abbrev pub zeros : ℕ → List ℕ

@@ -1,15 +1,8 @@
 -- Rows of words refine the rules' rows: `encode` follows every operation, so it follows every step. Assumes nothing.
-use mathlib.Core.Path.{◌≡◌, refl, ap, ◌∙◌}
-use mathlib.Core.Bool.{Bool, true, false, cond}
-use mathlib.Core.List.{List, [], ◌∷◌, ◌++◌, map}
-use Rattle.std.specs.Prelude.{Option, None, Some}
-use Prim.Native.Nat.{ℕ, ◌+◌, ◌-◌, ◌*◌, ◌≤◌, ◌<◌}
-use native.Mathlib.Nat.{div-mul-le_self, div-le_self}
-use native.Mathlib.Omega.{arith}
-use lib.Dec.{leb, ltb}
-use borrow.Author.Tests.{leb-false}
-use lib.ListN.{length, set, replicate, length-append, length-set, get_or-append}
-use lib.Seq.{get_or-set_other, get_or-append_seam}
+use Rattle.std.proofs.Common.{◌≡◌, refl, ap, ◌∙◌, Bool, true, false, cond, List, [], ◌∷◌, ◌++◌, map, Option, None, Some, ℕ, ◌+◌, ◌-◌, ◌*◌, ◌≤◌, ◌<◌, div-mul-le_self, div-le_self, arith, leb, ltb}
+use Rattle.std.proofs.Common.{leb-false, length, set, replicate, length-append, length-set, get_or-set_other}
+use lib.ListN.{get_or-append}
+use lib.Seq.{get_or-append_seam}
 use Rattle.rules.specs.Lists.{keep, is-empty}
 use Rattle.rules.specs.Spans.{Span, span, hull}
 use Rattle.rules.specs.Split.{regular, split, raised, lowered, around}

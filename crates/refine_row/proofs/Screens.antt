@@ -1,23 +1,18 @@
 -- A whole screen's words: the words of its rows, one after the other. Assumes nothing.
-use mathlib.Core.Path.{◌≡◌, refl, ap}
-use mathlib.Core.List.{List, [], ◌∷◌, map}
-use Prim.Native.Nat.{ℕ, zero, suc, ◌*◌, ◌≤◌, ◌<◌}
-use native.Mathlib.Omega.{arith}
-use lib.ListN.{length, replicate}
+use Rattle.std.proofs.Common.{◌≡◌, refl, ap, List, [], ◌∷◌, map, ℕ, zero, suc, ◌*◌, length, replicate}
 use Rattle.rules.specs.Boxes.{rows_of}
-use Rattle.rules.specs.Rows.{Row, Level, fresh-row}
+use Rattle.rules.specs.Rows.{Row, fresh-row}
 use Rattle.rules.specs.Plans.{Frame}
 use Rattle.rules.specs.Steps.{reset}
 use Rattle.rules.specs.Commands.{command_words, depth-words}
 use Rattle.rules.specs.Lists.{join}
 use Rattle.rules.proofs.All.{All, all-mapped}
 use Rattle.rules.proofs.laws.Maps.{screen-by}
-use Rattle.row.specs.Words.{Words, words, Ends}
+use Rattle.row.specs.Words.{Words, words}
 use Rattle.row.specs.Arena.{sizes, Sized, Long, cut, lay}
 use Rattle.row.proofs.RowsLaws.{cut-lay, lay-long}
-use Rattle.refine_row.specs.Encode.{stack, placed, encode, Fine}
+use Rattle.refine_row.specs.Encode.{stack, encode}
 use Rattle.refine_row.proofs.Pads.{padded-length}
-use Rattle.refine_row.proofs.Laws.{place-word}
 use Rattle.refine_row.proofs.Refines.{fresh-words}
 
 -- each row has its own words
@@ -56,15 +51,3 @@ reset-words c d f = rw (alike (rows_of f.viewport), fresh-words c d)
     alike : (n : ℕ) → map (encode c d) (replicate n fresh-row) ≡ replicate n (encode c d fresh-row)
     alike zero = refl
     alike (suc n) = ap (λ t. encode c d fresh-row ∷ t) (alike n)
-
--- a row with a level can be popped
-pub fine-ends : (c d : ℕ) (r : Row) → Fine r → 0 < length r.levels → Ends (encode c d r)
-unfolding encode
-fine-ends c d r o h = go r.levels refl
-  where
-    go : (ls : List Level) → r.levels ≡ ls → Ends (encode c d r)
-    go [] e = absurd (omega (arith, ap length e))
-    go (l ∷ ls) e =
-        let p : placed r.commands (length r.commands) (l ∷ ls) = rw e at o.places in
-        let f : length (l ∷ ls) ≤ 16 = rw e at o.few in
-        record { levels = h; place = rw (place-word c d r l ls e (omega arith)) p.0 }

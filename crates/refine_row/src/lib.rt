@@ -1,2 +1,2 @@
-// Proofs only: a row's words are those of a row of the rules, before and after each act.
+//! Proofs only: a row's words are those of a row of the rules, before and after each act.
 #![tactic(auto)]

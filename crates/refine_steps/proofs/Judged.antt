@@ -1,10 +1,5 @@
 -- A sound screen's words pass what is judged first (answers 2, 1 and 4). Assumes nothing.
-use mathlib.Core.Path.{◌≡◌, refl}
-use mathlib.Core.Bool.{Bool, true, ◌||◌}
-use mathlib.Core.List.{List, [], ◌∷◌, map}
-use lib.Dec.{ltb}
-use lib.ListN.{length}
-use borrow.Author.Tests.{le-leb, eq-eqb, ltb-false}
+use Rattle.std.proofs.Common.{◌≡◌, refl, Bool, true, ◌||◌, List, [], ◌∷◌, map, ltb, length, le-leb, eq-eqb, ltb-false}
 use Rattle.rules.specs.Boxes.{Box, whole}
 use Rattle.rules.specs.Boxes as boxes
 use Rattle.rules.specs.Rows.{Row}

@@ -1,23 +1,18 @@
 -- Steps keep a screen sound. Assumes nothing.
-use mathlib.Core.Path.{◌≡◌, refl, sym, ◌∙◌}
-use mathlib.Core.Bool.{Bool, true, false, ◌&&◌, not, cond}
-use mathlib.Core.List.{List, [], ◌∷◌}
-use Rattle.std.specs.Prelude.{Option, None, Some}
-use Prim.Native.Nat.{ℕ, zero, suc, ◌-◌, ◌/◌, ◌%◌, ◌≤◌, ◌<◌, min, max}
-use native.Mathlib.Omega.{arith}
-use lib.Dec.{leb, ltb, eqb}
-use lib.ListN.{length, get_or, replicate, length-replicate}
-use borrow.Author.Tests.{leb-false, ltb-true, ltb-false, eqb-true, eqb-false}
+use Rattle.std.proofs.lemmas.Bool.Decides.{nat_tests}
+use Rattle.std.proofs.Common.{◌≡◌, refl, sym, ◌∙◌, Bool, true, false, ◌&&◌, not, cond, List, [], ◌∷◌, Option, None, Some, ℕ, zero, suc, ◌-◌, ◌/◌, ◌%◌, ◌≤◌, ◌<◌, min, max, arith, leb, ltb, eqb, length}
+use Rattle.std.proofs.Common.{get_or, replicate, leb-false, ltb-true, ltb-false, eqb-true}
+use lib.ListN.{length-replicate}
 use Rattle.rules.specs.Lists.{some_of}
-use Rattle.rules.specs.Answers.{answer, first_of, Done, Deep, Ids, FullAttrs, FullRow, FullDepth, BadRecord}
-use Rattle.rules.specs.Boxes.{Box, width, height, by_4, good-box, bounded, good_viewport, empty-box, rows_of, rows_in, span_of, scene-tiles}
+use Rattle.rules.specs.Answers.{answer, Done, BadRecord}
+use Rattle.rules.specs.Boxes.{Box, by_4, good-box, bounded, good_viewport, empty-box, rows_of, rows_in, span_of, scene-tiles}
 use Rattle.rules.specs.Spans.{Span, span, Stretch, common, meeting, cut_at, cut-when, cut_to}
 use Rattle.rules.specs.Segments.{Segment, good-segment, stretch-of, Cut, localised, cut_in, cuts}
 use Rattle.rules.specs.Blends.{good-blend}
-use Rattle.rules.specs.Inputs.{Paint, Draw, Clip, Props, good-handle, good-panel, few-paints, all-good, good-props, Filter, good-filter, good-filter-fill, draw-segments, good-fill}
+use Rattle.rules.specs.Inputs.{Paint, Draw, Clip, Props, good-handle, good-panel, few-paints, all-good, good-props, Filter, good-filter, draw-segments, good-fill}
 use Rattle.rules.specs.Attributes.{attrs-full}
 use Rattle.rules.specs.Rows.{Row, fresh-row, row-ops}
-use Rattle.rules.specs.Plans.{Frame, bucket, Layer, State, Step, a-fill, a-push, a-pop, a-filter, paint, touch, close, pop, on, Put, Plan, still, clip-box, box_of, draw-act, draw-puts, plan-fill, layer-box, touches-all, plan-push, clip-segments, clip-fits, close-puts, closing, plan-pop, filter-box, draws-nothing, filter-puts, plan-filter-in, plan-filter, plan}
+use Rattle.rules.specs.Plans.{Frame, bucket, Layer, State, Step, a-fill, a-push, a-pop, a-filter, paint, touch, close, pop, on, Put, Plan, clip-box, box_of, draw-act, draw-puts, plan-fill, layer-box, touches-all, plan-push, clip-segments, clip-fits, close-puts, closing, plan-pop, filter-box, filter-puts, plan-filter-in, plan-filter, plan}
 use Rattle.rules.specs.Steps.{Screen, reset, do-puts, done, row-passes, passes, refusal, perform, touched, call}
 use Rattle.rules.specs.Walk.{good-room}
 use Rattle.rules.proofs.All.{All, nil, cons, head, tail, both, and_left, and_right, neither, never, all-if, all_append, all-mapped, all_join}
@@ -27,7 +22,7 @@ use Rattle.rules.proofs.laws.Bounds.{Framed, Inside, judged-facts, good-facts, b
 use Rattle.screen.proofs.ScreenLaws as screens
 use Rattle.refine_row.proofs.Refines.{Built, called, reset-built}
 use Rattle.refine_layers.specs.Touched.{Reaching}
-use Rattle.refine_layers.proofs.Laws.{call-reaching, reset-reaching}
+use Rattle.refine_layers.proofs.Laws.{call-reaching, reset-reaching, filter-plans}
 use Rattle.refine_steps.specs.Sound.{Ordered, Good, Sound}
 use Rattle.refine_steps.proofs.Acts.{PutFine, puts-sane}
 
@@ -141,14 +136,9 @@ module _ (s : State) (f : Framed s) where
   filter-in-fine b count q j i = all-mapped (on (paint (span_of b) None (length s.attrs.paints))) (λ x. record { act = paints (inside-fine b i); id = omega arith }) (rows_in b)
 
   filter-fine : (count : ℕ) (q : Filter) (j : ℕ) → All PutFine (plan-filter count q j s).puts
-  unfolding plan-filter
-  filter-fine count q j = go (good-filter-fill count q j) (draws-nothing q (filter-box s.frame.viewport (box_of s) q)) refl
-    where
-      go : (t u : Bool) → good-filter-fill count q j ≡ t
-          → All PutFine (cond (not t) (still BadRecord s) (cond u (still Done s) (plan-filter-in (filter-box s.frame.viewport (box_of s) q) count q j s))).puts
-      go false u e = nil
-      go true true e = nil
-      go true false e = filter-in-fine (filter-box s.frame.viewport (box_of s) q) count q j (filter-inside q (and_left (good-filter q) (few-paints count) (and_left (good-filter q && few-paints count) (good-panel j) e)))
+  filter-fine count q j =
+      filter-plans (λ p. All PutFine p.puts) count q j s nil nil
+      (λ e. filter-in-fine (filter-box s.frame.viewport (box_of s) q) count q j (filter-inside q (and_left (good-filter q) (few-paints count) (and_left (good-filter q && few-paints count) (good-panel j) e))))
 
   plan-fine : (x : Step) (ts : List ℕ) → (plan x ts s).refused ≡ Done → (plan x ts s).next ≤ 1048577 → All PutFine (plan x ts s).puts
   unfolding plan
@@ -166,24 +156,17 @@ pub record Passing (p : Plan) (t : Screen Row) : Type 0 where
   pub renders : passes Row row-ops (λ (r : Row). length r.commands) t.state.frame.c p.puts t.rows ≡ false
   pub depths : passes Row row-ops (λ (r : Row). length r.fills) t.state.frame.d p.puts t.rows ≡ false
 
-none-says : (a b c d e : Bool) → first_of ((a, Deep) ∷ (b, Ids) ∷ (c, FullAttrs) ∷ (d, FullRow) ∷ (e, FullDepth) ∷ []) ≡ Done
-    → (a ≡ false) × (b ≡ false) × (c ≡ false) × (d ≡ false) × (e ≡ false)
-none-says true b c d e h = absurd (omega arith)
-none-says false true c d e h = absurd (omega arith)
-none-says false false true d e h = absurd (omega arith)
-none-says false false false true e h = absurd (omega arith)
-none-says false false false false true h = absurd (omega arith)
-none-says false false false false false h = (refl, refl, refl, refl, refl)
-
 pub passing : (p : Plan) (t : Screen Row) → refusal Row row-ops p t ≡ Done → Passing p t
 unfolding refusal
-passing p t e = go (eqb p.refused Done) refl
-  where
-    go : (b : Bool) → eqb p.refused Done ≡ b → Passing p t
-    go true q =
-        let n = none-says _ _ _ _ _ (rw q at e) in
-        record { own = eqb-true p.refused Done q; deep = ltb-false 16 (length p.layers) n.0; ids = ltb-false 1048577 p.next n.1; attrs = n.2; renders = n.3; depths = n.4 }
-    go false q = absurd (eqb-false p.refused Done q (rw q at e))
+passing p t e =
+    record {
+      own = grind (arith, nat_tests);
+      deep = grind (arith, nat_tests);
+      ids = grind (arith, nat_tests);
+      attrs = grind (arith, nat_tests);
+      renders = grind (arith, nat_tests);
+      depths = grind (arith, nat_tests);
+    }
 
 -- counts stay within their limit
 module _ (count : Row → ℕ) (n : ℕ) (z : count fresh-row ≤ n) where
@@ -213,20 +196,11 @@ module _ (count : Row → ℕ) (n : ℕ) (z : count fresh-row ≤ n) where
 
 -- the layers that a plan leaves open
 boxes-4 : (v : Box) → good-box v ≡ true → (v.x0 % 4 ≡ 0) × (v.x1 % 4 ≡ 0) × (v.y0 % 4 ≡ 0) × (v.y1 % 4 ≡ 0)
-boxes-4 v g =
-    let a = by_4 v.x0 in
-    let b = by_4 v.x1 in
-    let c = by_4 v.y0 in
-    let d = by_4 v.y1 in
-    let h4 = both (a && b && c && d) (bounded v) g in
-    let h3 = both (a && b && c) d h4.0 in
-    let h2 = both (a && b) c h3.0 in
-    let h1 = both a b h2.0 in
-    (eqb-true _ _ h1.0, eqb-true _ _ h1.1, eqb-true _ _ h2.1, eqb-true _ _ h3.1)
+boxes-4 v g = (grind (arith, nat_tests), grind (arith, nat_tests), grind (arith, nat_tests), grind (arith, nat_tests))
 
 view-box : (v : Box) → good_viewport v ≡ true → good-box v ≡ true
 unfolding good_viewport
-view-box v g = (both (good-box v) (leb (width v) 4096) (both (good-box v && leb (width v) 4096) (leb (height v) 2048) g).0).0
+view-box v g = grind (arith, nat_tests)
 
 module _ (v : Box) (g : good_viewport v ≡ true) where
   whole-good : screens.Clip v (clip-box v [])
@@ -285,12 +259,7 @@ module _ (s : State) (g : good_viewport s.frame.viewport ≡ true) (a : All (Goo
 
   filter-layers : (count : ℕ) (q : Filter) (j : ℕ) → All (Good s.frame.viewport) (plan-filter count q j s).layers
   unfolding plan-filter plan-filter-in
-  filter-layers count q j = go (not (good-filter-fill count q j)) (draws-nothing q (filter-box s.frame.viewport (box_of s) q))
-    where
-      go : (t u : Bool) → All (Good s.frame.viewport) (cond t (still BadRecord s) (cond u (still Done s) (plan-filter-in (filter-box s.frame.viewport (box_of s) q) count q j s))).layers
-      go true u = a
-      go false true = a
-      go false false = a
+  filter-layers count q j = filter-plans (λ p. All (Good s.frame.viewport) p.layers) count q j s a a (λ e. a)
 
   plan-layers : (x : Step) (ts : List ℕ) → (plan x ts s).refused ≡ Done → All (Good s.frame.viewport) (plan x ts s).layers
   unfolding plan plan-fill
@@ -307,12 +276,7 @@ module _ (s : State) (g : good_viewport s.frame.viewport ≡ true) (a : All (Goo
 
   filter-next : (count : ℕ) (q : Filter) (j : ℕ) → s.next ≤ (plan-filter count q j s).next
   unfolding plan-filter plan-filter-in
-  filter-next count q j = go (not (good-filter-fill count q j)) (draws-nothing q (filter-box s.frame.viewport (box_of s) q))
-    where
-      go : (t u : Bool) → s.next ≤ (cond t (still BadRecord s) (cond u (still Done s) (plan-filter-in (filter-box s.frame.viewport (box_of s) q) count q j s))).next
-      go true u = omega arith
-      go false true = omega arith
-      go false false = omega arith
+  filter-next count q j = filter-plans (λ p. s.next ≤ p.next) count q j s (omega arith) (omega arith) (λ e. omega arith)
 
   plan-next : (x : Step) (ts : List ℕ) → s.next ≤ (plan x ts s).next
   unfolding plan plan-fill plan-push

@@ -1,13 +1,5 @@
 -- Open layers read back from their words. Assumes nothing.
-use mathlib.Core.Path.{◌≡◌, refl, sym, ap, subst, ◌∙◌}
-use mathlib.Core.Bool.{Bool, true, ◌&&◌}
-use mathlib.Core.List.{List, [], ◌∷◌, ◌++◌, map, append_assoc}
-use Rattle.std.specs.Prelude.{Option, None, Some}
-use Prim.Native.Nat.{ℕ, suc, ◌+◌, ◌*◌}
-use lib.Dec.{leb}
-use lib.ListN.{length, get_or}
-use lib.Seq.{get_or-append-add}
-use borrow.Author.Tests.{le-leb, eq-eqb}
+use Rattle.std.proofs.Common.{◌≡◌, refl, sym, ap, subst, ◌∙◌, Bool, true, ◌&&◌, List, [], ◌∷◌, ◌++◌, map, append_assoc, Option, None, Some, ℕ, suc, ◌+◌, ◌*◌, leb, length, get_or, get_or-append-add, le-leb, eq-eqb}
 use Rattle.sizes.specs.Sizes.{open-layer-size}
 use Rattle.rules.specs.Boxes.{Box, good_viewport, good-box}
 use Rattle.rules.specs.Blends.{good-blend}

@@ -1,14 +1,9 @@
 -- A pop on a sound screen's words. Assumes nothing.
-use mathlib.Core.Path.{◌≡◌, refl, sym, ap, ◌∙◌}
-use mathlib.Core.Bool.{Bool, true, false, ◌||◌, cond}
-use mathlib.Core.List.{List, [], ◌∷◌, ◌++◌, map}
-use Prim.Native.Nat.{ℕ, suc, ◌+◌, ◌-◌, ◌*◌, ◌%◌, ◌<◌}
-use native.Mathlib.Omega.{arith}
-use lib.Dec.{ltb, eqb}
-use lib.ListN.{length, get_or, drop, set, replicate, length-append, length-replicate}
+use Rattle.std.proofs.Common.{◌≡◌, refl, sym, ap, ◌∙◌, Bool, true, false, ◌||◌, cond, List, [], ◌∷◌, ◌++◌, map, ℕ, suc, ◌+◌, ◌-◌, ◌*◌, ◌%◌, ◌<◌, arith, ltb, eqb, length, get_or, drop, set, replicate}
+use Rattle.std.proofs.Common.{length-append, drop_at, eqb-true, eq-eqb, ltb-false}
+use lib.ListN.{length-replicate}
 use lib.Ieee.{Float, binary32, of_bits, nan}
-use lib.Seq.{drop_at, set-append_left}
-use borrow.Author.Tests.{eqb-true, eq-eqb, ltb-false}
+use lib.Seq.{set-append_left}
 use Rattle.sizes.specs.Sizes.{open-layer-size, open-layer-table, layer-attr-size, layer-attr-table}
 use Rattle.rules.specs.Lists.{join}
 use Rattle.rules.specs.Answers.{answer, settle, Done, NoLayer}
@@ -17,7 +12,7 @@ use Rattle.rules.specs.Segments.{Segment}
 use Rattle.rules.specs.Inputs.{Props}
 use Rattle.rules.specs.Attributes.{LayerAttr, Attrs, attrs-full, no-paint, no-layer}
 use Rattle.screen.specs.Attributes.{layer-attr-words}
-use Rattle.rules.proofs.Words.{segment-words}
+use Rattle.rules.specs.Words.{segment-words}
 use Rattle.rules.specs.Rows.{Row, row-ops}
 use Rattle.rules.specs.Plans.{Frame, Layer, State, a-pop, Plan, clip-thread, plan-pop, plan}
 use Rattle.rules.specs.Steps as rule

@@ -1,14 +1,8 @@
 -- What a pop judges of a sound screen's rows is good (answer 4). Assumes nothing.
-use mathlib.Core.Path.{◌≡◌, refl, ap, ◌∙◌}
-use mathlib.Core.Bool.{Bool, true, false, ◌&&◌, cond}
-use mathlib.Core.List.{List, [], ◌∷◌, ◌++◌, map}
-use Rattle.std.specs.Prelude.{None, Some}
-use Prim.Native.Nat.{ℕ, zero, suc, ◌+◌, ◌*◌, ◌≤◌, ◌<◌}
-use native.Mathlib.Omega.{arith}
-use lib.Dec.{ltb, eqb}
-use lib.ListN.{length, get_or, replicate, length-append, get_or-append}
-use lib.Seq.{get_or-take, get_or-append-add}
-use borrow.Author.Tests.{lt-ltb, ne_eqb, eqb-true, eqb-false}
+use Rattle.std.proofs.Common.{◌≡◌, refl, ap, ◌∙◌, Bool, true, false, ◌&&◌, cond, List, [], ◌∷◌, ◌++◌, map, None, Some, ℕ, zero, suc, ◌+◌, ◌*◌, ◌≤◌, ◌<◌, arith, ltb, eqb, length, get_or, replicate}
+use Rattle.std.proofs.Common.{length-append, get_or-take, get_or-append-add, lt-ltb, ne_eqb, eqb-true}
+use lib.ListN.{get_or-append}
+use borrow.Author.Tests.{eqb-false}
 use Rattle.rules.specs.Lists.{join}
 use Rattle.rules.specs.Commands.{Command, paint-fill, layer-fill, push-buf, pop-buf, command_words}
 use Rattle.rules.specs.Rows.{Row, Level, fresh-row}

@@ -1,14 +1,6 @@
 -- The records of a sound screen's rows are good (answer 4). Assumes nothing.
-use mathlib.Core.Path.{◌≡◌, refl, sym, ap, ◌∙◌}
-use mathlib.Core.Bool.{true}
-use mathlib.Core.List.{List, [], ◌∷◌, ◌++◌, map, append_assoc}
-use Rattle.std.specs.Prelude.{Option, None, Some}
-use Prim.Native.Nat.{ℕ, zero, suc, ◌+◌, ◌-◌, ◌*◌, ◌/◌, ◌%◌, ◌≤◌, ◌<◌}
-use native.Mathlib.Omega.{arith}
-use lib.Dec.{leb}
-use lib.ListN.{length, get_or, length-append}
-use lib.Seq.{get_or-append-add}
-use borrow.Author.Tests.{le-leb, lt-ltb, ne_eqb}
+use Rattle.std.proofs.Common.{◌≡◌, refl, sym, ap, ◌∙◌, true, List, [], ◌∷◌, ◌++◌, map, append_assoc, Option, None, Some, ℕ, zero, suc, ◌+◌, ◌-◌, ◌*◌, ◌/◌, ◌%◌, ◌≤◌, ◌<◌, arith, leb, length, get_or}
+use Rattle.std.proofs.Common.{length-append, get_or-append-add, le-leb, lt-ltb, ne_eqb}
 use Rattle.rules.specs.Spans.{Span}
 use Rattle.rules.specs.Commands.{span-word}
 use Rattle.rules.specs.Rows.{Row, Level, fresh-row}

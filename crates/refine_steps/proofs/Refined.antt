@@ -1,10 +1,6 @@
--- The refinement: on every screen that a reset and steps make, the lent words are those of the rules' screen, and each step's answer is the
--- rules' answer. Assumes nothing.
-use mathlib.Core.Path.{◌≡◌, ap, ◌∙◌}
-use mathlib.Core.Bool.{Bool, false, cond}
-use mathlib.Core.List.{List}
-use Prim.Native.Nat.{ℕ}
-use lib.Dec.{eqb}
+-- The refinement: a done reset leaves the words of the rules' screen, and each step there has the rules' answer and leaves the words of theirs. Assumes
+-- nothing.
+use Rattle.std.proofs.Common.{◌≡◌, ap, ◌∙◌, Bool, false, cond, List, ℕ, eqb}
 use Rattle.rules.specs.Answers.{Answer, answer, Done}
 use Rattle.rules.specs.Rows.{Row, fresh-row, row-ops}
 use Rattle.rules.specs.Plans.{Frame, Step, a-fill, a-push, a-pop, a-filter}
@@ -61,17 +57,3 @@ step-refines x s l r =
         holds = record { begun = cond (eqb (call Row row-ops x s).number Done) false h.begun; depth = h.depth; painting = h.painting; same = ap (λ (w : Answer ScreenLent). w.value) e };
       };
     }
-
--- a done reset and then done steps, each on the words that the last call left; s is what the rules make of the same steps
-pub data BuiltBy : rule.Screen Row → ScreenLent → Type 0 where
-  by-reset : (f : Frame) (l : ScreenLent) → judged_reset f (lengths l.tables) ≡ 0 → BuiltBy (reset fresh-row f) (reset_to f l).value
-  by-step : (x : Step) (s : rule.Screen Row) (l : ScreenLent) → BuiltBy s l → (call_at x l).number ≡ 0 → BuiltBy (call Row row-ops x s).value (call_at x l).value
-
--- on every built screen the lent words are those of the rules' screen
-pub built-refines : {s : rule.Screen Row} {l : ScreenLent} → BuiltBy s l → Refines s l
-built-refines (by-reset f l z) = (reset-refines f l z).value
-built-refines (by-step x s l b z) = (step-refines x s l (built-refines b)).value
-
--- and every step, refused or done, has the rules' number there
-pub built-number : (x : Step) (s : rule.Screen Row) (l : ScreenLent) → BuiltBy s l → (call_at x l).number ≡ (call Row row-ops x s).number
-built-number x s l b = (step-refines x s l (built-refines b)).number

@@ -1,14 +1,6 @@
 -- A reset's words are those of the rules' reset (rule 1). Assumes nothing.
-use mathlib.Core.Path.{◌≡◌, refl, sym, ap, ◌∙◌}
-use mathlib.Core.Bool.{true, false, ◌&&◌}
-use mathlib.Core.List.{List, [], ◌++◌, map}
-use Prim.Native.Nat.{ℕ, zero, suc, ◌+◌, ◌-◌, ◌*◌}
-use native.Mathlib.Nat.{suc-mul}
-use native.Mathlib.Omega.{arith}
-use lib.Dec.{eqb}
-use lib.IntN.{pos}
-use lib.ListN.{length, replicate}
-use borrow.Author.Tests.{eqb-true}
+use Rattle.std.proofs.Common.{◌≡◌, refl, sym, ap, ◌∙◌, true, false, List, [], ◌++◌, map, ℕ, zero, suc, ◌+◌, ◌-◌, ◌*◌, suc-mul, arith, pos, length, replicate}
+use Rattle.std.proofs.lemmas.Bool.Decides.{nat_tests}
 use Rattle.rules.specs.Answers.{answer}
 use Rattle.rules.specs.Boxes.{good_viewport, rows_of}
 use Rattle.sizes.specs.Sizes.{open-layer-table, opacity-count, paint-attr-table, layer-attr-table, filter-paint-table}
@@ -17,14 +9,13 @@ use Rattle.screen.specs.Attributes.{paint-attr-words}
 use Rattle.rules.specs.Rows.{Row, fresh-row}
 use Rattle.rules.specs.Steps.{Screen, reset}
 use Rattle.rules.specs.Walk.{good-room, good-arenas}
-use Rattle.rules.proofs.All.{both}
 use Rattle.row.specs.Words.{Words, words}
 use Rattle.row.specs.Arena.{lay}
 use Rattle.refine_row.proofs.Screens.{blank-row, reset-words}
 use Rattle.rules.specs.Plans.{Frame}
 use Rattle.screen.specs.Screens.{fresh-screen}
 use Rattle.screen.specs.declared.Lengths.{Lengths}
-use Rattle.screen.specs.Judging.{good-fixed, good-tables, arenas, judged_reset}
+use Rattle.screen.specs.Judging.{good-tables, arenas, judged_reset}
 use Rattle.screen.specs.Tables.{zeros, lengths, ScreenLent, float-0, reset_to}
 use Rattle.screen.proofs.Passed.{reset-says}
 use Rattle.layers.specs.Filter.{filter-paint-words}
@@ -80,33 +71,21 @@ module _ (f : Frame) (l : ScreenLent) (z : judged_reset f (lengths l.tables) ≡
   judged-facts = reset-says f (lengths l.tables) z
 
   pub rooms : (good-room f.c ≡ true) × (good-room f.d ≡ true)
-  rooms = both (good-room f.c) (good-room f.d) (both (good-room f.c && good-room f.d) _ judged-facts.1).0
+  rooms = let a = judged-facts.1 in (grind (arith, nat_tests), grind (arith, nat_tests))
 
   lengthy : Lengthy (lengths l.tables) n f.c f.d
   lengthy =
-      let k = lengths l.tables in
-      let a3 = both (good-room f.c && good-room f.d) _ judged-facts.1 in
-      let a2 = both (eqb k.render (n * (4 * f.c)) && eqb k.fills (n * (2 * f.d))) _ a3.1 in
-      let a1 = both (eqb k.render (n * (4 * f.c))) (eqb k.fills (n * (2 * f.d))) a2.0 in
-      let b2 = both (eqb k.rows (n * 54) && eqb k.painting (n * 2)) (good-fixed k) judged-facts.2 in
-      let b1 = both (eqb k.rows (n * 54)) (eqb k.painting (n * 2)) b2.0 in
-      let t1 = eqb k.layers open-layer-table in
-      let t2 = eqb k.opacities opacity-count in
-      let t3 = eqb k.paint_attrs paint-attr-table in
-      let t4 = eqb k.layer_attrs layer-attr-table in
-      let c4 = both (t1 && t2 && t3 && t4) (eqb k.filter_paints filter-paint-table) b2.1 in
-      let c3 = both (t1 && t2 && t3) t4 c4.0 in
-      let c2 = both (t1 && t2) t3 c3.0 in
-      let c1 = both t1 t2 c2.0 in
+      let a = judged-facts.1 in
+      let b = judged-facts.2 in
       record {
-        render = eqb-true _ _ a1.0;
-        fills = eqb-true _ _ a1.1;
-        rows = eqb-true _ _ b1.0;
-        layers = eqb-true _ _ c1.0;
-        opacities = eqb-true _ _ c1.1;
-        paints = eqb-true _ _ c2.1;
-        attrs = eqb-true _ _ c3.1;
-        filters = eqb-true _ _ c4.1;
+        render = grind (arith, nat_tests);
+        fills = grind (arith, nat_tests);
+        rows = grind (arith, nat_tests);
+        layers = grind (arith, nat_tests);
+        opacities = grind (arith, nat_tests);
+        paints = grind (arith, nat_tests);
+        attrs = grind (arith, nat_tests);
+        filters = grind (arith, nat_tests);
       }
 
   pub fresh-sound : Sound (reset fresh-row f)

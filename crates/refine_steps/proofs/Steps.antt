@@ -1,25 +1,18 @@
 -- Fills, filter fills and pushes on a sound screen's words. Assumes nothing.
-use mathlib.Core.Path.{◌≡◌, refl, ap, ◌∙◌}
-use mathlib.Core.Bool.{Bool, true, false, ◌||◌, not, cond}
-use mathlib.Core.List.{List, [], ◌∷◌, ◌++◌, map, append-nil}
-use Rattle.std.specs.Prelude.{Option, None, Some}
-use Prim.Native.Nat.{ℕ, suc, ◌*◌, ◌%◌, ◌≤◌, ◌<◌}
-use native.Mathlib.Omega.{arith}
-use lib.Dec.{ltb, eqb}
-use lib.IntN.{pos}
-use lib.ListN.{length, drop, set, length-append}
+use Rattle.std.proofs.Common.{◌≡◌, refl, ap, ◌∙◌, Bool, true, false, ◌||◌, cond, List, [], ◌∷◌, ◌++◌, map, append-nil, Option, None, Some, ℕ, suc, ◌*◌, ◌%◌, ◌≤◌, ◌<◌, arith, ltb, eqb, pos, length}
+use Rattle.std.proofs.Common.{drop, set, length-append, eqb-true, eq-eqb, ltb-false}
+use Rattle.refine_layers.proofs.Laws.{filter-plans}
 use lib.Seq.{set-append_left}
 use lib.Ieee.{Float, binary32, of_bits}
-use borrow.Author.Tests.{eqb-true, eq-eqb, ltb-false}
 use Rattle.sizes.specs.Sizes.{open-layer-size, open-layer-table, opacity-count, paint-attr-size, paint-attr-table, filter-paint-size, filter-paint-table}
 use Rattle.rules.specs.Lists.{join, is-empty}
-use Rattle.rules.specs.Answers.{answer, settle, Done, BadRecord}
+use Rattle.rules.specs.Answers.{answer, settle, Done}
 use Rattle.rules.specs.Segments.{Segment}
-use Rattle.rules.specs.Inputs.{Paint, Draw, draw-segments, Clip, Props, Filter, good-filter-fill}
+use Rattle.rules.specs.Inputs.{Paint, Draw, draw-segments, Clip, Props, Filter}
 use Rattle.screen.specs.Attributes.{paint-attr-words}
-use Rattle.rules.proofs.Words.{paint-words, segment-words}
+use Rattle.rules.specs.Words.{paint-words, segment-words}
 use Rattle.rules.specs.Rows.{Row, row-ops}
-use Rattle.rules.specs.Plans.{Layer, State, a-fill, a-push, a-filter, Plan, still, box_of, plan-fill, layer-box, plan-push, filter-box, draws-nothing, plan-filter-in, plan-filter, plan}
+use Rattle.rules.specs.Plans.{Layer, State, a-fill, a-push, a-filter, Plan, box_of, plan-fill, layer-box, plan-push, plan-filter-in, plan-filter, plan}
 use Rattle.rules.specs.Steps as rule
 use Rattle.rules.specs.Steps.{done, refusal, perform, call}
 use Rattle.rules.proofs.All.{All, neither}
@@ -118,14 +111,7 @@ module _ (s : rule.Screen Row) (h : Sound s) (b : Bool) (de pa : List ℕ) where
 
     filter-keeps : ((plan-filter count f q st).layers ≡ st.layers) × ((plan-filter count f q st).attrs.layers ≡ st.attrs.layers)
     unfolding plan-filter plan-filter-in
-    filter-keeps = go (not (good-filter-fill count f q)) (draws-nothing f (filter-box st.frame.viewport (box_of st) f))
-      where
-        go : (t u : Bool)
-            → ((cond t (still BadRecord st) (cond u (still Done st) (plan-filter-in (filter-box st.frame.viewport (box_of st) f) count f q st))).layers ≡ st.layers)
-            × ((cond t (still BadRecord st) (cond u (still Done st) (plan-filter-in (filter-box st.frame.viewport (box_of st) f) count f q st))).attrs.layers ≡ st.attrs.layers)
-        go true u = (refl, refl)
-        go false true = (refl, refl)
-        go false false = (refl, refl)
+    filter-keeps = filter-plans (λ p. (p.layers ≡ st.layers) × (p.attrs.layers ≡ st.attrs.layers)) count f q st (refl, refl) (refl, refl) (λ e. (refl, refl))
 
     filter-first : filter.first-number (filter-part (lent_of s b de pa)) ≡ 0
     unfolding lent_of

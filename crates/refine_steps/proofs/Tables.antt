@@ -1,11 +1,7 @@
 -- Tables that are filled from the start. Assumes nothing.
-use mathlib.Core.Path.{◌≡◌, refl, sym, ap, ◌∙◌}
-use mathlib.Core.List.{List, [], ◌∷◌, ◌++◌, append_assoc}
-use Prim.Native.Nat.{ℕ, zero, suc, ◌+◌, ◌-◌, ◌*◌, ◌≤◌, ◌<◌}
-use native.Mathlib.Nat.{mul-suc}
-use native.Mathlib.Omega.{arith}
-use lib.ListN.{length, get_or, take, drop, set, replicate, length-append, length-replicate}
-use lib.Seq.{take_at, drop_at, drop-append-add, set_at, get_or_at}
+use Rattle.std.proofs.Common.{◌≡◌, refl, sym, ap, ◌∙◌, List, [], ◌∷◌, ◌++◌, append_assoc, ℕ, zero, suc, ◌+◌, ◌-◌, ◌*◌, ◌≤◌, ◌<◌, mul-suc, arith, length, get_or, take, drop, set, replicate, length-append, take_at, drop_at}
+use lib.ListN.{length-replicate}
+use lib.Seq.{drop-append-add, set_at, get_or_at}
 use Rattle.rules.specs.Lists.{join}
 use Rattle.cmd.specs.Attrs.{words-at}
 use Rattle.refine_steps.specs.Lent.{table}

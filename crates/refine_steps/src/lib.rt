@@ -1,2 +1,2 @@
-// Proofs only: each building step at the words is the rules' step.
+//! Proofs only: each building step at the words is the rules' step.
 #![tactic(auto)]

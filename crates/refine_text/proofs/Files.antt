@@ -1,14 +1,8 @@
 -- What the program `rowlist` writes of a file's words is the text of the rules' `rowlist` of them. Assumes nothing.
-use mathlib.Core.Path.{◌≡◌, refl, sym, ap, ◌∙◌}
-use mathlib.Core.Bool.{Bool, true, false, not, ◌&&◌, ◌||◌, cond}
-use mathlib.Core.List.{List, [], ◌∷◌, ◌++◌, append-nil}
-use Rattle.std.specs.Prelude.{Option, None, Some, Ok}
-use Prim.Native.Nat.{ℕ, ◌*◌, ◌%◌, ◌≤◌}
-use native.Mathlib.Omega.{arith}
-use lib.Dec.{ltb, leb, eqb}
-use lib.ListN.{length, get_or, drop}
-use lib.Seq.{length-take-le, get_or-drop}
-use borrow.Author.Tests.{le-ltb, lt-ltb, leb-true, leb-false, eq-eqb, eqb-true}
+use Rattle.std.proofs.Common.{◌≡◌, refl, sym, ap, ◌∙◌, Bool, true, false, not, ◌&&◌, ◌||◌, cond, List, [], ◌∷◌, ◌++◌, append-nil, Option, None, Some, Result, Ok, Err, ℕ, ◌*◌, ◌%◌, ◌≤◌, arith, ltb, leb}
+use Rattle.std.proofs.Common.{eqb, length, get_or, drop, get_or-drop, le-ltb, lt-ltb, leb-true, leb-false, eq-eqb, eqb-true}
+use Rattle.sizes.specs.declared.answers.Refusal.{Refusal}
+use Rattle.sizes.specs.declared.answers.Refusal.TheVariants as refusal
 use Rattle.sizes.specs.declared.width.Width.{Width}
 use Rattle.sizes.specs.Widths.{bucket-tiles}
 use Rattle.rules.specs.Answers.{Answer, answer, settle, Done, BadForm}
@@ -23,7 +17,7 @@ use Rattle.rules.specs.Lines as rules
 use Rattle.rules.specs.Lines.{refused, answer-lines, rowlist-place, rowlist-screen, rowlist-words, words_of, rowlist, line-bytes}
 use Rattle.rules.proofs.All.{never, and_left, and_right}
 use Rattle.screen.specs.declared.Screen as declared
-use Rattle.screen.specs.Judging.{good-tables, good-fixed, arenas, judged_reset}
+use Rattle.screen.specs.Judging.{good-tables, arenas, judged_reset}
 use Rattle.screen.specs.Tables.{Tables, lengths, ScreenLent, lent}
 use Rattle.screen.proofs.ScreenLaws.{few-buckets}
 use Rattle.refine_steps.specs.Sound.{Fitting}
@@ -35,15 +29,14 @@ use Rattle.refine_file.proofs.Laws.{file-plays}
 use Rattle.walk.specs.Recorded.{recorded}
 use Rattle.file.specs.Layouts.{layout, formed, form_of, sections_at}
 use Rattle.file.specs.Words.{words-in}
-use Rattle.file.proofs.Bytes.{rules-words}
 use Rattle.file.proofs.Laid.{good-form}
 use Rattle.file.proofs.Reading.{viewport-is}
 use Rattle.file.specs.Judging.{box_from}
-use Rattle.text.specs.Listed.{written, text_of}
+use Rattle.text.specs.Listed.{listed, written, text_of}
 use Rattle.text.specs.declared.recording.Size.{Size}
-use Rattle.text.specs.Files.{Showed, nothing, refusing, shown-as, showing, FileOut, file-out, answered, recording-text, frame_at, size, sized-if, sized, size_of, cut-to, over, in-front, front-text, text_in, words-text, Usual, Roomy, is-roomy, refused-as-is, bytes-text}
-use Rattle.text.proofs.FileTexts.{small}
-use Rattle.text.proofs.Bytes.{enough}
+use Rattle.text.specs.Files.{Showed, file-text, shows-as, nothing, refusing, shown-as, showing, FileOut, file-out, answered, recording-text, frame_at, size, sized-if, sized, size_of, good-bytes, file-size, Usual, Exact, blank, sized-text, bytes-text}
+use Rattle.text.proofs.FileTexts.{blank_exact}
+use Rattle.text.proofs.Bytes.{by-file}
 use Rattle.refine_text.proofs.Lengths.{line-few, lines-few, rows_few}
 use Rattle.refine_text.proofs.Printed.{row_words, listed-held}
 use Rattle.refine_text.proofs.Walked.{Kept, walk-keeps}
@@ -60,7 +53,7 @@ text-first ts bs = (length ts, ts ++ drop (length ts) bs)
 abbrev pub usual-frame : Box → Width → Frame
 usual-frame v x = record { viewport = v; c = 64; d = 64; width = x }
 
--- the first words of the tables that it has
+-- its size
 abbrev pub usual-size : Box → Width → Size
 usual-size v x = size (rows_of v) (buckets-of (bucket-tiles x) v)
 
@@ -69,24 +62,28 @@ record Done-with (a : Answer (Screen Row)) (w : Answer ScreenLent) (v : Box) (x 
   pub refines : Refines a.value w.value
   pub kept : Kept (usual-frame v x) a.value
 
--- words that hold the rules' screen of an accepted file: they stand first in the tables
-pub record Left (s : Screen Row) (t : Tables) (o : FileOut) : Type 0 where
+-- words that hold the rules' screen of an accepted file, in tables of its size
+pub record Left (s : Screen Row) (z : Size) (o : FileOut) : Type 0 where
   pub viewport : Box
   pub width : Width
+  pub size : z ≡ usual-size viewport width
   pub few : rows_of viewport ≤ 32
   pub kept : Kept (usual-frame viewport width) s
   pub words : ScreenLent
   pub refines : Refines s words
   pub screen : o.showed.text.screen ≡ words.screen
-  pub tables : o.tables ≡ over (usual-size viewport width) t words.tables
+  pub tables : o.tables ≡ words.tables
 
--- what a file's call leaves beside the rules' answer
-pub record Leaves (a : Answer (Screen Row)) (t : Tables) (o : FileOut) : Type 0 where
-  pub number : o.showed.text.number ≡ a.number
-  pub left : a.number ≡ 0 → Left a.value t o
+-- what is printed beside the rules' answer
+pub record Prints (a : Answer (Screen Row)) (bs : List ℕ) (x : Showed) : Type 0 where
+  pub number : x.text.number ≡ a.number
+  pub shows : shows x ≡ text-first (text_of (answer-lines a)) bs
+  pub few : length (text_of (answer-lines a)) ≤ 264256
 
-abbrev told : Showed → ℕ × declared.Screen
-told x = (x.text.number, x.text.screen)
+-- .. and what is left
+pub record Leaves (a : Answer (Screen Row)) (z : Size) (bs : List ℕ) (o : FileOut) : Type 0 where
+  pub prints : Prints a bs o.showed
+  pub left : a.number ≡ 0 → Left a.value z o
 
 -- what a screen in a file's frame prints has at most 264,256 bytes
 screen-few : (v : Box) (x : Width) (s : Screen Row) → rows_of v ≤ 32 → Kept (usual-frame v x) s → length (text_of (rules.screen-lines s)) ≤ 264256
@@ -99,64 +96,50 @@ refused-few : (n : ℕ) → length (text_of (refused n ∷ [])) ≤ 264256
 refused-few n = omega (arith, lines-few (refused n ∷ []))
 
 module _ (bs : List ℕ) (room : 264256 ≤ length bs) where
-  -- a text that fits
-  fits : (ts : List ℕ) → length ts ≤ 264256 → (s : declared.Screen) → shows (shown-as s (written ts bs)) ≡ text-first ts bs
+  -- a text that fits, and a refusal's
+  fits : (ts : List ℕ) → length ts ≤ 264256 → (s : declared.Screen) → shown-as s (written ts bs) ≡ shows-as (file-text 0 (length ts) s) (ts ++ drop (length ts) bs)
   unfolding written
   fits ts h s = rw (le-ltb (length bs) (length ts) (omega (arith, h, room)))
 
-  refusing-shows : (n : ℕ) (s : declared.Screen) → shows (refusing n s bs) ≡ text-first (text_of (refused n ∷ [])) bs
+  refusing-is : (n : ℕ) (s : declared.Screen) → let ts = text_of (refused n ∷ []) in refusing n s bs ≡ shows-as (file-text n (length ts) s) (ts ++ drop (length ts) bs)
   unfolding refusing written text_of
-  refusing-shows n s = rw (le-ltb (length bs) (length (line-bytes (refused n))) (omega (arith, line-few (refused n), room)), append-nil (line-bytes (refused n)))
+  refusing-is n s = rw (append-nil (line-bytes (refused n)), le-ltb (length bs) (length (line-bytes (refused n))) (omega (arith, line-few (refused n), room)))
 
-  done-shows : (a : Answer (Screen Row)) (w : Answer ScreenLent) (v : Box) (x : Width) → rows_of v ≤ 32 → Done-with a w v x
-      → shows (showing w.value.screen (row_words w.value) bs) ≡ text-first (text_of (rules.screen-lines a.value)) bs
+  refused-prints : (a : Answer (Screen Row)) (n : ℕ) (s : declared.Screen) → a.number ≡ n → answer-lines a ≡ refused n ∷ [] → Prints a bs (refusing n s bs)
+  refused-prints a n s e h =
+      rw (refusing-is n s) (record { number = sym e; shows = rw h refl; few = rw h (refused-few n) })
+
+  answer-leaves : (a : Answer (Screen Row)) (w : Answer ScreenLent) (v : Box) (x : Width) → rows_of v ≤ 32 → w.number ≡ a.number → (a.number ≡ 0 → Done-with a w v x)
+      → Leaves a (usual-size v x) bs (answered w bs)
   unfolding showing
-  done-shows a w v x few h =
-      rw (listed-held h.refines h.kept.fair bs) (fits (text_of (rules.screen-lines a.value)) (screen-few v x a.value few h.kept) w.value.screen)
-
-  fits_told : (ts : List ℕ) → length ts ≤ 264256 → (s : declared.Screen) → told (shown-as s (written ts bs)) ≡ (0, s)
-  unfolding written
-  fits_told ts h s = rw (le-ltb (length bs) (length ts) (omega (arith, h, room)))
-
-  done-told : (a : Answer (Screen Row)) (w : Answer ScreenLent) (v : Box) (x : Width) → rows_of v ≤ 32 → Done-with a w v x
-      → told (showing w.value.screen (row_words w.value) bs) ≡ (0, w.value.screen)
-  unfolding showing
-  done-told a w v x few h =
-      rw (listed-held h.refines h.kept.fair bs) (fits_told (text_of (rules.screen-lines a.value)) (screen-few v x a.value few h.kept) w.value.screen)
-
-  refusing-number : (n : ℕ) (s : declared.Screen) → (refusing n s bs).text.number ≡ n
-  unfolding refusing
-  refusing-number n s = refl
-
-  answer-leaves : (a : Answer (Screen Row)) (w : Answer ScreenLent) (v : Box) (x : Width) (t : Tables) → rows_of v ≤ 32 → w.number ≡ a.number → (a.number ≡ 0 → Done-with a w v x)
-      → Leaves a t (in-front (usual-size v x) t (answered w bs))
-  answer-leaves a w v x t few e h = rw e (go (eqb a.number Done) refl)
+  answer-leaves a w v x few e h = rw e (go (eqb a.number Done) refl)
     where
-      y : Bool → Showed
-      y b = cond b (showing w.value.screen (row_words w.value) bs) (refusing a.number w.value.screen bs)
-
-      go : (b : Bool) → eqb a.number Done ≡ b → Leaves a t (in-front (usual-size v x) t (file-out (y b) w.value.tables))
+      go : (b : Bool) → eqb a.number Done ≡ b
+          → Leaves a (usual-size v x) bs (file-out (cond b (shown-as w.value.screen (listed w.value.screen (row_words w.value) bs)) (refusing a.number w.value.screen bs)) w.value.tables)
       go true q =
           let done = h (eqb-true _ _ q) in
-          let p = done-told a w v x few done in
+          let text : List ℕ = text_of (rules.screen-lines a.value) in
+          let short : length text ≤ 264256 = screen-few v x a.value few done.kept in
+          rw (listed-held done.refines done.kept.fair bs, fits text short w.value.screen)
+          (record {
+            prints = record { number = sym (eqb-true _ _ q); shows = rw q refl; few = rw q short };
+            left = λ i. record {
+              viewport = v;
+              width = x;
+              size = refl;
+              few = few;
+              kept = done.kept;
+              words = w.value;
+              refines = done.refines;
+              screen = refl;
+              tables = refl;
+            };
+          })
+      go false q =
           record {
-            number = ap (λ (y : ℕ × declared.Screen). y.0) p ∙ sym (eqb-true _ _ q);
-            left = λ i. record { viewport = v; width = x; few = few; kept = done.kept; words = w.value; refines = done.refines; screen = ap (λ (y : ℕ × declared.Screen). y.1) p; tables = refl };
+            prints = refused-prints a a.number w.value.screen refl (rw q refl);
+            left = λ i. never (sym (eq-eqb _ _ i) ∙ q);
           }
-      go false q = record { number = refusing-number a.number w.value.screen; left = λ i. never (sym (eq-eqb _ _ i) ∙ q) }
-
-  refused-leaves : (a : Answer (Screen Row)) (t : Tables) (n : ℕ) → a.number ≡ n → eqb n Done ≡ false → Leaves a t (refused-as-is n t bs)
-  refused-leaves a t n e q = record { number = refusing-number n nothing ∙ sym e; left = λ i. never (sym (eq-eqb n 0 (sym e ∙ i)) ∙ q) }
-
-  answer-shows : (a : Answer (Screen Row)) (w : Answer ScreenLent) (v : Box) (x : Width) → rows_of v ≤ 32 → w.number ≡ a.number → (a.number ≡ 0 → Done-with a w v x)
-      → shows (answered w bs).showed ≡ text-first (text_of (answer-lines a)) bs
-  answer-shows a w v x few e h = rw e (go (eqb a.number Done) refl)
-    where
-      go : (t : Bool) → eqb a.number Done ≡ t
-          → shows (cond t (showing w.value.screen (row_words w.value) bs) (refusing a.number w.value.screen bs))
-          ≡ text-first (text_of (cond t (rules.screen-lines a.value) (refused a.number ∷ []))) bs
-      go true q = done-shows a w v x few (h (eqb-true _ _ q))
-      go false q = refusing-shows a.number w.value.screen
 
 module _ (p : Place) (old : Screen Row) (r : Recording) where
   abbrev start : Screen Row
@@ -221,13 +204,9 @@ not-shown true n e = lt-ltb 32 n (leb-false n 32 e)
 some_same : {A : Type 0} {x y : A} → Some x ≡ Some y → x ≡ y
 some_same p = cc
 
-module _ (q : Setup) (u : Usual q) (ws : List ℕ) (t : Tables) (enough-room : is-roomy t ≡ true) (fixed : good-fixed (lengths t) ≡ true)
-    (bs : List ℕ) (room : 264256 ≤ length bs) where
+module _ (q : Setup) (u : Usual q) (ws : List ℕ) (bs : List ℕ) (room : 264256 ≤ length bs) where
   abbrev old : Screen Row
   old = reset fresh-row rules.nothing
-
-  roomy : Roomy t
-  roomy = enough t enough-room
 
   module _ (ss : List (List (List ℕ))) (e : sections shape ws ≡ Some ss) where
     abbrev r : Recording
@@ -262,36 +241,29 @@ module _ (q : Setup) (u : Usual q) (ws : List ℕ) (t : Tables) (enough-room : i
         refused-lines (play-records (Screen Row) (call Row row-ops) (reset fresh-row) (rowlist-place q ws) old r) 2
         (refused-view (rowlist-place q ws) old r (rw (not-shown (good_viewport v) (rows_of v) h))) refl
 
-    module _ (g : good_viewport v ≡ true) (few : rows_of v ≤ 32) where
-      abbrev cut : Tables
-      cut = cut-to (usual-size v q.width) t
+    abbrev z : Size
+    z = usual-size v q.width
 
+    module _ (g : good_viewport v ≡ true) (few : rows_of v ≤ 32) (t : Tables) (h : Exact z t) where
       abbrev given : ScreenLent
-      given = lent nothing cut
+      given = lent nothing t
 
-      -- the tables' first words have the lengths that the file's screen asks for
-      render-long : length cut.render ≡ rows_of v * 256
-      render-long = length-take-le _ _ (omega (arith, roomy.render))
+      tables-good : good-tables (rows_of v) (lengths t) ≡ true
+      tables-good =
+          rw (
+            eq-eqb _ _ h.rows,
+            eq-eqb _ _ h.painting,
+            eq-eqb _ _ h.layers,
+            eq-eqb _ _ h.opacities,
+            eq-eqb _ _ h.paint-attrs,
+            eq-eqb _ _ h.layer-attrs,
+            eq-eqb _ _ h.filter-paints,
+          )
 
-      fills-long : length cut.fills ≡ rows_of v * 128
-      fills-long = length-take-le _ _ (omega (arith, roomy.fills))
+      arenas-good : good-arenas f (arenas (lengths t)) ≡ true
+      arenas-good = rw (u.c, u.d, eq-eqb _ _ h.render, eq-eqb _ _ h.fills, eq-eqb _ _ h.depth)
 
-      depth-long : length cut.depth ≡ rows_of v * buckets-across f
-      depth-long = length-take-le _ _ (omega (arith, roomy.depth, small (rows_of v) (buckets-across f) few (few-buckets v g q.width)))
-
-      rows_long : length cut.rows ≡ rows_of v * 54
-      rows_long = length-take-le _ _ (omega (arith, roomy.rows))
-
-      painting-long : length cut.painting ≡ rows_of v * 2
-      painting-long = length-take-le _ _ (omega (arith, roomy.painting))
-
-      tables-good : good-tables (rows_of v) (lengths cut) ≡ true
-      tables-good = rw (eq-eqb _ _ rows_long, eq-eqb _ _ painting-long) fixed
-
-      arenas-good : good-arenas f (arenas (lengths cut)) ≡ true
-      arenas-good = rw (u.c, u.d, eq-eqb _ _ render-long, eq-eqb _ _ fills-long, eq-eqb _ _ depth-long)
-
-      judged-0 : judged_reset f (lengths cut) ≡ 0
+      judged-0 : judged_reset f (lengths t) ≡ 0
       unfolding judged_reset
       judged-0 = rw (g, arenas-good, tables-good)
 
@@ -332,7 +304,7 @@ module _ (q : Setup) (u : Usual q) (ws : List ℕ) (t : Tables) (enough-room : i
             | Some qs ↦ play-records (Screen Row) (call Row row-ops) (reset fresh-row) (place q given) old (recording qs)
           ])
           e
-          ∙ sym (same-play 32 512 q (needed (frame q (box-at ws 1))) (arenas (lengths cut)) old r (judge-at (box-at ws 1) place_view))
+          ∙ sym (same-play 32 512 q (needed (frame q (box-at ws 1))) (arenas (lengths t)) old r (judge-at (box-at ws 1) place_view))
 
       plays : Plays Refines old given theirs (recorded ws q given)
       plays =
@@ -340,113 +312,71 @@ module _ (q : Setup) (u : Usual q) (ws : List ℕ) (t : Tables) (enough-room : i
           (file-plays ws q given old (λ qs i. let k : qs ≡ ss = some_same (sym i ∙ e) in rw k tables-good))
 
       done-with : theirs.number ≡ 0 → Done-with theirs (recorded ws q given) v q.width
-      done-with z = go plays.value
+      done-with d = go plays.value
         where
           go : Outcome Refines theirs.number old given theirs.value (recorded ws q given).value → Done-with theirs (recorded ws q given) v q.width
-          go (unaltered i x y) = never (sym (eq-eqb _ _ z) ∙ i)
-          go (made x) = record { refines = x; kept = play-kept (rowlist-place q ws) old r first start-kept z }
+          go (unaltered i x y) = never (sym (eq-eqb _ _ d) ∙ i)
+          go (made x) = record { refines = x; kept = play-kept (rowlist-place q ws) old r first start-kept d }
 
-      left_there : Leaves theirs t (in-front (usual-size v q.width) t (recording-text ws q cut bs))
+      left_there : Leaves theirs z bs (recording-text ws q t bs)
       unfolding recording-text
-      left_there = answer-leaves bs room theirs (recorded ws q given) v q.width t few plays.number done-with
+      left_there = answer-leaves bs room theirs (recorded ws q given) v q.width few plays.number done-with
 
-      shown-there : shows (recording-text ws q cut bs).showed ≡ text-first (text_of (answer-lines theirs)) bs
-      unfolding recording-text
-      shown-there = answer-shows bs room theirs (recorded ws q given) v q.width few plays.number done-with
+    abbrev rules-answer : Answer (Screen Row)
+    rules-answer = play-records (Screen Row) (call Row row-ops) (reset fresh-row) (rowlist-place q ws) old r
 
-    refused-number : (good_viewport v && leb (rows_of v) 32) ≡ false → (play-records (Screen Row) (call Row row-ops) (reset fresh-row) (rowlist-place q ws) old r).number ≡ 2
+    refused-number : (good_viewport v && leb (rows_of v) 32) ≡ false → rules-answer.number ≡ 2
     unfolding judge-records
     refused-number h = refused-view (rowlist-place q ws) old r (rw (not-shown (good_viewport v) (rows_of v) h))
 
-    by-size-leaves : (x : Bool) → (good_viewport v && leb (rows_of v) 32) ≡ x
-        → Leaves (play-records (Screen Row) (call Row row-ops) (reset fresh-row) (rowlist-place q ws) old r) t (text_in (sized-if x f) ws q t bs)
-    by-size-leaves false h = refused-leaves bs room (play-records (Screen Row) (call Row row-ops) (reset fresh-row) (rowlist-place q ws) old r) t 2 (refused-number h) refl
-    by-size-leaves true h =
-        rw enough-room
-        (unfold front-text in
-        left_there (and_left (good_viewport v) (leb (rows_of v) 32) h) (leb-true _ _ (and_right (good_viewport v) (leb (rows_of v) 32) h)))
+    by_size : (x : Bool) → (good_viewport v && leb (rows_of v) 32) ≡ x → {y : Size} → Ok y ≡ sized-if x f → (t : Tables) → Exact y t → Leaves rules-answer y bs (recording-text ws q t bs)
+    by_size false h i t k = cc
+    by_size true h {y} i t k =
+        let same : y ≡ z = cc in
+        rw same (left_there (and_left (good_viewport v) (leb (rows_of v) 32) h) (leb-true _ _ (and_right (good_viewport v) (leb (rows_of v) 32) h)) t (rw same at k))
 
-    by_size : (x : Bool) → (good_viewport v && leb (rows_of v) 32) ≡ x
-        → shows (text_in (sized-if x f) ws q t bs).showed ≡ text-first (text_of (answer-lines (play-records (Screen Row) (call Row row-ops) (reset fresh-row) (rowlist-place q ws) old r))) bs
-    by_size false h = rw (refused-there h) (refusing-shows bs room 2 nothing)
-    by_size true h = rw enough-room (unfold front-text in shown-there (and_left (good_viewport v) (leb (rows_of v) 32) h) (leb-true _ _ (and_right (good_viewport v) (leb (rows_of v) 32) h)))
+    printed-by-size : (x : Bool) → (good_viewport v && leb (rows_of v) 32) ≡ x → Prints rules-answer bs (sized-text (sized-if x f) ws q bs)
+    printed-by-size false h = refused-prints bs room rules-answer 2 nothing (refused-number h) (refused-there h)
+    printed-by-size true h = (by_size true h refl (blank z) (blank_exact z)).prints
 
-  -- A file's words, in tables that are long enough, with room for the longest text: what is written is the text of the rules' lines.
-  pub words-printed : shows (words-text ws q t bs).showed ≡ text-first (text_of (rowlist-words q ws)) bs
-  unfolding words-text size_of form_of rowlist-words play
-  words-printed = go (sections shape ws) refl
+  abbrev played-of : Option (List (List (List ℕ))) → Answer (Screen Row)
+  played-of o = elim o [
+    | None ↦ answer BadForm old
+    | Some qs ↦ play-records (Screen Row) (call Row row-ops) (reset fresh-row) (rowlist-place q ws) old (recording qs)
+  ]
+
+  -- What is printed of a file's words, with room for the longest text: the number and the text of the rules' lines.
+  pub words-print : Prints (rowlist-screen q ws) bs (sized-text (size_of ws q) ws q bs)
+  unfolding size_of form_of play
+  words-print = go (sections shape ws) refl
     where
-      go : (o : Option (List (List (List ℕ)))) → sections shape ws ≡ o
-          → shows (text_in (sized (formed o (layout ws)) (frame_at ws q)) ws q t bs).showed
-          ≡ text-first
-          (text_of
-          (answer-lines
-          (elim o [
-            | None ↦ answer BadForm old
-            | Some qs ↦ play-records (Screen Row) (call Row row-ops) (reset fresh-row) (rowlist-place q ws) old (recording qs)
-          ])))
-          bs
-      go None e = refusing-shows bs room 3 nothing
-      go (Some ss) e = rw (view ss e) (by_size ss e _ refl)
+      go : (o : Option (List (List (List ℕ)))) → sections shape ws ≡ o → Prints (played-of o) bs (sized-text (sized (formed o (layout ws)) (frame_at ws q)) ws q bs)
+      go None e = refused-prints bs room (answer BadForm old) 3 nothing refl refl
+      go (Some ss) e = rw (view ss e) (printed-by-size ss e _ refl)
 
-  -- .. and what is left beside it is the rules' screen, where it is not refused.
-  pub words-leave : Leaves (rowlist-screen q ws) t (words-text ws q t bs)
-  unfolding words-text size_of form_of play
-  words-leave = go (sections shape ws) refl
+  -- .. and what is left beside it, in tables of its screen's lengths, is the rules' screen, where it is not refused.
+  pub words-leave : {z : Size} → Ok z ≡ size_of ws q → (t : Tables) → Exact z t → Leaves (rowlist-screen q ws) z bs (recording-text ws q t bs)
+  unfolding size_of form_of play
+  words-leave {z} i t k = go (sections shape ws) refl i
     where
-      go : (o : Option (List (List (List ℕ)))) → sections shape ws ≡ o
-          → Leaves
-          (elim o [
-            | None ↦ answer BadForm old
-            | Some qs ↦ play-records (Screen Row) (call Row row-ops) (reset fresh-row) (rowlist-place q ws) old (recording qs)
-          ])
-          t
-          (text_in (sized (formed o (layout ws)) (frame_at ws q)) ws q t bs)
-      go None e = refused-leaves bs room (answer BadForm old) t 3 refl refl
-      go (Some ss) e = rw (view ss e) (by-size-leaves ss e _ refl)
+      go : (o : Option (List (List (List ℕ)))) → sections shape ws ≡ o → Ok z ≡ sized (formed o (layout ws)) (frame_at ws q) → Leaves (played-of o) z bs (recording-text ws q t bs)
+      go None e j = cc
+      go (Some ss) e j = by_size ss e _ refl (rw (view ss e) at j) t k
 
-  -- .. of at most 264,256 bytes
-  words-few : length (text_of (rowlist-words q ws)) ≤ 264256
-  unfolding rowlist-words
-  words-few = go (eqb (rowlist-screen q ws).number Done) refl
+-- `rowlist`: a file's bytes, with room lent as the program has it. What `file_text` writes is the text of the rules' `rowlist` of the bytes.
+module _ (q : Setup) (u : Usual q) (fs : List ℕ) (bs : List ℕ) (room : 264256 ≤ length bs) where
+  pub file-printed : shows (bytes-text fs q bs) ≡ text-first (text_of (rowlist q fs)) bs
+  unfolding bytes-text file-size rowlist rowlist-words
+  file-printed = rw (by-file (refused BadForm ∷ []) (rowlist-words q) fs) (go (good-bytes (length fs)))
     where
-      go : (b : Bool) → eqb (rowlist-screen q ws).number Done ≡ b
-          → length (text_of (cond b (rules.screen-lines (rowlist-screen q ws).value) (refused (rowlist-screen q ws).number ∷ []))) ≤ 264256
-      go true e = let l = words-leave.left (eqb-true _ _ e) in screen-few l.viewport l.width (rowlist-screen q ws).value l.few l.kept
-      go false e = refused-few (rowlist-screen q ws).number
-
--- `rowlist`: a file's bytes, with tables and room lent as the program has them. What `file_text` writes is the text of the rules' `rowlist` of the bytes.
-module _ (q : Setup) (u : Usual q) (fs : List ℕ) (t : Tables) (roomy : is-roomy t ≡ true) (fixed : good-fixed (lengths t) ≡ true)
-    (bs : List ℕ) (room : 264256 ≤ length bs) where
-  pub file-printed : shows (bytes-text fs q t bs).showed ≡ text-first (text_of (rowlist q fs)) bs
-  unfolding bytes-text rowlist
-  file-printed = go (leb (length fs) 65536) (eqb (length fs % 4) 0) refl refl
-    where
-      go : (x y : Bool) → leb (length fs) 65536 ≡ x → eqb (length fs % 4) 0 ≡ y
-          → shows (cond (x && y) (words-text (words-in fs) q t bs) (refused-as-is BadForm t bs)).showed
-          ≡ text-first
-          (text_of
-          (elim (ltb 65536 (length fs)) [
-            | true ↦ refused BadForm ∷ []
-            | false ↦ elim (words_of fs) [ None ↦ refused BadForm ∷ [] | Some vs ↦ rowlist-words q vs ]
-          ]))
-          bs
-      go false y p e = rw (lt-ltb 65536 (length fs) (leb-false _ _ p)) (refusing-shows bs room 3 nothing)
-      go true false p e = rw (le-ltb 65536 (length fs) (leb-true _ _ p), rules-words fs, e) (refusing-shows bs room 3 nothing)
-      go true true p e = rw (le-ltb 65536 (length fs) (leb-true _ _ p), rules-words fs, e) (words-printed q u (words-in fs) t roomy fixed bs room)
+      go : (b : Bool) → shows (sized-text (cond b (size_of (words-in fs) q) (Err refusal.BadForm)) (words-in fs) q bs) ≡ text-first (text_of (cond b (rowlist-words q (words-in fs)) (refused BadForm ∷ []))) bs
+      go true = (words-print q u (words-in fs) bs room).shows
+      go false = ap shows (refusing-is bs room 3 nothing)
 
   pub file-few : length (text_of (rowlist q fs)) ≤ 264256
-  unfolding rowlist
-  file-few = go (ltb 65536 (length fs)) (eqb (length fs % 4) 0) refl
+  unfolding rowlist rowlist-words
+  file-few = rw (by-file (refused BadForm ∷ []) (rowlist-words q) fs) (go (good-bytes (length fs)))
     where
-      go : (x y : Bool) → eqb (length fs % 4) 0 ≡ y
-          → length
-          (text_of
-          (elim x [
-            | true ↦ refused BadForm ∷ []
-            | false ↦ elim (words_of fs) [ None ↦ refused BadForm ∷ [] | Some vs ↦ rowlist-words q vs ]
-          ]))
-          ≤ 264256
-      go true y e = refused-few BadForm
-      go false false e = rw (rules-words fs, e) (refused-few BadForm)
-      go false true e = rw (rules-words fs, e) (words-few q u (words-in fs) t roomy fixed bs room)
+      go : (b : Bool) → length (text_of (cond b (rowlist-words q (words-in fs)) (refused BadForm ∷ []))) ≤ 264256
+      go true = (words-print q u (words-in fs) bs room).few
+      go false = refused-few BadForm

@@ -1,8 +1,6 @@
 -- How long the lines of rows are at most. Assumes nothing.
-use mathlib.Core.List.{List, [], ◌∷◌, ◌++◌, map}
-use Prim.Native.Nat.{ℕ, suc, ◌+◌, ◌*◌, ◌≤◌}
-use native.Mathlib.Omega.{arith}
-use lib.ListN.{length, get_or, length-append, length-map}
+use Rattle.std.proofs.Common.{List, [], ◌∷◌, map, ℕ, suc, ◌*◌, ◌≤◌, arith, length, get_or, length-append}
+use lib.ListN.{length-map}
 use Rattle.rules.specs.Rows.{Row, fresh-row}
 use Rattle.rules.specs.Lines.{depth-line, command-line, row-lines}
 use Rattle.refine_steps.specs.Sound.{Fitting}

@@ -1,12 +1,5 @@
 -- The lines of a built screen's words are the rules' lines of the screen, and listing it is never refused for a record. Assumes nothing.
-use mathlib.Core.Path.{◌≡◌, refl}
-use mathlib.Core.Bool.{Bool, true}
-use mathlib.Core.List.{List}
-use Rattle.std.specs.Prelude.{Option, Some}
-use Prim.Native.Nat.{ℕ, zero, suc, ◌≤◌, ◌<◌}
-use native.Mathlib.Omega.{arith}
-use lib.ListN.{length, get_or}
-use borrow.Author.Tests.{le-leb}
+use Rattle.std.proofs.Common.{◌≡◌, refl, Bool, true, List, Option, Some, ℕ, zero, suc, ◌≤◌, ◌<◌, arith, length, get_or, le-leb}
 use Rattle.rules.specs.Boxes as boxes
 use Rattle.rules.specs.Commands.{pop-buf}
 use Rattle.rules.specs.Rows.{Row, fresh-row}
@@ -20,10 +13,10 @@ use Rattle.screen.proofs.ScreenLaws.{few-buckets}
 use Rattle.refine_steps.specs.Sound.{Sound}
 use Rattle.refine_steps.specs.Lent.{screen-of, rows_of, lent_of}
 use Rattle.refine_steps.proofs.Judged.{judged-done}
-use Rattle.refine_steps.proofs.Refined.{Refines, BuiltBy, built-refines}
+use Rattle.refine_steps.proofs.Refined.{Refines}
 use Rattle.refine_paint.specs.Fair.{FairRows}
 use Rattle.refine_paint.proofs.Standing.{stands}
-use Rattle.refine_paint.proofs.Kept.{built-fair, own-words}
+use Rattle.refine_paint.proofs.Kept.{own-words}
 use Rattle.text.specs.Places.{all-below, is_some}
 use Rattle.text.specs.Listed.{depth-fill-at, command-at, screen-lines, good_row, good-rows, list-number, written, text_of, listed}
 use Rattle.text.proofs.ByRules.{Stands, no-fill, screen-by-rules}
@@ -102,11 +95,3 @@ module _ {s : Screen Row} {l : ScreenLent} (h : Refines s l) (f : FairRows s) wh
   pub listed-held : (bs : List ℕ) → listed l.screen (row_words l) bs ≡ written (text_of (rules.screen-lines s)) bs
   unfolding lent_of
   listed-held bs = rw h.holds.same (listed-printed s h.sound f h.holds.begun bs)
-
--- After a done reset and done steps: the lines of the lent words are the rules' lines of the screen, ..
-pub built-lines : {s : Screen Row} {l : ScreenLent} → BuiltBy s l → screen-lines l.screen (row_words l) ≡ rules.screen-lines s
-built-lines b = lines-held (built-refines b) (built-fair b)
-
--- .. and `list_screen` writes their text wherever it fits: 14 is its only refusal there.
-pub built-listed : {s : Screen Row} {l : ScreenLent} → BuiltBy s l → (bs : List ℕ) → listed l.screen (row_words l) bs ≡ written (text_of (rules.screen-lines s)) bs
-built-listed b bs = listed-held (built-refines b) (built-fair b) bs

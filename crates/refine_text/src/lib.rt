@@ -1,2 +1,2 @@
-// Proofs only: the text of a recording's rows is the rules' text of them.
+//! Proofs only: the text of a recording's rows is the rules' text of them.
 #![tactic(auto)]

@@ -1,10 +1,5 @@
 -- The open layers of a tile's story: each box lies within the one around it, and a row that is touched for a layer is a row of its box.
-use Prim.Native.Nat.{ℕ}
-use native.Mathlib.Nat.{le_refl}
-use mathlib.Core.Path.{◌≡◌, refl, sym, ◌∙◌}
-use mathlib.Core.Bool.{Bool, true, false, ◌&&◌, not}
-use Rattle.std.specs.Prelude.{Option, None, Some}
-use mathlib.Core.List.{List, [], ◌∷◌, ◌++◌}
+use Rattle.std.proofs.Common.{ℕ, le_refl, ◌≡◌, refl, sym, ◌∙◌, Bool, true, false, ◌&&◌, not, Option, None, Some, List, [], ◌∷◌, ◌++◌}
 use Rattle.rules.specs.Answers.{Done}
 use Rattle.rules.specs.Boxes.{Box, to-local}
 use Rattle.rules.specs.Segments.{Segment, judge-segments}
@@ -109,11 +104,6 @@ module _ (w : ℕ) (v : Box) (row tile : ℕ) where
   pub data Fitting : List Step → Story → Type 0 where
     no_step : {o : Story} → Fitting [] o
     and_then : {x : Step} {xs : List Step} {o : Story} → Fits x o → Fitting xs (tell-step w v row tile x o) → Fitting (x ∷ xs) o
-
-  pub steps-inside : Even v → {xs : List Step} {o : Story} → Fitting xs o → Inside v row o.open-layers → Inside v row (tell-steps w v row tile xs o).open-layers
-  unfolding tell-steps
-  steps-inside ev no_step i = i
-  steps-inside ev (and_then {x = x} {o = o} f fs) i = steps-inside ev fs (step-inside ev x o f i)
 
   -- one step more
   pub one_more : (x : Step) {xs : List Step} {o : Story} → Fitting xs o → Fits x (tell-steps w v row tile xs o) → Fitting (xs ++ (x ∷ [])) o

@@ -1,16 +1,12 @@
 -- The reason that is read off the told lines is the rules' reason.
-use Prim.Native.Nat.{ℕ, ◌+◌, ◌*◌}
-use mathlib.Core.Path.{◌≡◌, sym, ◌∙◌}
-use mathlib.Core.Bool.{true}
-use mathlib.Core.List.{List}
-use lib.ListN.{length, drop}
+use Rattle.std.proofs.Common.{ℕ, ◌+◌, ◌*◌, ◌≡◌, sym, ◌∙◌, true, List, length, drop}
 use Rattle.rules.specs.Answers.{Done}
 use Rattle.rules.specs.Boxes.{Box, good_viewport}
 use Rattle.rules.specs.Rows.{Row, row-ops, fresh-row}
 use Rattle.rules.specs.Plans.{Frame, Step}
 use Rattle.rules.specs.Recording.{Recording}
 use Rattle.rules.specs.Walk.{walk-all}
-use Rattle.rules.proofs.Logged.{walk-logged}
+use Rattle.rules.specs.Logged.{walk-logged}
 use Rattle.rules_reason.specs.Reasons.{Asked, reason}
 use Rattle.sizes.specs.Sizes.{line-size}
 use Rattle.tile.specs.Telling.{Telling, tell-at, nothing-told}

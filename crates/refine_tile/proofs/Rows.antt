@@ -1,10 +1,6 @@
 -- The rows and tiles that a box meets, by two comparisons and by the rules' list of rows.
-use Prim.Native.Nat.{ℕ, zero, suc, ◌+◌, ◌-◌, ◌*◌, ◌/◌, ◌≤◌, ◌<◌}
-use native.Mathlib.Omega.{arith}
-use mathlib.Core.Path.{◌≡◌, sym, ◌∙◌, ap}
-use mathlib.Core.Bool.{Bool, true, ◌&&◌}
-use lib.Dec.{leb, eqb}
-use borrow.Author.Tests.{leb-true, leb-false, lt-leb, eqb-true, eqb-false}
+use Rattle.std.proofs.Common.{ℕ, zero, suc, ◌+◌, ◌-◌, ◌*◌, ◌/◌, ◌≤◌, ◌<◌, arith, ◌≡◌, sym, ◌∙◌, ap, Bool, true, ◌&&◌, leb, eqb, leb-true, leb-false, eqb-true}
+use borrow.Author.Tests.{lt-leb, eqb-false}
 use Rattle.rules.specs.Lists.{some_of, count-from}
 use Rattle.rules.specs.Boxes.{Box, rows_in, meet, to-local, empty-box, span_of}
 use Rattle.rules.specs.Spans.{span, covers}

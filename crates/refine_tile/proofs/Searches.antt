@@ -1,14 +1,7 @@
 -- A reason read off the lines in one pass is the first that holds of the accounts that the lines say.
-use Prim.Native.Nat.{ℕ, ◌+◌, ◌*◌}
-use native.Mathlib.Nat.{add-zero, zero-add}
-use native.Mathlib.Omega.{arith}
-use mathlib.Core.Path.{◌≡◌, refl, sym, ◌∙◌, ap, subst}
-use mathlib.Core.Bool.{Bool, true, false, ◌&&◌, not, cond, beq}
-use Rattle.std.specs.Prelude.{Option, None, Some}
-use mathlib.Core.List.{List, [], ◌∷◌, ◌++◌, map, append-nil, append_assoc}
-use lib.ListN.{length, get_or, length-append}
-use lib.Seq.{get_or-append-add}
-use lib.Dec.{leb, eqb}
+use Rattle.std.proofs.Common.{ℕ, ◌+◌, ◌*◌, add-zero, zero-add, arith, ◌≡◌, refl, sym, ◌∙◌, ap, subst, Bool, true, false, ◌&&◌, not, cond, Option, None, Some, List, [], ◌∷◌, ◌++◌, map, append-nil}
+use Rattle.std.proofs.Common.{append_assoc, length, get_or, length-append, get_or-append-add, leb, eqb}
+use mathlib.Core.Bool.{beq}
 use Rattle.sizes.specs.Sizes.{line-size}
 use Rattle.rules.specs.Lists.{keep}
 use Rattle.rules.specs.Plain.{Told, shown}

@@ -1,13 +1,6 @@
 -- One entry more: what it does to the shown list, to the newest that hides, and to the place of an attribute.
-use Prim.Native.Nat.{ℕ, suc, ◌+◌}
-use native.Mathlib.Nat.{add-zero}
-use native.Mathlib.Omega.{arith}
-use mathlib.Core.Path.{◌≡◌, refl, sym, ◌∙◌, ap}
-use mathlib.Core.Bool.{Bool, true, false, ◌&&◌, ◌||◌, beq}
-use Rattle.std.specs.Prelude.{Option, None, Some}
-use mathlib.Core.List.{List, [], ◌∷◌, ◌++◌}
-use lib.ListN.{length}
-use lib.Dec.{eqb}
+use Rattle.std.proofs.Common.{ℕ, suc, ◌+◌, add-zero, arith, ◌≡◌, refl, sym, ◌∙◌, ap, Bool, true, false, ◌&&◌, ◌||◌, Option, None, Some, List, [], ◌∷◌, ◌++◌, length, eqb}
+use mathlib.Core.Bool.{beq}
 use Rattle.rules.specs.Lists.{some_of}
 use Rattle.rules.specs.Plain.{Told, shown}
 use Rattle.rules.proofs.All.{All, cons, never}

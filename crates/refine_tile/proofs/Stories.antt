@@ -1,12 +1,5 @@
 -- Done steps of the rules fit the story of a tile: a screen's state and the story go together, and what was judged of a step is known of the story.
-use Prim.Native.Nat.{ℕ, ◌+◌}
-use native.Mathlib.Omega.{arith}
-use mathlib.Core.Path.{◌≡◌, refl, sym, ◌∙◌, ap}
-use mathlib.Core.Bool.{Bool, true, false, ◌&&◌, not, cond}
-use mathlib.Core.List.{List, [], ◌∷◌, map}
-use lib.ListN.{length, length-append}
-use lib.Dec.{ltb, eqb}
-use borrow.Author.Tests.{eqb-true, eq-eqb}
+use Rattle.std.proofs.Common.{ℕ, ◌+◌, arith, ◌≡◌, refl, sym, ◌∙◌, ap, Bool, true, false, ◌&&◌, not, cond, List, [], ◌∷◌, map, length, length-append, ltb, eqb, eqb-true, eq-eqb}
 use Rattle.sizes.specs.Sizes.{most-layers}
 use Rattle.rules.specs.Lists.{is-empty}
 use Rattle.rules.specs.Answers.{first_of, Done, BadRecord, NoLayer, Deep, Ids, FullAttrs, FullRow, FullDepth}

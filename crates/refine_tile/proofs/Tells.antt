@@ -1,14 +1,9 @@
 -- A done step of the rules is done by the engine of one tile too, which then knows what the story knows, and has written the step's line.
-use Prim.Native.Nat.{ℕ, suc, ◌+◌, ◌*◌, ◌≤◌, ◌<◌, min}
-use native.Mathlib.Omega.{arith}
-use mathlib.Core.Path.{◌≡◌, refl, sym, ◌∙◌, ap}
-use mathlib.Core.Bool.{Bool, true, false, ◌&&◌, ◌||◌, not, cond}
-use Rattle.std.specs.Prelude.{Option, None, Some}
-use mathlib.Core.List.{List, [], ◌∷◌, ◌++◌, map, append_assoc, append-nil}
-use lib.ListN.{length, take, drop, length-append, length-map}
-use lib.Seq.{take_at, drop-append-add, drop-drop}
-use lib.Dec.{leb, ltb, eqb}
-use borrow.Author.Tests.{ltb-true, ltb-false, lt-leb, lt-ltb, le-ltb, eqb-true, eq-eqb}
+use Rattle.std.proofs.Common.{ℕ, suc, ◌+◌, ◌*◌, ◌≤◌, ◌<◌, min, arith, ◌≡◌, refl, sym, ◌∙◌, ap, Bool, true, false, ◌&&◌, ◌||◌, not, cond, Option, None, Some, List, [], ◌∷◌, ◌++◌, map, append_assoc}
+use Rattle.std.proofs.Common.{append-nil, length, take, drop, length-append, take_at, drop-drop, leb, ltb, eqb, ltb-true, ltb-false, lt-ltb, le-ltb, eqb-true, eq-eqb}
+use lib.ListN.{length-map}
+use lib.Seq.{drop-append-add}
+use borrow.Author.Tests.{lt-leb}
 use Rattle.sizes.specs.Sizes.{most-layers, most-attrs, most-filters, last-id, line-size}
 use Rattle.rules.specs.Lists.{is-empty}
 use Rattle.rules.specs.Answers.{Answer, answer, settle, first_of, Done, Ids, FullAttrs}

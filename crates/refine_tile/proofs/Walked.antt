@@ -1,12 +1,5 @@
 -- A recording that the rules walk to its end is told to its end by the engine of one tile, into lines that are the rules' accounts.
-use Prim.Native.Nat.{ℕ, ◌+◌, ◌%◌}
-use native.Mathlib.Omega.{arith}
-use mathlib.Core.Path.{◌≡◌, refl, sym, ◌∙◌, ap}
-use mathlib.Core.Bool.{true, false, ◌&&◌, ◌||◌}
-use mathlib.Core.List.{List, [], ◌∷◌, ◌++◌}
-use lib.ListN.{length}
-use lib.Dec.{ltb}
-use borrow.Author.Tests.{eqb-true, ltb-false}
+use Rattle.std.proofs.Common.{ℕ, ◌+◌, ◌%◌, arith, ◌≡◌, refl, sym, ◌∙◌, ap, true, false, ◌&&◌, ◌||◌, List, [], ◌∷◌, ◌++◌, length, ltb, eqb-true, ltb-false}
 use Rattle.sizes.specs.Sizes.{most-attrs, most-filters}
 use Rattle.rules.specs.Answers.{answer, Done}
 use Rattle.rules.specs.Boxes.{Box, by_4, bounded, good_viewport}
@@ -17,7 +10,7 @@ use Rattle.rules.specs.Steps.{Screen, reset, touched, call}
 use Rattle.rules.specs.Recording.{Recording}
 use Rattle.rules.specs.Walk.{walk-all}
 use Rattle.rules.specs.Plain.{Story, untold, tell-step, tell-steps}
-use Rattle.rules.proofs.Logged.{Logged, logged-call, walk-logged}
+use Rattle.rules.specs.Logged.{Logged, logged-call, walk-logged}
 use Rattle.rules.proofs.All.{and_left, and_right, or_left, or_right}
 use Rattle.rules_picture.proofs.Shape.{Shape, none_open}
 use Rattle.rules_picture.proofs.Stepped.{call-done}

@@ -1,13 +1,6 @@
 -- What the acts do to a row of words. Assumes nothing.
-use mathlib.Core.Path.{◌≡◌, refl, sym, ap, ◌∙◌}
-use mathlib.Core.Bool.{Bool, true, false, ◌&&◌, not, cond}
-use mathlib.Core.List.{List, [], ◌∷◌, foldl}
-use Rattle.std.specs.Prelude.{Option, None, Some, Result, Ok, Err}
-use Prim.Native.Nat.{ℕ, zero, suc, ◌+◌, ◌-◌, ◌/◌, ◌≤◌, ◌<◌}
-use native.Mathlib.Omega.{arith}
-use lib.Dec.{leb, ltb}
-use lib.ListN.{length}
-use borrow.Author.Tests.{le-leb, leb-false}
+use Rattle.std.proofs.Common.{◌≡◌, refl, sym, ap, ◌∙◌, Bool, true, false, ◌&&◌, not, cond, List, [], ◌∷◌, Option, None, Some, Result, Ok, Err, ℕ, zero, suc, ◌+◌, ◌-◌, ◌/◌, ◌≤◌, ◌<◌, arith, leb, ltb, length, le-leb, leb-false}
+use mathlib.Core.List.{foldl}
 use Rattle.rules.specs.Lists.{times, keep}
 use Rattle.rules.specs.Answers.{Answer, answer}
 use Rattle.rules.specs.Spans.{Span, span, bad-range}
@@ -67,9 +60,6 @@ state-long s l = s.grown.state ∙ l
 one_less : (n k : ℕ) → k < n → n - k ≡ suc (n - (k + 1))
 one_less n k h = omega arith
 
-none_left : (n k : ℕ) → n ≤ k → n - k ≡ 0
-none_left n k h = omega arith
-
 buf-sound : (w : Words) → length w.state ≡ 54 → word 5 w ≤ 15 → Sound w (put_buf w)
 buf-sound w l h = record { grown = buf-grown w l h; levels = omega (arith, buf-levels w l h) }
 
@@ -90,9 +80,6 @@ pub record Layering (n : ℕ) (t s : Words) (k : ℕ) (w : Words) : Type 0 where
   pub rest : times (n - k) put_buf w ≡ t
 
 module _ {n k : ℕ} {s t w : Words} (v : Layering n t s k w) where
-  pub layers-done : n ≤ k → w ≡ t
-  layers-done h = rw (none_left n k h) at v.rest
-
   module _ (m : n ≤ 16) (h : k < n) where
     next : times (n - (k + 1)) put_buf (put_buf w) ≡ t
     next = rw (one_less n k h) at v.rest
@@ -336,14 +323,6 @@ module _ (v n : ℕ) (w : Words) where
   pub touch_is : acted v n touch w ≡ ensured n w
   unfolding do-act
   touch_is = refl
-
-  pub close-is : (s : Span) (a : Option ℕ) (i : ℕ) → acted v n (close s a i) w ≡ put_command (layer-fill s a i) w
-  unfolding do-act
-  close-is s a i = refl
-
-  pub pop-is : acted v n pop w ≡ end_buf w
-  unfolding do-act
-  pop-is = refl
 
   -- rule 11: a filter's row is a solid fill that is not eligible
   pub paint-is : (s : Span) (i id : ℕ) → acted v n (paint s None i) w ≡ drawn v n false s None i id w

@@ -1,18 +1,10 @@
 -- The counts of a row of words follow every step, so a step can be judged by counts alone. Assumes nothing.
-use mathlib.Core.Path.{◌≡◌, refl, sym, ap, ◌∙◌}
-use mathlib.Core.Bool.{Bool, true, false, cond}
-use mathlib.Core.List.{List, map}
-use Prim.Native.Nat.{ℕ, ◌+◌, ◌-◌, ◌≤◌}
-use native.Mathlib.Omega.{arith}
-use lib.Dec.{eqb}
-use lib.ListN.{length}
+use Rattle.std.proofs.Common.{◌≡◌, refl, ◌∙◌, Bool, true, false, cond, ℕ, ◌+◌, ◌-◌, ◌≤◌, arith, eqb, length}
 use Rattle.rules.specs.Spans.{Span}
 use Rattle.rules.specs.Split.{Part, regular, buckets, split}
 use Rattle.rules.specs.Commands.{Command, paint-fill, layer-fill, DepthFill}
-use Rattle.rules.specs.Plans.{Act, paint, opaque, touch, close, pop, Put, Plan, Step}
-use Rattle.rules.specs.Steps.{Screen, do-puts, perform, call}
-use Rattle.rules.proofs.All.{All, all_any}
-use Rattle.rules.proofs.laws.Maps.{PartOk, of-tiles, of-buckets, ActOk, paints, splits, touches, closes, pops, PutOk, Follows, screen-by, follows-puts, follows-perform, follows-call}
+use Rattle.rules.proofs.All.{all_any}
+use Rattle.rules.proofs.laws.Maps.{PartOk, of-tiles, of-buckets, Follows}
 use Rattle.row.specs.Words.{Words, word, put_command, ended, end_buf, put_depth, word-ops}
 use Rattle.row.proofs.WordsLaws.{cmd-renders, cmd-depths, cmd-levels, cmd-grown, buf-renders, buf-depths, buf-levels, buf-grown, fill-renders, fill-depths, fill-levels, fill-grown, end-grown, end-levels, ended-renders, ended-depths, ended-level}
 use Rattle.row.specs.Counts.{Counts, counts, count, count-ops}
@@ -29,16 +21,6 @@ any s = Unit {0}
 any_part : (p : Part) → PartOk any p
 any_part (regular s) = of-tiles tt
 any_part (buckets s) = of-buckets tt
-
-any-act : (a : Act) → ActOk any a
-any-act (paint s a i) = paints tt
-any-act (opaque s i id) = splits tt
-any-act touch = touches
-any-act (close s a i) = closes tt
-any-act pop = pops
-
-any-put : (p : Put) → PutOk any p
-any-put p = record { act = any-act p.act }
 
 module _ (w : Words) (o : Sane w) where
   cmd-counts : (c : Command) → (count (put_command c w) ≡ counts (word 0 w + 1) (word 1 w) (word 5 w)) × Sane (put_command c w)
@@ -79,15 +61,3 @@ counted =
       fills = λ v s a id g w o. fill-counts w o v (record { buckets = s; attribute = a }) id;
       parts = λ v s g. all_any any_part (split v s);
     }
-
--- what a judge may count in place of doing; and rows stay sane
-pub counts-after : (v n : ℕ) → n ≤ 16 → (ps : List Put) (rows : List Words) → All Sane rows
-    → (map count (do-puts Words word-ops v n ps rows) ≡ do-puts Counts count-ops v n ps (map count rows)) × All Sane (do-puts Words word-ops v n ps rows)
-counts-after v n m ps rows f = follows-puts counted v n m (all_any any-put ps) rows f
-
--- the number of any plan, and of any step, is that of its counts
-pub counts-number : (p : Plan) (s : Screen Words) → All Sane s.rows → (perform Words word-ops p s).number ≡ (perform Counts count-ops p (screen-by count s)).number
-counts-number p s f = sym (ap (λ a. a.number) (follows-perform counted p (λ e. all_any any-put p.puts) s f).0)
-
-pub counts-call : (x : Step) (s : Screen Words) → All Sane s.rows → (call Words word-ops x s).number ≡ (call Counts count-ops x (screen-by count s)).number
-counts-call x s f = sym (ap (λ a. a.number) (follows-call counted x s (λ e. all_any any-put _) f).0)

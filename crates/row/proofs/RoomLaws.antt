@@ -1,19 +1,11 @@
 -- What a good record says of its counts, and what the row at hand comes to. Assumes nothing.
-use mathlib.Core.Path.{◌≡◌, refl, sym, ◌∙◌}
-use mathlib.Core.Bool.{Bool, true, false, ◌&&◌, cond}
-use mathlib.Core.List.{List}
-use Prim.Native.Nat.{ℕ, ◌+◌, ◌-◌, ◌*◌, ◌≤◌}
-use native.Mathlib.Omega.{arith}
-use lib.Dec.{leb, ltb}
-use lib.ListN.{length, get_or, drop, length-drop}
-use lib.Seq.{length-take-le}
-use borrow.Author.Tests.{leb-true, le-ltb}
+use Rattle.std.proofs.Common.{◌≡◌, refl, Bool, true, false, ◌&&◌, cond, List, ℕ, ◌+◌, ◌-◌, ◌*◌, ◌≤◌, arith, leb, ltb, length, get_or, drop, length-drop, length-take-le, leb-true, le-ltb}
 use Rattle.rules.proofs.All.{both}
 use Rattle.row.specs.Building.{good_row, good-summary, good-top}
 use Rattle.row.specs.declared.room.Limits.{Limits}
 use Rattle.row.specs.declared.room.Fault.{Fault}
 use Rattle.row.specs.declared.room.Fault.TheVariants as fault
-use Rattle.row.specs.Room.{record-at, fault_number, hand_of, loaded, turned_to, noted, added_to, Found}
+use Rattle.row.specs.Room.{record-at, fault_number, loaded, noted, added_to, Found}
 
 -- a good record's counts
 pub record Small (c d n : ℕ) (s : List ℕ) : Type 0 where
@@ -36,41 +28,6 @@ good-small c d n s g =
 -- a row's record has its words
 pub record-long : (ws : List ℕ) (r : ℕ) → r * 54 + 54 ≤ length ws → length (record-at ws r) ≡ 54
 record-long ws r h = length-take-le 54 (drop (r * 54) ws) (rw length-drop (omega arith))
-
--- judging a record, n being the number so far
-module _ (l : Limits) (s : List ℕ) (n r : ℕ) where
-  pub turned-good : good_row l.c l.d l.layers s ≡ true → turned_to l s n r ≡ loaded l s n r
-  unfolding turned_to
-  turned-good g = rw g
-
-  pub turned-bad : good_row l.c l.d l.layers s ≡ false → turned_to l s n r ≡ hand_of 0 0 r 4
-  unfolding turned_to
-  turned-bad g = rw g
-
-  module _ (q : n ≡ 4 → ⊥) where
-    pub bad-turn : (turned_to l s n r).code ≡ 4 → good_row l.c l.d l.layers s ≡ false
-    unfolding turned_to
-    bad-turn e = go (good_row l.c l.d l.layers s) e
-      where
-        go : (g : Bool) → (cond g (loaded l s n r) (hand_of 0 0 r 4)).code ≡ 4 → g ≡ false
-        go true e = absurd (q e)
-        go false e = refl
-
-    pub good_turn : ((turned_to l s n r).code ≡ 4 → ⊥) → good_row l.c l.d l.layers s ≡ true
-    unfolding turned_to
-    good_turn e = go (good_row l.c l.d l.layers s) e
-      where
-        go : (g : Bool) → ((cond g (loaded l s n r) (hand_of 0 0 r 4)).code ≡ 4 → ⊥) → g ≡ true
-        go true e = refl
-        go false e = absurd (e refl)
-
--- a number of rows is no 4
-found_plain : (b : Bool) → ◌≡◌ {A = ℕ} (cond b 10 0) 4 → ⊥
-found_plain true e = omega arith
-found_plain false e = omega arith
-
-pub not-bad : {n : ℕ} → Found n → n ≡ 4 → ⊥
-not-bad o e = found_plain o.yet (sym o.is ∙ e)
 
 noted-found : (b f : Bool) → noted (cond b 10 0) f false ≡ cond f 10 (cond b 10 0)
 noted-found true true = refl

@@ -1,9 +1,5 @@
 -- A run of rows, judged one by one: 4 for one that is not good, then 10 for one that is full. Assumes nothing.
-use mathlib.Core.Path.{◌≡◌, refl, sym, ◌∙◌}
-use mathlib.Core.Bool.{Bool, true, false, cond}
-use mathlib.Core.List.{◌∷◌}
-use Prim.Native.Nat.{ℕ, suc, ◌+◌, ◌-◌, ◌≤◌, ◌<◌}
-use native.Mathlib.Omega.{arith}
+use Rattle.std.proofs.Common.{◌≡◌, refl, sym, ◌∙◌, Bool, true, false, cond, ◌∷◌, ℕ, suc, ◌+◌, ◌-◌, ◌≤◌, ◌<◌, arith}
 use Rattle.rules.specs.Lists.{range}
 use Rattle.row.specs.Room.{rows_told, Found}
 
@@ -24,9 +20,6 @@ same-either false x = refl
 pub record Going (good full : ℕ → Bool) (a b n r : ℕ) : Type 0 where
   pub found : Found n
   pub rest : rows_told good full n (range r b) ≡ rows_told good full 0 (range a b)
-
-pub going_start : (good full : ℕ → Bool) (a b : ℕ) → Going good full a b 0 a
-going_start good full a b = record { found = record { yet = false; is = refl }; rest = refl }
 
 module _ {good full : ℕ → Bool} {a b n r : ℕ} (v : Going good full a b n r) where
   pub going_end : b ≤ r → n ≡ rows_told good full 0 (range a b)

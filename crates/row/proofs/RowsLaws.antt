@@ -1,11 +1,6 @@
 -- A screen's words and its rows. Assumes nothing.
-use mathlib.Core.Path.{◌≡◌, refl, sym, ap, ◌∙◌}
-use mathlib.Core.List.{List, [], ◌∷◌, ◌++◌, append_assoc}
-use Prim.Native.Nat.{ℕ, zero, suc, ◌+◌, ◌-◌, ◌*◌, ◌≤◌, ◌<◌}
-use native.Mathlib.Nat.{zero-mul, suc-mul, add_comm, mul-le-mul, mul-le-mul_right}
-use native.Mathlib.Omega.{arith}
-use lib.ListN.{length, take, drop, get_or, set, length-drop, length-append, take-append-drop}
-use lib.Seq.{length-take-le, drop-drop, take-add, take_at, drop_at}
+use Rattle.std.proofs.Common.{◌≡◌, refl, sym, ap, ◌∙◌, List, [], ◌∷◌, ◌++◌, append_assoc, ℕ, zero, suc, ◌+◌, ◌-◌, ◌*◌, ◌≤◌, ◌<◌, zero-mul, suc-mul, add_comm, mul-le-mul, mul-le-mul_right, arith}
+use Rattle.std.proofs.Common.{length, take, drop, get_or, set, length-drop, length-append, take-append-drop, length-take-le, drop-drop, take-add, take_at, drop_at}
 use borrow.Rule.Slice.PartMut.{put_mid, same_len_mid}
 use Rattle.rules.specs.Lists.{change}
 use Rattle.rules.proofs.All.{All, nil, cons}
@@ -116,18 +111,6 @@ module _ (k : Sizes) where
         )
         (ap (λ (t : List Words). head_of k w ∷ t) (cut-with n r (tail_of k w) (tail-long n w l) (omega arith)))
 
-    pub with-long : (n r : ℕ) (w : Words) → Long k n w → r < n → Long k n (with_row k r w u)
-    with-long n r w l h =
-        record {
-          state = put-length (r * k.state) k.state w.state u.state (rw l.state (within r n k.state h)) p ∙ l.state;
-          render = put-length (r * k.render) k.render w.render u.render (rw l.render (within r n k.render h)) q ∙ l.render;
-          fills = put-length (r * k.fills) k.fills w.fills u.fills (rw l.fills (within r n k.fills h)) s ∙ l.fills;
-        }
-
-    -- a row replaced, and laid
-    pub lay-set : (n r : ℕ) (w : Words) → Long k n w → r < n → lay (set (cut k n w) r u) ≡ with_row k r w u
-    lay-set n r w l h = ap lay (sym (cut-with n r w l h)) ∙ lay-cut n (with_row k r w u) (with-long n r w l h)
-
 -- row r of a whole has a row's words
 module _ (k : Sizes) (n r : ℕ) (w : Words) (l : Long k n w) (h : r < n) where
   pub at-state : length (row_at k r w).state ≡ k.state
@@ -143,16 +126,10 @@ module _ (k : Sizes) (n r : ℕ) (w : Words) (l : Long k n w) (h : r < n) where
 pub rows-counted : (s : List ℕ) (n : ℕ) → length s ≡ n * 54 → count-rows s ≡ n
 rows-counted s n e = omega arith
 
-pub as_long : (a j : ℕ) → a + j - a ≡ j
-as_long a j = omega arith
-
 -- by its place, row r is lent to a call, which does f to it, and comes back
 module _ {c d n r : ℕ} {w : Words} (a : Arenas c d n w) (h : r < n) {p : Place} (s : Stands c d r p) where
   pub x-end : p.x1 ≤ length w.state
   x-end = omega (arith, within r n 54 h, s.x0, s.x1, a.long.state)
-
-  pub y-end : p.y1 ≤ length w.render
-  y-end = omega (arith, within r n (4 * c) h, s.y0, s.y1, a.long.render)
 
   pub z-end : p.z1 ≤ length w.fills
   z-end = omega (arith, within r n (2 * d) h, s.z0, s.z1, a.long.fills)

@@ -1,5 +1,5 @@
-// What a step does to one row (bucketer.rs). Parts: each has a `requires`, which its callers have judged. `n` is the number of open layers. What a pop does is
-// `Row::pop_buf`.
+//! What a step does to one row (bucketer.rs). Parts: each has a `requires`, which its callers have judged. `n` is the number of open layers. What a pop does is
+//! `Row::pop_buf`.
 ghost use Rattle.std.specs.Prelude.{◌≡◌, ◌≤◌};
 ghost use Rattle.sizes.specs.Sizes.{most-layers};
 ghost use Rattle.rules.specs.Commands.{paint-fill, layer-fill};
@@ -17,7 +17,7 @@ use sizes::LEVELS;
 use sizes::width::Width;
 use span::{Stretch, TileSpan};
 
-// Rule 5 (bucketer.rs, ensure_row_layers): a PushBuf for each open layer that the row lacks. A destructive push does this alone (rule 8).
+/// Rule 5 (bucketer.rs, ensure_row_layers): a PushBuf for each open layer that the row lacks. A destructive push does this alone (rule 8).
 #[tactic(auto, using(crate::proofs::ActsLaws::layers_room, crate::proofs::ActsLaws::layers_again))]
 pub fn ensure_row_layers(row: &mut Row<'_>, n: u32)
     requires { (n ≤ most-layers) × Room (held row.old) (ensured n (held row.old)) }
@@ -67,14 +67,14 @@ fn push_opaque(row: &mut Row<'_>, span: TileSpan, attrs_idx: u32, draw_id: u32, 
     }
 }
 
-// Rule 6: whether one command comes of what is left of a segment, since it has alpha or the draw is not eligible.
+/// Rule 6: whether one command comes of what is left of a segment, since it has alpha or the draw is not eligible.
 pub fn is_unsplit(eligible: bool, alpha: Option<u32>) -> bool
     ensures { result ≡ unsplit eligible alpha }
 {
     alpha.is_some() || !eligible
 }
 
-// Rules 5 to 7 (bucketer.rs, push_fill): what is left of a segment, on its row. `eligible` is rule 6's, for the whole draw; tiles are the screen's.
+/// Rules 5 to 7 (bucketer.rs, push_fill): what is left of a segment, on its row. `eligible` is rule 6's, for the whole draw; tiles are the screen's.
 #[tactic(auto, using(crate::proofs::ActsLaws::first_room, crate::proofs::ActsLaws::one_asks, crate::proofs::ActsLaws::one_done, crate::proofs::ActsLaws::parts_ask, crate::proofs::ActsLaws::parts_done))]
 pub fn push_fill(
     row: &mut Row<'_>,

@@ -1,4 +1,4 @@
-// Whether a row's record is good where a step reads it (answer 4). Parts: the steps judge what these ask.
+//! Whether a row's record is good where a step reads it (answer 4). Parts: the steps judge what these ask.
 ghost use Rattle.std.specs.Prelude.{◌≡◌, ◌≤◌, ◌<◌, length};
 ghost use Rattle.sizes.specs.Sizes.{most-layers, row-size};
 ghost use Rattle.row.specs.Building.{good-union, good-level, good-summary, good_row};
@@ -34,8 +34,8 @@ fn is_good_summary(state: &[u32]) -> bool
     state[FIRST] <= state[END] && state[END] <= TILE_END && state[LARGEST] <= LAST_ID
 }
 
-// A row's record where a step reads it, `open` layers being open (answer 4): its counts are within C and D, its levels within the open ones, its summary and
-// its innermost level good.
+/// A row's record where a step reads it, `open` layers being open (answer 4): its counts are within C and D, its levels within the open ones, its summary and
+/// its innermost level good.
 #[tactic(auto, unfolding(crate::specs::Building::good_row))]
 pub fn is_good_row(state: &[u32], c: u32, d: u32, open: u32) -> bool
     requires { (length state.now ≡ row-size) × («open» ≤ most-layers) }

@@ -1,5 +1,5 @@
-// One row of a screen by its words (`words`), the rows of a screen as three slices (`rows`), what a step asks of a row before it changes it (`judge`, `room`),
-// and what a step does to one (`acts`). Parts of the building steps: where a function asks something, its callers have judged it.
+//! One row of a screen by its words (`words`), the rows of a screen as three slices (`rows`), what a step asks of a row before it changes it (`judge`, `room`),
+//! and what a step does to one (`acts`). Parts of the building steps: where a function asks something, its callers have judged it.
 #![tactic(auto)]
 
 pub mod acts;

@@ -1,5 +1,5 @@
-// The one judge of room (answers 4, 10 and 11): a running count of what a step adds to rows, before anything is done. The judges of fills,
-// of runs of rows and of pops are loops over it. Parts: each has a `requires`, which the steps have judged.
+//! The one judge of room (answers 4, 10 and 11): a running count of what a step adds to rows, before anything is done. The judges of fills,
+//! of runs of rows and of pops are loops over it. Parts: each has a `requires`, which the steps have judged.
 ghost use Rattle.std.specs.Prelude.{◌≡◌, ◌+◌, ◌*◌, ◌≤◌, ltb, length, get_or};
 ghost use Rattle.sizes.specs.Sizes.{most-layers, most-room, row-size, levels-at};
 ghost use Rattle.sizes.specs.Refusals.{answer_number};
@@ -10,8 +10,8 @@ use crate::rows::part;
 use sizes::answers::Refusal;
 use sizes::{DEPTHS, LEVELS, RENDERS, ROW, TILE_END};
 
-// What a row has room for: c commands and d depth fills. What it gets beside what is added: a PushBuf for each of the `layers` open layers that it lacks, and
-// `once` commands.
+/// What a row has room for: c commands and d depth fills. What it gets beside what is added: a PushBuf for each of the `layers` open layers that it lacks, and
+/// `once` commands.
 #[derive(Clone, Copy)]
 pub struct Limits {
     pub c: u32,
@@ -20,20 +20,20 @@ pub struct Limits {
     pub once: u32,
 }
 
-// Render commands and depth fills that are added to a row.
+/// Render commands and depth fills that are added to a row.
 #[derive(Clone, Copy)]
 pub struct Counts {
     pub renders: usize,
     pub depths: usize,
 }
 
-// One command and no depth fill: what an unsplit piece, a filter fill or a closing fill adds.
+/// One command and no depth fill: what an unsplit piece, a filter fill or a closing fill adds.
 pub const ONE_COMMAND: Counts = Counts {
     renders: 1,
     depths: 0,
 };
 
-// What was found so far: nothing, or what is answered by 5, 10 or 11, of which the smallest counts. A bad record, 4, ends a count at once and has no case.
+/// What was found so far: nothing, or what is answered by 5, 10 or 11, of which the smallest counts. A bad record, 4, ends a count at once and has no case.
 #[derive(Clone, Copy)]
 pub enum Fault {
     Nothing,
@@ -43,7 +43,7 @@ pub enum Fault {
 }
 
 impl Fault {
-    // Done, or the refusal of that number.
+    /// Done, or the refusal of that number.
     pub fn answer(self) -> Result<(), Refusal>
         ensures { answer_number result ≡ fault_number self }
     {
@@ -56,7 +56,7 @@ impl Fault {
     }
 }
 
-// The row at hand with its counts so far, the PushBufs and `once` commands among them, and what was found so far.
+/// The row at hand with its counts so far, the PushBufs and `once` commands among them, and what was found so far.
 #[derive(Clone, Copy)]
 pub struct Hand {
     pub renders: usize,
@@ -65,7 +65,7 @@ pub struct Hand {
     pub found: Fault,
 }
 
-// No row is at hand: TILE_END is no number of a row.
+/// No row is at hand: TILE_END is no number of a row.
 pub const NO_ROW: Hand = Hand {
     renders: 0,
     depths: 0,
@@ -73,7 +73,7 @@ pub const NO_ROW: Hand = Hand {
     found: Fault::Nothing,
 };
 
-// Row r at hand, by its record, which has no more levels than layers are open; nothing is judged.
+/// Row r at hand, by its record, which has no more levels than layers are open; nothing is judged.
 #[inline(always)]
 pub fn load(state: &[u32], limits: Limits, found: Fault, r: u32) -> Hand
     requires { (length state.now ≡ row-size) × (get_or state.now levels-at 0 ≤ limits.layers) }
@@ -88,7 +88,7 @@ pub fn load(state: &[u32], limits: Limits, found: Fault, r: u32) -> Hand
     }
 }
 
-// Row r at hand, its record judged first: BadRecord, 4.
+/// Row r at hand, its record judged first: BadRecord, 4.
 pub fn turn_to(rows: &[u32], limits: Limits, found: Fault, r: u32) -> Result<Hand, Refusal>
     requires { (limits.layers ≤ most-layers) × (r * row-size + row-size ≤ length rows.now) }
     ensures { Turned limits (record-at rows.now r) (fault_number found) r result }
@@ -120,7 +120,7 @@ fn note(found: Fault, limits: Limits, renders: usize, depths: usize) -> Fault
 }
 
 impl Hand {
-    // More commands and depth fills, on the row at hand; FullRow or FullDepth is found where they pass C or D.
+    /// More commands and depth fills, on the row at hand; FullRow or FullDepth is found where they pass C or D.
     #[tactic(auto, unfolding(crate::specs::Room::added_to))]
     pub fn add(self, limits: Limits, more: Counts) -> Hand
         requires { Low (at-hand self) × (more.renders ≤ most-room) × (more.depths ≤ most-room) }

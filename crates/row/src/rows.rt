@@ -1,11 +1,11 @@
-// The rows of a screen as three lent slices, and where row r's words stand in them (bucketer.rs, CommandBucketer's rows).
+//! The rows of a screen as three lent slices, and where row r's words stand in them (bucketer.rs, CommandBucketer's rows).
 ghost use Rattle.std.specs.Prelude.{◌≡◌, ◌+◌, ◌*◌, ◌≤◌, ◌<◌, length, take, drop};
 ghost use Rattle.sizes.specs.Sizes.{most-room, most-rows};
 ghost use Rattle.row.specs.Arena.{Stands};
 
 use sizes::ROW;
 
-// The words of all rows, lent: their records (`state`, ROW words a row), their render commands (4 x C words a row), their depth fills (2 x D words a row).
+/// The words of all rows, lent: their records (`state`, ROW words a row), their render commands (4 x C words a row), their depth fills (2 x D words a row).
 #[derive(Drop)]
 pub struct Rows<'a> {
     pub state: &'a mut [u32],
@@ -13,7 +13,7 @@ pub struct Rows<'a> {
     pub fills: &'a mut [u32],
 }
 
-// Where row r's words start and end: x in the records, y in the render commands, z in the depth fills.
+/// Where row r's words start and end: x in the records, y in the render commands, z in the depth fills.
 #[derive(Clone, Copy)]
 pub struct Place {
     pub x0: usize,
@@ -24,7 +24,7 @@ pub struct Place {
     pub z1: usize,
 }
 
-// Row r's place, with room for c commands and d depth fills in a row.
+/// Row r's place, with room for c commands and d depth fills in a row.
 pub fn place_of(c: u32, d: u32, r: usize) -> Place
     requires { (c ≤ most-room) × (d ≤ most-room) × (r < most-rows) }
     ensures { Stands c d r result }
@@ -44,7 +44,7 @@ pub fn place_of(c: u32, d: u32, r: usize) -> Place
     }
 }
 
-// Row r's words in one slice, which has `size` words a row: how a row is read.
+/// Row r's words in one slice, which has `size` words a row: how a row is read.
 pub fn part(list: &[u32], size: usize, r: usize) -> &[u32]
     requires { r * size + size ≤ length list.now }
     ensures { result.now ≡ take size (drop (r * size) list.now) }

@@ -1,5 +1,5 @@
-// One row over its own words (bucketer.rs, RowState). Parts: each function has a `requires`, which its callers have judged. They know one row and not its place
-// on the screen.
+//! One row over its own words (bucketer.rs, RowState). Parts: each function has a `requires`, which its callers have judged. They know one row and not its place
+//! on the screen.
 ghost use Rattle.std.specs.Prelude.{◌≡◌, ◌+◌, ◌*◌, ◌≤◌, ◌<◌, length, get_or, set};
 ghost use Rattle.sizes.specs.Sizes.{tile-end, most-layers, most-room, row-size, renders-at, levels-at};
 ghost use Rattle.rules.specs.Spans.{span};
@@ -17,7 +17,7 @@ use sizes::width::Width;
 use sizes::{DEPTHS, END, FIRST, LARGEST, LEVEL, LEVEL_BASE, LEVELS, RENDERS};
 use span::TileSpan;
 
-// One row's words, lent: its record (`state`), its render commands, its depth fills.
+/// One row's words, lent: its record (`state`), its render commands, its depth fills.
 #[derive(Drop)]
 pub struct Row<'a> {
     pub state: &'a mut [u32],
@@ -81,7 +81,7 @@ impl Row<'_> {
         self.state[RENDERS] = n + 1;
     }
 
-    // A PaintFill of a span of tiles, with the place of its paint attribute (push_cmd).
+    /// A PaintFill of a span of tiles, with the place of its paint attribute (push_cmd).
     #[tactic(auto, unfolding(crate::specs::Words::put_command, rules::specs::Commands::command_words))]
     pub fn push_paint(&mut self, span: TileSpan, alpha: Option<u32>, attrs_idx: u32)
         requires { Short (tiles span) × Room (held self.old) (put_command (paint-fill (tiles span) alpha attrs_idx) (held self.old)) }
@@ -98,7 +98,7 @@ impl Row<'_> {
         }
     }
 
-    // A closing LayerFill of a span of tiles, with the place of its layer attribute (push_cmd).
+    /// A closing LayerFill of a span of tiles, with the place of its layer attribute (push_cmd).
     #[tactic(auto, unfolding(crate::specs::Words::put_command, rules::specs::Commands::command_words))]
     pub fn push_closing(&mut self, span: TileSpan, alpha: Option<u32>, attrs_idx: u32)
         requires { Short (tiles span) × Room (held self.old) (put_command (layer-fill (tiles span) alpha attrs_idx) (held self.old)) }
@@ -115,7 +115,7 @@ impl Row<'_> {
         }
     }
 
-    // Rule 5 (push_buf): a PushBuf, one level more. Its span is none so far.
+    /// Rule 5 (push_buf): a PushBuf, one level more. Its span is none so far.
     #[tactic(auto, using(crate::proofs::WordsLaws::buf_room), unfolding(crate::specs::Words::put_buf))]
     pub fn push_buf(&mut self)
         requires { (get_or self.old.state.now levels-at 0 < most-layers) × Room (held self.old) (put_buf (held self.old)) }
@@ -133,7 +133,7 @@ impl Row<'_> {
         self.state[RENDERS] = n + 1;
     }
 
-    // Rules 9 and 10 (pop_buf): a PopBuf; the innermost level's PushBuf gets its span, and the level's words become 0.
+    /// Rules 9 and 10 (pop_buf): a PopBuf; the innermost level's PushBuf gets its span, and the level's words become 0.
     #[tactic(auto, using(crate::proofs::WordsLaws::end_room), unfolding(crate::specs::Words::end_buf))]
     pub fn pop_buf(&mut self)
         requires { Ends (held self.old) × Room (held self.old) (end_buf (held self.old)) }
@@ -154,7 +154,7 @@ impl Row<'_> {
         self.state[RENDERS] = n + 1;
     }
 
-    // Rule 7 (push_depth_fill): a depth fill; the row's summary takes in its tiles and its id.
+    /// Rule 7 (push_depth_fill): a depth fill; the row's summary takes in its tiles and its id.
     #[tactic(auto, using(crate::proofs::WordsLaws::fill_room), unfolding(crate::specs::Words::put_depth))]
     pub fn push_depth_fill(&mut self, cmd: DepthFill, draw_id: u32, width: Width)
         requires { Short (buckets cmd.buckets) × Room (held self.old) (put_depth (bucket-tiles width) (depth-fill cmd) draw_id (held self.old)) }

@@ -1,20 +1,17 @@
 -- Tests: directed cases. A recording, the lines that `rowlist` prints of it, its attributes and its painted pieces, by computation.
-use mathlib.Core.Path.{◌≡◌, refl}
-use mathlib.Core.Bool.{true}
-use mathlib.Core.List.{List, [], ◌∷◌}
-use Rattle.std.specs.Prelude.{None, Some}
-use lib.IntN.{pos}
+use Rattle.std.proofs.Common.{◌≡◌, refl, true, List, [], ◌∷◌, None, Some, pos}
 use Rattle.sizes.specs.declared.width.Width.TheVariants.{W128}
 use Rattle.rules.specs.Lists.{every}
 use Rattle.rules.specs.Spans.{span}
 use Rattle.rules.specs.Boxes.{box}
 use Rattle.rules.specs.Blends.{default-blend}
 use Rattle.rules.specs.Recording.{Recording}
-use Rattle.rules.proofs.Words.{file}
+use Rattle.rules.specs.Words.{file}
 use Rattle.rules.specs.Lines.{header, row, D, P, L, B, E, refused}
 use Rattle.rules.proofs.Picture.{same-picture}
 use Rattle.rules.proofs.Computing.{computing}
-use Rattle.rules.proofs.Samples.{solid, alpha, opaque-paint, any-draw, draw, any-layer, blend, clip, no-clip, no-filter, full, a-nan, layer, composed, clipped, filtered, filter, pictureless, node, rec, minus, attrs, paint-attr, layer-attr, filter-paint, paint-piece, layer-piece, attributes, pieces, listed, listed-snapped}
+use Rattle.rules.specs.cases.WorkedExample.{worked-recording}
+use Rattle.rules.specs.cases.Samples.{solid, alpha, opaque-paint, any-draw, draw, any-layer, blend, clip, no-clip, no-filter, full, a-nan, layer, composed, clipped, filtered, filter, pictureless, node, rec, minus, attrs, paint-attr, layer-attr, filter-paint, paint-piece, layer-piece, attributes, pieces, listed, listed-snapped}
 
 -- An alpha segment cut at the left: the screen begins at tile 4, so its index moves by 4 x 16.
 abbrev pub left_cut : Recording
@@ -489,7 +486,7 @@ pictured =
     ∷ in-turn
     ∷ []
 
--- Painting gives each tile of each of them what plain draw order gives it: one test.
-pub same-pictures : every (same-picture W128) pictured ≡ true
+-- Painting gives each tile of each of them, and of the worked example, what plain draw order gives it: one test.
+pub same-pictures : every (same-picture W128) (worked-recording ∷ pictured) ≡ true
 unfolding computing
 same-pictures = refl

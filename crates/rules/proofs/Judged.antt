@@ -1,11 +1,5 @@
 -- Tests: a recording's file judged. Each answer from 1 to 5, on both sides of its edge and in its order, and what a refused recording leaves.
-use Prim.Native.Nat.{ℕ, ◌+◌, ◌-◌}
-use mathlib.Core.Path.{◌≡◌, refl}
-use mathlib.Core.Bool.{true}
-use mathlib.Core.List.{List, [], ◌∷◌, ◌++◌, map}
-use Rattle.std.specs.Prelude.{None, Some}
-use lib.ListN.{length, take, replicate}
-use lib.Dec.{eqb}
+use Rattle.std.proofs.Common.{ℕ, ◌+◌, ◌-◌, ◌≡◌, refl, true, List, [], ◌∷◌, ◌++◌, map, None, Some, length, take, replicate, eqb}
 use Rattle.sizes.specs.declared.width.Width.TheVariants.{W128}
 use Rattle.rules.specs.Lists.{every, join, range}
 use Rattle.rules.specs.Answers.{Answer, answer, Done, BadArena, BadViewport, BadForm, BadRecord, BadOrder, Deep}
@@ -15,15 +9,14 @@ use Rattle.rules.specs.Blends.{Blend, default-blend}
 use Rattle.rules.specs.Segments.{Segment}
 use Rattle.rules.specs.Inputs.{Paint, Draw, Clip, Filter}
 use Rattle.rules.specs.Rows.{Row, fresh-row, row-ops}
-use Rattle.rules.specs.Plans.{Frame}
 use Rattle.rules.specs.Steps.{Screen, reset, call}
 use Rattle.rules.specs.Recording.{Recording, LayerRec, Node}
-use Rattle.rules.proofs.Words.{file}
+use Rattle.rules.specs.Words.{file}
 use Rattle.rules.specs.Walk.{Place, needed, play}
 use Rattle.rules.specs.Lines.{header, row, P, L, B, E, refused}
-use Rattle.rules.proofs.Samples.{solid, opaque-paint, draw, any-layer, no-clip, no-filter, full, blend, clip, layer, filtered, filter, pictureless, node, rec, listed, listed-snapped}
+use Rattle.rules.specs.cases.Samples.{solid, opaque-paint, draw, any-layer, no-clip, no-filter, full, blend, clip, layer, filtered, filter, pictureless, node, rec, listed, listed-snapped}
 use Rattle.rules.specs.Setups.{Mode, exact, snapping, Setup, frame}
-use Rattle.rules.proofs.WorkedExample.{worked-words}
+use Rattle.rules.specs.cases.WorkedExample.{worked-words}
 use Rattle.rules.proofs.Computing.{computing}
 
 -- two rows and two buckets, C = 4 and D = 5, lent what they need and `a`, `b`, `c` words more

@@ -1,20 +1,16 @@
 -- Tests: whose panel stands in each attribute, each piece and each entry of a tile. The other tests are at panel 0.
-use Prim.Native.Nat.{ℕ}
-use mathlib.Core.Path.{◌≡◌, refl}
-use mathlib.Core.List.{List, [], ◌∷◌, map}
-use Rattle.std.specs.Prelude.{None}
+use Rattle.std.proofs.Common.{ℕ, ◌≡◌, refl, List, [], ◌∷◌, map, None}
 use Rattle.sizes.specs.declared.width.Width.TheVariants.{W128}
 use Rattle.rules.specs.Boxes.{box}
 use Rattle.rules.specs.Blends.{default-blend}
-use Rattle.rules.specs.Inputs.{Props}
 use Rattle.rules.specs.Attributes.{PaintAttr, LayerAttr}
 use Rattle.rules.specs.Rows.{Row}
-use Rattle.rules.specs.Plans.{Frame, Step, a-fill, a-push, a-pop, a-filter}
+use Rattle.rules.specs.Plans.{Step, a-fill, a-push, a-pop, a-filter}
 use Rattle.rules.specs.Steps.{Screen}
 use Rattle.rules.specs.Painting.{Piece, Entry, paint-row}
 use Rattle.rules.specs.Plain.{plain}
 use Rattle.rules.specs.Calls.{Canvas, fresh-canvas, step_call}
-use Rattle.rules.proofs.Samples.{solid, opaque-paint, draw-for, any-props, full, filter}
+use Rattle.rules.specs.cases.Samples.{solid, opaque-paint, draw-for, any-props, full, filter}
 use Rattle.rules.proofs.Computing.{computing}
 
 abbrev layer-for : ℕ → Step

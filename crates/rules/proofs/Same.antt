@@ -1,7 +1,5 @@
 -- For the tests: two lists, or two that may be missing, are the same.
-use mathlib.Core.Bool.{Bool, true, false, ◌&&◌}
-use mathlib.Core.List.{List, [], ◌∷◌}
-use Rattle.std.specs.Prelude.{Option, None, Some}
+use Rattle.std.proofs.Common.{Bool, true, false, ◌&&◌, List, [], ◌∷◌, Option, None, Some}
 
 module _ {A : Type 0} where
   -- two lists are the same, element by element

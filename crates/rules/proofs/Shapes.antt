@@ -1,7 +1,5 @@
 -- Tests: boxes, spans, segments, runs, words and text by their numbers, each axis and each end apart from the others.
-use mathlib.Core.Path.{◌≡◌, refl}
-use mathlib.Core.List.{[], ◌∷◌, map}
-use Rattle.std.specs.Prelude.{None, Some}
+use Rattle.std.proofs.Common.{◌≡◌, refl, [], ◌∷◌, map, None, Some}
 use Rattle.rules.specs.Boxes.{box, width, height, meet, to-local, whole, rows_of, buckets-of, rows_in, span_of, scene-tiles}
 use Rattle.rules.specs.Spans.{span, hull, meeting, solid-tiles}
 use Rattle.rules.specs.Split.{regular, buckets, split}
@@ -10,7 +8,7 @@ use Rattle.rules.specs.Depth.{unset-runs, visible-runs, write-runs, written, wri
 use Rattle.rules.specs.Commands.{paint-fill, layer-fill, push-buf, pop-buf, command_words, depth-words}
 use Rattle.rules.specs.Lines.{P, B, refused, words_of, line-bytes}
 use Rattle.rules.specs.Lists.{join}
-use Rattle.rules.proofs.Samples.{solid, alpha}
+use Rattle.rules.specs.cases.Samples.{solid, alpha}
 use Rattle.rules.proofs.Computing.{computing}
 
 -- boxes

@@ -1,9 +1,5 @@
 -- Tests: what the width of a bucket changes, at 64 and 256 pixels. The other tests are at 128.
-use Prim.Native.Nat.{ℕ}
-use mathlib.Core.Path.{◌≡◌, refl}
-use mathlib.Core.Bool.{true}
-use mathlib.Core.List.{List, [], ◌∷◌, map}
-use Rattle.std.specs.Prelude.{None, Some, Ok, Err}
+use Rattle.std.proofs.Common.{ℕ, ◌≡◌, refl, true, List, [], ◌∷◌, map, None, Some, Ok, Err}
 use Rattle.sizes.specs.declared.answers.Refusal.TheVariants.{BadViewport}
 use Rattle.sizes.specs.declared.width.Width.{Width}
 use Rattle.sizes.specs.declared.width.Width.TheVariants.{W64, W128, W256}
@@ -12,7 +8,7 @@ use Rattle.rules.specs.Lists.{every}
 use Rattle.rules.specs.Boxes.{box, buckets-of}
 use Rattle.rules.specs.Spans.{span}
 use Rattle.rules.specs.Split.{regular, buckets, split}
-use Rattle.rules.specs.Rows.{Row, fresh-row, put-depth-fill}
+use Rattle.rules.specs.Rows.{fresh-row, put-depth-fill}
 use Rattle.rules.specs.Plans.{Frame, a-fill}
 use Rattle.rules.specs.Setups.{exact}
 use Rattle.rules.specs.Painting.{Piece, paint-row}
@@ -20,10 +16,10 @@ use Rattle.rules.specs.Recording.{Recording}
 use Rattle.rules.specs.Walk.{needed}
 use Rattle.rules.specs.Lines.{Line, header, row, D, P, refused, usual, rowlist-words, rowlist-screen, no-width}
 use Rattle.rules.specs.Calls.{Canvas, fresh-canvas, step_call, begin-call, paint-call, unset-call, visible-call}
-use Rattle.rules.proofs.Words.{file}
-use Rattle.rules.proofs.Samples.{solid, opaque-paint, draw, paint-piece}
+use Rattle.rules.specs.Words.{file}
+use Rattle.rules.specs.cases.Samples.{solid, opaque-paint, draw, paint-piece}
 use Rattle.rules.proofs.Picture.{same-picture}
-use Rattle.rules.proofs.WorkedExample.{worked-bytes}
+use Rattle.rules.specs.cases.WorkedExample.{worked-bytes}
 use Rattle.rules.proofs.Cases.{last-bucket, pictured}
 use Rattle.rules.proofs.Computing.{computing}
 

@@ -4,5 +4,6 @@ pub mod Changes
 pub mod Maps
 pub mod Bounds
 pub mod Pixmaps
+pub mod Viewports
 pub mod Snapping
 pub mod Widths

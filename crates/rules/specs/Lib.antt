@@ -19,3 +19,7 @@ pub mod Walk
 pub mod Lines
 pub mod Plain
 pub mod Calls
+pub mod Words
+pub mod Logged
+pub mod Snapping
+pub mod cases

@@ -1,2 +1,32 @@
-// The rules (docs/RULES.md) as definitions that compute, with tests of them. No code.
+//! The rules (docs/RULES.md) as definitions that compute. A function here does nothing: what it promises are cases and laws of the rules.
 #![tactic(auto)]
+
+ghost use Rattle.rules.specs.Words.{PixmapsReadBack, PixmapsWrittenBack};
+ghost use Rattle.rules.specs.Snapping.{SnappedSmallest, ModesSame, ExactSnapped, FarRefused};
+ghost use Rattle.rules.specs.cases.KnownPoints.{KnownPoints};
+ghost use Rattle.rules.specs.cases.WorkedExample.{WorkedExample};
+ghost use Rattle.rules.specs.cases.Edges.{EdgesHold};
+ghost use Rattle.rules.specs.cases.Refusals.{AnswersDue, LeftAlone};
+
+/// The rules at known points, their worked example, each answer and each bound on both sides of its edge.
+pub fn rules_hold_at_known_points()
+    ensures points { KnownPoints }
+    ensures worked { WorkedExample }
+    ensures answers { AnswersDue }
+    ensures left { LeftAlone }
+    ensures edges { EdgesHold }
+{}
+
+/// What the snapping mode makes of a box: the smallest box of tile edges around it.
+pub fn snapping_takes_the_smallest_box()
+    ensures smallest { SnappedSmallest }
+    ensures same { ModesSame }
+    ensures exact { ExactSnapped }
+    ensures far { FarRefused }
+{}
+
+/// A filter layer's picture is read back from its word in a file, and the other way round.
+pub fn words_keep_pixmaps()
+    ensures read { PixmapsReadBack }
+    ensures written { PixmapsWrittenBack }
+{}

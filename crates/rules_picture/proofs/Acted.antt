@@ -1,31 +1,22 @@
 -- What one act of a step adds to what a row holds for the tile t.
-use Prim.Native.Nat.{ℕ, zero, suc, ◌+◌, ◌-◌, ◌*◌, ◌/◌, ◌≤◌, ◌<◌}
-use native.Mathlib.Nat.{le_refl, add-zero, zero-add}
-use native.Mathlib.Numerals.{add-one}
-use native.Mathlib.Omega.{arith}
-use mathlib.Core.Path.{◌≡◌, refl, sym, ◌∙◌, ap}
-use mathlib.Core.Bool.{Bool, true, false, ◌&&◌, not, cond}
-use Rattle.std.specs.Prelude.{Option, None, Some}
-use mathlib.Core.List.{List, [], ◌∷◌, ◌++◌, foldl, append_assoc, append-nil}
-use lib.ListN.{length, get_or, set, replicate, length-append, length-set, get_or-append}
-use lib.Seq.{get_or-append_seam, get_or-set_same, get_or-set_other}
-use lib.Dec.{eqb}
-use borrow.Author.Tests.{eqb-true, eqb-false}
+use Rattle.std.proofs.Common.{ℕ, zero, suc, ◌+◌, ◌-◌, ◌/◌, ◌≤◌, ◌<◌, zero-add, add-one, arith, ◌≡◌, refl, sym, ◌∙◌, ap, Bool, true, false, Option, None, Some, List, [], ◌∷◌, ◌++◌, append_assoc}
+use Rattle.std.proofs.Common.{append-nil, length, get_or, set, length-append, length-set, get_or-set_same, get_or-set_other, eqb, eqb-true}
+use lib.ListN.{get_or-append}
+use lib.Seq.{get_or-append_seam}
+use borrow.Author.Tests.{eqb-false}
 use Rattle.rules.specs.Lists.{keep, times}
-use Rattle.rules.specs.Spans.{Span, span, covers}
-use Rattle.rules.specs.Split.{Part, regular, buckets, split}
+use Rattle.rules.specs.Spans.{Span, covers}
 use Rattle.rules.specs.Commands.{Command, paint-fill, layer-fill, push-buf, pop-buf, DepthFill}
 use Rattle.rules.specs.Attributes.{Attrs}
 use Rattle.rules.specs.Rows.{Row, Level, row-ops, include, adds, put-command, put-push-buf, pop-levels, put-pop-buf, put-depth-fill}
 use Rattle.rules.specs.Painting.{paint-id}
-use Rattle.rules.specs.Plans.{Act, paint, opaque, touch, close, pop}
-use Rattle.rules.specs.Steps.{ensure, put-part, do-act}
+use Rattle.rules.specs.Plans.{paint, touch, close, pop}
+use Rattle.rules.specs.Steps.{ensure, do-act}
 use Rattle.rules.specs.Plain.{Told}
 use Rattle.rules.proofs.All.{All, nil, cons, all_map, all_append, never}
 use Rattle.rules_picture.proofs.Cases.{by}
 use Rattle.rules_picture.proofs.Rows.{fill-told, told-fills, paint-told, layer-told, told-commands, Numbered}
 use Rattle.rules_picture.proofs.Summed.{Summed, depth-summed}
-use Rattle.rules_picture.proofs.SplitTile.{regular-hits, bucket-hits}
 
 -- the nesting after some commands
 unfoldable pub nest : ℕ → List Command → ℕ

@@ -1,12 +1,7 @@
 -- Proofs by the two values of a test, and the laws of `covers`.
-use Prim.Native.Nat.{ℕ, ◌≤◌, ◌<◌}
-use native.Mathlib.Omega.{arith}
-use mathlib.Core.Path.{◌≡◌, refl, sym, ◌∙◌, ap}
-use mathlib.Core.Bool.{Bool, true, false, ◌&&◌}
-use lib.Dec.{leb, ltb}
-use borrow.Author.Tests.{leb-true, ltb-true, le-leb, lt-ltb}
+use Rattle.std.proofs.Common.{ℕ, ◌≤◌, ◌<◌, ◌≡◌, refl, sym, Bool, true, false, ◌&&◌, leb, leb-true, ltb-true, le-leb, lt-ltb}
 use Rattle.rules.specs.Spans.{Span, covers}
-use Rattle.rules.proofs.All.{and_left, and_right, and_both}
+use Rattle.rules.proofs.All.{and_left, and_right}
 
 pub by : {C : Type 0} (b : Bool) → (b ≡ true → C) → (b ≡ false → C) → C
 by true y n = y refl

@@ -1,15 +1,7 @@
 -- What the cuts of one draw add to what a row holds for the tile t: what plain draw order tells of them.
-use Prim.Native.Nat.{ℕ, zero, suc, ◌+◌, ◌-◌, ◌*◌, ◌/◌, ◌≤◌, ◌<◌}
-use native.Mathlib.Nat.{le_refl, suc-mul}
-use native.Mathlib.Omega.{arith}
-use mathlib.Core.Path.{◌≡◌, refl, sym, ◌∙◌, ap}
-use mathlib.Core.Bool.{Bool, true, false, ◌&&◌, not, cond}
-use Rattle.std.specs.Prelude.{Option, None, Some}
-use mathlib.Core.List.{List, [], ◌∷◌, ◌++◌, map, foldl, append-nil}
-use lib.ListN.{length, replicate}
-use lib.Dec.{leb}
-use borrow.Author.Tests.{leb-true}
-use Rattle.rules.specs.Lists.{such, keep, is-empty, is_none}
+use Rattle.std.proofs.Common.{ℕ, suc, ◌+◌, ◌*◌, ◌/◌, ◌≤◌, ◌<◌, le_refl, suc-mul, arith, ◌≡◌, refl, Bool, true, false, cond, Option, None, Some, List, [], ◌∷◌, ◌++◌, length, replicate, leb, leb-true}
+use mathlib.Core.List.{foldl}
+use Rattle.rules.specs.Lists.{such, keep}
 use Rattle.rules.specs.Boxes.{Box}
 use Rattle.rules.specs.Spans.{Span, span, covers}
 use Rattle.rules.specs.Split.{Part, regular, buckets, split}
@@ -18,7 +10,7 @@ use Rattle.rules.specs.Attributes.{Attrs}
 use Rattle.rules.specs.Rows.{Row, row-ops, put-command, put-depth-fill}
 use Rattle.rules.specs.Commands.{paint-fill, DepthFill}
 use Rattle.rules.specs.Painting.{paint-id}
-use Rattle.rules.specs.Plans.{Act, opaque, paint, draw-act}
+use Rattle.rules.specs.Plans.{opaque, draw-act}
 use Rattle.rules.specs.Steps.{ensure, put-part, do-act}
 use Rattle.rules.specs.Plain.{Told, whole-bucket, tell}
 use Rattle.rules.proofs.All.{and_left, and_right}
@@ -26,9 +18,8 @@ use Rattle.rules_picture.proofs.Cases.{by, covers-yes}
 use Rattle.rules_picture.proofs.Buckets.{from-bucket, from-bucket-before}
 use Rattle.rules_picture.proofs.Shown.{hides-of}
 use Rattle.rules_picture.proofs.Held.{stays}
-use Rattle.rules_picture.proofs.Rows.{fill-told, paint-told, Numbered, PaintHas}
-use Rattle.rules_picture.proofs.SplitTile.{regular-hits, bucket-hits, whole-at, Hit, split-tile}
-use Rattle.rules_picture.proofs.Acts.{do-acts}
+use Rattle.rules_picture.proofs.Rows.{fill-told, paint-told, PaintHas}
+use Rattle.rules_picture.proofs.SplitTile.{regular-hits, bucket-hits, whole-at, split-tile}
 use Rattle.rules_picture.proofs.Acted.{Sound, Adds, adds_none, adds-both, paint-adds, depth-adds, ensure-adds, act-paint}
 
 module _ (w : ℕ) (attrs : Attrs) (t : ℕ) where

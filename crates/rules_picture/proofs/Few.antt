@@ -1,14 +1,10 @@
 -- How many pieces a row of at most 64 buckets gives: at most 32 for each of its commands, since two runs have a closed bucket between them, and for its
 -- depth fills together at most one for each bucket, since each of their pieces sets an unset bucket for good. Assumes nothing.
-use mathlib.Core.Path.{◌≡◌, refl}
-use mathlib.Core.Bool.{Bool, true, false, cond}
-use mathlib.Core.List.{List, [], ◌∷◌, map}
-use Rattle.std.specs.Prelude.{Option}
-use Prim.Native.Nat.{ℕ, zero, suc, ◌+◌, ◌-◌, ◌*◌, ◌≤◌, ◌<◌}
-use native.Mathlib.Omega.{arith}
-use lib.ListN.{length, get_or, take, drop, length-append, length-map, length-take, length-drop, length-replicate}
-use lib.Dec.{ltb, eqb, eqb-suc-zero}
-use borrow.Author.Tests.{eq-eqb, lt-leb, le-leb, ltb-true, ltb-false}
+use Rattle.std.proofs.Common.{◌≡◌, refl, Bool, true, false, cond, List, [], ◌∷◌, map, Option, ℕ, zero, suc, ◌+◌, ◌-◌, ◌*◌, ◌≤◌, ◌<◌, arith, length, get_or, take, drop, length-append, length-take}
+use Rattle.std.proofs.Common.{length-drop, ltb, eqb, eq-eqb, le-leb, ltb-true, ltb-false}
+use lib.ListN.{length-map, length-replicate}
+use lib.Dec.{eqb-suc-zero}
+use borrow.Author.Tests.{lt-leb}
 use Rattle.rules.specs.Lists.{slice}
 use Rattle.rules.specs.Spans.{Span, span, common}
 use Rattle.rules.specs.Commands.{Command, paint-fill, layer-fill, push-buf, pop-buf, DepthFill}

@@ -1,13 +1,7 @@
 -- Every row can be painted to its end: after as many done steps as it has depth fills and commands it has finished, and there are schedules that do so.
-use Prim.Native.Nat.{ℕ, zero, suc, ◌+◌, ◌≤◌, ◌<◌}
-use native.Mathlib.Nat.{le_refl}
-use native.Mathlib.Omega.{arith}
-use mathlib.Core.Path.{◌≡◌, refl, ◌∙◌, ap, subst}
-use mathlib.Core.Bool.{true}
-use mathlib.Core.List.{List, [], ◌∷◌, ◌++◌}
-use lib.ListN.{length, get_or, length-replicate}
-use lib.Dec.{ltb, eqb}
-use borrow.Author.Tests.{lt-leb, le-ltb, eq-eqb, eqb-true, eqb-false, ltb-true, ltb-false}
+use Rattle.std.proofs.Common.{ℕ, zero, suc, ◌+◌, ◌≤◌, ◌<◌, le_refl, arith, ◌≡◌, refl, ◌∙◌, ap, subst, true, List, [], ◌∷◌, ◌++◌, length, get_or, ltb, eqb, le-ltb, eq-eqb, eqb-true, ltb-true, ltb-false}
+use lib.ListN.{length-replicate}
+use borrow.Author.Tests.{lt-leb, eqb-false}
 use Rattle.rules.specs.Answers.{Done}
 use Rattle.rules.specs.Rows.{fresh-row}
 use Rattle.rules.specs.Plans.{buckets-across}

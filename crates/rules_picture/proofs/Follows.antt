@@ -1,36 +1,29 @@
 -- A screen and the story of one tile of one row, step by step: after each done step the row holds what has been told.
-use Prim.Native.Nat.{ℕ, zero, suc, ◌+◌, ◌/◌, ◌≤◌, ◌<◌}
-use native.Mathlib.Omega.{arith}
-use mathlib.Core.Path.{◌≡◌, refl, sym, ◌∙◌, ap}
-use mathlib.Core.Bool.{Bool, true, false, ◌&&◌, not, cond}
-use Rattle.std.specs.Prelude.{Option, None, Some}
-use mathlib.Core.List.{List, [], ◌∷◌, ◌++◌, map, append-nil, append_assoc}
-use lib.ListN.{length, get_or, length-map, length-append}
+use Rattle.std.proofs.Common.{ℕ, ◌+◌, ◌<◌, arith, ◌≡◌, refl, sym, ◌∙◌, ap, Bool, true, not, cond, List, [], ◌∷◌, ◌++◌, map, append-nil, append_assoc, length, get_or, length-append}
+use lib.ListN.{length-map}
 use lib.Seq.{get_or-append_seam}
-use lib.Dec.{eqb}
-use Rattle.rules.specs.Lists.{such, keep, is-empty, some_of}
+use Rattle.rules.specs.Lists.{is-empty}
 use Rattle.rules.specs.Answers.{Done}
-use Rattle.rules.specs.Boxes.{Box, rows_in}
-use Rattle.rules.specs.Spans.{covers}
-use Rattle.rules.specs.Segments.{Segment, judge-segments, Cut, cuts}
-use Rattle.rules.specs.Inputs.{Paint, Draw, draw-segments, draw-paint, good-fill, Props}
+use Rattle.rules.specs.Boxes.{Box}
+use Rattle.rules.specs.Segments.{Segment, judge-segments, cuts}
+use Rattle.rules.specs.Inputs.{Paint, Draw, draw-segments, draw-paint, good-fill}
 use Rattle.rules.specs.Attributes.{PaintAttr, no-paint, LayerAttr, Attrs}
 use Rattle.rules.specs.Rows.{Row, fresh-row, row-ops}
-use Rattle.rules.specs.Plans.{bucket, Layer, State, Act, Put, Plan, on, touch, eligible, box_of, draw-puts, with-paint, plan-fill, layer-box, touches-all, plan-push}
+use Rattle.rules.specs.Plans.{bucket, Layer, Act, eligible, box_of, draw-puts, with-paint, plan-fill}
 use Rattle.rules.specs.Steps.{Screen, do-puts, done}
-use Rattle.rules.specs.Plain.{Told, OpenLayer, Story, touch-all, box-now, here, tell, tell-fill, tell-push, in_rows}
+use Rattle.rules.specs.Plain.{OpenLayer, Story, box-now, here, tell-fill}
 use Rattle.rules.proofs.All.{never, and_left}
 use Rattle.rules.proofs.laws.Changes.{puts-length}
 use Rattle.rules.proofs.laws.Bounds.{judged-facts}
 use Rattle.rules_picture.proofs.Cases.{by}
-use Rattle.rules_picture.proofs.Acts.{acts-at, do-acts, row-by-row}
+use Rattle.rules_picture.proofs.Acts.{do-acts, row-by-row}
 use Rattle.rules_picture.proofs.Rows.{PaintHas}
 use Rattle.rules_picture.proofs.Acted.{adds_none}
 use Rattle.rules_picture.proofs.Shape.{touched-layers}
-use Rattle.rules_picture.proofs.Listed.{cut-act, draw-acts, Rows, rows-counted, acts-once}
+use Rattle.rules_picture.proofs.Listed.{cut-act, draw-acts}
 use Rattle.rules_picture.proofs.Single.{single}
 use Rattle.rules_picture.proofs.Holds.{holds-still}
-use Rattle.rules_picture.proofs.Grown.{Grown, draw-grows, push-grows}
+use Rattle.rules_picture.proofs.Grown.{Grown, draw-grows}
 
 abbrev pub layer-in : OpenLayer → Layer
 layer-in l = l.layer

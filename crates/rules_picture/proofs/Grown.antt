@@ -1,11 +1,5 @@
 -- What each kind of step does to one row: the row holds afterwards what plain draw order has told the tile t then.
-use Prim.Native.Nat.{ℕ, zero, suc, ◌+◌, ◌/◌, ◌≤◌, ◌<◌}
-use native.Mathlib.Omega.{arith}
-use mathlib.Core.Path.{◌≡◌, refl, sym, ◌∙◌, ap}
-use mathlib.Core.Bool.{Bool, true, false, not, cond}
-use Rattle.std.specs.Prelude.{Option, None, Some}
-use mathlib.Core.List.{List, [], ◌∷◌, ◌++◌, map, append-nil}
-use lib.ListN.{length}
+use Rattle.std.proofs.Common.{ℕ, suc, ◌+◌, ◌<◌, arith, ◌≡◌, refl, Bool, true, false, not, cond, List, [], ◌∷◌, ◌++◌, map, length}
 use Rattle.rules.specs.Lists.{such, keep, is-empty}
 use Rattle.rules.specs.Boxes.{Box}
 use Rattle.rules.specs.Spans.{covers}
@@ -21,9 +15,8 @@ use Rattle.rules_picture.proofs.Held.{stays}
 use Rattle.rules_picture.proofs.Acts.{do-acts}
 use Rattle.rules_picture.proofs.Rows.{PaintHas, LayerHas}
 use Rattle.rules_picture.proofs.Acted.{Sound, Adds, adds_none, adds-both, act-touch, act-close, act-pop}
-use Rattle.rules_picture.proofs.Drawn.{cut-told, told-cons}
 use Rattle.rules_picture.proofs.Shape.{Shape, shape-most, shape-touch, shape-closed, shape-kept, not_yet}
-use Rattle.rules_picture.proofs.Listed.{cut-act, draws-add, such-append}
+use Rattle.rules_picture.proofs.Listed.{cut-act, draws-add}
 use Rattle.rules_picture.proofs.Single.{Single}
 use Rattle.rules_picture.proofs.Holds.{Holds, holds-still, holds-told, single-told, told-ids}
 

@@ -1,18 +1,14 @@
 -- A row that holds a list of entries as its depth fills and its commands gives, painted, what plain draw order leaves of it.
-use Prim.Native.Nat.{ℕ, zero, suc, ◌/◌, ◌<◌}
-use mathlib.Core.Path.{◌≡◌, refl, sym, ◌∙◌, ap}
-use mathlib.Core.Bool.{Bool, true, false, ◌&&◌, ◌||◌, not, cond}
-use mathlib.Core.List.{List, [], ◌∷◌, ◌++◌, map}
-use lib.Dec.{leb}
+use Rattle.std.proofs.Common.{ℕ, ◌/◌, ◌<◌, ◌≡◌, refl, sym, ◌∙◌, ap, Bool, false, not, List, [], ◌∷◌, ◌++◌, map, leb}
 use Rattle.rules.specs.Lists.{such, keep, some_of}
 use Rattle.rules.specs.Attributes.{Attrs}
 use Rattle.rules.specs.Rows.{Row}
-use Rattle.rules.specs.Painting.{Entry, received, paint-row}
+use Rattle.rules.specs.Painting.{received, paint-row}
 use Rattle.rules.specs.Plain.{Told, shown}
 use Rattle.rules.proofs.All.{All, never}
 use Rattle.rules_picture.proofs.Cases.{by}
 use Rattle.rules_picture.proofs.Newest.{write-zero}
-use Rattle.rules_picture.proofs.Shown.{Rising, hides-of, newest-hide, hider, passes, two-passes, two-passes-show}
+use Rattle.rules_picture.proofs.Shown.{Rising, hides-of, newest-hide, hider, passes, two-passes-show}
 use Rattle.rules_picture.proofs.Rows.{entry-told, no-older, told-fills, told-commands, Numbered, row-received}
 
 abbrev pub stays : Told → Bool

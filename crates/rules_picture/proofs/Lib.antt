@@ -29,4 +29,3 @@ pub mod Unhidden
 pub mod Walked
 pub mod Recorded
 pub mod Panels
-pub mod PanelCases

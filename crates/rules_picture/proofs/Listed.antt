@@ -1,22 +1,14 @@
 -- The puts of a step on one row, as acts; and a list of cuts drawn there.
-use Prim.Native.Nat.{ℕ, zero, suc, ◌≤◌, ◌<◌}
-use native.Mathlib.Nat.{le_refl}
-use native.Mathlib.Omega.{arith}
-use mathlib.Core.Path.{◌≡◌, refl, sym, ◌∙◌, ap}
-use mathlib.Core.Bool.{Bool, true, false, ◌||◌, cond}
-use Rattle.std.specs.Prelude.{Option, None, Some}
-use mathlib.Core.List.{List, [], ◌∷◌, ◌++◌, map}
-use lib.ListN.{length}
-use lib.Dec.{eqb}
-use borrow.Author.Tests.{eq-eqb, ne_eqb, eqb-true, eqb-false}
+use Rattle.std.proofs.Common.{ℕ, zero, suc, ◌≤◌, ◌<◌, le_refl, arith, ◌≡◌, refl, sym, ap, Bool, true, false, cond, List, [], ◌∷◌, ◌++◌, map, length, eqb, eq-eqb, ne_eqb, eqb-true}
+use borrow.Author.Tests.{eqb-false}
 use Rattle.rules.specs.Lists.{such, keep, some_of, is-empty, count-from}
 use Rattle.rules.specs.Boxes.{Box}
 use Rattle.rules.specs.Segments.{Cut}
 use Rattle.rules.specs.Attributes.{Attrs}
 use Rattle.rules.specs.Rows.{Row, row-ops}
-use Rattle.rules.specs.Plans.{Act, Put, on, draw-act, draw-puts}
+use Rattle.rules.specs.Plans.{Act, on, draw-act, draw-puts}
 use Rattle.rules.specs.Steps.{do-act}
-use Rattle.rules.specs.Plain.{Told, tell}
+use Rattle.rules.specs.Plain.{tell}
 use Rattle.rules_picture.proofs.Cases.{by}
 use Rattle.rules_picture.proofs.Shown.{hides-of}
 use Rattle.rules_picture.proofs.Held.{stays}

@@ -1,16 +1,10 @@
 -- The heart of the picture on one row: painted newest to oldest, a bucket ends up with the id of the newest depth fill that covers it.
-use Prim.Native.Nat.{ℕ, zero, suc, ◌+◌, ◌-◌, ◌≤◌, ◌<◌}
-use mathlib.Core.Path.{◌≡◌, refl, sym, ap, ◌∙◌}
-use mathlib.Core.Bool.{Bool, true, false, cond}
-use mathlib.Core.List.{List, [], ◌∷◌, ◌++◌}
-use native.Mathlib.Nat.{add-suc, suc-add, add-zero, zero-add, le_of_suc-le-suc, not-suc-le-zero, sub-zero, le_refl}
-use native.Mathlib.Numerals.{add-one}
-use native.Mathlib.Omega.{arith}
-use lib.ListN.{length, get_or, drop, replicate, get_or-replicate, length-replicate, drop_of_length-le}
-use lib.Seq.{drop-cons}
-use lib.Dec.{leb, ltb, eqb, eqb-suc-zero}
-use borrow.Author.Tests.{lt-ltb}
-use Rattle.rules.specs.Spans.{Span, span, covers}
+use Rattle.std.proofs.Common.{ℕ, zero, suc, ◌+◌, ◌-◌, ◌≤◌, ◌<◌, ◌≡◌, refl, sym, ap, ◌∙◌, Bool, true, false, cond, List, [], ◌∷◌, add-suc, suc-add, add-zero, zero-add, le_of_suc-le-suc, not-suc-le-zero}
+use Rattle.std.proofs.Common.{le_refl, add-one, arith, length, get_or, drop, replicate, drop_of_length-le, drop-cons, lt-ltb}
+use native.Mathlib.Nat.{sub-zero}
+use lib.ListN.{get_or-replicate, length-replicate}
+use lib.Dec.{eqb-suc-zero}
+use Rattle.rules.specs.Spans.{Span, covers}
 use Rattle.rules.specs.Commands.{DepthFill}
 use Rattle.rules.specs.Rows.{Row}
 use Rattle.rules.specs.Attributes.{Attrs}

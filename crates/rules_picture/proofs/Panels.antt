@@ -1,12 +1,7 @@
 -- Panels decide nothing: steps, histories, painting and plain draw order with every panel 0.
-use Prim.Native.Nat.{ℕ, zero, suc, ◌+◌}
-use native.Mathlib.Omega.{arith}
-use mathlib.Core.Path.{◌≡◌, refl, sym, ◌∙◌, ap}
-use mathlib.Core.Bool.{Bool, true, false, ◌&&◌, not, cond}
-use Rattle.std.specs.Prelude.{Option, None, Some}
-use mathlib.Core.List.{List, [], ◌∷◌, ◌++◌, map, map-append, map-map}
-use lib.ListN.{length, length-map, get_or-map}
-use lib.Dec.{eqb}
+use Rattle.std.proofs.Common.{ℕ, zero, suc, ◌+◌, arith, ◌≡◌, refl, sym, ◌∙◌, ap, Bool, true, false, ◌&&◌, not, cond, Option, None, Some, List, [], ◌∷◌, ◌++◌, map, length, eqb}
+use mathlib.Core.List.{map-append, map-map}
+use lib.ListN.{length-map, get_or-map}
 use Rattle.rules.specs.Lists.{is-empty, some_of}
 use Rattle.rules.specs.Answers.{answer, settle, Done, BadRecord}
 use Rattle.rules.specs.Boxes.{Box, span_of}

@@ -1,16 +1,12 @@
 -- The picture, about the rules: a row painted to its end alone, and rows painted by turns.
-use Prim.Native.Nat.{ℕ, zero, suc, ◌+◌, ◌/◌, ◌≤◌, ◌<◌}
-use native.Mathlib.Omega.{arith}
-use mathlib.Core.Path.{◌≡◌, refl, sym, ◌∙◌, ap}
-use mathlib.Core.Bool.{false}
-use mathlib.Core.List.{List, [], ◌∷◌, ◌++◌, append-nil}
-use lib.ListN.{length, get_or, replicate, get_or-replicate, length-replicate}
+use Rattle.std.proofs.Common.{ℕ, ◌/◌, ◌<◌, arith, ◌≡◌, refl, sym, ◌∙◌, ap, false, List, [], ◌∷◌, append-nil, length, get_or, replicate}
+use lib.ListN.{get_or-replicate, length-replicate}
 use Rattle.rules.specs.Lists.{some_of}
 use Rattle.rules.specs.Boxes.{Box, width, rows_of}
 use Rattle.rules.specs.Attributes.{Attrs}
 use Rattle.rules.specs.Rows.{Row, row-ops, fresh-row}
 use Rattle.rules.specs.Painting.{received, paint-row}
-use Rattle.rules.specs.Plans.{Frame, bucket, buckets-across, Step, plan}
+use Rattle.rules.specs.Plans.{Frame, bucket, buckets-across, Step}
 use Rattle.rules.specs.Steps.{Screen, reset, done, touched, call}
 use Rattle.rules.specs.Plain.{Told, shown, Story, untold, tell-step, tell-steps, plain}
 use Rattle.rules.proofs.All.{neither}

@@ -1,26 +1,18 @@
 -- A done pop follows the story of a tile.
-use Prim.Native.Nat.{ℕ, zero, suc, ◌+◌, ◌-◌, ◌/◌, ◌≤◌, ◌<◌}
-use native.Mathlib.Nat.{zero-add, add-zero, le_refl}
-use native.Mathlib.Omega.{arith}
-use mathlib.Core.Path.{◌≡◌, refl, sym, ◌∙◌, ap}
-use mathlib.Core.Bool.{Bool, true, false, ◌&&◌, ◌||◌, not, cond}
-use Rattle.std.specs.Prelude.{Option, None, Some}
-use mathlib.Core.List.{List, [], ◌∷◌, ◌++◌, map, append-nil, append_assoc}
-use lib.ListN.{length, get_or, length-map, length-append}
+use Rattle.std.proofs.Common.{ℕ, zero, suc, ◌+◌, ◌≤◌, ◌<◌, zero-add, add-zero, le_refl, arith, ◌≡◌, refl, sym, ◌∙◌, ap, Bool, true, false, not, cond, Option, None, Some, List, [], ◌∷◌, ◌++◌, map}
+use Rattle.std.proofs.Common.{append-nil, append_assoc, length, get_or, length-append, eqb, eq-eqb, ne_eqb, eqb-true}
 use lib.Seq.{get_or-append_seam}
-use lib.Dec.{eqb}
-use borrow.Author.Tests.{eq-eqb, ne_eqb, eqb-true, eqb-false}
 use Rattle.rules.specs.Lists.{such, keep, some_of}
 use Rattle.rules.specs.Boxes.{Box, span_of}
-use Rattle.rules.specs.Spans.{Span, covers}
+use Rattle.rules.specs.Spans.{covers}
 use Rattle.rules.specs.Answers.{Done}
 use Rattle.rules.specs.Attributes.{LayerAttr, no-layer, Attrs}
 use Rattle.rules.specs.Segments.{Segment, judge-segments, Cut, cuts}
 use Rattle.rules.specs.Inputs.{Clip}
 use Rattle.rules.specs.Rows.{Row, fresh-row, row-ops}
-use Rattle.rules.specs.Plans.{Act, Put, on, close, pop, clip-segments, clip-fits, with-layer, plan-pop, close-puts, closing, clip-box}
+use Rattle.rules.specs.Plans.{Act, Put, on, close, pop, clip-segments, clip-fits, with-layer, plan-pop, close-puts, closing}
 use Rattle.rules.specs.Steps.{Screen, do-puts, done, touched}
-use Rattle.rules.specs.Plain.{Told, Story, OpenLayer, closers, here, box-now, tell, tell-pop}
+use Rattle.rules.specs.Plain.{Told, Story, OpenLayer, closers, box-now, tell, tell-pop}
 use Rattle.rules.proofs.laws.Changes.{puts-length}
 use Rattle.rules.proofs.laws.Bounds.{judged-facts}
 use Rattle.rules_picture.proofs.Cases.{by}

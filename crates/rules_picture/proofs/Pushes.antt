@@ -1,23 +1,16 @@
 -- A done push and a done filter fill follow the story of a tile.
-use Prim.Native.Nat.{ℕ, zero, suc, ◌+◌, ◌-◌, ◌/◌, ◌≤◌, ◌<◌}
-use native.Mathlib.Omega.{arith}
-use mathlib.Core.Path.{◌≡◌, refl, sym, ◌∙◌, ap}
-use mathlib.Core.Bool.{Bool, true, false, ◌&&◌, not, cond}
-use Rattle.std.specs.Prelude.{Option, None, Some}
-use mathlib.Core.List.{List, [], ◌∷◌, ◌++◌, map}
-use lib.ListN.{length, get_or, length-map, length-append}
-use lib.Dec.{eqb, leb}
-use Rattle.rules.specs.Lists.{such, keep, is-empty, some_of}
-use Rattle.rules.specs.Answers.{Done, BadRecord}
+use Rattle.std.proofs.Common.{ℕ, suc, ◌+◌, ◌-◌, ◌/◌, ◌<◌, arith, ◌≡◌, refl, sym, ◌∙◌, ap, Bool, true, false, ◌&&◌, not, cond, None, List, [], ◌∷◌, ◌++◌, map, length, get_or, length-append}
+use lib.ListN.{length-map}
+use Rattle.rules.specs.Lists.{such, keep, is-empty}
 use Rattle.rules.specs.Boxes.{Box, rows_in, span_of}
-use Rattle.rules.specs.Spans.{Span, covers, solid-tiles}
+use Rattle.rules.specs.Spans.{covers, solid-tiles}
 use Rattle.rules.specs.Segments.{Cut}
-use Rattle.rules.specs.Inputs.{Props, Filter, good-filter}
+use Rattle.rules.specs.Inputs.{Props, Filter}
 use Rattle.rules.specs.Attributes.{Attrs}
 use Rattle.rules.specs.Rows.{Row, fresh-row, row-ops}
-use Rattle.rules.specs.Plans.{Layer, State, Act, Put, on, touch, paint, box_of, draw-act, layer-box, touches-all, plan-push, filter-box, draws-nothing, filter-puts, plan-filter-in, plan-filter, still}
+use Rattle.rules.specs.Plans.{Act, Put, on, touch, paint, draw-act, layer-box, touches-all, plan-push, filter-puts, plan-filter-in}
 use Rattle.rules.specs.Steps.{Screen, do-puts, done}
-use Rattle.rules.specs.Plain.{Told, OpenLayer, Story, touch-all, box-now, tell, tell-push, tell-filter, in_rows}
+use Rattle.rules.specs.Plain.{OpenLayer, Story, touch-all, box-now, tell, tell-push, in_rows}
 use Rattle.rules.proofs.All.{never}
 use Rattle.rules.proofs.laws.Changes.{puts-length}
 use Rattle.rules_picture.proofs.Cases.{by}
@@ -26,8 +19,8 @@ use Rattle.rules_picture.proofs.Acts.{acts-at, do-acts, row-by-row}
 use Rattle.rules_picture.proofs.Shape.{touched-layers}
 use Rattle.rules_picture.proofs.Listed.{cut-act, rows-counted, acts-once}
 use Rattle.rules_picture.proofs.Single.{Single, nothing, one}
-use Rattle.rules_picture.proofs.Grown.{Grown, draw-grows, push-grows}
-use Rattle.rules_picture.proofs.Follows.{layer-in, Leads, Follows, new-paint}
+use Rattle.rules_picture.proofs.Grown.{draw-grows, push-grows}
+use Rattle.rules_picture.proofs.Follows.{Leads, Follows, new-paint}
 
 module _ (w : ℕ) (attrs : Attrs) (t : ℕ) (v : Box) (row : ℕ) where
   -- an act put on the rows of a box

@@ -1,12 +1,6 @@
 -- What playing a recording leaves: built by its history with no layer open, or freshly reset, or as it was; and what its tiles receive.
-use Prim.Native.Nat.{ℕ, ◌/◌, ◌≤◌, ◌<◌}
-use native.Mathlib.Omega.{arith}
-use mathlib.Core.Path.{◌≡◌, refl, sym, ◌∙◌, ap}
-use mathlib.Core.Bool.{true, false, cond}
-use Rattle.std.specs.Prelude.{Option, None, Some}
-use mathlib.Core.List.{List, []}
-use lib.Dec.{leb, eqb}
-use borrow.Author.Tests.{eqb-true, le-leb, lt-leb}
+use Rattle.std.proofs.Common.{ℕ, ◌/◌, ◌≤◌, ◌<◌, arith, ◌≡◌, refl, sym, ◌∙◌, ap, true, false, cond, Option, None, Some, List, [], leb, eqb, eqb-true, le-leb}
+use borrow.Author.Tests.{lt-leb}
 use Rattle.rules.specs.Answers.{Answer, answer, settle, Done, BadForm}
 use Rattle.rules.specs.Boxes.{width, rows_of}
 use Rattle.rules.specs.Rows.{Row, row-ops, fresh-row}
@@ -14,7 +8,7 @@ use Rattle.rules.specs.Plans.{bucket}
 use Rattle.rules.specs.Steps.{Screen, reset, call}
 use Rattle.rules.specs.Recording.{Recording, shape, sections, recording}
 use Rattle.rules.specs.Walk.{Place, frame-of, judge-records, play-records, play, walk-all}
-use Rattle.rules.proofs.Logged.{walk-logged}
+use Rattle.rules.specs.Logged.{walk-logged}
 use Rattle.rules.specs.Painting.{received}
 use Rattle.rules.specs.Plain.{plain}
 use Rattle.rules.specs.Calls.{Canvas, begin-call}

@@ -1,16 +1,10 @@
 -- A row painted to its end, seen from the tile t: the newest depth fill that covers its bucket, then the commands that are no older.
-use Prim.Native.Nat.{ℕ, zero, suc, ◌+◌, ◌-◌, ◌/◌, ◌≤◌, ◌<◌}
-use native.Mathlib.Nat.{zero-add, suc-add, add-zero, add-suc, le_refl, sub-zero}
-use native.Mathlib.Numerals.{add-one}
-use native.Mathlib.Omega.{arith}
-use mathlib.Core.Path.{◌≡◌, refl, sym, ◌∙◌, ap}
-use mathlib.Core.Bool.{Bool, true, false, ◌&&◌, ◌||◌, not, cond}
-use Rattle.std.specs.Prelude.{Option, None, Some}
-use mathlib.Core.List.{List, [], ◌∷◌, ◌++◌, map, append_assoc, append-nil, map-append}
-use lib.ListN.{length, get_or, drop, replicate, length-replicate, drop_of_length-le}
-use lib.Seq.{drop-cons}
-use lib.Dec.{leb, ltb, eqb}
-use borrow.Author.Tests.{lt-ltb, le-ltb, ltb-true, ltb-false, ne_eqb}
+use Rattle.std.proofs.Common.{ℕ, zero, suc, ◌+◌, ◌-◌, ◌/◌, ◌≤◌, ◌<◌, zero-add, suc-add, add-zero, add-suc, le_refl, add-one, arith, ◌≡◌, refl, sym, ◌∙◌, ap, Bool, true, false, ◌&&◌, not, Option, None}
+use Rattle.std.proofs.Common.{List, [], ◌∷◌, ◌++◌, map, append_assoc, append-nil, length, get_or, drop, replicate, drop_of_length-le, drop-cons, leb, ltb, eqb, lt-ltb, le-ltb, ltb-true, ltb-false}
+use Rattle.std.proofs.Common.{ne_eqb}
+use native.Mathlib.Nat.{sub-zero}
+use mathlib.Core.List.{map-append}
+use lib.ListN.{length-replicate}
 use Rattle.rules.specs.Lists.{such, keep, some_of, is-empty}
 use Rattle.rules.specs.Spans.{Span, span, covers}
 use Rattle.rules.specs.Commands.{Command, paint-fill, layer-fill, push-buf, pop-buf, DepthFill}
@@ -21,7 +15,7 @@ use Rattle.rules.specs.Painting.{Piece, fill-piece, Painter, Painted, Entry, beg
 use Rattle.rules.specs.Plain.{Told}
 use Rattle.rules.proofs.All.{All, nil, cons, all_drop, never}
 use Rattle.rules_picture.proofs.Cases.{by}
-use Rattle.rules_picture.proofs.Newest.{newest, depth-after, after-length, holds-newest, write-zero, painter-after, Stands, stands, fill-at, next-is, painted-newest}
+use Rattle.rules_picture.proofs.Newest.{newest, after-length, holds-newest, write-zero, painter-after, stands, fill-at, next-is, painted-newest}
 use Rattle.rules_picture.proofs.Shown.{hides-of, newest-hide, hider}
 use Rattle.rules_picture.proofs.Pieces.{entry_in, received-append, fill-received, depth-received}
 

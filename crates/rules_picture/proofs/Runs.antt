@@ -1,14 +1,7 @@
 -- Each open bucket lies in exactly one of the runs, and each other bucket in none.
-use Prim.Native.Nat.{ℕ, zero, suc, ◌+◌, ◌-◌, ◌≤◌, ◌<◌}
-use mathlib.Core.Path.{◌≡◌, refl, sym, ap, ◌∙◌}
-use mathlib.Core.Bool.{Bool, true, false, ◌&&◌, cond}
-use mathlib.Core.List.{List, [], ◌∷◌}
-use native.Mathlib.Nat.{add-suc, suc-add, add-zero, le_of_suc-le-suc, not-suc-le-zero, le_refl}
-use native.Mathlib.Omega.{arith}
-use lib.ListN.{length, get_or, take, drop, length-take, length-drop}
-use lib.Seq.{get_or-take, get_or-drop}
-use lib.Dec.{leb, ltb, eqb}
-use borrow.Author.Tests.{lt-ltb, le-ltb, le-leb, lt-leb, leb-true, leb-false, ltb-false, eqb-true, eqb-false}
+use Rattle.std.proofs.Common.{ℕ, zero, suc, ◌+◌, ◌-◌, ◌≤◌, ◌<◌, ◌≡◌, refl, sym, ap, ◌∙◌, Bool, true, false, ◌&&◌, cond, List, [], ◌∷◌, add-suc, suc-add, add-zero, le_of_suc-le-suc, not-suc-le-zero}
+use Rattle.std.proofs.Common.{le_refl, arith, length, get_or, drop, length-take, length-drop, get_or-take, get_or-drop, leb, ltb, eqb, lt-ltb, le-ltb, le-leb, leb-true, leb-false, ltb-false, eqb-true}
+use borrow.Author.Tests.{lt-leb}
 use Rattle.rules.specs.Lists.{such, keep, slice}
 use Rattle.rules.specs.Spans.{Span, span, covers}
 use Rattle.rules.specs.Depth.{join-run, bucket-runs, runs-in}

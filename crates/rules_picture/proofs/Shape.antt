@@ -1,12 +1,5 @@
 -- The open layers as one row sees them: those that it is touched for are the outermost, and as many as it has buffers.
-use Prim.Native.Nat.{ℕ, zero, suc, ◌≤◌}
-use native.Mathlib.Omega.{arith}
-use mathlib.Core.Path.{◌≡◌, refl, sym, ◌∙◌, ap}
-use mathlib.Core.Bool.{Bool, true, false}
-use mathlib.Core.List.{List, [], ◌∷◌, map}
-use lib.ListN.{length}
-use lib.Dec.{eqb}
-use borrow.Author.Tests.{eq-eqb, ne_eqb}
+use Rattle.std.proofs.Common.{ℕ, suc, ◌≤◌, arith, ◌≡◌, refl, sym, ◌∙◌, ap, Bool, true, false, List, [], ◌∷◌, map, length, eqb, eq-eqb, ne_eqb}
 use Rattle.rules.specs.Plans.{Layer}
 use Rattle.rules.specs.Plain.{OpenLayer, touch-all}
 use Rattle.rules.proofs.All.{never}

@@ -1,19 +1,10 @@
 -- Of an ordered list of segments, cut, at most one covers a tile of a row.
-use Prim.Native.Nat.{ℕ, zero, suc, ◌+◌, ◌-◌, ◌/◌, ◌≤◌, ◌<◌, min, max}
-use native.Mathlib.Nat.{le-div_iff_mul-le, div-mul-le_self}
-use native.Mathlib.Omega.{arith}
-use mathlib.Core.Path.{◌≡◌, refl, sym, ◌∙◌, ap}
-use mathlib.Core.Bool.{Bool, true, false, ◌&&◌, ◌||◌, cond}
-use Rattle.std.specs.Prelude.{Option, None, Some}
-use mathlib.Core.List.{List, [], ◌∷◌, ◌++◌}
-use lib.ListN.{length}
-use lib.Dec.{leb, ltb, eqb}
-use borrow.Author.Tests.{leb-true, ltb-true, eqb-true}
-use Rattle.rules.specs.Lists.{such, keep, join}
+use Rattle.std.proofs.Common.{ℕ, ◌+◌, ◌-◌, ◌/◌, ◌≤◌, ◌<◌, arith, ◌≡◌, refl, sym, ◌∙◌, ap, true, ◌&&◌, List, [], ◌∷◌, ◌++◌, leb, ltb, eqb, leb-true, ltb-true, eqb-true}
+use Rattle.rules.specs.Lists.{such, join}
 use Rattle.rules.specs.Boxes.{Box, scene-tiles}
-use Rattle.rules.specs.Spans.{Span, span, covers, Stretch, shifted, common, when-some, meeting, cut_at, cut-when, cut_to}
-use Rattle.rules.specs.Segments.{Segment, good-segment, follows, ordered-after, ordered, Cut, localised, on_row, stretch-of, cut_in, cuts}
-use Rattle.rules.proofs.All.{All, nil, cons, both, never, all_map, and_left, and_right}
+use Rattle.rules.specs.Spans.{span, covers, shifted, common, meeting, cut_at, cut_to}
+use Rattle.rules.specs.Segments.{Segment, good-segment, follows, ordered-after, ordered, Cut, stretch-of, cut_in, cuts}
+use Rattle.rules.proofs.All.{All, nil, cons, all_map, and_left, and_right}
 use Rattle.rules.proofs.laws.Bounds.{good-facts}
 use Rattle.rules_picture.proofs.Cases.{by, covers_low, covers_high}
 use Rattle.rules_picture.proofs.Listed.{such-append}

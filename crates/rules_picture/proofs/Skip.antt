@@ -1,14 +1,7 @@
 -- Where a row's summary says that a span can be skipped, every bucket of the span is visible after the row's depth fills.
-use Prim.Native.Nat.{ℕ, zero, suc, ◌+◌, ◌-◌, ◌/◌, ◌≤◌, ◌<◌}
-use native.Mathlib.Nat.{add-zero, add-suc, suc-add, zero-add, le_refl}
-use native.Mathlib.Omega.{arith}
-use mathlib.Core.Path.{◌≡◌, refl, sym, ◌∙◌, ap}
-use mathlib.Core.Bool.{Bool, true, false}
-use Rattle.std.specs.Prelude.{Option, None, Some}
-use mathlib.Core.List.{List}
-use lib.ListN.{length, get_or, drop, replicate, length-replicate}
-use lib.Dec.{leb, ltb, eqb}
-use borrow.Author.Tests.{leb-true, leb-false, le-leb, le-ltb}
+use Rattle.std.proofs.Common.{ℕ, zero, suc, ◌+◌, ◌-◌, ◌/◌, ◌≤◌, ◌<◌, add-zero, add-suc, suc-add, zero-add, le_refl, arith, ◌≡◌, refl, sym, ◌∙◌, ap, Bool, true, false, Option, None, Some, List, length}
+use Rattle.std.proofs.Common.{get_or, drop, replicate, leb, ltb, eqb, leb-true, leb-false, le-leb, le-ltb}
+use lib.ListN.{length-replicate}
 use Rattle.rules.specs.Answers.{Done}
 use Rattle.rules.specs.Boxes.{width, rows_of}
 use Rattle.rules.specs.Spans.{Span, covers, bad-range}

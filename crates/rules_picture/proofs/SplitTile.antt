@@ -1,13 +1,8 @@
 -- Rule 7 seen from one tile t of bucket k: if the span covers the whole bucket, the depth fill has it and no regular piece has t;
 -- otherwise the depth fill does not have it, and exactly one regular piece has t if the span has.
-use Prim.Native.Nat.{ℕ, zero, suc, ◌+◌, ◌-◌, ◌*◌, ◌/◌, ◌%◌, ◌≤◌, ◌<◌}
-use mathlib.Core.Path.{◌≡◌, refl, sym, ap, ◌∙◌}
-use mathlib.Core.Bool.{Bool, true, false, ◌&&◌, cond}
-use mathlib.Core.List.{List, [], ◌∷◌}
-use native.Mathlib.Nat.{suc-mul, mod-lt, div-add-mod', mul-div_cancel, mul-le-mul_right, lt_of_mul-lt-mul_right, lt_of_not-le, le_of_suc-le-suc}
-use native.Mathlib.Omega.{arith}
-use lib.Dec.{leb, ltb}
-use borrow.Author.Tests.{lt-ltb, le-ltb, le-leb, lt-leb, leb-true, leb-false, ltb-true, ltb-false}
+use Rattle.std.proofs.Common.{ℕ, suc, ◌+◌, ◌-◌, ◌*◌, ◌/◌, ◌%◌, ◌≤◌, ◌<◌, ◌≡◌, refl, Bool, true, false, ◌&&◌, cond, List, [], ◌∷◌, suc-mul, mod-lt, div-add-mod', mul-div_cancel, mul-le-mul_right}
+use Rattle.std.proofs.Common.{lt_of_mul-lt-mul_right, lt_of_not-le, le_of_suc-le-suc, arith, leb, ltb, lt-ltb, le-ltb, le-leb, leb-true, leb-false, ltb-true, ltb-false}
+use borrow.Author.Tests.{lt-leb}
 use Rattle.rules.specs.Lists.{keep}
 use Rattle.rules.specs.Spans.{Span, span, covers}
 use Rattle.rules.specs.Split.{Part, regular, buckets, raised, lowered, split}

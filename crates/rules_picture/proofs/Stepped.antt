@@ -1,20 +1,14 @@
 -- Any done step follows the story of a tile.
-use Prim.Native.Nat.{ℕ, zero, suc, ◌+◌, ◌/◌, ◌≤◌, ◌<◌}
-use native.Mathlib.Omega.{arith}
-use mathlib.Core.Path.{◌≡◌, refl, sym, ◌∙◌, ap}
-use mathlib.Core.Bool.{Bool, true, false, not, cond}
-use mathlib.Core.List.{List, [], ◌∷◌, ◌++◌, map, append_assoc, append-nil}
-use lib.ListN.{length, get_or, length-map}
-use lib.Dec.{eqb}
-use borrow.Author.Tests.{eq-eqb, eqb-true}
+use Rattle.std.proofs.Common.{ℕ, ◌<◌, arith, ◌≡◌, refl, sym, ◌∙◌, ap, Bool, true, false, cond, List, [], ◌∷◌, ◌++◌, map, append_assoc, append-nil, length, eqb, eq-eqb, eqb-true}
+use lib.ListN.{length-map}
 use Rattle.rules.specs.Lists.{is-empty}
-use Rattle.rules.specs.Answers.{Answer, Done, BadRecord, NoLayer}
+use Rattle.rules.specs.Answers.{Done, BadRecord, NoLayer}
 use Rattle.rules.specs.Boxes.{Box}
 use Rattle.rules.specs.Segments.{Segment}
 use Rattle.rules.specs.Inputs.{Filter, good-filter-fill, draw-segments}
 use Rattle.rules.specs.Attributes.{PaintAttr, LayerAttr, Attrs}
 use Rattle.rules.specs.Rows.{Row, RowOps, row-ops}
-use Rattle.rules.specs.Plans.{Layer, State, Step, a-fill, a-push, a-pop, a-filter, Plan, box_of, filter-box, draws-nothing, plan-fill, plan-push, plan-pop, plan-filter-in, plan-filter, plan, still}
+use Rattle.rules.specs.Plans.{Layer, State, Step, a-fill, a-push, a-pop, a-filter, box_of, filter-box, draws-nothing, plan-fill, plan-push, plan-pop, plan-filter-in, plan-filter, plan, still}
 use Rattle.rules.specs.Steps.{Screen, do-puts, done, refusal, perform, touched, call}
 use Rattle.rules.specs.Plain.{Story, OpenLayer, box-now, tell-pop, tell-filter, tell-step}
 use Rattle.rules_picture.proofs.Cases.{by}

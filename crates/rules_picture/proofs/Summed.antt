@@ -1,8 +1,5 @@
 -- A row's depth summary includes each of its depth fills: the tiles lie in its union, and the id is no larger than its largest.
-use Prim.Native.Nat.{ℕ, ◌≤◌}
-use native.Mathlib.Nat.{le_refl}
-use native.Mathlib.Omega.{arith}
-use Rattle.std.specs.Prelude.{Option, None, Some}
+use Rattle.std.proofs.Common.{ℕ, ◌≤◌, le_refl, arith, Option, None, Some}
 use Rattle.rules.specs.Spans.{Span, hull}
 use Rattle.rules.specs.Commands.{DepthFill}
 use Rattle.rules.specs.Attributes.{Attrs}

@@ -1,14 +1,9 @@
 -- Rows painted by turns: each gives what it gives alone, and one that has finished gives nothing more.
-use Prim.Native.Nat.{ℕ, zero, suc, ◌+◌, ◌-◌, ◌≤◌, ◌<◌}
+use Rattle.std.proofs.Common.{ℕ, zero, suc, ◌+◌, ◌-◌, ◌≤◌, ◌<◌, arith, ◌≡◌, refl, sym, ◌∙◌, ap, Bool, true, false, ◌&&◌, not, cond, List, [], ◌∷◌, ◌++◌, length, get_or, length-set, get_or-set_same}
+use Rattle.std.proofs.Common.{get_or-set_other, ltb, eqb, ltb-true, ltb-false, le-ltb, eqb-true}
 use native.Mathlib.Nat.{sub-zero}
-use native.Mathlib.Omega.{arith}
-use mathlib.Core.Path.{◌≡◌, refl, sym, ◌∙◌, ap}
-use mathlib.Core.Bool.{Bool, true, false, ◌&&◌, ◌||◌, not, cond}
-use mathlib.Core.List.{List, [], ◌∷◌, ◌++◌}
-use lib.ListN.{length, get_or, length-set, length-replicate, get_or-replicate}
-use lib.Seq.{get_or-set_same, get_or-set_other}
-use lib.Dec.{ltb, eqb}
-use borrow.Author.Tests.{ltb-true, ltb-false, le-ltb, eqb-true, eqb-false}
+use lib.ListN.{length-replicate, get_or-replicate}
+use borrow.Author.Tests.{eqb-false}
 use Rattle.rules.specs.Lists.{is-empty}
 use Rattle.rules.specs.Answers.{first_of, Done, BadRun, Open, NoRoom}
 use Rattle.rules.specs.Commands.{Command, paint-fill, layer-fill, push-buf, pop-buf}
@@ -38,12 +33,6 @@ module _ (w : ℕ) (attrs : Attrs) where
     when-counts true b e = refl
     when-counts false true e = (command-counts (get_or r.commands (p.steps - length r.fills) pop-buf) p).1
     when-counts false false e = never e
-
-    when-left : (a b : Bool) → (paint-when w attrs a b r p).finished ≡ false → (a || b) ≡ true
-    unfolding paint-when
-    when-left true b e = refl
-    when-left false true e = refl
-    when-left false false e = never e
 
     when-ended : (a b : Bool) → (paint-when w attrs a b r p).finished ≡ true → (a ≡ false) × (b ≡ false)
     unfolding paint-when paint-depth
@@ -190,11 +179,6 @@ pub turns-paints : (ts : List Turn) (k : Canvas) → paints-on (turns ts k).canv
 unfolding turns
 turns-paints [] k = refl
 turns-paints (t ∷ ts) k = turns-paints ts (paint-call t.row t.room k).value.canvas ∙ call-paints t.row t.room k
-
-pub turns-begun : (ts : List Turn) (k : Canvas) → (turns ts k).canvas.begun ≡ k.begun
-unfolding turns
-turns-begun [] k = refl
-turns-begun (t ∷ ts) k = turns-begun ts (paint-call t.row t.room k).value.canvas ∙ call-begun t.row t.room k
 
 pub turns-count : (ts : List Turn) (k : Canvas) → length (turns ts k).canvas.painters ≡ length k.painters
 unfolding turns

@@ -1,14 +1,6 @@
 -- A span of which every bucket is visible is one visible run; so is a span that can be skipped.
-use Prim.Native.Nat.{ℕ, suc, ◌+◌, ◌-◌, ◌*◌, ◌/◌, ◌≤◌, ◌<◌, min, max}
-use native.Mathlib.Nat.{le_refl, div-mul-le_self, suc-add, add-suc}
-use native.Mathlib.Numerals.{add-one}
-use native.Mathlib.Omega.{arith}
-use mathlib.Core.Path.{◌≡◌, refl, sym, ◌∙◌, ap}
-use mathlib.Core.Bool.{Bool, true}
-use mathlib.Core.List.{List, [], ◌∷◌}
-use lib.ListN.{length, get_or, drop, length-take, length-drop}
-use lib.Seq.{get_or-take, get_or-drop}
-use borrow.Author.Tests.{lt-ltb, eq-eqb}
+use Rattle.std.proofs.Common.{ℕ, suc, ◌+◌, ◌-◌, ◌*◌, ◌/◌, ◌≤◌, ◌<◌, min, max, le_refl, div-mul-le_self, suc-add, add-suc, add-one, arith, ◌≡◌, refl, sym, ◌∙◌, ap, Bool, true, List, [], ◌∷◌, length}
+use Rattle.std.proofs.Common.{get_or, drop, length-take, length-drop, get_or-take, get_or-drop, lt-ltb, eq-eqb}
 use Rattle.rules.specs.Lists.{slice}
 use Rattle.rules.specs.Answers.{Done}
 use Rattle.rules.specs.Boxes.{width, rows_of}

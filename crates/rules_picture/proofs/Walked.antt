@@ -1,12 +1,5 @@
 -- A walk with a log does what the walk does: done steps from the screen before to the screen after, and every layer that it opens it closes.
-use Prim.Native.Nat.{ℕ, zero, suc, ◌+◌, ◌-◌, ◌≤◌, ◌<◌}
-use native.Mathlib.Omega.{arith}
-use mathlib.Core.Path.{◌≡◌, refl, sym, ◌∙◌, ap}
-use mathlib.Core.Bool.{Bool, true, false, not, cond}
-use mathlib.Core.List.{List, [], ◌∷◌, ◌++◌, append_assoc, append-nil}
-use lib.ListN.{length, get_or}
-use lib.Dec.{ltb, eqb}
-use borrow.Author.Tests.{eqb-true, eq-eqb, ltb-false}
+use Rattle.std.proofs.Common.{ℕ, zero, suc, ◌+◌, ◌-◌, ◌≤◌, ◌<◌, arith, ◌≡◌, refl, sym, ◌∙◌, ap, Bool, true, false, not, cond, List, [], ◌∷◌, ◌++◌, append_assoc, append-nil, length, get_or, ltb, eqb, eqb-true, eq-eqb, ltb-false}
 use Rattle.rules.specs.Lists.{every, slice}
 use Rattle.rules.specs.Answers.{Answer, answer, first_of, Done, BadRecord, BadOrder, Deep, Ids, FullAttrs, FullRow, FullDepth}
 use Rattle.rules.specs.Boxes.{Box}
@@ -18,7 +11,7 @@ use Rattle.rules.specs.Plans.{Layer, State, Step, a-fill, a-push, a-pop, a-filte
 use Rattle.rules.specs.Steps.{Screen, done, passes, refusal, perform, touched, call}
 use Rattle.rules.specs.Recording.{Recording, LayerRec, Node, layer-rec}
 use Rattle.rules.specs.Walk.{◌then◌, when, each, props-of, walk-filter, walk-node, walk-nodes, walk-layer, walk-all}
-use Rattle.rules.proofs.Logged.{Logged, logged-call}
+use Rattle.rules.specs.Logged.{Logged, logged-call}
 use Rattle.rules.proofs.All.{All, nil, cons, never}
 use Rattle.rules_picture.specs.Built.{Built, no_step, then as then_step}
 use Rattle.rules_picture.proofs.Cases.{by}

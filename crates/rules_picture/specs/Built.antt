@@ -1,6 +1,6 @@
 -- A screen of the rules built by done steps, at its own width.
 use Rattle.std.specs.Prelude.{◌≡◌, List, [], ◌∷◌}
-use Rattle.rules.specs.Answers.{Answer, Done}
+use Rattle.rules.specs.Answers.{Done}
 use Rattle.rules.specs.Rows.{Row, row-ops}
 use Rattle.rules.specs.Plans.{Step}
 use Rattle.rules.specs.Steps.{Screen, call}

@@ -3,3 +3,4 @@ pub mod Turns
 pub mod Skip
 pub mod Recorded
 pub mod Panels
+pub mod TwoPanels

@@ -7,7 +7,7 @@ use Rattle.rules.specs.Plans.{Step}
 use Rattle.rules.specs.Steps.{Screen, reset, call}
 use Rattle.rules.specs.Recording.{Recording, shape, sections, recording}
 use Rattle.rules.specs.Walk.{Place, frame-of, play}
-use Rattle.rules.proofs.Logged.{walk-logged}
+use Rattle.rules.specs.Logged.{walk-logged}
 use Rattle.rules_picture.specs.Built.{Built}
 
 -- the file's words ws played, where the screen was `old`

@@ -1,15 +1,12 @@
 -- Tests: the reasons of recordings, each at its edges, by computation.
-use Prim.Native.Nat.{ℕ}
-use mathlib.Core.Path.{◌≡◌, refl}
-use mathlib.Core.Bool.{true, false}
-use mathlib.Core.List.{List, [], ◌∷◌, map}
+use Rattle.std.proofs.Common.{ℕ, ◌≡◌, refl, true, false, List, [], ◌∷◌, map}
 use Rattle.sizes.specs.declared.width.Width.{Width}
 use Rattle.sizes.specs.declared.width.Width.TheVariants.{W64, W128, W256}
 use Rattle.sizes.specs.Widths.{bucket-tiles}
 use Rattle.rules.specs.Recording.{Recording}
 use Rattle.rules.proofs.Picture.{walked}
 use Rattle.rules.proofs.Computing.{computing}
-use Rattle.rules.proofs.Cases.{panel, parent-cut, unreached, destructive-push, last-bucket, shifted, left_cut, nan-filter, no-picture, away, clipped-filter}
+use Rattle.rules.proofs.Cases.{panel, parent-cut, unreached, destructive-push, last-bucket, shifted, left_cut, nan-filter, no-picture}
 use Rattle.rules_reason.specs.Reasons.{Reason, unknown-attribute, no-segment, cut-away, row-untouched, hidden-by, shown-at, Asked, account-step, accounts, account-of, place_of, newest-hider, because, reason}
 
 -- all that has to unfold to compute a reason

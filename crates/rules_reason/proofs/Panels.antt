@@ -1,13 +1,10 @@
 -- Tests: whose panels stand in a reason, by computation. The other tests are at panel 0.
-use Prim.Native.Nat.{ℕ}
-use mathlib.Core.Path.{◌≡◌, refl}
-use mathlib.Core.List.{List, [], ◌∷◌, map}
-use Rattle.std.specs.Prelude.{Some}
+use Rattle.std.proofs.Common.{ℕ, ◌≡◌, refl, List, [], ◌∷◌, map, Some}
 use Rattle.rules.specs.Boxes.{Box, box}
 use Rattle.rules.specs.Blends.{default-blend}
 use Rattle.rules.specs.Segments.{Segment}
 use Rattle.rules.specs.Plans.{Step, a-fill, a-push, a-pop, a-filter}
-use Rattle.rules.proofs.Samples.{solid, opaque-paint, draw-for, any-props, clip, full, filter}
+use Rattle.rules.specs.cases.Samples.{solid, opaque-paint, draw-for, any-props, clip, full, filter}
 use Rattle.rules_reason.specs.Reasons.{Reason, unknown-attribute, no-segment, cut-away, row-untouched, hidden-by, shown-at, Asked, reason}
 use Rattle.rules_reason.proofs.Cases.{computing-reasons, draw-of, layer-of}
 

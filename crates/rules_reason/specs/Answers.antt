@@ -1,5 +1,5 @@
 -- What `why` prints of a recording file's bytes, a row, a tile and a question: over the rules alone.
-use Rattle.std.specs.Prelude.{ℕ, zero, suc, ◌/◌, Bool, true, false, ◌||◌, cond, List, [], ◌∷◌, ◌++◌, length, leb, eqb}
+use Rattle.std.specs.Prelude.{ℕ, zero, suc, ◌/◌, Bool, true, false, ◌||◌, cond, List, [], ◌∷◌, ◌++◌, length, leb, eqb, codes}
 use Rattle.std.specs.Prelude.{Option, None, Some}
 use Rattle.rules.specs.Answers.{Done, BadForm, BadRun}
 use Rattle.rules.specs.Boxes.{Box, width, rows_of}
@@ -8,8 +8,8 @@ use Rattle.rules.specs.Plans.{Frame, bucket, Step}
 use Rattle.rules.specs.Setups.{Setup, frame}
 use Rattle.rules.specs.Recording.{Recording, shape, sections, recording}
 use Rattle.rules.specs.Lines.{refused, rowlist-screen, words_of, too_long, digits, number, line-bytes}
-use Rattle.rules.specs.Plain.{Story, untold, tell-steps}
-use Rattle.rules.proofs.Logged.{walk-logged}
+use Rattle.rules.specs.Plain.{untold, tell-steps}
+use Rattle.rules.specs.Logged.{walk-logged}
 use Rattle.rules_reason.specs.Reasons.{Reason, unknown-attribute, no-segment, cut-away, row-untouched, hidden-by, shown-at, Asked, reason}
 
 -- every attribute's reason, or that of one
@@ -19,30 +19,30 @@ pub data Question : Type 0 where
 
 -- the words "unknown attribute", "no segment covers the tile", "cut away by a clip box", "row never touched by the closing layer"
 abbrev pub unknown-text : List ℕ
-unknown-text = 117 ∷ 110 ∷ 107 ∷ 110 ∷ 111 ∷ 119 ∷ 110 ∷ 32 ∷ 97 ∷ 116 ∷ 116 ∷ 114 ∷ 105 ∷ 98 ∷ 117 ∷ 116 ∷ 101 ∷ []
+unknown-text = codes "unknown attribute"
 
 abbrev pub no-segment-text : List ℕ
-no-segment-text = 110 ∷ 111 ∷ 32 ∷ 115 ∷ 101 ∷ 103 ∷ 109 ∷ 101 ∷ 110 ∷ 116 ∷ 32 ∷ 99 ∷ 111 ∷ 118 ∷ 101 ∷ 114 ∷ 115 ∷ 32 ∷ 116 ∷ 104 ∷ 101 ∷ 32 ∷ 116 ∷ 105 ∷ 108 ∷ 101 ∷ []
+no-segment-text = codes "no segment covers the tile"
 
 abbrev pub cut-away-text : List ℕ
-cut-away-text = 99 ∷ 117 ∷ 116 ∷ 32 ∷ 97 ∷ 119 ∷ 97 ∷ 121 ∷ 32 ∷ 98 ∷ 121 ∷ 32 ∷ 97 ∷ 32 ∷ 99 ∷ 108 ∷ 105 ∷ 112 ∷ 32 ∷ 98 ∷ 111 ∷ 120 ∷ []
+cut-away-text = codes "cut away by a clip box"
 
 abbrev pub untouched-text : List ℕ
-untouched-text = 114 ∷ 111 ∷ 119 ∷ 32 ∷ 110 ∷ 101 ∷ 118 ∷ 101 ∷ 114 ∷ 32 ∷ 116 ∷ 111 ∷ 117 ∷ 99 ∷ 104 ∷ 101 ∷ 100 ∷ 32 ∷ 98 ∷ 121 ∷ 32 ∷ 116 ∷ 104 ∷ 101 ∷ 32 ∷ 99 ∷ 108 ∷ 111 ∷ 115 ∷ 105 ∷ 110 ∷ 103 ∷ 32 ∷ 108 ∷ 97 ∷ 121 ∷ 101 ∷ 114 ∷ []
+untouched-text = codes "row never touched by the closing layer"
 
 -- the words "hidden by a newer depth fill, attribute", "shown, place"
 abbrev pub hidden-text : List ℕ
-hidden-text = 104 ∷ 105 ∷ 100 ∷ 100 ∷ 101 ∷ 110 ∷ 32 ∷ 98 ∷ 121 ∷ 32 ∷ 97 ∷ 32 ∷ 110 ∷ 101 ∷ 119 ∷ 101 ∷ 114 ∷ 32 ∷ 100 ∷ 101 ∷ 112 ∷ 116 ∷ 104 ∷ 32 ∷ 102 ∷ 105 ∷ 108 ∷ 108 ∷ 44 ∷ 32 ∷ 97 ∷ 116 ∷ 116 ∷ 114 ∷ 105 ∷ 98 ∷ 117 ∷ 116 ∷ 101 ∷ []
+hidden-text = codes "hidden by a newer depth fill, attribute"
 
 abbrev pub shown-text : List ℕ
-shown-text = 115 ∷ 104 ∷ 111 ∷ 119 ∷ 110 ∷ 44 ∷ 32 ∷ 112 ∷ 108 ∷ 97 ∷ 99 ∷ 101 ∷ []
+shown-text = codes "shown, place"
 
 -- the words ", panel", " of panel"
 abbrev pub panel-text : List ℕ
-panel-text = 44 ∷ 32 ∷ 112 ∷ 97 ∷ 110 ∷ 101 ∷ 108 ∷ []
+panel-text = codes ", panel"
 
 abbrev pub of-panel-text : List ℕ
-of-panel-text = 32 ∷ 111 ∷ 102 ∷ 32 ∷ 112 ∷ 97 ∷ 110 ∷ 101 ∷ 108 ∷ []
+of-panel-text = codes " of panel"
 
 -- how a reason ends
 abbrev pub panel-bytes : ℕ → List ℕ
@@ -62,16 +62,16 @@ reason-bytes r = reason-text r ++ (10 ∷ [])
 
 -- the words "layer", "draw", ": ", "question "
 abbrev pub layer-text : List ℕ
-layer-text = 108 ∷ 97 ∷ 121 ∷ 101 ∷ 114 ∷ []
+layer-text = codes "layer"
 
 abbrev pub draw-text : List ℕ
-draw-text = 100 ∷ 114 ∷ 97 ∷ 119 ∷ []
+draw-text = codes "draw"
 
 abbrev pub colon-text : List ℕ
-colon-text = 58 ∷ 32 ∷ []
+colon-text = codes ": "
 
 abbrev pub question-text : List ℕ
-question-text = 113 ∷ 117 ∷ 101 ∷ 115 ∷ 116 ∷ 105 ∷ 111 ∷ 110 ∷ 32 ∷ []
+question-text = codes "question "
 
 abbrev pub kind-text : Bool → List ℕ
 kind-text true = layer-text

@@ -1,24 +1,16 @@
 -- Laws of the table of open layers, for this crate and its callers. Assumes nothing.
-use mathlib.Core.Path.{◌≡◌, refl, sym, ap, ◌∙◌}
-use mathlib.Core.Bool.{Bool, true, false}
-use mathlib.Core.List.{List, ◌++◌}
-use Rattle.std.specs.Prelude.{Option, None, Some}
-use Prim.Native.Nat.{ℕ, ◌≤◌, ◌<◌, ◌+◌, ◌-◌, ◌*◌, ◌%◌}
-use native.Mathlib.Omega.{arith}
-use lib.Dec.{leb, ltb, eqb}
-use lib.ListN.{length, get_or, replicate, take, drop}
+use Rattle.std.proofs.Common.{◌≡◌, refl, sym, ap, ◌∙◌, Bool, true, false, List, ◌++◌, Option, None, Some, ℕ, ◌≤◌, ◌<◌, ◌+◌, ◌-◌, ◌*◌, ◌%◌, arith, leb, ltb, eqb, length, get_or, replicate, take, drop}
+use Rattle.std.proofs.Common.{append_assoc, length-drop, length-take-le, eq-eqb, leb-true, leb-false}
 use borrow.Rule.Slice.PartMut.{put_mid}
 use Rattle.std.proofs.lemmas.List.{drop-drop}
-use Rattle.std.proofs.Common.{append_assoc, length-drop, length-take-le}
 use lib.Ieee.{Float, binary32, is_nan}
 use lib.Ieee.Bits.{nan_bits_above}
-use borrow.Author.Tests.{eq-eqb, leb-true, leb-false}
 use Rattle.sizes.specs.Sizes.{most-layers, open-layer-size, open-layer-table}
 use Rattle.rules.specs.Inputs.{Clip}
 use Rattle.rules.specs.Plans.{Layer}
 use Rattle.cmd.specs.Attrs.{words-at}
-use Rattle.cmd.proofs.Tables.{length_at, at-inside, at-below, at_after}
-use Rattle.screen.specs.Layers.{good-pattern, layer-words, no_words, layer-word, box_in, clip-in, layer-at, open_at}
+use Rattle.cmd.proofs.Tables.{at-inside, at-below, at_after}
+use Rattle.screen.specs.Layers.{good-pattern, layer-words, no_words, layer-word, clip-in, layer-at, open_at}
 
 -- the words of a layer all 0
 n_words : (at n : ℕ) → at + n - at ≡ n
@@ -50,9 +42,6 @@ module _ (t : List ℕ) (k : ℕ) (h : k < most-layers) (l : length t ≡ open-l
   fits : open-layer-size * k + length ws ≤ length t
   fits = omega arith
 
-  pub stored-length : length (words-at t (open-layer-size * k) ws) ≡ open-layer-table
-  stored-length = length_at t (open-layer-size * k) ws fits ∙ l
-
   -- are read back
   pub same_word : (i : ℕ) → i < open-layer-size → layer-word (words-at t (open-layer-size * k) ws) k i ≡ get_or ws i 0
   same_word i g = at-inside t (open-layer-size * k) ws fits 0 i (omega arith)
@@ -65,48 +54,6 @@ module _ (t : List ℕ) (k : ℕ) (h : k < most-layers) (l : length t ≡ open-l
         by : (b : Bool) → leb j k ≡ b → layer-word (words-at t (open-layer-size * k) ws) j i ≡ layer-word t j i
         by true e = at-below t (open-layer-size * k) ws fits 0 (open-layer-size * j + i) (omega (arith, leb-true j k e))
         by false e = at_after t (open-layer-size * k) ws fits 0 (open-layer-size * j + i) (omega (arith, leb-false j k e))
-
-    pub other-box : box_in (words-at t (open-layer-size * k) ws) j ≡ box_in t j
-    other-box = rw (other_word 11 (omega arith), other_word 12 (omega arith), other_word 13 (omega arith), other_word 14 (omega arith))
-
-    pub other-layer : layer-at (words-at t (open-layer-size * k) ws) j ≡ layer-at t j
-    other-layer =
-        rw (
-          other_word 0 (omega arith),
-          other_word 1 (omega arith),
-          other_word 2 (omega arith),
-          other_word 3 (omega arith),
-          other_word 4 (omega arith),
-          other_word 5 (omega arith),
-          other_word 6 (omega arith),
-          other_word 7 (omega arith),
-          other_word 8 (omega arith),
-          other_word 9 (omega arith),
-          other_word 10 (omega arith),
-          other_word 11 (omega arith),
-          other_word 12 (omega arith),
-          other_word 13 (omega arith),
-          other_word 14 (omega arith),
-          other_word 16 (omega arith),
-        )
-
-    pub other-open : open_at (words-at t (open-layer-size * k) ws) j ≡ open_at t j
-    other-open =
-        rw (
-          other_word 0 (omega arith),
-          other_word 1 (omega arith),
-          other_word 2 (omega arith),
-          other_word 3 (omega arith),
-          other_word 8 (omega arith),
-          other_word 9 (omega arith),
-          other_word 10 (omega arith),
-          other_word 11 (omega arith),
-          other_word 12 (omega arith),
-          other_word 13 (omega arith),
-          other_word 14 (omega arith),
-          other_word 15 (omega arith),
-          other_word 16 (omega arith),
-        )
 
 -- a layer that was put is read back
 module _ (t : List ℕ) (k : ℕ) (h : k < most-layers) (e : length t ≡ open-layer-table) (l : Layer) (nan : ℕ) where

@@ -1,23 +1,17 @@
 -- What it says that a screen, or a reset, is judged 0.
-use mathlib.Core.Path.{◌≡◌, refl, sym}
-use mathlib.Core.Bool.{Bool, true, false, ◌&&◌, not}
-use mathlib.Core.List.{[], ◌∷◌}
-use Prim.Native.Nat.{ℕ, ◌*◌}
-use native.Mathlib.Omega.{arith}
-use lib.Dec.{eqb}
-use borrow.Author.Tests.{eqb-true, not-false}
+use Rattle.std.proofs.Common.{◌≡◌, refl, Bool, true, false, ◌&&◌, not, [], ◌∷◌, ℕ, ◌*◌, arith, eqb, eqb-true}
+use borrow.Author.Tests.{not-false}
 use Rattle.rules.specs.Answers.{first_of}
 use Rattle.rules.specs.Boxes.{good_viewport, rows_of}
-use Rattle.rules.specs.Plans.{Frame, buckets-across}
+use Rattle.rules.specs.Plans.{Frame}
 use Rattle.rules.specs.Walk.{good-room, good-arenas}
 use Rattle.rect.specs.Rects.{box_of}
 use Rattle.screen.specs.declared.Screen.{Screen}
 use Rattle.screen.specs.declared.Lengths.{Lengths}
-use Rattle.screen.specs.Screens.{good_screen, fresh-screen}
-use Rattle.screen.specs.Judging.{good-rooms, judged, good-fixed, good-tables, arenas, judged_reset}
+use Rattle.screen.specs.Screens.{good_screen}
+use Rattle.screen.specs.Judging.{good-rooms, judged, good-tables, arenas, judged_reset}
 use Rattle.rules.proofs.All.{and_left, and_right}
-use Rattle.screen.proofs.ScreenLaws.{Room, room, fresh-good}
-use Rattle.screen.proofs.Judged.{good}
+use Rattle.screen.proofs.ScreenLaws.{Room, room}
 
 -- no test of a judge said yes
 pub none_said : (x y z : Bool) → first_of ((x, 2) ∷ (y, 1) ∷ (z, 4) ∷ []) ≡ 0 → (x ≡ false) × (y ≡ false) × (z ≡ false)
@@ -70,21 +64,3 @@ module _ (f : Frame) (l : Lengths) where
   reset-says h =
       let all = none_said (not (good_viewport f.viewport)) (not (good-arenas f (arenas l))) (not (good-tables (rows_of f.viewport) l)) h in
       (not-false _ all.0, not-false _ all.1, not-false _ all.2)
-
-  -- after a done reset a building step finds nothing wrong with the screen
-  pub reset-passes : judged_reset f l ≡ 0 → judged (fresh-screen f) l.rows l.render l.fills ≡ 0
-  reset-passes h =
-      let n = rows_of f.viewport in
-      let a = good-room f.c && good-room f.d in
-      let re = eqb l.render (n * (4 * f.c)) in
-      let fi = eqb l.fills (n * (2 * f.d)) in
-      let de = eqb l.depth (n * buckets-across f) in
-      let ro = eqb l.rows (n * 54) in
-      let pa = eqb l.painting (n * 2) in
-      let all = reset-says h in
-      let g : (a && (re && fi && de)) ≡ true = all.1 in
-      let k : (re && fi) ≡ true = and_left (re && fi) de (and_right a (re && fi && de) g) in
-      let m : (ro && pa && good-fixed l) ≡ true = all.2 in
-      let w : ro ≡ true = and_left ro pa (and_left (ro && pa) (good-fixed l) m) in
-      let rooms : (a && re && fi) ≡ true = rw (and_left a (re && fi && de) g) k in
-      sym (good (fresh-screen f) l.rows l.render l.fills n refl all.0 rooms (eqb-true _ _ w) (fresh-good f))

@@ -1,14 +1,8 @@
 -- A reset that is refused, and one that is done.
-use mathlib.Core.Path.{◌≡◌, ap, ◌∙◌}
-use mathlib.Core.Bool.{true}
-use mathlib.Core.List.{List}
-use Prim.Native.Nat.{ℕ}
-use lib.ListN.{length, length-replicate}
-use borrow.Author.Tests.{ne_eqb}
+use Rattle.std.proofs.Common.{◌≡◌, ap, ◌∙◌, true, ℕ, ne_eqb, Ok, Err}
 use Rattle.rules.specs.Answers.{answer}
 use Rattle.rules.specs.Boxes.{good_viewport}
 use Rattle.rect.specs.declared.Rect.{Rect}
-use Rattle.std.specs.Prelude.{Ok, Err}
 use Rattle.sizes.specs.declared.answers.Refusal.{Refusal}
 use Rattle.sizes.specs.Refusals.{number_of}
 use Rattle.sizes.proofs.Refusals.{not_done}
@@ -21,10 +15,7 @@ use Rattle.screen.specs.declared.Setup.{Setup}
 use Rattle.screen.specs.declared.Lengths.{Lengths}
 use Rattle.screen.specs.Screens.{frame, frame-of, fresh-screen}
 use Rattle.screen.specs.Judging.{judged_reset}
-use Rattle.screen.specs.Tables.{zeros, Tables, lengths, zeroed, ScreenLent, lent, reset_to}
-
-pub length-zeros : {A : Type 0} (z : A) (xs : List A) → length (zeros z xs) ≡ length xs
-length-zeros z xs = length-replicate (length xs) z
+use Rattle.screen.specs.Tables.{Tables, lengths, zeroed, ScreenLent, lent, reset_to}
 
 module _ (f : Frame) (l : ScreenLent) where
   pub refused : (r : Refusal) → number_of r ≡ judged_reset f (lengths l.tables) → answer (number_of r) l ≡ reset_to f l

@@ -1,27 +1,20 @@
 -- Laws of screens, for this crate and its callers.
-use mathlib.Core.Path.{◌≡◌, refl, sym}
-use mathlib.Core.Bool.{Bool, true, false, ◌&&◌, ◌||◌}
-use Prim.Native.Nat.{ℕ, zero, suc, ◌≤◌, ◌*◌, ◌%◌}
-use native.Mathlib.Nat.{mul-le-mul}
-use native.Mathlib.Omega.{arith}
-use lib.ListN.{length, replicate, length-replicate}
-use lib.Dec.{leb, ltb, eqb}
-use borrow.Author.Tests.{leb-true, ltb-false, eqb-true, eq-eqb, ne_eqb, le-leb}
+use Rattle.std.proofs.Common.{◌≡◌, refl, sym, Bool, true, ◌&&◌, ℕ, zero, suc, ◌≤◌, ◌%◌, arith, length, replicate, leb, eqb, leb-true, eqb-true, eq-eqb, ne_eqb, le-leb}
+use lib.ListN.{length-replicate}
 use Rattle.sizes.specs.declared.width.Width.{Width}
 use Rattle.sizes.specs.Widths.{bucket-tiles}
 use Rattle.rules.specs.Lists.{is-empty}
 use Rattle.rules.specs.Boxes.{Box, width, height, by_4, whole, rows_of, buckets-of, good_viewport}
-use Rattle.rules.specs.Attributes.{attrs-full, no-paint, no-layer}
+use Rattle.rules.specs.Attributes.{no-paint, no-layer}
 use Rattle.rules.specs.Plans as plans
 use Rattle.rules.specs.Plans.{Frame, Plan, clip-box}
-use Rattle.rules.specs.Steps.{reset-state}
 use Rattle.rules.specs.Walk.{good-room}
 use Rattle.rules.proofs.laws.Widths.{each}
 use Rattle.rect.specs.Rects.{box_of, same-box}
 use Rattle.rect.proofs.Boxes.{View, view}
 use Rattle.screen.specs.declared.Screen.{Screen}
-use Rattle.screen.specs.Screens.{in-tiles, good_clip, good-counts, good_screen, some-filter, layer-in, state-of, screen-after, counted, fresh-screen}
-use Rattle.rules.proofs.All.{and_left, and_right, or_left, or_right}
+use Rattle.screen.specs.Screens.{in-tiles, good_clip, good-counts, good_screen, some-filter, layer-in, state-of, screen-after, counted}
+use Rattle.rules.proofs.All.{and_left, and_right}
 
 pub record Room (n : ℕ) : Type 0 where
   pub some : 1 ≤ n
@@ -30,10 +23,6 @@ pub record Room (n : ℕ) : Type 0 where
 pub room : (n : ℕ) → good-room n ≡ true → Room n
 room n h =
     record { some = leb-true _ _ (and_left (leb 1 n) (leb n 1024) h); few = leb-true _ _ (and_right (leb 1 n) (leb n 1024) h) }
-
--- the words of an arena's n rows, k for each command
-pub small : (n k c : ℕ) → n ≤ 512 → k ≤ 4 → good-room c ≡ true → n * (k * c) ≤ 2097152
-small n k c p q g = mul-le-mul {n₂ = 512} {m₂ = 4096} p (mul-le-mul {n₂ = 4} {m₂ = 1024} q (room c g).few)
 
 module _ (v : Box) (g : good_viewport v ≡ true) where
   pub few_rows : rows_of v ≤ 512
@@ -64,9 +53,6 @@ same a b h =
     let r : a.x1 ≡ b.x1 = eqb-true _ _ (and_right (t1 && t2) t3 h3) in
     let s : a.y1 ≡ b.y1 = eqb-true _ _ (and_right (t1 && t2 && t3) t4 h) in
     rw (p, q, r, s)
-
-same-itself : (a : Box) → same-box a a ≡ true
-same-itself a = rw (eq-eqb a.x0 a.x0 refl, eq-eqb a.y0 a.y0 refl, eq-eqb a.x1 a.x1 refl, eq-eqb a.y1 a.y1 refl)
 
 -- what a good clip box is, with layers open or none
 pub record Clip (v b : Box) : Type 0 where
@@ -216,32 +202,3 @@ none_in (suc n) x = sym (ne_eqb (suc n) 0 (λ e. omega arith))
 pub none_open : (s : Screen) → is-empty (state-of s).layers ≡ eqb s.layers 0
 unfolding state-of
 none_open s = none_in s.layers _
-
--- a fresh screen stands for the rules' reset, and is good
-pub fresh-state : (f : Frame) → state-of (fresh-screen f) ≡ reset-state f
-unfolding state-of
-fresh-state f = refl
-
-pub fresh-good : (f : Frame) → good_screen (fresh-screen f) ≡ true
-unfolding good_screen good_clip
-fresh-good f = same-itself (whole f.viewport)
-
--- a done plan leaves a good screen, if its clip box is good
-pub good-after : (s : Screen) (p : Plan) → 1 ≤ p.next → p.next ≤ 1048577 → attrs-full p.attrs ≡ false → length p.layers ≤ 16
-    → good_clip (box_of s.viewport) (clip-box (box_of s.viewport) p.layers) (length p.layers) ≡ true
-    → good_screen (screen-after s p) ≡ true
-unfolding good_screen screen-after
-good-after s p h1 h2 h3 h4 h5 =
-    let f1 = ltb 1024 (length p.attrs.paints) in
-    let f2 = ltb 1024 (length p.attrs.layers) in
-    let f3 = ltb 256 (length p.attrs.filters) in
-    let k : (f1 || f2) ≡ false = or_left (f1 || f2) f3 h3 in
-    rw (
-      le-leb _ _ h1,
-      le-leb _ _ h2,
-      le-leb _ _ (ltb-false _ _ (or_left f1 f2 k)),
-      le-leb _ _ (ltb-false _ _ (or_right f1 f2 k)),
-      le-leb _ _ (ltb-false _ _ (or_right (f1 || f2) f3 h3)),
-      le-leb _ _ h4,
-    )
-    h5

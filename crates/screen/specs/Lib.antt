@@ -5,3 +5,4 @@ pub mod Attributes
 pub mod Lent
 pub mod Layers
 pub mod LentLayers
+pub mod ReadBack

@@ -1,5 +1,5 @@
-// The table of open layers (bucketer.rs, ActiveLayer), OPEN_LAYER words a layer: mix, compose, mask, clip flag, clip box, segment start and end, thread, the
-// layer's own box, NaN pattern, panel. Zeros for an absent clip. An opacity stands apart, as an f32. Parts: callers have judged what a `requires` asks.
+//! The table of open layers (bucketer.rs, ActiveLayer), OPEN_LAYER words a layer: mix, compose, mask, clip flag, clip box, segment start and end, thread, the
+//! layer's own box, NaN pattern, panel. Zeros for an absent clip. An opacity stands apart, as an f32. Parts: callers have judged what a `requires` asks.
 ghost use Rattle.std.specs.Prelude.{◌≡◌, ◌*◌, ◌<◌, length, set};
 ghost use Rattle.sizes.specs.Sizes.{most-layers, open-layer-size, open-layer-table, opacity-count};
 ghost use Rattle.rules.specs.Inputs.{all-good};
@@ -13,8 +13,8 @@ use cmd::blend::Blend;
 use rect::{NOWHERE, Rect};
 use sizes::{HANDLE_END, OPEN_LAYER, PANEL_END, THREAD_END};
 
-// A layer's clip (vello_common, LayerClip): its box in pixels of the scene, the range of its segments in the list that the pop is lent, the thread of its alpha
-// values.
+/// A layer's clip (vello_common, LayerClip): its box in pixels of the scene, the range of its segments in the list that the pop is lent, the thread of its alpha
+/// values.
 #[derive(Clone, Copy)]
 pub struct Clip {
     pub bbox: Rect,
@@ -23,7 +23,7 @@ pub struct Clip {
     pub thread: u32,
 }
 
-// What a push is given (vello_common, LayerProps). `nan` is the pattern of a NaN opacity, else 0; `mask` a handle, or 0 for none.
+/// What a push is given (vello_common, LayerProps). `nan` is the pattern of a NaN opacity, else 0; `mask` a handle, or 0 for none.
 #[derive(Clone, Copy)]
 pub struct LayerProps {
     pub blend: Blend,
@@ -34,7 +34,7 @@ pub struct LayerProps {
     pub panel: u32,
 }
 
-// What a pop reads of an open layer: flag 1 with a clip, 0 without; the clip's range and thread; its own box, in pixels, local to the viewport.
+/// What a pop reads of an open layer: flag 1 with a clip, 0 without; the clip's range and thread; its own box, in pixels, local to the viewport.
 #[derive(Clone, Copy)]
 pub struct OpenLayer {
     pub blend: Blend,
@@ -48,7 +48,7 @@ pub struct OpenLayer {
     pub panel: u32,
 }
 
-// The open layers, lent: their words, and the opacities, in which those of the layer attributes follow.
+/// The open layers, lent: their words, and the opacities, in which those of the layer attributes follow.
 #[derive(Drop)]
 pub struct Layers<'a> {
     pub table: &'a mut [u32],
@@ -110,7 +110,7 @@ fn is_good_pattern(opacity: f32, nan: u32) -> bool
 }
 
 impl LayerProps {
-    // Whether what a push is given is in its bounds (answer 4); the end of the clip's range is judged at the pop.
+    /// Whether what a push is given is in its bounds (answer 4); the end of the clip's range is judged at the pop.
     pub fn is_good(self) -> bool
         ensures { result ≡ good-given self }
     {
@@ -123,7 +123,7 @@ impl LayerProps {
 }
 
 impl OpenLayer {
-    // Whether what a pop reads of a layer is in its bounds (answer 4), but for the own box.
+    /// Whether what a pop reads of a layer is in its bounds (answer 4), but for the own box.
     #[tactic(auto, unfolding(crate::specs::Layers::good_layer))]
     pub fn is_good(self) -> bool
         ensures { result ≡ good_layer self }
@@ -137,7 +137,7 @@ impl OpenLayer {
     }
 }
 
-// Rule 8: a layer's own box, in pixels, local to the viewport: its clip box made local and met with the parent's box, or the parent's.
+/// Rule 8: a layer's own box, in pixels, local to the viewport: its clip box made local and met with the parent's box, or the parent's.
 pub fn layer_box(viewport: Rect, parent: Rect, clip: Option<Clip>) -> Rect
     ensures { box_of result ≡ layer-box (box_of viewport) (box_of parent) (clip-of clip) }
 {
@@ -150,7 +150,7 @@ pub fn layer_box(viewport: Rect, parent: Rect, clip: Option<Clip>) -> Rect
     }
 }
 
-// The own box of an open layer (answer 4): in whole tiles, and within the viewport at its ends.
+/// The own box of an open layer (answer 4): in whole tiles, and within the viewport at its ends.
 #[tactic(auto, unfolding(crate::specs::Layers::good_own_box))]
 pub fn is_good_own_box(viewport: Rect, bbox: Rect) -> bool
     ensures { result ≡ good_own_box (box_of viewport) (box_of bbox) }
@@ -201,7 +201,7 @@ fn drop_layer(layers: &mut [u32], k: u32)
 }
 
 impl Layers<'_> {
-    // Stores layer k, counted from 0, the outermost; its opacity bit for bit.
+    /// Stores layer k, counted from 0, the outermost; its opacity bit for bit.
     pub fn put(&mut self, k: u32, props: LayerProps, bbox: Rect)
         requires { (k < most-layers) × (length self.old.table.now ≡ open-layer-table) × (length self.old.opacities.now ≡ opacity-count) }
         ensures same { SameLayers self.old self.new }
@@ -212,7 +212,7 @@ impl Layers<'_> {
         self.opacities[k as usize] = props.opacity;
     }
 
-    // Every word in layer k's place, and its opacity, become 0.
+    /// Every word in layer k's place, and its opacity, become 0.
     pub fn drop_at(&mut self, k: u32)
         requires { (k < most-layers) × (length self.old.table.now ≡ open-layer-table) × (length self.old.opacities.now ≡ opacity-count) }
         ensures same { SameLayers self.old self.new }
@@ -223,7 +223,7 @@ impl Layers<'_> {
         self.opacities[k as usize] = 0.0;
     }
 
-    // The own box of layer k.
+    /// The own box of layer k.
     pub fn box_at(&self, k: u32) -> Rect
         requires { (k < most-layers) × (length self.now.table.now ≡ open-layer-table) }
         ensures { result ≡ box_in self.now.table.now k }
@@ -237,7 +237,7 @@ impl Layers<'_> {
         }
     }
 
-    // Layer k as it stands in the table, without its opacity.
+    /// Layer k as it stands in the table, without its opacity.
     pub fn open_at(&self, k: u32) -> OpenLayer
         requires { (k < most-layers) × (length self.now.table.now ≡ open-layer-table) }
         ensures { result ≡ open_at self.now.table.now k }

@@ -1,5 +1,5 @@
-// A screen: its numbers by value, its words lent (rule 1; bucketer.rs, CommandBucketer). `reset` is a public call; the others are parts of the calls. `layers`
-// has the table of open layers.
+//! A screen: its numbers by value, its words lent (rule 1; bucketer.rs, CommandBucketer). `reset` is a public call; the others are parts of the calls. `layers`
+//! has the table of open layers.
 #![tactic(auto)]
 
 ghost use Rattle.std.specs.Prelude.{true, ◌≡◌, ◌≤◌};
@@ -14,6 +14,7 @@ ghost use Rattle.screen.specs.Screens.{in-tiles, good_clip, good_screen, frame, 
 ghost use Rattle.screen.specs.Judging.{good-rooms, judged, good-fixed, judged_reset};
 ghost use Rattle.screen.specs.Tables.{lengths, zeroed, answer_of, reset_to};
 ghost use Rattle.screen.specs.Lent.{tables_in, whole, SameLent};
+ghost use Rattle.screen.specs.ReadBack.{LayerReadBack, OthersStay, PatternReadBack};
 
 use rect::{Mode, Rect};
 use sizes::answers::Refusal;
@@ -25,7 +26,7 @@ use sizes::{
 
 pub mod layers;
 
-// A screen's numbers, without the words that are lent with it. Any numbers are a `Screen`; `is_good` judges them.
+/// A screen's numbers, without the words that are lent with it. Any numbers are a `Screen`; `is_good` judges them.
 #[derive(Clone, Copy)]
 pub struct Screen {
     // In pixels of the scene, at the edges of tiles.
@@ -49,8 +50,8 @@ pub struct Screen {
     pub width: Width,
 }
 
-// What a screen is asked to be, besides its viewport: room for C render commands and D depth fills in each row, how the viewport is read, and how wide a depth
-// bucket is.
+/// What a screen is asked to be, besides its viewport: room for C render commands and D depth fills in each row, how the viewport is read, and how wide a depth
+/// bucket is.
 #[derive(Clone, Copy)]
 pub struct Setup {
     pub c: u32,
@@ -59,8 +60,8 @@ pub struct Setup {
     pub width: Width,
 }
 
-// All that a host lends with a screen: the rows' render commands (4 x C words a row), depth fills (2 x D), depth words (one a bucket) and records (ROW), what
-// painting keeps of each row (two words: steps done, nesting), the open layers and the opacities, and the tables of attributes and filter paints.
+/// All that a host lends with a screen: the rows' render commands (4 x C words a row), depth fills (2 x D), depth words (one a bucket) and records (ROW), what
+/// painting keeps of each row (two words: steps done, nesting), the open layers and the opacities, and the tables of attributes and filter paints.
 #[derive(Drop)]
 pub struct Lent<'a> {
     pub render: &'a mut [u32],
@@ -75,7 +76,7 @@ pub struct Lent<'a> {
     pub filter_paints: &'a mut [i32],
 }
 
-// How many words of each are lent.
+/// How many words of each are lent.
 #[derive(Clone, Copy)]
 pub struct Lengths {
     pub render: usize,
@@ -90,7 +91,7 @@ pub struct Lengths {
     pub filter_paints: usize,
 }
 
-// Whether n can be C or D: from 1 to 1,024.
+/// Whether n can be C or D: from 1 to 1,024.
 pub fn is_good_room(n: u32) -> bool
     ensures { result ≡ good-room n }
 {
@@ -120,21 +121,21 @@ fn is_good_clip(viewport: Rect, clip: Rect, layers: u32) -> bool
 }
 
 impl Screen {
-    // Rows of tiles: a row is 4 pixels high.
+    /// Rows of tiles: a row is 4 pixels high.
     pub fn rows(self) -> usize
         ensures { result ≡ rows_of (box_of self.viewport) }
     {
         (self.viewport.height() / 4) as usize
     }
 
-    // Depth buckets in a row, rounded up.
+    /// Depth buckets in a row, rounded up.
     pub fn buckets(self) -> usize
         ensures { result ≡ buckets-of (bucket-tiles self.width) (box_of self.viewport) }
     {
         self.width.above(self.viewport.width() / 4) as usize
     }
 
-    // The screen's own numbers (answer 4), but for viewport, C and D, which are judged before.
+    /// The screen's own numbers (answer 4), but for viewport, C and D, which are judged before.
     #[tactic(auto, unfolding(crate::specs::Screens::good_screen))]
     pub fn is_good(self) -> bool
         ensures { result ≡ good_screen self }
@@ -148,7 +149,7 @@ impl Screen {
     }
 }
 
-// C and D are in range, and the arenas of render commands and depth fills are lent exactly for n rows (answer 1).
+/// C and D are in range, and the arenas of render commands and depth fills are lent exactly for n rows (answer 1).
 pub fn is_good_rooms(n: usize, c: u32, d: u32, render: usize, fills: usize) -> bool
     requires { n ≤ most-rows }
     ensures { result ≡ good-rooms n c d render fills }
@@ -159,7 +160,7 @@ pub fn is_good_rooms(n: usize, c: u32, d: u32, render: usize, fills: usize) -> b
         && fills == n * (2 * d as usize)
 }
 
-// 2, then 1, then 4: the screen's numbers, and how many words of records, render commands and depth fills are lent.
+/// 2, then 1, then 4: the screen's numbers, and how many words of records, render commands and depth fills are lent.
 #[tactic(auto, unfolding(crate::specs::Judging::judged))]
 pub fn judge_screen(screen: Screen, rows: usize, render: usize, fills: usize) -> Result<(), Refusal>
     ensures { answer_number result ≡ judged screen rows render fills }
@@ -177,7 +178,7 @@ pub fn judge_screen(screen: Screen, rows: usize, render: usize, fills: usize) ->
     Ok(())
 }
 
-// Rule 1: a screen of a good viewport with nothing on it: next id 1, no layer, no attribute, painting not begun.
+/// Rule 1: a screen of a good viewport with nothing on it: next id 1, no layer, no attribute, painting not begun.
 pub fn fresh(viewport: Rect, c: u32, d: u32, width: Width) -> Screen
     ensures { result ≡ fresh-screen (record { viewport = box_of viewport; c = c; d = d; width = width }) }
 {
@@ -245,7 +246,7 @@ impl Lent<'_> {
         }
     }
 
-    // Every lent word becomes 0, as a reset leaves it.
+    /// Every lent word becomes 0, as a reset leaves it.
     pub fn clear(&mut self)
         ensures same { SameLent self.old self.new }
         ensures zeroed { tables_in self.new ≡ zeroed (tables_in self.old) }
@@ -263,8 +264,8 @@ impl Lent<'_> {
     }
 }
 
-// Rule 1 (bucketer.rs, reset): the screen of a viewport in a setup. 2 for the viewport, then 1 for C, D or an arena, then 4 for another table. Refused, every
-// word stays.
+/// Rule 1 (bucketer.rs, reset): the screen of a viewport in a setup. 2 for the viewport, then 1 for C, D or an arena, then 4 for another table. Refused, every
+/// word stays.
 pub fn reset(viewport: Rect, setup: Setup, lent: &mut Lent<'_>) -> Result<Screen, Refusal>
     ensures same { SameLent lent.old lent.new }
     ensures reset { (screen : Screen) → answer_of screen result (tables_in lent.new) ≡ reset_to (frame setup viewport) (whole screen lent.old) }
@@ -275,3 +276,10 @@ pub fn reset(viewport: Rect, setup: Setup, lent: &mut Lent<'_>) -> Result<Screen
     lent.clear();
     Ok(screen)
 }
+
+/// An open layer is read back from the words that are stored of it. It does nothing: what it promises is a theorem.
+pub fn open_layers_keep()
+    ensures read { LayerReadBack }
+    ensures pattern { PatternReadBack }
+    ensures others { OthersStay }
+{}

@@ -1,12 +1,6 @@
 -- Rule 4: a stretch cut to a span, and a segment cut to scene tiles.
-use mathlib.Core.Path.{◌≡◌, refl}
-use mathlib.Core.Bool.{Bool, true, false, cond}
-use mathlib.Core.List.{[], ◌∷◌}
-use Rattle.std.specs.Prelude.{None, Some}
-use Prim.Native.Nat.{ℕ, ◌-◌, ◌/◌, ◌≤◌, ◌<◌}
-use native.Mathlib.Omega.{arith}
-use lib.Dec.{ltb}
-use borrow.Author.Tests.{lt-ltb, le-ltb, le-leb, lt-leb, ltb-true}
+use Rattle.std.proofs.Common.{◌≡◌, refl, Bool, true, false, cond, [], ◌∷◌, None, Some, ℕ, ◌-◌, ◌/◌, ◌≤◌, ◌<◌, arith, ltb, lt-ltb, le-ltb, le-leb, ltb-true}
+use borrow.Author.Tests.{lt-leb}
 use Rattle.rules.specs.Boxes.{Box}
 use Rattle.rules.specs.Spans.{Span, span, common, meeting, Stretch, moved, shifted, cut_at, cut-when, cut_to}
 use Rattle.rules.specs.Segments.{Segment, stretch-of, cut_in}

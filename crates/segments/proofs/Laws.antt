@@ -1,22 +1,12 @@
 -- Laws for callers: the segments of a list's words, their bounds as facts, and where a cut segment lies.
-use mathlib.Core.Path.{◌≡◌, refl, sym, ap, ◌∙◌}
-use mathlib.Core.Bool.{Bool, true, false, ◌&&◌, ◌||◌, not, cond}
-use mathlib.Core.List.{List, [], ◌∷◌, ◌++◌}
-use Rattle.std.specs.Prelude.{Option, None, Some}
-use Prim.Native.Nat.{ℕ, zero, suc, ◌+◌, ◌-◌, ◌*◌, ◌/◌, ◌≤◌, ◌<◌}
-use native.Mathlib.Omega.{arith}
-use lib.Dec.{leb, ltb, eqb}
-use lib.ListN.{length, take, drop}
-use borrow.Author.Tests.{leb-true, ltb-true}
+use Rattle.std.proofs.Common.{◌≡◌, refl, sym, ap, ◌∙◌, Bool, true, false, ◌&&◌, ◌||◌, not, cond, List, [], ◌∷◌, Option, None, Some, ℕ, zero, suc, ◌+◌, ◌-◌, ◌*◌, ◌/◌, ◌≤◌, ◌<◌, arith, leb, ltb, eqb, length, take, drop, leb-true, ltb-true}
 use Rattle.rules.specs.Lists.{every, slice}
 use Rattle.rules.specs.Answers.{Done, BadRecord, BadOrder}
-use Rattle.rules.specs.Boxes.{Box, box, width, height, good_viewport, rows_of, scene-tiles}
+use Rattle.rules.specs.Boxes.{Box, box, width, rows_of, scene-tiles}
 use Rattle.rules.specs.Spans.{span, Stretch, moved, shifted, cut_to}
-use Rattle.rules.specs.Segments.{Segment, good-segment, ordered, judge-segments, alpha-of, stretch-of, Cut, localised, on_row, cut_in, cuts}
+use Rattle.rules.specs.Segments.{Segment, good-segment, ordered, judge-segments, alpha-of, stretch-of, Cut, localised, on_row, cut_in}
 use Rattle.rules.proofs.All.{both}
-use Rattle.span.specs.Spans.{Moves}
 use Rattle.segments.specs.declared.Scene.{Scene}
-use Rattle.rect.proofs.Boxes.{View, view}
 use Rattle.segments.specs.Segs.{seg-at, segs, segs-of, origin, bounds, Starts, SceneOf}
 use Rattle.segments.proofs.Cutting.{Left, left_in}
 
@@ -147,22 +137,10 @@ module _ {v c : Box} {s : Scene} (o : SceneOf v c s) where
       ∙ ap (λ (a : Box). cut_in a (scene-tiles v c) g) o.corner
       ∙ by-origin v (scene-tiles v c) g
 
-pub cuts-none : (v c : Box) → cuts v c [] ≡ []
-unfolding cuts
-cuts-none v c = refl
-
-pub cuts_first : (v c : Box) (s : Segment) (ss : List Segment) → cuts v c (s ∷ ss) ≡ cut_in v (scene-tiles v c) s ++ cuts v c ss
-unfolding cuts
-cuts_first v c s ss = refl
-
 -- an alpha index that n tiles on is still a u32
 abbrev pub Index : Option ℕ → ℕ → Type 0
 Index None n = Unit
 Index (Some a) n = a + 16 * n < 4294967296
-
-pub index-moves : (a : Option ℕ) (n : ℕ) → Index a n → Moves a n
-index-moves None n p = tt
-index-moves (Some a) n p = p
 
 -- a cut segment: its row and its tiles lie in the scene tiles b, seen from the origin of v
 pub record Landed (v b : Box) (k : Cut) : Type 0 where
@@ -217,17 +195,3 @@ module _ (v b : Box) (s : Segment) (k : Cut) (g : Good s) (o : Starts v b) where
 
 pub landed : (v b : Box) (s : Segment) (k : Cut) → good-segment s ≡ true → Starts v b → k ∷ [] ≡ cut_in v b s → Landed v b k
 landed v b s k g o e = by-cut v b s k (good-facts s g) o e
-
--- a cut segment on the screen of the viewport v
-pub record OnScreen (v : Box) (k : Cut) : Type 0 where
-  pub row : k.row < rows_of v
-  pub right : k.stretch.tiles.end ≤ width v / 4
-
-landed-on : (v c : Box) (k : Cut) → View v → c.x1 ≤ width v → c.y1 ≤ height v → Landed v (scene-tiles v c) k → OnScreen v k
-unfolding scene-tiles
-landed-on v c k w x y l = record { row = omega arith; right = omega arith }
-
--- what is cut to a clip box on the screen lies there
-pub on-screen : (v c : Box) (s : Segment) (k : Cut) → good_viewport v ≡ true → c.x1 ≤ width v → c.y1 ≤ height v
-    → good-segment s ≡ true → k ∷ [] ≡ cut_in v (scene-tiles v c) s → OnScreen v k
-on-screen v c s k w x y g e = landed-on v c k (view v w) x y (landed v (scene-tiles v c) s k g (starts v c) e)

@@ -1,5 +1,5 @@
-// Segment lists: judging them (answers 4 and 5), and cutting their segments to the clip box (rule 4; visit_strip_fill_segments of vello_common). Parts: a list
-// is lent as words, five a segment.
+//! Segment lists: judging them (answers 4 and 5), and cutting their segments to the clip box (rule 4; visit_strip_fill_segments of vello_common). Parts: a list
+//! is lent as words, five a segment.
 #![tactic(auto)]
 
 ghost use Rattle.std.specs.Prelude.{◌≡◌, true, false, cond, not, ◌+◌, ◌-◌, ◌*◌, ◌≤◌, length};
@@ -15,7 +15,7 @@ use sizes::answers::Refusal;
 use sizes::{TILE_ALPHAS, TILE_END};
 use span::{Stretch, TileSpan};
 
-// Tiles of one row, in scene tiles. Kind 0 is solid and has alpha 0; kind 1 has an alpha index, that of its first tile.
+/// Tiles of one row, in scene tiles. Kind 0 is solid and has alpha 0; kind 1 has an alpha index, that of its first tile.
 #[derive(Clone, Copy)]
 pub struct Segment {
     pub kind: u32,
@@ -25,7 +25,7 @@ pub struct Segment {
     pub alpha: u32,
 }
 
-// It stands before the first segment of a list: any good one may follow it.
+/// It stands before the first segment of a list: any good one may follow it.
 pub const NO_SEGMENT: Segment = Segment {
     kind: 0,
     row: 0,
@@ -34,7 +34,7 @@ pub const NO_SEGMENT: Segment = Segment {
     alpha: 0,
 };
 
-// Segment i of a list, counted from 0.
+/// Segment i of a list, counted from 0.
 pub fn segment_at(list: &[u32], i: usize) -> Segment
     requires { 5 * i + 5 ≤ length list.now }
     ensures { segment-of result ≡ seg-at list.now i }
@@ -50,7 +50,7 @@ pub fn segment_at(list: &[u32], i: usize) -> Segment
 }
 
 impl Segment {
-    // Whether every field is in its bounds (answer 4): row below 8,192, at least one tile, up to tile 8,192, an alpha index that can be moved over all of them.
+    /// Whether every field is in its bounds (answer 4): row below 8,192, at least one tile, up to tile 8,192, an alpha index that can be moved over all of them.
     pub fn is_good(self) -> bool
         ensures { result ≡ good-segment (segment-of self) }
     {
@@ -67,14 +67,14 @@ impl Segment {
             }
     }
 
-    // Whether this one may stand right before `next` in a list (answer 5): on an earlier row, or on the same one, at most touching it.
+    /// Whether this one may stand right before `next` in a list (answer 5): on an earlier row, or on the same one, at most touching it.
     pub fn precedes(self, next: Segment) -> bool
         ensures { result ≡ follows (segment-of self) (segment-of next) }
     {
         self.row < next.row || self.row == next.row && self.end <= next.first
     }
 
-    // Its alpha index, if it has one.
+    /// Its alpha index, if it has one.
     pub fn alpha(self) -> Option<u32>
         ensures { result ≡ alpha-of (segment-of self) }
     {
@@ -96,7 +96,7 @@ fn judge_rest(list: &[u32], start: usize, end: usize) -> Refusal
     Refusal::BadOrder
 }
 
-// Of the segments from start to end of a list: BadRecord, 4, if one of them is bad, then BadOrder, 5, if their order is broken.
+/// Of the segments from start to end of a list: BadRecord, 4, if one of them is bad, then BadOrder, 5, if their order is broken.
 pub fn judge_segments(list: &[u32], start: usize, end: usize) -> Result<(), Refusal>
     requires { (start ≤ «end») × (5 * «end» ≤ length list.now) }
     ensures { answer_number result ≡ judge-segments false (segs list.now start («end» - start)) }
@@ -121,7 +121,7 @@ pub fn judge_segments(list: &[u32], start: usize, end: usize) -> Result<(), Refu
     Ok(())
 }
 
-// x, y: the viewport's origin in pixels. columns, rows: the clip box in tiles of the scene, from left to right and from top to bottom.
+/// x, y: the viewport's origin in pixels. columns, rows: the clip box in tiles of the scene, from left to right and from top to bottom.
 #[derive(Clone, Copy)]
 pub struct Scene {
     pub x: u32,
@@ -130,7 +130,7 @@ pub struct Scene {
     pub rows: TileSpan,
 }
 
-// The clip box, which is local to the viewport, moved to tiles of the scene.
+/// The clip box, which is local to the viewport, moved to tiles of the scene.
 pub fn scene_of(viewport: Rect, clip: Rect) -> Scene
     requires { Small (box_of viewport) × Small (box_of clip) }
     ensures { SceneOf (box_of viewport) (box_of clip) result }
@@ -149,14 +149,14 @@ pub fn scene_of(viewport: Rect, clip: Rect) -> Scene
     }
 }
 
-// What is left of a segment, local to the viewport: the row of the screen, and its tiles there.
+/// What is left of a segment, local to the viewport: the row of the screen, and its tiles there.
 #[derive(Clone, Copy)]
 pub struct Placed {
     pub row: u32,
     pub stretch: Stretch,
 }
 
-// Rule 4: a segment cut to the clip box and made local, or nothing; each tile cut off at the left moves its alpha index by 16.
+/// Rule 4: a segment cut to the clip box and made local, or nothing; each tile cut off at the left moves its alpha index by 16.
 pub fn place(segment: Segment, scene: Scene) -> Option<Placed>
     requires { (good-segment (segment-of segment) ≡ true) × Starts (origin scene) (bounds scene) }
     ensures { placed_of result ≡ cut_in (origin scene) (bounds scene) (segment-of segment) }

@@ -1,5 +1,5 @@
--- The rules' number of each refusal, and of a result: 0 is done.
-use Rattle.std.specs.Prelude.{ℕ, Result, Ok, Err}
+-- The rules' number of each refusal, and of a result: 0 is done. The words that a refusal prints as.
+use Rattle.std.specs.Prelude.{ℕ, List, codes, Result, Ok, Err}
 use Rattle.sizes.specs.declared.answers.Refusal.{Refusal}
 use Rattle.sizes.specs.declared.answers.Refusal.TheVariants as refusal
 
@@ -22,3 +22,20 @@ number_of refusal.NoRoom = 14
 abbrev pub answer_number : {T : Type 0} → Result T Refusal → ℕ
 answer_number (Ok _) = 0
 answer_number (Err r) = number_of r
+
+-- a refusal in plain words
+abbrev pub refusal_text : Refusal → List ℕ
+refusal_text refusal.BadArena = codes "an arena has the wrong length"
+refusal_text refusal.BadViewport = codes "the viewport breaks a rule, or there is no such bucket width"
+refusal_text refusal.BadForm = codes "the file is not exactly its sections"
+refusal_text refusal.BadRecord = codes "a record is out of bounds"
+refusal_text refusal.BadOrder = codes "a segment list is out of order"
+refusal_text refusal.Deep = codes "16 layers are open"
+refusal_text refusal.NoLayer = codes "no layer is open"
+refusal_text refusal.Ids = codes "no draw id remains"
+refusal_text refusal.FullAttrs = codes "the attributes are full"
+refusal_text refusal.FullRow = codes "a row's commands are full"
+refusal_text refusal.FullDepth = codes "a row's depth fills are full"
+refusal_text refusal.BadRun = codes "there is no such row, tile or run"
+refusal_text refusal.Open = codes "a layer is open, or painting has not begun"
+refusal_text refusal.NoRoom = codes "the list has no room for the result"

@@ -1,10 +1,11 @@
-// The rules' answers: the refusals with their numbers (docs/RULES.md, Answers). Answer 0, done, is `Ok`.
-ghost use Rattle.std.specs.Prelude.{◌≡◌};
-ghost use Rattle.sizes.specs.Refusals.{number_of, answer_number};
+//! The rules' answers: the refusals with their numbers (docs/RULES.md, Answers). Answer 0, done, is `Ok`.
+ghost use Rattle.std.specs.Prelude.{◌≡◌, Some, map};
+ghost use Rattle.std.specs.List.{range_with_len};
+ghost use Rattle.sizes.specs.Refusals.{number_of, answer_number, refusal_text};
 
 use std::fmt;
 
-// Why a call refuses; the discriminant is the rules' number.
+/// Why a call refuses; the discriminant is the rules' number.
 #[derive(Clone, Copy, Debug, PartialEq, Eq)]
 pub enum Refusal {
     // The length of a lent arena (render commands, depth fills, depth words) is not the screen's, or C or D is not from 1 to 1,024.
@@ -38,12 +39,37 @@ pub enum Refusal {
 }
 
 impl Refusal {
-    // The rules' number, 1 to 14, as calls answer it.
+    /// All of them, in the order of their numbers.
+    pub const ALL: [Refusal; 14] = [
+        Refusal::BadArena,
+        Refusal::BadViewport,
+        Refusal::BadForm,
+        Refusal::BadRecord,
+        Refusal::BadOrder,
+        Refusal::Deep,
+        Refusal::NoLayer,
+        Refusal::Ids,
+        Refusal::FullAttrs,
+        Refusal::FullRow,
+        Refusal::FullDepth,
+        Refusal::BadRun,
+        Refusal::Open,
+        Refusal::NoRoom,
+    ];
+
+    /// The rules' number, 1 to 14, as calls answer it.
     pub fn number(self) -> u32
         ensures { result ≡ number_of self }
     {
         self as u32
     }
+}
+
+// There is one for each number from 1 to 14, in order.
+fn tied_refusals() -> [Refusal; 14]
+    ensures { map number_of result ≡ range_with_len 1 14 }
+{
+    Refusal::ALL
 }
 
 // A refusal is its number.
@@ -57,10 +83,12 @@ impl From<Refusal> for u32 {
 
 // A refusal in plain words, for programs.
 impl fmt::Display for Refusal {
+    ghost output = { λ refusal. Some (refusal_text refusal) };
+
     fn fmt<W: fmt::Write>(&self, f: &mut fmt::Formatter<W>) -> fmt::Result {
         f.write_str(match self {
             Refusal::BadArena => "an arena has the wrong length",
-            Refusal::BadViewport => "the viewport breaks a rule",
+            Refusal::BadViewport => "the viewport breaks a rule, or there is no such bucket width",
             Refusal::BadForm => "the file is not exactly its sections",
             Refusal::BadRecord => "a record is out of bounds",
             Refusal::BadOrder => "a segment list is out of order",
@@ -70,14 +98,14 @@ impl fmt::Display for Refusal {
             Refusal::FullAttrs => "the attributes are full",
             Refusal::FullRow => "a row's commands are full",
             Refusal::FullDepth => "a row's depth fills are full",
-            Refusal::BadRun => "there is no such run",
+            Refusal::BadRun => "there is no such row, tile or run",
             Refusal::Open => "a layer is open, or painting has not begun",
             Refusal::NoRoom => "the list has no room for the result",
         })
     }
 }
 
-// The number of a result: 0 where nothing is refused.
+/// The number of a result: 0 where nothing is refused.
 pub fn answer_number(judged: Result<(), Refusal>) -> u32
     ensures { result ≡ answer_number judged }
 {

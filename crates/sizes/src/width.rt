@@ -1,11 +1,11 @@
-// How wide a depth bucket is, and all arithmetic with it. But for `NARROWEST`, no other source line knows how many tiles a bucket has.
+//! How wide a depth bucket is, and all arithmetic with it. But for `NARROWEST`, no other source line knows how many tiles a bucket has.
 ghost use Rattle.std.specs.Prelude.{◌≡◌, ◌+◌, ◌-◌, ◌*◌, ◌/◌, ◌%◌, ◌≤◌};
 ghost use Rattle.sizes.specs.Sizes.{tile-end};
 ghost use Rattle.sizes.specs.Widths.{bucket-tiles, width_of};
 
 use crate::answers::Refusal;
 
-// A bucket is 64, 128 or 256 pixels wide, which are 16, 32 or 64 tiles. The Rust has the constant DEPTH_BUCKET_WIDTH of depth.rs, 128 pixels, in its place.
+/// A bucket is 64, 128 or 256 pixels wide, which are 16, 32 or 64 tiles. The Rust has the constant DEPTH_BUCKET_WIDTH of depth.rs, 128 pixels, in its place.
 #[derive(Clone, Copy)]
 pub enum Width {
     W64,
@@ -31,7 +31,7 @@ impl TryFrom<u32> for Width {
 
 // Each arm has its own constant, so that it is compiled to a shift or a mask.
 impl Width {
-    // The tiles of one bucket.
+    /// The tiles of one bucket.
     pub fn tiles(self) -> u32
         ensures { result ≡ bucket-tiles self }
     {
@@ -42,7 +42,7 @@ impl Width {
         }
     }
 
-    // The number of the bucket that a tile lies in.
+    /// The number of the bucket that a tile lies in.
     pub fn below(self, tile: u32) -> u32
         ensures { result ≡ tile / bucket-tiles self }
     {
@@ -53,8 +53,8 @@ impl Width {
         }
     }
 
-    // The number of the first bucket that starts no earlier than a tile: as an end, the buckets up to a tile. The tiles of any word of pixels keep its
-    // `requires`.
+    /// The number of the first bucket that starts no earlier than a tile: as an end, the buckets up to a tile. The tiles of any word of pixels keep its
+    /// `requires`.
     pub fn above(self, tile: u32) -> u32
         requires { tile ≤ 1073741823 }
         ensures { result ≡ (tile + (bucket-tiles self - 1)) / bucket-tiles self }
@@ -66,7 +66,7 @@ impl Width {
         }
     }
 
-    // Where a tile stands in its bucket, counted from 0.
+    /// Where a tile stands in its bucket, counted from 0.
     pub fn within(self, tile: u32) -> u32
         ensures { result ≡ tile % bucket-tiles self }
     {
@@ -77,7 +77,7 @@ impl Width {
         }
     }
 
-    // The first tile of a bucket.
+    /// The first tile of a bucket.
     pub fn times(self, bucket: u32) -> u32
         requires { bucket ≤ tile-end }
         ensures { result ≡ bucket * bucket-tiles self }

@@ -1,11 +1,5 @@
 -- Laws of meetings and cuts, for this crate and its callers.
-use mathlib.Core.Path.{◌≡◌, refl}
-use mathlib.Core.Bool.{Bool, true, false, cond}
-use Rattle.std.specs.Prelude.{Option, None, Some}
-use Prim.Native.Nat.{ℕ, ◌≤◌, ◌<◌, ◌-◌}
-use native.Mathlib.Omega.{arith}
-use lib.Dec.{ltb}
-use borrow.Author.Tests.{ltb-true}
+use Rattle.std.proofs.Common.{◌≡◌, refl, Bool, true, false, cond, Option, None, Some, ℕ, ◌≤◌, ◌<◌, ◌-◌, arith, ltb, ltb-true}
 use Rattle.rules.specs.Spans.{Span, common, meeting}
 use Rattle.span.specs.Spans.{Moves}
 

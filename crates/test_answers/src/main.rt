@@ -1,5 +1,5 @@
-// Reads sequences of calls from standard input, each after its length in words, runs each on a screen of its own, and writes the words of
-// their answers in the same form. oracle/README.md has the words. A length that is too long, or the end of the input, ends the run.
+//! Reads sequences of calls from standard input, each after its length in words, runs each on a screen of its own, and writes the words of
+//! their answers in the same form. oracle/README.md has the words. A length that is too long, or the end of the input, ends the run.
 #![tactic(auto)]
 
 ghost use Rattle.std.specs.Prelude.{◌≤◌, IfOk, IfSome};

@@ -1,11 +1,11 @@
-// The words of the answers.
+//! The words of the answers.
 use paint::Stepped;
 use sizes::answers::Refusal;
 
-// What a list is filled with before it is lent.
+/// What a list is filled with before it is lent.
 pub const MARK: u32 = 2779096485;
 
-// A buffer for them, and where the next one goes. What has no room is dropped.
+/// A buffer for them, and where the next one goes. What has no room is dropped.
 #[derive(Drop)]
 pub struct Answers<'a> {
     pub words: &'a mut [u32],
@@ -13,7 +13,7 @@ pub struct Answers<'a> {
 }
 
 impl Answers<'_> {
-    // The next word of the answers.
+    /// The next word of the answers.
     pub fn put(&mut self, word: u32) {
         if self.at < self.words.len() {
             self.words[self.at] = word;
@@ -21,26 +21,26 @@ impl Answers<'_> {
         }
     }
 
-    // The next words, in order.
+    /// The next words, in order.
     pub fn put_all(&mut self, words: &[u32]) {
         for word in words {
             self.put(*word);
         }
     }
 
-    // n words from a place on, as far as they are there.
+    /// n words from a place on, as far as they are there.
     pub fn put_part(&mut self, words: &[u32], at: usize, n: usize) {
         for word in words.iter().skip(at).take(n) {
             self.put(*word);
         }
     }
 
-    // A count of what a list holds.
+    /// A count of what a list holds.
     pub fn put_count(&mut self, n: usize) {
         self.put(u32::try_from(n).unwrap_or(MARK));
     }
 
-    // The number, how many runs, the list.
+    /// The number, how many runs, the list.
     pub fn put_runs(&mut self, runs: Result<usize, Refusal>, list: &[u32]) {
         match runs {
             Ok(count) => {
@@ -52,7 +52,7 @@ impl Answers<'_> {
         self.put_all(list);
     }
 
-    // The number, whether the row is finished, how many pieces, the list.
+    /// The number, whether the row is finished, how many pieces, the list.
     pub fn put_step(&mut self, step: Result<Stepped, Refusal>, list: &[u32]) {
         match step {
             Ok(done) => {
@@ -64,7 +64,7 @@ impl Answers<'_> {
         self.put_all(list);
     }
 
-    // The number, and 1 for yes.
+    /// The number, and 1 for yes.
     pub fn put_skip(&mut self, skip: Result<bool, Refusal>) {
         match skip {
             Ok(yes) => self.put_all(&[0, u32::from(yes)]),

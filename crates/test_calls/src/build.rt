@@ -1,4 +1,4 @@
-// The building steps of a sequence.
+//! The building steps of a sequence.
 use crate::call::Step;
 use crate::tables::Shape;
 use fill::fill;
@@ -23,7 +23,7 @@ fn reset_shape(viewport: Rect, setup: Option<Setup>) -> Shape {
 }
 
 impl Step<'_> {
-    // What it is lent: a reset what its own screen needs, another step what the screen has.
+    /// What it is lent: a reset what its own screen needs, another step what the screen has.
     pub fn shape(self, screen: Screen) -> Shape {
         match self {
             Step::Reset { viewport, setup } => reset_shape(viewport, setup),
@@ -31,7 +31,7 @@ impl Step<'_> {
         }
     }
 
-    // A reset to a width that is none is refused by 2.
+    /// A reset to a width that is none is refused by 2.
     pub fn run(self, screen: &mut Screen, lent: &mut Lent<'_>) -> Result<(), Refusal> {
         if let Step::Reset { viewport, setup } = self {
             *screen = reset(viewport, setup.ok_or(Refusal::BadViewport)?, lent)?;

@@ -1,4 +1,4 @@
-// A call of a sequence, read from its words.
+//! A call of a sequence, read from its words.
 ghost use Rattle.std.specs.Prelude.{length};
 ghost use Rattle.std.specs.Iterator.{at_most};
 ghost use Rattle.test_calls.specs.Words.{Passes};
@@ -13,7 +13,7 @@ use screen::layers::{Clip, LayerProps};
 use sizes::width::Width;
 use span::{BucketRange, TileSpan};
 
-// A call with its arguments, as its words say (oracle/README.md).
+/// A call with its arguments, as its words say (oracle/README.md).
 #[derive(Clone, Copy)]
 pub enum Call<'a> {
     Build(Step<'a>),
@@ -31,7 +31,7 @@ pub enum Call<'a> {
     Unknown,
 }
 
-// A building step.
+/// A building step.
 #[derive(Clone, Copy)]
 pub enum Step<'a> {
     // No setup where a bucket's width is none.
@@ -51,7 +51,7 @@ pub enum Step<'a> {
     FilterFill(FilterFill),
 }
 
-// A painting call that is no step of a row. What lists something is lent `room` words of a list.
+/// A painting call that is no step of a row. What lists something is lent `room` words of a list.
 #[derive(Clone, Copy)]
 pub enum Painting {
     Begin,
@@ -79,7 +79,7 @@ pub enum Painting {
     },
 }
 
-// A word that is set to anything, which no call does.
+/// A word that is set to anything, which no call does.
 #[derive(Clone, Copy)]
 pub enum Forgery {
     // One of the screen's numbers.
@@ -279,14 +279,14 @@ impl<'a> Call<'a> {
     }
 }
 
-// The calls of a sequence.
+/// The calls of a sequence.
 #[derive(Drop)]
 pub struct Calls<'a> {
     words: Words<'a>,
 }
 
 impl<'a> Calls<'a> {
-    // From the words of a sequence.
+    /// From the words of a sequence.
     pub fn new(sequence: &'a [u32]) -> Calls<'a> {
         Calls {
             words: Words { left: sequence },

@@ -1,11 +1,12 @@
-// What no call does: a word of the screen's numbers, arenas or tables set to anything, and a sum of all that is there.
+//! What no call does: a word of the screen's numbers, arenas or tables set to anything, and a sum of all that is there.
 use crate::call::Forgery;
+use crate::show::bits_of;
 use crate::tables::{Table, Tables};
 use rect::Rect;
 use screen::Screen;
 
 impl Forgery {
-    // Sets the word; a place that is not there sets nothing.
+    /// Sets the word; a place that is not there sets nothing.
     pub fn run(self, screen: &mut Screen, tables: &mut Tables) {
         match self {
             Forgery::Number { place, word } => set_number(screen, place, word),
@@ -68,6 +69,22 @@ fn sum(from: u32, words: &[u32]) -> u32 {
         .fold(from, |sum, word| sum.wrapping_mul(31).wrapping_add(*word))
 }
 
+// The same over opacities, by their bits; all NaNs are one.
+fn sum_opacities(from: u32, opacities: &[f32]) -> u32 {
+    opacities.iter().fold(
+        from,
+        |sum, opacity| sum.wrapping_mul(31).wrapping_add(bits_of(*opacity, 1)),
+    )
+}
+
+// The same over signed words.
+fn sum_signed(from: u32, words: &[i32]) -> u32 {
+    words.iter().fold(
+        from,
+        |sum, word| sum.wrapping_mul(31).wrapping_add(word.cast_unsigned()),
+    )
+}
+
 fn sum_box(from: u32, bbox: Rect) -> u32 {
     sum(from, &[bbox.x0, bbox.y0, bbox.x1, bbox.y1])
 }
@@ -90,7 +107,7 @@ fn sum_screen(screen: Screen) -> u32 {
     )
 }
 
-// The sum of a screen's numbers, arenas and tables.
+/// The sum of a screen's numbers, arenas and tables.
 pub fn sum_all(screen: Screen, tables: &Tables) -> u32 {
     let mut all = sum_screen(screen);
     all = sum(all, &tables.render);
@@ -100,5 +117,7 @@ pub fn sum_all(screen: Screen, tables: &Tables) -> u32 {
     all = sum(all, &tables.painting);
     all = sum(all, &tables.layers);
     all = sum(all, &tables.paint_attrs);
-    sum(all, &tables.layer_attrs)
+    all = sum(all, &tables.layer_attrs);
+    all = sum_opacities(all, &tables.opacities);
+    sum_signed(all, &tables.filter_paints)
 }

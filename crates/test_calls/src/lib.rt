@@ -1,5 +1,5 @@
-// A sequence of calls on one screen, run one after another: their words in, the words of their answers out. oracle/README.md has both.
-// A harness for runs against the original: what a call promises is in its own contract.
+//! A sequence of calls on one screen, run one after another: their words in, the words of their answers out. oracle/README.md has both.
+//! A harness for runs against the original: what a call promises is in its own contract.
 #![tactic(auto)]
 
 mod answers;

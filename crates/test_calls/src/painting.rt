@@ -1,4 +1,4 @@
-// The painting calls of a sequence. A call that lists something is lent so many words of a list, full of marks; they follow its answer.
+//! The painting calls of a sequence. A call that lists something is lent so many words of a list, full of marks; they follow its answer.
 use crate::answers::{Answers, MARK};
 use crate::call::Painting;
 use crate::tables::{Shape, Table, Tables, first};
@@ -22,7 +22,7 @@ impl Painting {
         }
     }
 
-    // Makes the call on what is lent, and puts its number and what it gives.
+    /// Makes the call on what is lent, and puts its number and what it gives.
     pub fn run(self, screen: &mut Screen, lent: &mut Lent<'_>, answers: &mut Answers<'_>) {
         let mut marks = [MARK; LIST];
         let list = &mut marks[..self.room().min(LIST)];
@@ -78,7 +78,7 @@ impl Tables {
         paint_step(screen, row, &stored, depth, painting, list)
     }
 
-    // The same, lent so many words of a list.
+    /// The same, lent so many words of a list.
     pub fn step(
         &mut self,
         screen: Screen,

@@ -1,4 +1,4 @@
-// A sequence, from its calls to their answers.
+//! A sequence, from its calls to their answers.
 use crate::answers::Answers;
 use crate::call::{Call, Calls};
 use crate::forge::sum_all;
@@ -61,7 +61,7 @@ impl Stand {
     }
 }
 
-// All calls of a sequence on a screen of its own; how many words their answers have, which are dropped where there is no room for them.
+/// All calls of a sequence on a screen of its own; how many words their answers have, which are dropped where there is no room for them.
 pub fn run(sequence: &[u32], tables: &mut Tables, words: &mut [u32]) -> usize {
     let mut stand = Stand::new();
     let mut answers = Answers { words, at: 0 };

@@ -1,5 +1,5 @@
-// Everything that stands on a screen, as words: its numbers; each row's counts, summary, levels, commands, depth fills, depth words and
-// painting; the attributes and filter paints.
+//! Everything that stands on a screen, as words: its numbers; each row's counts, summary, levels, commands, depth fills, depth words and
+//! painting; the attributes and filter paints.
 use crate::answers::Answers;
 use crate::tables::Shape;
 use crate::words::word_at;
@@ -36,8 +36,8 @@ fn show_row(answers: &mut Answers<'_>, i: u32, shape: Shape, lent: &Lent<'_>) {
     answers.put_part(lent.painting, i * 2, 2);
 }
 
-// The bits of an opacity, or the NaN pattern that is kept beside it.
-fn bits_of(opacity: f32, nan: u32) -> u32 {
+/// The bits of an opacity, or the NaN pattern that is kept beside it.
+pub fn bits_of(opacity: f32, nan: u32) -> u32 {
     if opacity.is_nan() {
         nan
     } else {
@@ -60,7 +60,7 @@ fn show_filters(answers: &mut Answers<'_>, words: &[i32]) {
     }
 }
 
-// Puts the screen's numbers, then its rows, then the attributes and filter paints that it has.
+/// Puts the screen's numbers, then its rows, then the attributes and filter paints that it has.
 pub fn show(answers: &mut Answers<'_>, screen: Screen, lent: &Lent<'_>) {
     show_numbers(answers, screen);
     let shape = Shape::of_screen(screen);

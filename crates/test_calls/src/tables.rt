@@ -1,4 +1,4 @@
-// Arenas and tables for any screen, and how many words of each a call is lent.
+//! Arenas and tables for any screen, and how many words of each a call is lent.
 ghost use Rattle.std.specs.Prelude.{◌≤◌};
 ghost use Rattle.sizes.specs.Sizes.{most-room};
 
@@ -10,7 +10,7 @@ use sizes::{
 };
 use std::alloc::{AllocError, Global};
 
-// The tables that a call can be lent a word less of.
+/// The tables that a call can be lent a word less of.
 #[derive(Clone, Copy)]
 pub enum Table {
     Render,
@@ -26,7 +26,7 @@ pub enum Table {
 }
 
 impl Table {
-    // The table of a number from 1 to 10.
+    /// The table of a number from 1 to 10.
     pub fn numbered(number: u32) -> Option<Table> {
         match number {
             1 => Some(Table::Render),
@@ -44,7 +44,7 @@ impl Table {
     }
 }
 
-// How many rows a screen has, and how many words of an arena each row has.
+/// How many rows a screen has, and how many words of an arena each row has.
 #[derive(Clone, Copy)]
 pub struct Shape {
     pub rows: u32,
@@ -61,7 +61,7 @@ fn room(n: u32) -> u32
 }
 
 impl Shape {
-    // What a screen of this viewport (pixels), C, D and width of a bucket asks for.
+    /// What a screen of this viewport (pixels), C, D and width of a bucket asks for.
     pub fn new(viewport: Rect, c: u32, d: u32, width: Width) -> Shape {
         Shape {
             rows: viewport.height() / 4,
@@ -71,12 +71,12 @@ impl Shape {
         }
     }
 
-    // What a screen asks for.
+    /// What a screen asks for.
     pub fn of_screen(screen: Screen) -> Shape {
         Shape::new(screen.viewport, screen.c, screen.d, screen.width)
     }
 
-    // What a screen of this shape is lent, a word less of one table.
+    /// What a screen of this shape is lent, a word less of one table.
     pub fn lengths(self, short: Option<Table>) -> Lengths {
         let rows = self.rows as usize;
         let mut lengths = Lengths {
@@ -113,7 +113,7 @@ fn shorten(lengths: &mut Lengths, table: Table) {
     }
 }
 
-// Room for the largest screen of a sequence. Sequences share it: what one leaves there, another's reset clears.
+/// Room for the largest screen of a sequence. Sequences share it: what one leaves there, another's reset clears.
 #[derive(Drop)]
 pub struct Tables {
     pub render: Vec<u32>,
@@ -128,14 +128,14 @@ pub struct Tables {
     pub filter_paints: Vec<i32>,
 }
 
-// The first n words of a table, as far as they are there.
+/// The first n words of a table, as far as they are there.
 pub fn first<T>(table: &mut [T], n: usize) -> &mut [T] {
     let n = n.min(table.len());
     &mut table[..n]
 }
 
 impl Tables {
-    // All of them, zeros.
+    /// All of them, zeros.
     pub fn new(alloc: Global) -> Result<Tables, AllocError> {
         Ok(Tables {
             render: vec![in alloc; 0; 16384]?,
@@ -151,7 +151,7 @@ impl Tables {
         })
     }
 
-    // What a call is lent on a screen of this shape, a word less of one table.
+    /// What a call is lent on a screen of this shape, a word less of one table.
     pub fn lend(&mut self, shape: Shape, short: Option<Table>) -> Lent<'_> {
         let n = shape.lengths(short);
         Lent {

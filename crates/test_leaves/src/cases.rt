@@ -1,4 +1,4 @@
-// The stored cases: what was asked, and what the original answered.
+//! The stored cases: what was asked, and what the original answered.
 ghost use Rattle.std.specs.Prelude.{length};
 ghost use Rattle.std.specs.Iterator.{at_most};
 ghost use Rattle.test_leaves.specs.Words.{Passes};
@@ -7,10 +7,10 @@ use crate::words::Words;
 use sizes::width::Width;
 use span::{BucketRange, TileSpan};
 
-// What a lent list is filled with before a call, and what stands for the number of parts where a split is refused.
+/// What a lent list is filled with before a call, and what stands for the number of parts where a split is refused.
 pub const MARK: u32 = 4294967295;
 
-// Which call of the leaves a case replays.
+/// Which call of the leaves a case replays.
 #[derive(Clone, Copy, PartialEq, Eq)]
 pub enum Kind {
     Split,
@@ -20,7 +20,7 @@ pub enum Kind {
     CanSkip,
 }
 
-// Depth words, and runs as words, two a run.
+/// Depth words, and runs as words, two a run.
 #[derive(Clone, Copy)]
 pub enum Case<'a> {
     // Parts of three words; none where it is refused, since the number of pixels is no width.
@@ -143,7 +143,7 @@ impl<'a> Case<'a> {
         }
     }
 
-    // Whether the case replays this call.
+    /// Whether the case replays this call.
     pub fn is_of(self, kind: Kind) -> bool {
         match self {
             Case::Split { .. } => kind == Kind::Split,
@@ -156,14 +156,14 @@ impl<'a> Case<'a> {
     }
 }
 
-// All cases of a stored file.
+/// All cases of a stored file.
 #[derive(Drop)]
 pub struct Cases<'a> {
     words: Words<'a>,
 }
 
 impl<'a> Cases<'a> {
-    // From the words of a file.
+    /// From the words of a file.
     pub fn new(words: &'a [u32]) -> Cases<'a> {
         Cases {
             words: Words { left: words },

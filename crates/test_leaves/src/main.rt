@@ -1,4 +1,4 @@
-// Replays the original's stored answers through the leaves, and prints how many cases of each kind agree. data/README.md has the words of a case.
+//! Replays the original's stored answers through the leaves, and prints how many cases of each kind agree. data/README.md has the words of a case.
 #![tactic(auto)]
 
 mod cases;

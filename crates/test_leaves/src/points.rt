@@ -1,4 +1,4 @@
-// The leaves at the rules' known points (docs/RULES.md), at 128 pixels a bucket, and that a turned word is seen.
+//! The leaves at the rules' known points (docs/RULES.md), at 128 pixels a bucket, and that a turned word is seen.
 use crate::cases::Case;
 use sizes::width::Width;
 use span::TileSpan;

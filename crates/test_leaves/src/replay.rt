@@ -1,4 +1,4 @@
-// Whether the leaves answer a case as the original did. A list of runs is lent full of marks, and compared to its end.
+//! Whether the leaves answer a case as the original did. A list of runs is lent full of marks, and compared to its end.
 use crate::cases::{Case, MARK};
 use depth::{DepthState, Split, split_opaque_span, unset_runs, unset_runs_and_write, visible_runs};
 use sizes::answers::Refusal;
@@ -65,7 +65,7 @@ fn summed(fills: &[u32]) -> DepthState {
 }
 
 impl Case<'_> {
-    // Whether the leaf gives what the original gave.
+    /// Whether the leaf gives what the original gave.
     pub fn agrees(self) -> bool {
         match self {
             Case::Split {

@@ -1,17 +1,17 @@
-// Words that are read one after another, none past the end.
+//! Words that are read one after another, none past the end.
 ghost use Rattle.std.specs.Prelude.{◌<◌, ◌≤◌, length, IfSome};
 ghost use Rattle.test_leaves.specs.Words.{Passes};
 
 use span::{BucketRange, TileSpan};
 
-// Those that are left.
+/// Those that are left.
 #[derive(Clone, Copy)]
 pub struct Words<'a> {
     pub left: &'a [u32],
 }
 
 impl<'a> Words<'a> {
-    // The next word, if there is one.
+    /// The next word, if there is one.
     pub fn word(&mut self) -> Option<u32>
         ensures passes { Passes self.old self.new }
         ensures one_less { IfSome result (λ _. length self.new.left.now < length self.old.left.now) }
@@ -21,7 +21,7 @@ impl<'a> Words<'a> {
         Some(*first)
     }
 
-    // Two words: a span, in tiles.
+    /// Two words: a span, in tiles.
     pub fn tiles(&mut self) -> Option<TileSpan>
         ensures { Passes self.old self.new }
     {
@@ -30,7 +30,7 @@ impl<'a> Words<'a> {
         Some(TileSpan { first, end })
     }
 
-    // Two words: a range, in buckets.
+    /// Two words: a range, in buckets.
     pub fn buckets(&mut self) -> Option<BucketRange>
         ensures { Passes self.old self.new }
     {
@@ -39,7 +39,7 @@ impl<'a> Words<'a> {
         Some(BucketRange { first, end })
     }
 
-    // n records of so many words each.
+    /// n records of so many words each.
     pub fn records(&mut self, n: u32, size: usize) -> Option<&'a [u32]>
         requires { size ≤ 3 }
         ensures { Passes self.old self.new }
@@ -49,7 +49,7 @@ impl<'a> Words<'a> {
         Some(records)
     }
 
-    // The same, after their number.
+    /// The same, after their number.
     pub fn counted(&mut self, size: usize) -> Option<&'a [u32]>
         requires { size ≤ 3 }
         ensures { Passes self.old self.new }

@@ -1,19 +1,19 @@
-// An input and an output that do at each call what the next of their turns says.
+//! An input and an output that do at each call what the next of their turns says.
 use std::io;
 use std::io::{ErrorKind, Read, Write};
 
-// At most so many bytes, or a failure.
+/// At most so many bytes, or a failure.
 #[derive(Clone, Copy)]
 pub enum Turn {
     Bytes(usize),
     Fails(ErrorKind),
 }
 
-// Gives 0, 1, 2, ..; after the last turn it has ended.
+/// Gives its bytes from the first on; after the last turn, or the last byte, it has ended.
 #[derive(Drop)]
 pub struct Input<'a> {
     pub turns: &'a [Turn],
-    pub next: u8,
+    pub bytes: &'a [u8],
 }
 
 impl Read for Input<'_> {
@@ -25,18 +25,16 @@ impl Read for Input<'_> {
         match *turn {
             Turn::Fails(kind) => Err(io::Error::from(kind)),
             Turn::Bytes(most) => {
-                let n = most.min(buf.len());
-                for i in 0..n {
-                    buf[i] = self.next;
-                    self.next = self.next.wrapping_add(1);
-                }
+                let n = most.min(buf.len()).min(self.bytes.len());
+                buf[..n].copy_from_slice(&self.bytes[..n]);
+                self.bytes = &self.bytes[n..];
                 Ok(n)
             }
         }
     }
 }
 
-// Keeps what is written; after the last turn it takes nothing.
+/// Keeps what is written; after the last turn it takes nothing.
 #[derive(Drop)]
 pub struct Output<'a> {
     pub turns: &'a [Turn],

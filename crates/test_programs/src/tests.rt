@@ -5,7 +5,7 @@ use std::io::ErrorKind;
 use std::test::*;
 use text_programs::failure::Failure;
 use text_programs::stream::{read, skip_rest};
-use text_programs::{read_all, write_text};
+use text_programs::{FILE_ROOM, read_all, write_text};
 
 // What the system said of the input, or of the output, where that is what failed.
 fn read_kind(failure: Failure) -> Option<ErrorKind> {
@@ -22,8 +22,13 @@ fn write_kind(failure: Failure) -> Option<ErrorKind> {
     }
 }
 
+const COUNT: [u8; 16] = [0, 1, 2, 3, 4, 5, 6, 7, 8, 9, 10, 11, 12, 13, 14, 15];
+
 fn input(turns: &[Turn]) -> Input<'_> {
-    Input { turns, next: 0 }
+    Input {
+        turns,
+        bytes: &COUNT,
+    }
 }
 
 fn counts_up(bytes: &[u8]) -> bool {
@@ -68,7 +73,7 @@ fn no_call_is_made_for_no_bytes(rt: HostRuntime) {
     let mut from = input(&turns);
     assert_eq!(rt; read_all(&mut from, &mut buf).ok(), Some(4));
     assert_eq!(rt; read(&mut from, &mut buf, 0).ok(), Some(0));
-    assert!(rt; skip_rest(&mut from, 65537).is_ok());
+    assert!(rt; skip_rest(&mut from, FILE_ROOM).is_ok());
     assert_eq!(rt; from.turns.len(), 1);
     assert_eq!(rt;
         read(&mut from, &mut buf, 1).err().and_then(read_kind),
@@ -99,11 +104,11 @@ fn a_failed_read_is_told_with_its_kind(rt: HostRuntime) {
 fn the_rest_is_passed_over(rt: HostRuntime) {
     let turns = [Bytes(1), Fails(ErrorKind::Interrupted), Bytes(9), Bytes(9)];
     let mut from = input(&turns);
-    assert!(rt; skip_rest(&mut from, 65540).is_ok());
-    assert_eq!(rt; from.next, 3);
+    assert!(rt; skip_rest(&mut from, FILE_ROOM + 3).is_ok());
+    assert_eq!(rt; from.bytes.len(), 13);
     let failing = [Bytes(1), Fails(ErrorKind::Other)];
     assert_eq!(rt;
-        skip_rest(&mut input(&failing), 65540)
+        skip_rest(&mut input(&failing), FILE_ROOM + 3)
             .err()
             .and_then(read_kind),
         Some(ErrorKind::Other)

@@ -1,12 +1,6 @@
 -- Where a screen's words stand for the rules' rows, their lines are the rules' lines. Assumes nothing.
-use mathlib.Core.Path.{◌≡◌, refl, ap, ◌∙◌}
-use mathlib.Core.List.{List, [], ◌∷◌, ◌++◌, map, append_assoc, append-nil}
-use Rattle.std.specs.Prelude.{Option, Some}
-use Prim.Native.Nat.{ℕ, zero, suc, ◌+◌, ◌-◌, ◌≤◌, ◌<◌}
-use native.Mathlib.Nat.{zero-add}
-use native.Mathlib.Omega.{arith}
-use lib.ListN.{length, get_or, take}
-use lib.Seq.{take-suc, take-length, length-take-le}
+use Rattle.std.proofs.Common.{◌≡◌, refl, ap, ◌∙◌, List, [], ◌∷◌, ◌++◌, map, append_assoc, append-nil, Option, Some, ℕ, zero, suc, ◌+◌, ◌-◌, ◌≤◌, ◌<◌, zero-add, arith, length, get_or, take, take-suc, length-take-le}
+use lib.Seq.{take-length}
 use Rattle.sizes.specs.Widths.{bucket-tiles}
 use Rattle.rules.specs.Spans.{span}
 use Rattle.rules.specs.Boxes.{rows_of, buckets-of}

@@ -1,11 +1,5 @@
 -- How long the lines of attributes and of pieces are at most. Assumes nothing.
-use mathlib.Core.Bool.{Bool, true, false}
-use mathlib.Core.List.{List, [], ◌∷◌, ◌++◌}
-use Rattle.std.specs.Prelude.{Option}
-use Prim.Native.Nat.{ℕ, suc, ◌+◌, ◌≤◌}
-use native.Mathlib.Omega.{arith}
-use lib.ListN.{length}
-use lib.IntN.{ℤ, pos, negsuc}
+use Rattle.std.proofs.Common.{Bool, true, false, List, [], ◌∷◌, ◌++◌, Option, ℕ, suc, ◌+◌, ◌≤◌, arith, length, ℤ, pos, negsuc}
 use Rattle.rules.specs.Lines.{number, alpha-bytes}
 use Rattle.text.specs.Texts.{signed}
 use Rattle.text.proofs.Lengths.{plus, digits-few, number-few, alpha-few}

@@ -1,22 +1,14 @@
 -- Details line by line. Assumes nothing.
-use mathlib.Core.Path.{◌≡◌, refl, sym, subst, ap, ◌∙◌}
-use mathlib.Core.Bool.{Bool, true, false, not}
-use mathlib.Core.List.{List, [], ◌∷◌, ◌++◌}
-use Prim.Native.Nat.{ℕ, zero, suc, ◌+◌, ◌*◌, ◌^◌, ◌<◌, ◌≤◌}
-use lib.Dec.{T}
+use Rattle.std.proofs.Common.{◌≡◌, refl, sym, subst, ap, ◌∙◌, Bool, true, false, not, List, [], ◌∷◌, ◌++◌, ℕ, zero, suc, ◌+◌, ◌*◌, ◌^◌, ◌<◌, ◌≤◌, T, get_or-drop, add-zero, ℤ, nat_abs, w32, to_z, of_z}
 use lib.Ieee.{Float, nan, inf, fin, is_nan, ne, binary32, to_bits}
 use lib.Ieee.Compare.{nan_differs}
 use Rattle.rules.specs.Lines.{number}
 use Rattle.text.specs.declared.Out.{Out}
 use Rattle.text.specs.Texts.{Writes, signed}
 use Rattle.text.proofs.Laws.{then, nothing, read_back}
-use lib.Seq.{get_or-drop}
-use native.Mathlib.Nat.{add-zero}
 use Rattle.sizes.specs.Sizes.{filter-paint-size}
-use lib.IntN.{ℤ, nat_abs}
 use lib.Signed.{mag}
-use mir.Syntax.{w32}
-use mir.Val.{hbits, to_z, of_z}
+use mir.Val.{hbits}
 use Rattle.text.specs.Details.{filter-paints, paint-attr-line, layer-attr-line}
 use Rattle.text.specs.Places.{joined}
 use Rattle.text.proofs.Joins.{join-append, places-all}

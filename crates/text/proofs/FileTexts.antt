@@ -1,33 +1,37 @@
 -- What is shown of a screen, of a file, and of a refusal. Assumes nothing.
-use mathlib.Core.Path.{◌≡◌, ap, ◌∙◌}
-use Rattle.std.specs.Prelude.{Ok, Err}
-use mathlib.Core.Bool.{true, false}
-use mathlib.Core.List.{List}
-use Prim.Native.Nat.{ℕ, ◌*◌, ◌≤◌, ◌<◌}
-use native.Mathlib.Nat.{mul-le-mul}
-use borrow.Author.Tests.{le-leb, lt-leb, eq-eqb, ne_eqb}
+use Rattle.std.proofs.Common.{◌≡◌, refl, sym, ap, ◌∙◌, Option, None, Some, Ok, Err, replicate, pos, ℤ, Float, Bool, true, false, cond, List, ℕ, ◌≤◌, ◌<◌, eqb, le-leb, eq-eqb, ne_eqb}
+use lib.ListN.{length-replicate}
+use borrow.Author.Tests.{lt-leb}
 use Rattle.sizes.specs.declared.answers.Refusal.{Refusal}
 use Rattle.sizes.specs.declared.answers.Refusal.TheVariants as refusal
 use Rattle.sizes.specs.Refusals.{number_of}
 use Rattle.sizes.specs.Widths.{bucket-tiles}
-use Rattle.rules.specs.Answers.{answer}
+use Rattle.rules.specs.Answers.{Answer, answer, settle}
 use Rattle.rules.specs.Boxes.{Box, good_viewport, rows_of, buckets-of}
-use Rattle.rules.specs.Setups.{Setup, viewport-in}
+use Rattle.rules.specs.Setups.{Setup, frame, viewport-in}
+use Rattle.rules.specs.Recording.{shape, sections, recording}
+use Rattle.rules.specs.Walk.{go_on, ◌then◌}
 use Rattle.rect.specs.declared.Rect.{Rect}
 use Rattle.rect.specs.Rects.{box_of, seen}
 use Rattle.rect.proofs.Snapping.{good-seen, bad-seen}
 use Rattle.row.specs.Words.{Words, words}
 use Rattle.screen.specs.declared.Screen.{Screen}
-use Rattle.screen.specs.Tables.{Tables, lent}
+use Rattle.screen.specs.declared.Lengths.{Lengths}
+use Rattle.screen.specs.declared.Lent.{Lent}
+use Rattle.screen.specs.Lent.{tables_in, SameLent}
+use Rattle.screen.specs.Screens.{fresh-screen}
+use Rattle.screen.specs.Judging.{judged_reset}
+use Rattle.screen.specs.Tables.{Tables, tables, lengths, float-0, zeroed, ScreenLent, lent, reset_to}
 use Rattle.screen.proofs.ScreenLaws.{few-buckets}
 use Rattle.file.specs.declared.form.Layout.{Layout}
 use Rattle.file.specs.Layouts.{form_of}
 use Rattle.file.specs.Judging.{box_from}
-use Rattle.walk.specs.Recorded.{recorded}
+use Rattle.file.specs.Words.{words-in}
+use Rattle.walk.specs.Recorded.{played, recorded-in, of-sections, recorded}
 use Rattle.text.specs.Listed.{Listing, TextOut, text-out, listed, refused-listed}
 use Rattle.text.specs.declared.recording.Size.{Size}
-use Rattle.text.specs.Files.{nothing, Showed, shows-as, file-text, refusing, showing, file-out, FileOut, recording-text}
-use Rattle.text.specs.Files.{frame_at, size, size_of, cut-to, over, in-front, front-text, is-roomy, words-text}
+use Rattle.text.specs.Files.{nothing, Showed, shows-as, file-text, refusing, showing, file-out, FileOut, answered, recording-text}
+use Rattle.text.specs.Files.{frame_at, size, size_of, file-size, Exact, blank, bytes-text}
 
 module _ (n : ℕ) (s : Screen) (bs : List ℕ) {r : Listing} {cs : List ℕ} where
   pub refused_as : text-out r cs ≡ refused-listed n bs → shows-as (file-text n r.bytes s) cs ≡ refusing n s bs
@@ -87,25 +91,123 @@ module _ (ws : List ℕ) (q : Setup) where
       pub few : {n : ℕ} → n ≡ buckets-of (bucket-tiles q.width) (box_of r) → n ≤ 64
       few k = rw k (few-buckets (box_of r) is-good q.width)
 
--- a file's words in larger tables
-pub small : (n b : ℕ) → n ≤ 32 → b ≤ 64 → n * b ≤ 2048
-small n b h g = mul-le-mul {n₂ = 32} {m₂ = 64} h g
+-- Tables that are as long print the same: no text tells what they held before.
+zeroed-by : Lengths → Tables
+zeroed-by n =
+    tables (replicate n.render 0) (replicate n.fills 0) (replicate n.depth 0) (replicate n.rows 0) (replicate n.painting 0) (replicate n.layers 0)
+    (replicate n.opacities float-0)
+    (replicate n.paint_attrs 0)
+    (replicate n.layer_attrs 0)
+    (replicate n.filter_paints (pos 0))
 
-pub front-shown : (z : Size) (ws : List ℕ) (q : Setup) (t : Tables) (bs : List ℕ) {x : Showed} {u : Tables}
-    → file-out x u ≡ recording-text ws q (cut-to z t) bs → file-out x (over z t u) ≡ front-text z ws q t bs
-unfolding front-text
-front-shown z ws q t bs g = ap (in-front z t) g
+module _ (ws : List ℕ) (q : Setup) (t u : Tables) (e : lengths t ≡ lengths u) (bs : List ℕ) where
+  same-zeros : zeroed t ≡ zeroed u
+  unfolding zeroed-by
+  same-zeros = ap zeroed-by e
 
-module _ (ws : List ℕ) (q : Setup) (t : Tables) (bs : List ℕ) where
-  module _ {x : Showed} {s : Screen} (p : s ≡ nothing) where
-    pub words-refused : {r : Refusal} → Err r ≡ size_of ws q → x ≡ refusing (number_of r) s bs → file-out x t ≡ words-text ws q t bs
-    unfolding words-text
-    words-refused e g = rw (← e) (ap (λ (y : Showed). file-out y t) (rw p at g))
+  -- after a reset that answers n
+  started : ℕ → Tables → ScreenLent → (ScreenLent → Answer ScreenLent) → Answer ScreenLent
+  started n x fresh g = let a = settle n (lent nothing x) fresh in go_on (eqb a.number 0) a g
 
-    pub words-short : {z : Size} → Ok z ≡ size_of ws q → is-roomy t ≡ false → x ≡ refusing 4 s bs → file-out x t ≡ words-text ws q t bs
-    unfolding words-text
-    words-short e i g = rw (← e, i) (ap (λ (y : Showed). file-out y t) (rw p at g))
+  done-start : (n : ℕ) → eqb n 0 ≡ true → (v : Tables) (x : ScreenLent) (g : ScreenLent → Answer ScreenLent) → started n v x g ≡ g x
+  unfolding started
+  done-start n i v x g =
+      let a : settle n (lent nothing v) x ≡ answer 0 x = rw i in
+      ap (λ (y : Answer ScreenLent). go_on (eqb y.number 0) y g) a
 
-  pub words-shown : {z : Size} → Ok z ≡ size_of ws q → {o : FileOut} → is-roomy t ≡ true → o ≡ front-text z ws q t bs → o ≡ words-text ws q t bs
-  unfolding words-text
-  words-shown e i g = rw (← e, i) g
+  refused-start : (n : ℕ) → eqb n 0 ≡ false → (v : Tables) (x : ScreenLent) (g : ScreenLent → Answer ScreenLent) → (answered (started n v x g) bs).showed ≡ refusing n nothing bs
+  unfolding started
+  refused-start n i v x g =
+      let a : settle n (lent nothing v) x ≡ answer n (lent nothing v) = rw i in
+      let b : go_on (eqb n 0) (answer n (lent nothing v)) g ≡ answer n (lent nothing v) = rw i in
+      let c : (answered (answer n (lent nothing v)) bs).showed ≡ refusing n nothing bs = rw i in
+      ap (λ (y : Answer ScreenLent). (answered (go_on (eqb y.number 0) y g) bs).showed) a ∙ ap (λ (y : Answer ScreenLent). (answered y bs).showed) b ∙ c
+
+  same-start : (n : ℕ) (x y : ScreenLent) (g : ScreenLent → Answer ScreenLent) → x ≡ y → (answered (started n t x g) bs).showed ≡ (answered (started n u y g) bs).showed
+  same-start n x y g h = go (eqb n 0) refl
+    where
+      go : (b : Bool) → eqb n 0 ≡ b → (answered (started n t x g) bs).showed ≡ (answered (started n u y g) bs).showed
+      go true i = ap (λ (z : Answer ScreenLent). (answered z bs).showed) (done-start n i t x g ∙ ap g h ∙ sym (done-start n i u y g))
+      go false i = refused-start n i t x g ∙ sym (refused-start n i u y g)
+
+  pub same_text : (recording-text ws q t bs).showed ≡ (recording-text ws q u bs).showed
+  unfolding recording-text recorded recorded-in ◌then◌ reset_to started
+  same_text = go (sections shape ws)
+    where
+      go : (o : Option (List (List (List ℕ)))) → (answered (of-sections o q (lent nothing t)) bs).showed ≡ (answered (of-sections o q (lent nothing u)) bs).showed
+      go None = refl
+      go (Some ss) =
+          let r = recording ss in
+          let f = frame q r.viewport in
+          rw e (same-start (judged_reset f (lengths u)) (lent (fresh-screen f) (zeroed t)) (lent (fresh-screen f) (zeroed u)) (played r) (ap (lent (fresh-screen f)) same-zeros))
+
+-- .. as tables of one size are
+pub exact-same : {z : Size} (t u : Tables) → Exact z t → Exact z u → (ws : List ℕ) (q : Setup) (bs : List ℕ) → (recording-text ws q t bs).showed ≡ (recording-text ws q u bs).showed
+exact-same t u h g ws q bs =
+    same_text ws q t u
+    (rw (
+      h.render,
+      h.fills,
+      h.depth,
+      h.rows,
+      h.painting,
+      h.layers,
+      h.opacities,
+      h.paint-attrs,
+      h.layer-attrs,
+      h.filter-paints,
+      g.render,
+      g.fills,
+      g.depth,
+      g.rows,
+      g.painting,
+      g.layers,
+      g.opacities,
+      g.paint-attrs,
+      g.layer-attrs,
+      g.filter-paints,
+    ) refl)
+    bs
+
+-- blank tables are
+pub blank_exact : (z : Size) → Exact z (blank z)
+blank_exact z =
+    record {
+      render = length-replicate {A = ℕ} _ 0;
+      fills = length-replicate {A = ℕ} _ 0;
+      depth = length-replicate {A = ℕ} _ 0;
+      rows = length-replicate {A = ℕ} _ 0;
+      painting = length-replicate {A = ℕ} _ 0;
+      layers = length-replicate {A = ℕ} _ 0;
+      opacities = length-replicate {A = Float} _ float-0;
+      paint-attrs = length-replicate {A = ℕ} _ 0;
+      layer-attrs = length-replicate {A = ℕ} _ 0;
+      filter-paints = length-replicate {A = ℤ} _ (pos 0);
+    }
+
+-- a file's bytes, by the size of its screen
+module _ (fs : List ℕ) (q : Setup) (bs : List ℕ) where
+  pub sized-shown : {z : Size} {t : Tables} {x : Showed} {u : Tables} → Ok z ≡ file-size fs q → Exact z t → file-out x u ≡ recording-text (words-in fs) q t bs → x ≡ bytes-text fs q bs
+  unfolding bytes-text
+  sized-shown {z} {t} e h g =
+      rw (← e) (ap (λ (o : FileOut). o.showed) g ∙ exact-same t (blank z) h (blank_exact z) (words-in fs) q bs)
+
+  pub refused-shown : {r : Refusal} {s : Screen} {x : Showed} → Err r ≡ file-size fs q → s ≡ nothing → x ≡ refusing (number_of r) s bs → x ≡ bytes-text fs q bs
+  unfolding bytes-text
+  refused-shown e p g = rw (← e) (rw p at g)
+
+-- the same slices are as long as they were
+pub exact_kept : {z : Size} (a b : Lent) → SameLent a b → Exact z (tables_in a) → Exact z (tables_in b)
+exact_kept a b s h =
+    record {
+      render = s.render-long ∙ h.render;
+      fills = s.fills-long ∙ h.fills;
+      depth = s.depth-long ∙ h.depth;
+      rows = s.rows-long ∙ h.rows;
+      painting = s.painting-long ∙ h.painting;
+      layers = s.layers-long ∙ h.layers;
+      opacities = s.opacities-long ∙ h.opacities;
+      paint-attrs = s.paint_attrs-long ∙ h.paint-attrs;
+      layer-attrs = s.layer_attrs-long ∙ h.layer-attrs;
+      filter-paints = s.filter_paints-long ∙ h.filter-paints;
+    }

@@ -1,12 +1,5 @@
 -- The list that a row was painted into holds its pieces. Assumes nothing.
-use mathlib.Core.Bool.{Bool, true, false, cond}
-use mathlib.Core.List.{List}
-use Rattle.std.specs.Prelude.{Option, None, Some}
-use Prim.Native.Nat.{ℕ, zero, suc, ◌+◌, ◌*◌, ◌/◌, ◌≤◌}
-use native.Mathlib.Omega.{arith}
-use lib.Dec.{ltb, eqb}
-use lib.ListN.{length, drop, length-append}
-use lib.Seq.{length-take-le}
+use Rattle.std.proofs.Common.{Bool, true, false, cond, List, Option, None, Some, ℕ, zero, suc, ◌+◌, ◌*◌, ◌/◌, ◌≤◌, arith, ltb, eqb, length, drop, length-append, length-take-le}
 use Rattle.sizes.specs.Sizes.{piece-size}
 use Rattle.rules.specs.Answers.{Done}
 use Rattle.rules.specs.Painting as rules

@@ -1,9 +1,5 @@
 -- What f gives of each element, one after the other.
-use mathlib.Core.Path.{◌≡◌, refl}
-use mathlib.Core.List.{List, [], ◌∷◌, ◌++◌, append_assoc, append-nil}
-use Prim.Native.Nat.{ℕ, ◌+◌, ◌≤◌}
-use native.Mathlib.Numerals.{add-one}
-use native.Mathlib.Omega.{arith}
+use Rattle.std.proofs.Common.{◌≡◌, refl, List, [], ◌∷◌, ◌++◌, append_assoc, append-nil, ℕ, ◌+◌, ◌≤◌, add-one, arith}
 use Rattle.rules.specs.Lists.{join}
 use Rattle.text.specs.declared.Out.{Out}
 use Rattle.text.specs.Texts.{Writes}

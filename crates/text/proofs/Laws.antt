@@ -1,21 +1,9 @@
 -- Text written piece by piece. Assumes nothing.
-use mathlib.Core.Path.{◌≡◌, refl, sym, ap, ◌∙◌}
-use mathlib.Core.List.{List, [], ◌∷◌, ◌++◌, append_assoc}
-use Prim.Native.Nat.{ℕ, zero, suc, ◌+◌, ◌-◌, ◌^◌, min, ◌<◌, ◌≤◌, ◌/◌, ◌%◌}
-use native.Mathlib.Omega.{arith}
-use native.Mathlib.Numerals.{add-one}
+use Rattle.std.proofs.Common.{◌≡◌, refl, sym, ap, ◌∙◌, List, [], ◌∷◌, ◌++◌, append_assoc, ℕ, zero, suc, ◌+◌, ◌-◌, ◌^◌, min, ◌<◌, ◌≤◌, ◌/◌, ◌%◌, arith, add-one, ltb, ℤ, pos, negsuc, length, take, drop}
+use Rattle.std.proofs.Common.{set, get_or, length-append, take_all, take-suc, true, false, w32, SFits, to_z, of_z, to_z-of_z, lt-ltb, le-ltb}
 use Rattle.std.proofs.Math.Nat.{min-eq_left}
 use Rattle.std.proofs.Math.Seq.{set-append_seam}
-use lib.Dec.{ltb}
-use lib.IntN.{ℤ, pos, negsuc}
-use lib.ListN.{length, take, drop, set, get_or, length-append}
-use lib.Seq.{take_all, take-suc}
 use lib.Signed.{lt_z}
-use mathlib.Core.Bool.{true, false}
-use mir.Syntax.{w32}
-use mir.Val.{SFits, to_z, of_z}
-use mir.Facts.{to_z-of_z}
-use borrow.Author.Tests.{lt-ltb, le-ltb}
 use Rattle.rules.proofs.All.{never}
 use Rattle.rules.specs.Lines.{digits, dash}
 use Rattle.text.specs.declared.Out.{Out}

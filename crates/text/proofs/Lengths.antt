@@ -1,11 +1,5 @@
 -- How long lines are at most. Assumes nothing.
-use mathlib.Core.Bool.{Bool, true, false, cond}
-use mathlib.Core.List.{List, [], ◌∷◌, ◌++◌}
-use Rattle.std.specs.Prelude.{Option, None, Some}
-use Prim.Native.Nat.{ℕ, zero, suc, ◌+◌, ◌*◌, ◌/◌, ◌%◌, ◌≤◌}
-use native.Mathlib.Omega.{arith}
-use lib.Dec.{ltb}
-use lib.ListN.{length, length-append}
+use Rattle.std.proofs.Common.{Bool, true, false, cond, List, [], ◌∷◌, ◌++◌, Option, None, Some, ℕ, zero, suc, ◌+◌, ◌*◌, ◌/◌, ◌%◌, ◌≤◌, arith, ltb, length, length-append}
 use Rattle.rules.specs.Lists.{join}
 use Rattle.rules.specs.Spans.{Span}
 use Rattle.rules.specs.Lines.{Line, header, row, D, P, L, B, E, refused, digits, number, alpha-bytes, fill-bytes, span-bytes, buckets-text, ids-text, depth-text, render-text, line-text, line-bytes}

@@ -1,14 +1,5 @@
 -- Pieces line by line. Assumes nothing.
-use mathlib.Core.Bool.{Bool, true, false}
-use mathlib.Core.Path.{◌≡◌, refl}
-use mathlib.Core.List.{List, [], ◌∷◌, ◌++◌, append-nil}
-use Rattle.std.specs.Prelude.{Option}
-use Prim.Native.Nat.{ℕ, zero, suc, ◌+◌, ◌*◌, ◌≤◌}
-use native.Mathlib.Nat.{add-zero}
-use native.Mathlib.Omega.{arith}
-use lib.Dec.{leb}
-use lib.ListN.{length, drop, length-append}
-use lib.Seq.{get_or-drop}
+use Rattle.std.proofs.Common.{Bool, true, false, ◌≡◌, refl, List, [], ◌∷◌, ◌++◌, append-nil, Option, ℕ, zero, suc, ◌+◌, ◌*◌, ◌≤◌, add-zero, arith, leb, length, drop, length-append, get_or-drop}
 use Rattle.sizes.specs.Sizes.{piece-size}
 use Rattle.rules.specs.Lines.{alpha-bytes}
 use Rattle.screen.specs.declared.Screen.{Screen}

@@ -1,10 +1,5 @@
 -- What the public calls leave. Assumes nothing.
-use mathlib.Core.Path.{◌≡◌, sym, ap, subst, ◌∙◌}
-use mathlib.Core.Bool.{Bool, true, false}
-use mathlib.Core.List.{List, []}
-use Prim.Native.Nat.{ℕ, ◌*◌, ◌≤◌, ◌<◌}
-use lib.ListN.{length}
-use borrow.Author.Tests.{lt-ltb, le-ltb, eq-eqb, ne_eqb, leb-true, eqb-true}
+use Rattle.std.proofs.Common.{◌≡◌, sym, ap, subst, ◌∙◌, Bool, true, false, List, [], ℕ, ◌*◌, ◌≤◌, ◌<◌, length, lt-ltb, le-ltb, eq-eqb, ne_eqb, leb-true, eqb-true}
 use Rattle.sizes.specs.Sizes.{most-attrs, most-filters, piece-size, paint-attr-table, layer-attr-table, opacity-count, filter-paint-table}
 use Rattle.rules.proofs.All.{both}
 use Rattle.screen.specs.declared.Screen.{Screen}
@@ -59,34 +54,6 @@ module _ (v : Bool) (r : ℕ) (ws : List ℕ) (n : ℕ) (bs : List ℕ) where
   pub lines-done : n ≤ 65536 → written (details-text v (row-lines r ws n)) bs ≡ pieces-written v r ws n bs
   unfolding pieces-written
   lines-done h = rw (le-ltb 65536 n h)
-
--- the tables of attributes
-pub record Good (s : Screen) (a b c d : ℕ) : Type 0 where
-  pub paints : s.paint_attrs ≤ most-attrs
-  pub layers : s.layer_attrs ≤ most-attrs
-  pub filters : s.filter_paints ≤ most-filters
-  pub paint-table : a ≡ paint-attr-table
-  pub layer-table : b ≡ layer-attr-table
-  pub opacity-table : c ≡ opacity-count
-  pub filter-table : d ≡ filter-paint-table
-
-pub good : (s : Screen) (t : AttrTables) → good-tables s t ≡ true → Good s (length t.paints) (length t.layers) (length t.opacities) (length t.filters)
-good s t e =
-    let h1 = both _ _ e in
-    let h2 = both _ _ h1.1 in
-    let h3 = both _ _ h2.1 in
-    let h4 = both _ _ h3.1 in
-    let h5 = both _ _ h4.1 in
-    let h6 = both _ _ h5.1 in
-    record {
-      paints = leb-true _ _ h1.0;
-      layers = leb-true _ _ h2.0;
-      filters = leb-true _ _ h3.0;
-      paint-table = eqb-true _ _ h4.0;
-      layer-table = eqb-true _ _ h5.0;
-      opacity-table = eqb-true _ _ h6.0;
-      filter-table = eqb-true _ _ h6.1;
-    }
 
 module _ (v : Bool) (s : Screen) (t : AttrTables) (bs : List ℕ) where
   pub attrs-bad : good-tables s t ≡ false → text-out (listing 4 0) bs ≡ attrs-dumped v s t bs

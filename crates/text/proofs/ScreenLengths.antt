@@ -1,10 +1,6 @@
 -- How long a screen's text is at most. Assumes nothing.
-use mathlib.Core.List.{List, ◌∷◌}
-use Rattle.std.specs.Prelude.{◌≡◌, Option, None, Some}
-use Prim.Native.Nat.{ℕ, zero, suc, ◌+◌, ◌-◌, ◌*◌, ◌≤◌, ◌<◌}
-use native.Mathlib.Omega.{arith}
+use Rattle.std.proofs.Common.{List, ◌∷◌, ◌≡◌, Option, None, Some, ℕ, zero, suc, ◌+◌, ◌-◌, ◌*◌, ◌≤◌, ◌<◌, arith, length, length-append}
 use Rattle.std.proofs.Math.Nat.{mul_left_comm}
-use lib.ListN.{length, length-append}
 use Rattle.sizes.specs.Widths.{bucket-tiles}
 use Rattle.rules.specs.Boxes.{rows_of, buckets-of}
 use Rattle.rules.specs.Lines.{Line, header, depth-line, command-line, line-bytes}

@@ -1,5 +1,5 @@
 -- The bytes of what `rowdump` prints after the lines of `rowlist`, with panels or without.
-use Rattle.std.specs.Prelude.{ℕ, Bool, true, false, List, [], ◌∷◌, ◌++◌}
+use Rattle.std.specs.Prelude.{ℕ, Bool, true, false, List, [], ◌∷◌, ◌++◌, codes}
 use Rattle.rules.specs.Lists.{join}
 use Rattle.rules.specs.Lines.{number, alpha-bytes}
 use Rattle.text.specs.Details.{Detail, paint-attributes, A, layer-attributes, Y, filter-paints, F, painted, p, l}
@@ -7,19 +7,19 @@ use Rattle.text.specs.Texts.{signed}
 
 -- the words "paint attributes", "layer attributes", "filter paints", "painted", " pieces"
 abbrev pub paint-text : List ℕ
-paint-text = 112 ∷ 97 ∷ 105 ∷ 110 ∷ 116 ∷ 32 ∷ 97 ∷ 116 ∷ 116 ∷ 114 ∷ 105 ∷ 98 ∷ 117 ∷ 116 ∷ 101 ∷ 115 ∷ []
+paint-text = codes "paint attributes"
 
 abbrev pub layer-text : List ℕ
-layer-text = 108 ∷ 97 ∷ 121 ∷ 101 ∷ 114 ∷ 32 ∷ 97 ∷ 116 ∷ 116 ∷ 114 ∷ 105 ∷ 98 ∷ 117 ∷ 116 ∷ 101 ∷ 115 ∷ []
+layer-text = codes "layer attributes"
 
 abbrev pub filter-text : List ℕ
-filter-text = 102 ∷ 105 ∷ 108 ∷ 116 ∷ 101 ∷ 114 ∷ 32 ∷ 112 ∷ 97 ∷ 105 ∷ 110 ∷ 116 ∷ 115 ∷ []
+filter-text = codes "filter paints"
 
 abbrev pub painted-text : List ℕ
-painted-text = 112 ∷ 97 ∷ 105 ∷ 110 ∷ 116 ∷ 101 ∷ 100 ∷ []
+painted-text = codes "painted"
 
 abbrev pub pieces-text : List ℕ
-pieces-text = 32 ∷ 112 ∷ 105 ∷ 101 ∷ 99 ∷ 101 ∷ 115 ∷ []
+pieces-text = codes " pieces"
 
 -- a line has at most so many bytes, and a row's or a piece's so many
 abbrev pub detail-room : ℕ

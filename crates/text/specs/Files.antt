@@ -1,10 +1,10 @@
 -- The text of a recording file: what `rowlist` prints of it, and what its words leave in the lent tables.
-use Rattle.std.specs.Prelude.{Result, Ok, Err, ℕ, ◌*◌, ◌%◌, ◌≤◌, ◌≡◌, Bool, true, false, ◌&&◌, cond, List, ◌++◌, length, take, drop, leb, eqb}
-use Rattle.sizes.specs.Sizes.{file-bytes, program-rows, program-room, program-render, program-fills, program-depth, program-records, program-painting, row-size}
+use Rattle.std.specs.Prelude.{Result, Ok, Err, ℕ, ◌*◌, ◌%◌, ◌≡◌, Bool, true, false, ◌&&◌, cond, List, length, replicate, leb, eqb, pos}
+use Rattle.sizes.specs.Sizes.{file-bytes, program-rows, program-room, row-size, open-layer-table, opacity-count, paint-attr-table, layer-attr-table, filter-paint-table}
 use Rattle.sizes.specs.declared.answers.Refusal.{Refusal}
 use Rattle.sizes.specs.declared.answers.Refusal.TheVariants as refusal
 use Rattle.sizes.specs.Refusals.{number_of, answer_number}
-use Rattle.rules.specs.Answers.{Answer, Done, BadViewport, BadForm, BadRecord}
+use Rattle.rules.specs.Answers.{Answer, Done, BadViewport, BadForm}
 use Rattle.rules.specs.Lists.{is_none}
 use Rattle.rules.specs.Boxes.{good_viewport, rows_of}
 use Rattle.rules.specs.Plans.{Frame, buckets-across}
@@ -14,7 +14,7 @@ use Rattle.rules.specs.Lines as rule
 use Rattle.row.specs.Words.{Words, words}
 use Rattle.screen.specs.declared.Screen.{Screen}
 use Rattle.screen.specs.Screens.{fresh-screen}
-use Rattle.screen.specs.Tables.{Tables, tables, ScreenLent, lent}
+use Rattle.screen.specs.Tables.{Tables, tables, float-0, ScreenLent, lent}
 use Rattle.file.specs.declared.form.Layout.{Layout}
 use Rattle.file.specs.Layouts.{form_of}
 use Rattle.file.specs.Words.{words-in}
@@ -100,75 +100,51 @@ sized (Ok l) f = sized-if (good_viewport f.viewport && leb (rows_of f.viewport) 
 unfoldable pub size_of : List ℕ → Setup → Result Size Refusal
 size_of ws q = sized (form_of ws) (frame_at ws q)
 
--- The tables that the programs have are for 32 rows of 64 buckets; a file's screen has their first words.
-abbrev pub cut-to : Size → Tables → Tables
-cut-to z t =
-    tables (take (z.rows * (4 * program-room)) t.render) (take (z.rows * (2 * program-room)) t.fills) (take (z.rows * z.buckets) t.depth) (take (z.rows * row-size) t.rows)
-    (take (z.rows * 2) t.painting)
-    t.layers
-    t.opacities
-    t.paint-attrs
-    t.layer-attrs
-    t.filter-paints
-
--- the first words anew, the others as before
-abbrev pub over : Size → Tables → Tables → Tables
-over z t u =
-    tables (u.render ++ drop (z.rows * (4 * program-room)) t.render) (u.fills ++ drop (z.rows * (2 * program-room)) t.fills)
-    (u.depth ++ drop (z.rows * z.buckets) t.depth)
-    (u.rows ++ drop (z.rows * row-size) t.rows)
-    (u.painting ++ drop (z.rows * 2) t.painting)
-    u.layers
-    u.opacities
-    u.paint-attrs
-    u.layer-attrs
-    u.filter-paints
-
-abbrev pub in-front : Size → Tables → FileOut → FileOut
-in-front z t o = file-out o.showed (over z t o.tables)
-
-abbrev pub refused-as-is : ℕ → Tables → List ℕ → FileOut
-refused-as-is n t bs = file-out (refusing n nothing bs) t
-
--- .. of a size
-unfoldable pub front-text : Size → List ℕ → Setup → Tables → List ℕ → FileOut
-front-text z ws q t bs = in-front z t (recording-text ws q (cut-to z t) bs)
-
--- .. of 64 commands and 64 depth fills: what the programs ask
+-- with 64 commands and 64 depth fills a row: what the programs ask
 pub record Usual (q : Setup) : Type 0 where
   pub c : q.c ≡ program-room
   pub d : q.d ≡ program-room
-
--- the tables' lengths
-pub record Roomy (t : Tables) : Type 0 where
-  pub render : program-render ≤ length t.render
-  pub fills : program-fills ≤ length t.fills
-  pub depth : program-depth ≤ length t.depth
-  pub rows : program-records ≤ length t.rows
-  pub painting : program-painting ≤ length t.painting
-
-abbrev pub is-roomy : Tables → Bool
-is-roomy t =
-    leb program-render (length t.render)
-    && (leb program-fills (length t.fills)
-    && (leb program-depth (length t.depth) && (leb program-records (length t.rows) && leb program-painting (length t.painting))))
-
--- 3 and 2 of the file, then 4 for a lent table that is too short
-abbrev pub text_in : Result Size Refusal → List ℕ → Setup → Tables → List ℕ → FileOut
-text_in (Ok z) ws q t bs = cond (is-roomy t) (front-text z ws q t bs) (refused-as-is BadRecord t bs)
-text_in (Err r) ws q t bs = refused-as-is (number_of r) t bs
-
--- a file's words
-unfoldable pub words-text : List ℕ → Setup → Tables → List ℕ → FileOut
-words-text ws q t bs = text_in (size_of ws q) ws q t bs
 
 -- a file's bytes: at most 65,536, in whole words
 abbrev pub good-bytes : ℕ → Bool
 good-bytes n = leb n file-bytes && eqb (n % 4) 0
 
--- 3 for the bytes, then what their words say
-unfoldable pub bytes-text : List ℕ → Setup → Tables → List ℕ → FileOut
-bytes-text fs q t bs = cond (good-bytes (length fs)) (words-text (words-in fs) q t bs) (refused-as-is BadForm t bs)
+-- the size of a file's screen: 3 for its bytes, then 3 and 2 of its words
+unfoldable pub file-size : List ℕ → Setup → Result Size Refusal
+file-size fs q = cond (good-bytes (length fs)) (size_of (words-in fs) q) (Err refusal.BadForm)
+
+-- tables as long as a screen of such a size asks, with 64 commands and 64 depth fills a row
+pub record Exact (z : Size) (t : Tables) : Type 0 where
+  pub render : length t.render ≡ z.rows * (4 * program-room)
+  pub fills : length t.fills ≡ z.rows * (2 * program-room)
+  pub depth : length t.depth ≡ z.rows * z.buckets
+  pub rows : length t.rows ≡ z.rows * row-size
+  pub painting : length t.painting ≡ z.rows * 2
+  pub layers : length t.layers ≡ open-layer-table
+  pub opacities : length t.opacities ≡ opacity-count
+  pub paint-attrs : length t.paint-attrs ≡ paint-attr-table
+  pub layer-attrs : length t.layer-attrs ≡ layer-attr-table
+  pub filter-paints : length t.filter-paints ≡ filter-paint-table
+
+-- .. and with nothing in them
+abbrev pub blank : Size → Tables
+blank z =
+    tables (replicate (z.rows * (4 * program-room)) 0) (replicate (z.rows * (2 * program-room)) 0) (replicate (z.rows * z.buckets) 0)
+    (replicate (z.rows * row-size) 0)
+    (replicate (z.rows * 2) 0)
+    (replicate open-layer-table 0)
+    (replicate opacity-count float-0)
+    (replicate paint-attr-table 0)
+    (replicate layer-attr-table 0)
+    (replicate filter-paint-table (pos 0))
+
+-- what is printed of a file, by the size of its screen
+abbrev pub sized-text : Result Size Refusal → List ℕ → Setup → List ℕ → Showed
+sized-text (Ok z) ws q bs = (recording-text ws q (blank z) bs).showed
+sized-text (Err r) ws q bs = refusing (number_of r) nothing bs
+
+unfoldable pub bytes-text : List ℕ → Setup → List ℕ → Showed
+bytes-text fs q bs = sized-text (file-size fs q) (words-in fs) q bs
 
 -- the number of a file that is refused because the width asked for is none: 3 for its words' form, then 2
 unfoldable pub no-width-of : List ℕ → ℕ

@@ -7,5 +7,4 @@ pub mod Bytes
 pub mod Tables
 pub mod Pieces
 pub mod Dumped
-pub mod Rest
 pub mod Files

@@ -1,4 +1,4 @@
-// What `rowdump` prints after the lines of `rowlist`: attributes and filter paints. `panels`: whether a line with a panel shows it.
+//! What `rowdump` prints after the lines of `rowlist`: attributes and filter paints. `panels`: whether a line with a panel shows it.
 ghost use Rattle.std.specs.Prelude.{◌≡◌, false, [], ◌∷◌, ◌++◌, ◌+◌, ◌*◌, ◌≤◌, length};
 ghost use Rattle.sizes.specs.Sizes.{most-layers, paint-attr-size, layer-attr-size, filter-paint-size};
 ghost use Rattle.rules.specs.Lines.{number};
@@ -13,9 +13,10 @@ use sizes::{
     PAINT_PANEL,
 };
 
-// What a line has at most, and what that of a piece or of a row has.
+/// How many bytes a line of the details has at most.
 pub const DETAIL: usize = 112;
 
+/// How many that of a piece or of a row has at most.
 pub const PIECE_LINE: usize = 72;
 
 fn tied() -> [usize; 2]
@@ -33,7 +34,7 @@ fn print_heading(out: &mut Out<'_>, heading: &[u8], n: u32)
     out.byte(b'\n');
 }
 
-// A panel, where panels are shown.
+/// A space and a panel, where panels are shown.
 pub fn print_panel(out: &mut Out<'_>, panel: u32, panels: bool)
     ensures { Writes (panel-bytes panels panel) out.old out.new }
 {
@@ -102,7 +103,7 @@ fn print_filter(out: &mut Out<'_>, table: &[i32], i: usize)
     out.byte(b'\n');
 }
 
-// The first n paint attributes.
+/// The heading of n paint attributes, and their lines.
 pub fn print_paint_attrs(out: &mut Out<'_>, table: &[u32], n: u32, panels: bool)
     requires { paint-attr-size * n ≤ length table.now }
     ensures { Writes (details-text panels (paint-lines table.now n)) out.old out.new }
@@ -113,7 +114,7 @@ pub fn print_paint_attrs(out: &mut Out<'_>, table: &[u32], n: u32, panels: bool)
     }
 }
 
-// The first n layer attributes.
+/// The heading of n layer attributes, and their lines.
 pub fn print_layer_attrs(out: &mut Out<'_>, table: &[u32], opacities: &[f32], n: u32, panels: bool)
     requires { (layer-attr-size * n ≤ length table.now) × (most-layers + n ≤ length opacities.now) }
     ensures { Writes (details-text panels (layer-lines table.now opacities.now n)) out.old out.new }
@@ -124,7 +125,7 @@ pub fn print_layer_attrs(out: &mut Out<'_>, table: &[u32], opacities: &[f32], n:
     }
 }
 
-// The first n filter paints.
+/// The heading of n filter paints, and their lines.
 pub fn print_filter_paints(out: &mut Out<'_>, table: &[i32], n: u32)
     requires { filter-paint-size * n ≤ length table.now }
     ensures { Writes (details-text false (filter-lines table.now n)) out.old out.new }

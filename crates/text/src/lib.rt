@@ -1,28 +1,36 @@
-// Text into a lent list of bytes. An `Out` writes at its place, as far as the bytes go, and its place goes on past them: on no bytes it measures.
+//! Text into a lent list of bytes. An `Out` writes at its place, as far as the bytes go, and its place goes on past them: on no bytes it measures.
 #![tactic(auto)]
 
 ghost use Rattle.std.specs.Prelude.{List, ℕ, [], ◌∷◌, ⊤};
 ghost use Rattle.rules.specs.Lines.{digits, number, dash, alpha-bytes};
 ghost use Rattle.text.specs.Texts.{signed, Writes};
 
+/// Attributes and filter paints.
 pub mod details;
+/// The lines of `rowlist`.
 pub mod lines;
+/// A screen's rows.
 pub mod listing;
+/// Painted rows and a screen's attributes.
 pub mod painted;
+/// A file's recording.
 pub mod recording;
 
 pub use crate::listing::{list_screen, print_first, refusal_line, try_print_first};
 pub use crate::painted::{Tables, attrs_text, row_text};
-pub use crate::recording::{FileText, Size, file_text, no_width_refusal, recording_text, size_of};
+pub use crate::recording::{
+    FILE_WORDS, FileText, Size, no_screen, no_width_refusal, read_file, recording_text, refuse,
+    size_of,
+};
 
-// Where text goes: into the bytes from place `at` on.
+/// Where text goes: into the bytes from place `at` on.
 #[derive(Drop)]
 pub struct Out<'a> {
     pub bytes: &'a mut [u8],
     pub at: usize,
 }
 
-// What prints itself.
+/// What prints itself.
 pub trait Print {
     // The bytes that it prints.
     ghost printed: { Self → List ℕ };
@@ -36,6 +44,7 @@ pub trait Print {
 }
 
 impl Out<'_> {
+    /// One byte.
     pub fn byte(&mut self, b: u8)
         ensures { Writes (b ∷ []) self.old self.new }
     {
@@ -47,7 +56,7 @@ impl Out<'_> {
         }
     }
 
-    // A text as it stands.
+    /// A text as it stands.
     pub fn text(&mut self, s: &[u8])
         ensures { Writes s.now self.old self.new }
     {
@@ -56,7 +65,7 @@ impl Out<'_> {
         }
     }
 
-    // A number in decimal, its last k digits at most.
+    /// A number in decimal, its last k digits at most.
     pub fn digits(&mut self, n: u64, k: usize)
         ensures { Writes (digits k n) self.old self.new }
     {
@@ -69,7 +78,7 @@ impl Out<'_> {
         self.byte(b'0' + (n % 10) as u8);
     }
 
-    // A space and a number.
+    /// A space and a number.
     pub fn number(&mut self, n: u32)
         ensures { Writes (number n) self.old self.new }
     {
@@ -84,14 +93,14 @@ impl Out<'_> {
         }
     }
 
-    // A space and a dash.
+    /// A space and a dash.
     pub fn dash(&mut self)
         ensures { Writes dash self.old self.new }
     {
         self.text(b" -");
     }
 
-    // An alpha index, or a dash.
+    /// An alpha index, or a dash.
     pub fn alpha(&mut self, index: Option<u32>)
         ensures { Writes (alpha-bytes index) self.old self.new }
     {
@@ -101,7 +110,7 @@ impl Out<'_> {
         }
     }
 
-    // A space and a number that may be negative.
+    /// A space, or a space and a dash where it is negative, and the number.
     pub fn signed(&mut self, x: i32)
         ensures { Writes (signed x) self.old self.new }
     {

@@ -1,4 +1,4 @@
-// The lines that `rowlist` prints, each with its line feed.
+//! The lines that `rowlist` prints, each with its line feed.
 ghost use Rattle.std.specs.Prelude.{option_map};
 ghost use Rattle.rules.specs.Lines.{header, row, refused, depth-line, command-line, fill-bytes, span-bytes, line-text, line-bytes};
 ghost use Rattle.span.specs.Spans.{tiles};
@@ -11,7 +11,7 @@ use cmd::command::{Fill, RenderCmd};
 use cmd::depth_fill::DepthFill;
 use span::TileSpan;
 
-// A screen's: its rows, the buckets in each, the ids that are taken.
+/// A screen's: its rows, the buckets in each, the ids that are taken.
 #[derive(Clone, Copy)]
 pub struct Header {
     pub rows: u32,
@@ -19,7 +19,7 @@ pub struct Header {
     pub ids: u32,
 }
 
-// A row's: its number, and how many depth fills and commands it has.
+/// A row's: its number, and how many depth fills and commands it has.
 #[derive(Clone, Copy)]
 pub struct RowHead {
     pub row: u32,
@@ -27,7 +27,7 @@ pub struct RowHead {
     pub renders: u32,
 }
 
-// A refusal's, by its number.
+/// A refusal's, by its number.
 #[derive(Clone, Copy)]
 pub struct Refused {
     pub number: u32,

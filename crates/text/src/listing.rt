@@ -1,5 +1,5 @@
-// The lines of a screen's words, as text. `list_screen` and `refusal_line` are public calls; the others
-// are their parts.
+//! The lines of a screen's words, as text. `list_screen` and `refusal_line` are public calls; the others
+//! are their parts.
 ghost use Rattle.std.specs.Prelude.{◌≡◌, ℕ, ◌+◌, ◌*◌, ◌≤◌, ◌<◌, ◌^◌, ◌++◌, length, drop, option_map};
 ghost use Rattle.sizes.specs.Sizes.{most-room, most-rows, row-size};
 ghost use Rattle.sizes.specs.Refusals.{answer_number};
@@ -267,7 +267,7 @@ fn length_of<T: Print>(item: &T) -> usize
     none.at
 }
 
-// What an item prints, put at the start of the bytes; how many it has.
+/// What an item prints, put at the start of the bytes; how many it has.
 pub fn print_first<T: Print>(item: &T, out: &mut [u8]) -> usize
     requires ready { T.ready item.now }
     requires within { length (T.printed item.now) ≤ length out.old }
@@ -279,7 +279,7 @@ pub fn print_first<T: Print>(item: &T, out: &mut [u8]) -> usize
     text.at
 }
 
-// The same, or 14 where the bytes are fewer, and they stay. `most`: what it prints at most, so that it is measured only where there is less room.
+/// The same, or 14 where the bytes are fewer, and they stay. `most`: what it prints at most, so that it is measured only where there is less room.
 pub fn try_print_first<T: Print>(item: &T, most: usize, out: &mut [u8]) -> Result<usize, Refusal>
     requires ready { T.ready item.now }
     requires within { length (T.printed item.now) ≤ most }
@@ -291,7 +291,8 @@ pub fn try_print_first<T: Print>(item: &T, most: usize, out: &mut [u8]) -> Resul
     Ok(print_first(item, out))
 }
 
-// The text of a screen: the header, then each row with its depth fills and commands, as stored. How many bytes it has, at the start of the lent ones.
+/// The text of a screen: the header, then each row with its depth fills and commands, as stored. How many bytes it has, at the start of the lent ones; 2, 1
+/// or 4 where the screen or the rows' words are bad, 14 where the bytes are too few, and they stay.
 pub fn list_screen(screen: Screen, rows: &Rows<'_>, out: &mut [u8]) -> Result<usize, Refusal>
     ensures { left result out.new ≡ listed screen (all-held rows.now) out.old }
 {
@@ -305,7 +306,7 @@ pub fn list_screen(screen: Screen, rows: &Rows<'_>, out: &mut [u8]) -> Result<us
     try_print_first(&text, screen_room(screen.rows(), screen.c, screen.d), out)
 }
 
-// The line of a refusal, and how many bytes it has.
+/// The line of a refusal, and how many bytes it has; 14 where they are too few.
 pub fn refusal_line(n: u32, out: &mut [u8]) -> Result<usize, Refusal>
     ensures { left result out.new ≡ refused-listed n out.old }
 {

@@ -1,15 +1,15 @@
-// What `rowdump` prints of a screen after the lines of `rowlist`. `attrs_text` and `row_text` are public calls; the others are their parts.
-// `panels`: whether a line with a panel shows it.
+//! What `rowdump` prints of a screen after the lines of `rowlist`. `attrs_text` and `row_text` are public calls; the others are their parts.
+//! `panels`: whether a line with a panel shows it.
 ghost use Rattle.std.specs.Prelude.{◌≡◌, true, false, [], ◌∷◌, ◌+◌, ◌*◌, ◌≤◌, length};
 ghost use Rattle.sizes.specs.Sizes.{most-attrs, most-filters, piece-size};
 ghost use Rattle.text.specs.Details.{painted};
 ghost use Rattle.text.specs.Texts.{Writes};
 ghost use Rattle.text.specs.Bytes.{detail-bytes, details-text};
-ghost use Rattle.paint.specs.Painting.{lent};
 ghost use Rattle.paint.specs.Stepping.{attributes};
 ghost use Rattle.text.specs.Listed.{left, listing_of};
 ghost use Rattle.text.specs.Pieces.{most-pieces, piece-list, alpha-of, letter-of, piece-at, row-lines};
 ghost use Rattle.text.specs.Dumped.{pieces-written, stopped-out, stopped, row_out, row-dumped, tables_of, good-tables, attrs-room, attrs-text, attrs-dumped};
+ghost use Rattle.paint.specs.Named.{row_attrs, row_lent};
 
 use crate::details::{
     DETAIL, PIECE_LINE, print_filter_paints, print_layer_attrs, print_paint_attrs, print_panel,
@@ -24,9 +24,10 @@ use sizes::{
     PROGRAM_BUCKETS, PROGRAM_ROOM,
 };
 
-// The most pieces of a row of the programs' screens, and the words of a list that holds them.
+/// The most pieces of a row of the programs' screens.
 pub const PIECES: usize = PROGRAM_BUCKETS + MOST_RUNS * PROGRAM_ROOM as usize;
 
+/// The words of a list that holds them.
 pub const PIECE_LIST: usize = PIECE * PIECES;
 
 fn tied() -> [usize; 2]
@@ -35,7 +36,7 @@ fn tied() -> [usize; 2]
     [PIECES, PIECE_LIST]
 }
 
-// What a host lends of a screen's attributes, to be read.
+/// What a host lends of a screen's attributes, to be read.
 #[derive(Clone, Copy)]
 pub struct Tables<'a> {
     pub paint_attrs: &'a [u32],
@@ -140,14 +141,14 @@ fn refused_at(
     painting: &mut [u32],
 ) -> Result<usize, Refusal>
     ensures { stopped-out (listing_of result) depth.new painting.new
-        ≡ stopped screen row (attributes stored.now.paint_attrs.now stored.now.layer_attrs.now) (lent stored.now.rows.now stored.now.render.now stored.now.fills.now depth.old painting.old []) }
+        ≡ stopped screen row (row_attrs stored.now) (row_lent stored.now depth.old painting.old []) }
 {
     paint_step(screen, row, stored, depth, painting, &mut [])?;
     Ok(0)
 }
 
-// The text of a row: painted to its end, its pieces in the list and as lines. The screen's painting has begun, and the row stands at its
-// first step, or the text is of the steps that are left.
+/// The text of a row, and how many bytes it has: it is painted to its end, its pieces in the list and as lines. The screen's painting has begun, and the row
+/// stands at its first step, or the text is of the steps that are left. Refused as its steps are, and by 14 for more than 65,536 pieces or too few bytes.
 pub fn row_text(
     screen: Screen,
     row: u32,
@@ -159,7 +160,7 @@ pub fn row_text(
     out: &mut [u8],
 ) -> Result<usize, Refusal>
     ensures { row_out (listing_of result) depth.new painting.new list.new out.new
-        ≡ row-dumped panels screen row (attributes stored.now.paint_attrs.now stored.now.layer_attrs.now) (lent stored.now.rows.now stored.now.render.now stored.now.fills.now depth.old painting.old list.old) out.old }
+        ≡ row-dumped panels screen row (row_attrs stored.now) (row_lent stored.now depth.old painting.old list.old) out.old }
 {
     let done = paint_row(screen, row as usize, stored, depth, painting, list)?;
     if !done.finished {
@@ -220,7 +221,8 @@ impl Print for AttrsText<'_> {
     }
 }
 
-// The text of a screen's attributes and filter paints, and how many bytes it has.
+/// The text of a screen's attributes and filter paints, and how many bytes it has; 4 for counts past their limits or tables of other lengths, 14 for too few
+/// bytes.
 pub fn attrs_text(
     screen: Screen,
     panels: bool,

@@ -1,13 +1,6 @@
 -- At the words that hold the rules' screen of an accepted file the parts write the text of the rules' details: the attributes, then each row in its order. Assumes nothing.
-use mathlib.Core.Path.{◌≡◌, refl, ap, ◌∙◌}
-use mathlib.Core.Bool.{Bool, true, ◌||◌}
-use mathlib.Core.List.{List, [], ◌++◌}
-use Prim.Native.Nat.{ℕ, zero, suc, ◌+◌, ◌*◌, ◌≤◌, ◌<◌}
-use native.Mathlib.Omega.{arith}
-use lib.Dec.{ltb}
-use lib.ListN.{length, get_or, drop, length-append}
-use lib.Seq.{drop-length, drop-cons}
-use borrow.Author.Tests.{le-leb, le-ltb, eq-eqb, ltb-false}
+use Rattle.std.proofs.Common.{◌≡◌, refl, ap, ◌∙◌, Bool, true, ◌||◌, List, [], ◌++◌, ℕ, zero, suc, ◌+◌, ◌*◌, ◌≤◌, ◌<◌, arith, ltb, length, get_or, drop, length-append, drop-cons, le-leb, le-ltb, eq-eqb, ltb-false}
+use lib.Seq.{drop-length}
 use Rattle.sizes.specs.Sizes.{opacity-count, paint-attr-table, layer-attr-table, filter-paint-table}
 use Rattle.rules.specs.Boxes.{rows_of}
 use Rattle.rules.specs.Attributes.{no-layer}
@@ -17,14 +10,12 @@ use Rattle.rules.specs.Steps.{Screen}
 use Rattle.rules.proofs.All.{neither, all-at}
 use Rattle.screen.specs.Tables.{ScreenLent}
 use Rattle.screen.proofs.ScreenLaws.{few-buckets}
-use Rattle.paint.specs.Painting as paint
 use Rattle.paint.specs.Stepping.{attributes}
 use Rattle.text.specs.Listed.{written, begun-with}
 use Rattle.text.specs.Details.{painted-lines, attr-lines, detail-lines}
 use Rattle.text.specs.Bytes.{details-text}
 use Rattle.text.specs.Pieces.{piece-list}
-use Rattle.text.specs.Dumped.{tables, good-tables, attrs-dumped}
-use Rattle.text.specs.Dumped as dumped
+use Rattle.text.specs.Dumped.{good-tables, attrs-dumped}
 use Rattle.refine_steps.specs.Sound.{Fitting}
 use Rattle.refine_steps.specs.Lent.{lent_of}
 use Rattle.refine_text.proofs.Walked.{Kept}
@@ -38,15 +29,8 @@ use Rattle.theorem_text.proofs.Begun.{all-wait}
 use Rattle.refine_paint.proofs.Painters.{all-taken}
 use Rattle.theorem_text.proofs.Full.{row-long, theirs-text, row_written, rows-text-few}
 use Rattle.text_programs.specs.Programs.{first}
-use Rattle.text_dump.specs.Dumped.{details-room, rows-dumped, details-dumped}
+use Rattle.text_dump.specs.Dumped.{details-room, rows-dumped, details-dumped, heads, given}
 use Rattle.text_dump.proofs.First.{Says, after-says, room-left}
-
--- the words of a row's call
-abbrev pub at_words : ScreenLent → List ℕ → paint.RowLent
-at_words m list = paint.lent m.tables.rows m.tables.render m.tables.fills m.tables.depth m.tables.painting list
-
-abbrev pub attrs-of : ScreenLent → dumped.AttrTables
-attrs-of m = tables m.tables.paint-attrs m.tables.layer-attrs m.tables.opacities m.tables.filter-paints
 
 module _ (v : Bool) (s : Screen Row) (fit : (i : ℕ) → Fitting 64 64 (get_or s.rows i fresh-row)) (narrow : buckets-across s.state.frame ≤ 64) where
   -- the rules' text of the rows from row r on
@@ -59,7 +43,7 @@ module _ (v : Bool) (s : Screen Row) (fit : (i : ℕ) → Fitting 64 64 (get_or 
 
   rows_are : (k r : ℕ) → r + k ≡ length s.rows → (m : ScreenLent) → ((j : ℕ) → r ≤ j → j < length s.rows → Waits s j m) → (list : List ℕ) → piece-list ≤ length list
       → (bs : List ℕ) → length (rest r) ≤ length bs
-      → Says (rest r) bs (rows-dumped v k r m.screen (attributes m.tables.paint-attrs m.tables.layer-attrs) (at_words m list) bs)
+      → Says (rest r) bs (rows-dumped v k r m.screen (attributes m.tables.paint-attrs m.tables.layer-attrs) (given m.tables list) bs)
   unfolding rows-dumped
   rows_are zero r e m h list long bs room =
       let q : r ≡ length s.rows = omega arith in
@@ -98,7 +82,7 @@ module _ (v : Bool) (f : Frame) (s : Screen Row) (kept : Kept f s) (c : f.c ≡ 
   -- the tables of attributes are as long as they have to be
   module _ (paints : length m.tables.paint-attrs ≡ paint-attr-table) (layers : length m.tables.layer-attrs ≡ layer-attr-table) (opacities : length m.tables.opacities ≡ opacity-count)
       (filters : length m.tables.filter-paints ≡ filter-paint-table) where
-    good : good-tables m.screen (attrs-of m) ≡ true
+    good : good-tables m.screen (heads m.tables) ≡ true
     unfolding lent_of
     good =
         let a = s.state.attrs in
@@ -114,27 +98,27 @@ module _ (v : Bool) (f : Frame) (s : Screen Row) (kept : Kept f s) (c : f.c ≡ 
           eq-eqb _ _ filters,
         )
 
-    abbrev heads : List ℕ
-    heads = details-text v (attr-lines s.state.attrs)
+    abbrev own-text : List ℕ
+    own-text = details-text v (attr-lines s.state.attrs)
 
-    attrs-are : (bs : List ℕ) → length heads ≤ length bs → attrs-dumped v m.screen (attrs-of m) bs ≡ begun-with heads bs
+    attrs-are : (bs : List ℕ) → length own-text ≤ length bs → attrs-dumped v m.screen (heads m.tables) bs ≡ begun-with own-text bs
     unfolding attrs-dumped written
     attrs-are bs h =
-        rw (good, attrs-printed v s kept.sound (λ i g. all-at over.small.attrs i no-layer g) b de pa, le-ltb (length bs) (length heads) h)
+        rw (good, attrs-printed v s kept.sound (λ i g. all-at over.small.attrs i no-layer g) b de pa, le-ltb (length bs) (length own-text) h)
 
     -- The attributes and the rows: the rules' details.
     pub details-are : length de ≡ rows_of s.state.frame.viewport * buckets-across s.state.frame → length pa ≡ rows_of s.state.frame.viewport * 2
         → (list : List ℕ) → piece-list ≤ length list → (bs : List ℕ) → details-room ≤ length bs
-        → Says (details-text v (detail-lines s)) bs (details-dumped v m.screen (length s.rows) (attrs-of m) (at_words m list) bs)
+        → Says (details-text v (detail-lines s)) bs (details-dumped v m.screen (length s.rows) (heads m.tables) (given m.tables list) bs)
     unfolding details-dumped begin-at
     details-are hd hp list long bs room =
         let x = attrs-text-few v s.state.attrs kept.sound.attrs in
         let y = rows-text-few v (bucket s.state.frame) s.state.attrs (buckets-across s.state.frame) 0 s.rows narrow fit
         (λ j. all-taken s.state.attrs (buckets-across s.state.frame) (get_or s.rows j fresh-row) (kept.fair j)) in
-        let own : length heads ≤ length bs = omega (arith, x, room) in
+        let own : length own-text ≤ length bs = omega (arith, x, room) in
         let n = rows_few in
-        let fits : length (heads ++ rest v s fit narrow 0) ≤ length bs = rw (length-append heads (rest v s fit narrow 0)) (omega (arith, x, y, n, room)) in
+        let fits : length (own-text ++ rest v s fit narrow 0) ≤ length bs = rw (length-append own-text (rest v s fit narrow 0)) (omega (arith, x, y, n, room)) in
         rw (details-parts v s, attrs-are bs own)
-        (after-says heads (rest v s fit narrow 0) bs _
+        (after-says own-text (rest v s fit narrow 0) bs _
         (rows_are v s fit narrow (length s.rows) 0 (omega arith) (begin-at m).value (λ j a h. all-wait s kept.sound kept.fair over.closed b de pa hd hp j h) list long
-        (drop (length heads) (first heads bs)) (room-left heads (rest v s fit narrow 0) bs fits)))
+        (drop (length own-text) (first own-text bs)) (room-left own-text (rest v s fit narrow 0) bs fits)))

@@ -1,199 +1,103 @@
 -- A file's bytes: where its call refuses them there are no details, and where it does not the tables hold the rules' screen, so that the details are the rules'. Assumes nothing.
-use mathlib.Core.Path.{◌≡◌, refl, sym, ap, ◌∙◌}
-use mathlib.Core.Bool.{Bool, true, false, ◌&&◌, cond}
-use mathlib.Core.List.{List, [], ◌∷◌, ◌++◌, append-nil}
-use Rattle.std.specs.Prelude.{Option, None, Some}
-use Prim.Native.Nat.{ℕ, ◌+◌, ◌-◌, ◌*◌, ◌%◌, ◌≤◌, ◌<◌}
-use native.Mathlib.Omega.{arith}
-use lib.Dec.{leb, eqb}
-use lib.ListN.{length, get_or, take, drop, length-append, length-drop}
-use lib.Seq.{take_at}
+use Rattle.std.proofs.Common.{◌≡◌, refl, sym, ap, ◌∙◌, Bool, true, false, cond, List, [], ◌∷◌, ◌++◌, append-nil, ℕ, ◌+◌, ◌-◌, ◌*◌, ◌≤◌, ◌<◌, arith, eqb, length, get_or, take, drop, length-append, length-drop, eq-eqb, ne_eqb, Ok, Err}
 use borrow.Rule.Slice.PartMut.{put_mid}
-use borrow.Author.Tests.{le-ltb, lt-ltb, leb-true, leb-false, eq-eqb, eqb-true}
-use Rattle.sizes.specs.Widths.{bucket-tiles}
-use Rattle.rules.specs.Answers.{Answer, Done, BadForm}
-use Rattle.rules.specs.Boxes.{Box, rows_of, buckets-of}
+use Rattle.rules.specs.Answers.{Answer, Done}
+use Rattle.rules.specs.Boxes.{Box, rows_of}
 use Rattle.rules.specs.Rows.{Row, fresh-row}
 use Rattle.rules.specs.Plans.{Frame, buckets-across}
 use Rattle.rules.specs.Setups.{Setup}
 use Rattle.rules.specs.Steps.{Screen, reset}
-use Rattle.rules.specs.Lines.{rowlist-screen, rowlist-place, words_of, digits}
+use Rattle.rules.specs.Lines.{rowlist-screen, rowlist-place, digits}
 use Rattle.rules.specs.Lines as rules
 use Rattle.rect.specs.Rects.{box_of}
 use Rattle.screen.specs.declared.Screen as declared
 use Rattle.screen.specs.Screens.{frame-of}
 use Rattle.screen.specs.Tables.{Tables, ScreenLent}
-use Rattle.screen.proofs.ScreenLaws.{few-buckets}
 use Rattle.file.specs.Words.{words-in}
-use Rattle.file.proofs.Bytes.{rules-words}
-use Rattle.paint.specs.Painting as paint
+use Rattle.text.proofs.Bytes.{by-file}
 use Rattle.text.proofs.Lengths.{plus, digits-few}
 use Rattle.text.specs.Details.{detail-lines, rowdump-words}
 use Rattle.text.specs.Bytes.{details-text}
 use Rattle.text.specs.Pieces.{piece-list}
-use Rattle.text.specs.Dumped as dumped
-use Rattle.std.specs.Prelude.{Result, Ok, Err}
-use Rattle.std.specs.Result.{is_err}
-use Rattle.rules.proofs.All.{never}
 use Rattle.sizes.specs.declared.answers.Refusal.{Refusal}
-use Rattle.sizes.specs.Refusals.{answer_number}
+use Rattle.sizes.specs.declared.answers.Refusal.TheVariants as refusal
+use Rattle.sizes.specs.Refusals.{number_of}
 use Rattle.sizes.proofs.Refusals.{not_done}
-use Rattle.text.specs.Files.{Text as FileText, FileOut, file-out, shows-as, refusing, size, over, Usual, words-text, refused-as-is, bytes-text}
-use Rattle.text.proofs.FileTexts.{small}
+use Rattle.text.specs.declared.recording.Size.{Size}
+use Rattle.text.specs.Files.{Text as FileText, nothing, FileOut, file-out, shows-as, refusing, Usual, Exact, size_of, good-bytes, file-size, recording-text, bytes-text}
+use Rattle.text.proofs.FileTexts.{sized-shown, refused-shown}
 use Rattle.refine_steps.specs.Lent.{lent_of, Holds}
-use Rattle.refine_text.proofs.Files.{usual-frame, Left, Leaves, words-leave, file-few}
+use Rattle.refine_text.proofs.Files.{usual-frame, Left, Leaves, words-print, words-leave, file-few}
 use Rattle.theorem_text.proofs.Small.{words_small}
 use Rattle.theorem_text.proofs.Played.{Ended, play-ended}
-use Rattle.text_programs.specs.Tables.{Long}
-use Rattle.text_programs.proofs.Laws.{roomy, fixed, rowlist-shown}
+use Rattle.text_programs.proofs.Laws.{rowlist-shown}
 use Rattle.text_programs.specs.Programs.{rowlist-text, first}
 use Rattle.text_dump.specs.Rowdump.{recording-line, rowdump-lines, file-lines-text, Printed}
-use Rattle.text_dump.specs.Dumped.{list-room, details-room, lines-room, Part, part, details-dumped, words-before, screen-dumped, Wide}
+use Rattle.text_dump.specs.Dumped.{list-room, details-room, lines-room, PartWritten, details-dumped, heads, given}
 use Rattle.text_dump.proofs.Parts.{mid-all, put_all}
 use Rattle.text_dump.proofs.First.{Says, first-dropped, first-long, first_two}
-use Rattle.text_dump.proofs.Details.{at_words, attrs-of, details-are}
+use Rattle.text_dump.proofs.Details.{details-are}
 
--- words that stand first in a table, and are as many as before
-module _ (xs ts us : List ℕ) (k n : ℕ) (e : us ≡ xs ++ drop k ts) (h : k ≤ n) (t : n ≡ length ts) (u : n ≡ length us) where
-  pub cut-long : length xs ≡ k
-  cut-long = let l = ap (λ (q : List ℕ). length q) e ∙ length-append xs (drop k ts) in omega (arith, l, length-drop k ts, t, u)
-
-  pub cut-back : take k us ≡ xs
-  cut-back = rw e (take_at xs (drop k ts) k cut-long)
-
-module _ (d : Bool) (s : Screen Row) (t u : Tables) (ht : Long t) (hu : Long u) (x : declared.Screen) (o : FileOut) (l : Left s t o) (ex : x ≡ o.showed.text.screen) (eu : u ≡ o.tables)
+-- the tables after a file's call hold the rules' screen: its details are the rules'
+module _ (d : Bool) (s : Screen Row) (z : Size) (u : Tables) (h : Exact z u) (x : declared.Screen) (o : FileOut) (l : Left s z o) (ex : x ≡ o.showed.text.screen) (eu : u ≡ o.tables)
     (ended : Ended s) where
   abbrev v : Box
   v = l.viewport
 
-  abbrev n : ℕ
-  n = rows_of v
-
-  abbrev b : ℕ
-  b = buckets-of (bucket-tiles l.width) v
-
-  abbrev w : ScreenLent
-  w = l.words
-
-  abbrev h : Holds s w
-  h = l.refines.holds
+  abbrev held : Holds s l.words
+  held = l.refines.holds
 
   abbrev m : ScreenLent
-  m = lent_of s h.begun h.depth h.painting
+  m = lent_of s held.begun held.depth held.painting
 
-  ue : u ≡ over (size n b) t w.tables
-  ue = eu ∙ l.tables
+  screen-there : x ≡ m.screen
+  screen-there = ex ∙ l.screen ∙ ap (λ (q : ScreenLent). q.screen) held.same
 
-  own_view : s.state.frame.viewport ≡ v
-  own_view = ap (λ (f : Frame). f.viewport) l.kept.frame
-
-  narrow : b ≤ 64
-  narrow = rw own_view at (few-buckets s.state.frame.viewport l.kept.sound.viewport l.width)
+  tables-there : u ≡ m.tables
+  tables-there = eu ∙ l.tables ∙ ap (λ (q : ScreenLent). q.tables) held.same
 
   frame-there : frame-of m.screen ≡ s.state.frame
   unfolding lent_of
   frame-there = refl
 
-  screen-there : x ≡ m.screen
-  screen-there = ex ∙ l.screen ∙ ap (λ (q : ScreenLent). q.screen) h.same
-
-  own-frame : frame-of x ≡ usual-frame v l.width
-  own-frame = ap frame-of screen-there ∙ frame-there ∙ l.kept.frame
-
-  pub view : box_of x.viewport ≡ v
-  view = ap (λ (f : Frame). f.viewport) own-frame
-
-  down : rows_of (box_of x.viewport) ≡ n
-  down = ap rows_of view
-
-  across : buckets-of (bucket-tiles x.width) (box_of x.viewport) ≡ b
-  across = ap (λ (f : Frame). buckets-across f) own-frame
-
-  few_words : n * b ≤ 2048
-  few_words = small n b l.few narrow
-
-  -- the tables are wide enough for the screen
-  pub wide : Wide x u.rows u.render u.fills u.depth u.painting
-  wide =
-      record {
-        few = rw down l.few;
-        narrow = rw across narrow;
-        rows_long = omega (arith, hu.rows);
-        render-long = omega (arith, hu.render);
-        fills-long = omega (arith, hu.fills);
-        depth-long = omega (arith, hu.depth);
-        painting-long = omega (arith, hu.painting);
-      }
-
-  rows_back : take (n * 54) u.rows ≡ m.tables.rows
-  rows_back = cut-back w.tables.rows t.rows u.rows (n * 54) 1728 (ap (λ (q : Tables). q.rows) ue) (omega (arith, l.few)) ht.rows hu.rows ∙ ap (λ (q : ScreenLent). q.tables.rows) h.same
-
-  render-back : take (n * 256) u.render ≡ m.tables.render
-  render-back = cut-back w.tables.render t.render u.render (n * 256) 8192 (ap (λ (q : Tables). q.render) ue) (omega (arith, l.few)) ht.render hu.render ∙ ap (λ (q : ScreenLent). q.tables.render) h.same
-
-  fills-back : take (n * 128) u.fills ≡ m.tables.fills
-  fills-back = cut-back w.tables.fills t.fills u.fills (n * 128) 4096 (ap (λ (q : Tables). q.fills) ue) (omega (arith, l.few)) ht.fills hu.fills ∙ ap (λ (q : ScreenLent). q.tables.fills) h.same
-
-  depth-back : take (n * b) u.depth ≡ m.tables.depth
-  depth-back = cut-back w.tables.depth t.depth u.depth (n * b) 2048 (ap (λ (q : Tables). q.depth) ue) few_words ht.depth hu.depth ∙ ap (λ (q : ScreenLent). q.tables.depth) h.same
-
-  painting-back : take (n * 2) u.painting ≡ m.tables.painting
-  painting-back = cut-back w.tables.painting t.painting u.painting (n * 2) 64 (ap (λ (q : Tables). q.painting) ue) (omega (arith, l.few)) ht.painting hu.painting ∙ ap (λ (q : ScreenLent). q.tables.painting) h.same
+  rows-there : rows_of (box_of x.viewport) ≡ length s.rows
+  rows-there = ap (λ (y : declared.Screen). rows_of (frame-of y).viewport) screen-there ∙ ap (λ (f : Frame). rows_of f.viewport) frame-there ∙ sym l.kept.sound.count
 
   -- the words of painting have the lengths that the screen asks for
-  depth-there : m.tables.depth ≡ h.depth
+  depth-there : m.tables.depth ≡ held.depth
   unfolding lent_of
   depth-there = refl
 
-  painting-there : m.tables.painting ≡ h.painting
+  painting-there : m.tables.painting ≡ held.painting
   unfolding lent_of
   painting-there = refl
 
-  depth-long : length h.depth ≡ rows_of s.state.frame.viewport * buckets-across s.state.frame
+  depth-long : length held.depth ≡ rows_of s.state.frame.viewport * buckets-across s.state.frame
   depth-long =
-      sym (ap (λ (q : ScreenLent). length q.tables.depth) h.same ∙ ap (λ (q : List ℕ). length q) depth-there)
-      ∙ cut-long w.tables.depth t.depth u.depth (n * b) 2048 (ap (λ (q : Tables). q.depth) ue) few_words ht.depth hu.depth
+      sym (ap (λ (t : Tables). length t.depth) tables-there ∙ ap (λ (q : List ℕ). length q) depth-there)
+      ∙ h.depth
+      ∙ ap (λ (y : Size). y.rows * y.buckets) l.size
       ∙ sym (ap (λ (f : Frame). rows_of f.viewport * buckets-across f) l.kept.frame)
 
-  painting-long : length h.painting ≡ rows_of s.state.frame.viewport * 2
+  painting-long : length held.painting ≡ rows_of s.state.frame.viewport * 2
   painting-long =
-      sym (ap (λ (q : ScreenLent). length q.tables.painting) h.same ∙ ap (λ (q : List ℕ). length q) painting-there)
-      ∙ cut-long w.tables.painting t.painting u.painting (n * 2) 64 (ap (λ (q : Tables). q.painting) ue) (omega (arith, l.few)) ht.painting hu.painting
-      ∙ sym (ap (λ (q : Box). rows_of q * 2) own_view)
-
-  abbrev given : List ℕ → paint.RowLent
-  given list = paint.lent u.rows u.render u.fills u.depth u.painting list
-
-  abbrev attrs : dumped.AttrTables
-  attrs = dumped.tables u.paint-attrs u.layer-attrs u.opacities u.filter-paints
-
-  same-attrs : attrs ≡ attrs-of m
-  same-attrs = ap (λ (q : Tables). dumped.tables q.paint-attrs q.layer-attrs q.opacities q.filter-paints) ue ∙ ap attrs-of h.same
-
-  rows-there : n ≡ length s.rows
-  rows-there = sym (l.kept.sound.count ∙ ap rows_of own_view)
+      sym (ap (λ (t : Tables). length t.painting) tables-there ∙ ap (λ (q : List ℕ). length q) painting-there)
+      ∙ h.painting
+      ∙ ap (λ (y : Size). y.rows * 2) l.size
+      ∙ sym (ap (λ (f : Frame). rows_of f.viewport * 2) l.kept.frame)
 
   -- What `screen_text` writes of them is the text of the rules' details.
-  module _ (list : List ℕ) (long : piece-list ≤ length list) (bs : List ℕ) (room : details-room ≤ length bs) where
-    same-details : details-dumped d x (rows_of (box_of x.viewport)) attrs (words-before x (given list)) bs ≡ details-dumped d m.screen (length s.rows) (attrs-of m) (at_words m list) bs
-    same-details = rw (across, down, same-attrs, rows_back, render-back, fills-back, depth-back, painting-back, screen-there, rows-there)
-
-    details : Says (details-text d (detail-lines s)) bs (details-dumped d m.screen (length s.rows) (attrs-of m) (at_words m list) bs)
-    details =
-        details-are d (usual-frame v l.width) s l.kept refl refl l.few ended h.begun h.depth h.painting
-        (sym (ap (λ (q : dumped.AttrTables). length q.paints) same-attrs) ∙ sym hu.paint-attrs)
-        (sym (ap (λ (q : dumped.AttrTables). length q.layers) same-attrs) ∙ sym hu.layer-attrs)
-        (sym (ap (λ (q : dumped.AttrTables). length q.opacities) same-attrs) ∙ sym hu.opacities)
-        (sym (ap (λ (q : dumped.AttrTables). length q.filters) same-attrs) ∙ sym hu.filter-paints)
-        depth-long painting-long list long bs room
-
-    pub screen-says : Says (details-text d (detail-lines s)) bs (screen-dumped d x attrs (given list) bs)
-    unfolding screen-dumped
-    screen-says =
-        record {
-          count = ap (λ (q : Part). q.count) same-details ∙ details.count;
-          bytes = ap (λ (q : Part). q.bytes) same-details ∙ details.bytes;
-        }
+  pub screen-says : (list : List ℕ) → piece-list ≤ length list → (bs : List ℕ) → details-room ≤ length bs
+      → Says (details-text d (detail-lines s)) bs (details-dumped d x (rows_of (box_of x.viewport)) (heads u) (given u list) bs)
+  screen-says list long bs room =
+      let t = tables-there in
+      rw (rows-there, screen-there, tables-there)
+      (details-are d (usual-frame v l.width) s l.kept refl refl l.few ended held.begun held.depth held.painting
+      (sym (ap (λ (q : Tables). length q.paint-attrs) t) ∙ h.paint-attrs)
+      (sym (ap (λ (q : Tables). length q.layer-attrs) t) ∙ h.layer-attrs)
+      (sym (ap (λ (q : Tables). length q.opacities) t) ∙ h.opacities)
+      (sym (ap (λ (q : Tables). length q.filter-paints) t) ∙ h.filter-paints)
+      depth-long painting-long list long bs room)
 
 done-lines : (a : Answer (Screen Row)) → a.number ≡ 0 → cond (eqb a.number Done) (detail-lines a.value) [] ≡ detail-lines a.value
 done-lines a z = rw (eq-eqb a.number 0 z)
@@ -202,142 +106,109 @@ dumped-lines : (q : Setup) (ws : List ℕ) → (rowlist-screen q ws).number ≡ 
 unfolding rowdump-words
 dumped-lines q ws z = done-lines (rowlist-screen q ws) z
 
--- what a file that is not refused leaves
-pub record Accepted (q : Setup) (fs : List ℕ) (t : Tables) (o : FileOut) : Type 0 where
-  pub screen : Screen Row
-  pub lines : rowdump-lines q fs ≡ detail-lines screen
-  pub left : Left screen t o
-  pub ended : Ended screen
-
-module _ (q : Setup) (usual : Usual q) (fs : List ℕ) (byte : (i : ℕ) → get_or fs i 0 < 256) (t : Tables) (h : Long t)
-    (bs : List ℕ) (room : 264256 ≤ length bs) where
-  abbrev answer-of : Answer (Screen Row)
-  answer-of = rowlist-screen q (words-in fs)
-
-  leaves : Leaves answer-of t (words-text (words-in fs) q t bs)
-  leaves = words-leave q usual (words-in fs) t (roomy t h) (fixed t h) bs room
-
-  -- the lines of a file by its size
-  long-lines : 65536 < length fs → rowdump-lines q fs ≡ []
+module _ (q : Setup) (usual : Usual q) (fs : List ℕ) where
+  by-lines : rowdump-lines q fs ≡ cond (good-bytes (length fs)) (rowdump-words q (words-in fs)) []
   unfolding rowdump-lines
-  long-lines g =
-      ap (λ (x : Bool). elim x [ true ↦ [] | false ↦ elim (words_of fs) [ None ↦ [] | Some ws ↦ rowdump-words q ws ] ]) (lt-ltb 65536 (length fs) g)
+  by-lines = by-file [] (rowdump-words q) fs
 
-  by-words : length fs ≤ 65536 → (o : Option (List ℕ)) → words_of fs ≡ o → rowdump-lines q fs ≡ elim o [ None ↦ [] | Some ws ↦ rowdump-words q ws ]
-  unfolding rowdump-lines
-  by-words g o e =
-      ap (λ (x : Bool). elim x [ true ↦ [] | false ↦ elim (words_of fs) [ None ↦ [] | Some ws ↦ rowdump-words q ws ] ]) (le-ltb 65536 (length fs) g)
-      ∙ ap (λ (p : Option (List ℕ)). elim p [ None ↦ [] | Some ws ↦ rowdump-words q ws ]) e
-
-  odd-lines : length fs ≤ 65536 → eqb (length fs % 4) 0 ≡ false → rowdump-lines q fs ≡ []
-  odd-lines g e = by-words g None (rules-words fs ∙ ap (λ (x : Bool). cond x (Some (words-in fs)) None) e)
-
-  word-lines : length fs ≤ 65536 → eqb (length fs % 4) 0 ≡ true → rowdump-lines q fs ≡ rowdump-words q (words-in fs)
-  word-lines g e = by-words g (Some (words-in fs)) (rules-words fs ∙ ap (λ (x : Bool). cond x (Some (words-in fs)) None) e)
-
-  refused-lines : (a : Answer (Screen Row)) → eqb a.number Done ≡ false → cond (eqb a.number Done) (detail-lines a.value) [] ≡ []
-  refused-lines a e = rw e
-
-  not-zero : (k : ℕ) → (k ≡ 0 → ⊥) → eqb k 0 ≡ false
-  not-zero k d = go (eqb k 0) refl
+  -- a file without a size has no details
+  pub sizeless : {r : Refusal} → Err r ≡ file-size fs q → (bs : List ℕ) → 264256 ≤ length bs → rowdump-lines q fs ≡ []
+  unfolding file-size rowdump-words
+  sizeless {r} h bs room = rw by-lines (go (good-bytes (length fs)) h)
     where
-      go : (z : Bool) → eqb k 0 ≡ z → z ≡ false
-      go true e = absurd (d (eqb-true k 0 e))
-      go false e = refl
+      go : (b : Bool) → Err r ≡ cond b (size_of (words-in fs) q) (Err refusal.BadForm) → cond b (rowdump-words q (words-in fs)) [] ≡ []
+      go true i =
+          let p = (words-print q usual (words-in fs) bs room).number in
+          let e : number_of r ≡ (rowlist-screen q (words-in fs)).number = unfold refusing in (rw (← i) at p) in
+          rw (ne_eqb (rowlist-screen q (words-in fs)).number 0 (λ z. not_done r (e ∙ z)))
+      go false i = refl
 
-  -- a refused file has no details
-  pub refused_none : ((bytes-text fs q t bs).showed.text.number ≡ 0 → ⊥) → rowdump-lines q fs ≡ []
-  unfolding bytes-text
-  refused_none = go (leb (length fs) 65536) (eqb (length fs % 4) 0) refl refl
+  -- .. another has the words' details, and their size
+  pub record Accepted (z : Size) : Type 0 where
+    pub lines : rowdump-lines q fs ≡ rowdump-words q (words-in fs)
+    pub size : Ok z ≡ size_of (words-in fs) q
+
+  pub sized_file : {z : Size} → Ok z ≡ file-size fs q → Accepted z
+  unfolding file-size
+  sized_file {z} h = go (good-bytes (length fs)) by-lines h
     where
-      go : (x y : Bool) → leb (length fs) 65536 ≡ x → eqb (length fs % 4) 0 ≡ y
-          → ((cond (x && y) (words-text (words-in fs) q t bs) (refused-as-is BadForm t bs)).showed.text.number ≡ 0 → ⊥) → rowdump-lines q fs ≡ []
-      go false y p e d = long-lines (leb-false _ _ p)
-      go true false p e d = odd-lines (leb-true _ _ p) e
-      go true true p e d = word-lines (leb-true _ _ p) e ∙ (unfold rowdump-words in refused-lines answer-of (not-zero answer-of.number (λ z. d (leaves.number ∙ z))))
+      go : (b : Bool) → rowdump-lines q fs ≡ cond b (rowdump-words q (words-in fs)) [] → Ok z ≡ cond b (size_of (words-in fs) q) (Err refusal.BadForm) → Accepted z
+      go true e i = record { lines = e; size = i }
+      go false e i = cc
 
-  bad-number : (refused-as-is BadForm t bs).showed.text.number ≡ 3
-  unfolding refusing
-  bad-number = refl
-
-  -- another leaves the rules' screen
-  pub accepted : (bytes-text fs q t bs).showed.text.number ≡ 0 → Accepted q fs t (bytes-text fs q t bs)
-  unfolding bytes-text
-  accepted = go (leb (length fs) 65536) (eqb (length fs % 4) 0) refl refl
-    where
-      go : (x y : Bool) → leb (length fs) 65536 ≡ x → eqb (length fs % 4) 0 ≡ y
-          → (cond (x && y) (words-text (words-in fs) q t bs) (refused-as-is BadForm t bs)).showed.text.number ≡ 0
-          → Accepted q fs t (cond (x && y) (words-text (words-in fs) q t bs) (refused-as-is BadForm t bs))
-      go false y p i z = absurd (let e : ◌≡◌ {A = ℕ} 3 0 = sym bad-number ∙ z in omega arith)
-      go true false p i z = absurd (let e : ◌≡◌ {A = ℕ} 3 0 = sym bad-number ∙ z in omega arith)
-      go true true p e z =
-          let done : answer-of.number ≡ 0 = sym leaves.number ∙ z in
-          record {
-            screen = answer-of.value;
-            lines = word-lines (leb-true _ _ p) e ∙ dumped-lines q (words-in fs) done;
-            left = leaves.left done;
-            ended = play-ended (rowlist-place q (words-in fs)) (reset fresh-row rules.nothing) (words-in fs) (words_small fs byte) done;
-          }
-
--- whether a file's call is refused, by its answer's number
-pub was_refused : {T : Type 0} (r : Result T Refusal) → is_err r ≡ true → answer_number r ≡ 0 → ⊥
-was_refused (Ok x) e z = never (sym e)
-was_refused (Err r) e z = not_done r z
-
-pub was_done : {T : Type 0} (r : Result T Refusal) → is_err r ≡ false → answer_number r ≡ 0
-was_done (Ok x) e = refl
-was_done (Err r) e = never e
-
--- The whole text of a file, where its call is refused, and where the details stand after its lines.
-module _ (v : Bool) (q : Setup) (usual : Usual q) (fs : List ℕ) (byte : (i : ℕ) → get_or fs i 0 < 256) (t : Tables) (h : Long t)
-    (bs : List ℕ) (room : lines-room ≤ length bs) {x : FileText} {cs : List ℕ} {u : Tables} (e : file-out (shows-as x cs) u ≡ bytes-text fs q t bs) where
+-- The whole text of a file: where it has no size, where its recording is refused, and where the details stand after its lines.
+module _ (v : Bool) (q : Setup) (usual : Usual q) (fs : List ℕ) (bs : List ℕ) (room : lines-room ≤ length bs) where
   enough : list-room ≤ length bs
   enough = omega arith
 
-  lines : (x.bytes ≡ length (rowlist-text q fs)) × (cs ≡ first (rowlist-text q fs) bs)
-  lines = rowlist-shown t h q usual fs bs enough e
+  module _ {x : FileText} {cs : List ℕ} (e : shows-as x cs ≡ bytes-text fs q bs) where
+    lines : (x.bytes ≡ length (rowlist-text q fs)) × (cs ≡ first (rowlist-text q fs) bs)
+    lines = rowlist-shown q usual fs bs enough e
 
-  number_is : x.number ≡ (bytes-text fs q t bs).showed.text.number
-  number_is = ap (λ (o : FileOut). o.showed.text.number) e
+    lines-few : x.bytes ≤ list-room
+    lines-few = rw lines.0 (file-few q usual fs bs enough)
 
-  pub lines-few : x.bytes ≤ list-room
-  lines-few = rw lines.0 (file-few q usual fs t (roomy t h) (fixed t h) bs enough)
+    lines_long : x.bytes ≤ length cs
+    lines_long = rw (lines.1, first-long (rowlist-text q fs) bs (omega (arith, lines.0, lines-few))) (omega (arith, lines-few))
 
-  pub lines_long : x.bytes ≤ length cs
-  lines_long = rw (lines.1, first-long (rowlist-text q fs) bs (omega (arith, lines.0, lines-few))) (omega (arith, lines-few))
+    no-details : rowdump-lines q fs ≡ [] → Printed (file-lines-text v q fs) bs x.bytes cs
+    no-details d =
+        let whole : file-lines-text v q fs ≡ rowlist-text q fs = rw (d, append-nil (rowlist-text q fs)) in
+        record { count = rw whole lines.0; bytes = rw whole lines.1; few = omega (arith, lines-few) }
 
-  pub refused-whole : (x.number ≡ 0 → ⊥) → Printed (file-lines-text v q fs) bs x.bytes cs
-  refused-whole n =
-      let d = refused_none q usual fs byte t h bs enough (λ z. n (number_is ∙ z)) in
-      let whole : file-lines-text v q fs ≡ rowlist-text q fs = rw (d, append-nil (rowlist-text q fs)) in
-      record { count = rw whole lines.0; bytes = rw whole lines.1; few = omega (arith, lines-few) }
+  pub unsized-whole : {r : Refusal} {s : declared.Screen} {x : FileText} {cs : List ℕ} → Err r ≡ file-size fs q → s ≡ nothing → shows-as x cs ≡ refusing (number_of r) s bs
+      → Printed (file-lines-text v q fs) bs x.bytes cs
+  unsized-whole h i g = no-details (refused-shown fs q bs h i g) (sizeless q usual fs h bs enough)
 
-  module _ (hu : Long u) (z : x.number ≡ 0) where
-    abbrev a : Accepted q fs t (bytes-text fs q t bs)
-    a = accepted q usual fs byte t h bs enough (sym number_is ∙ z)
+  -- in tables t of its screen's size
+  module _ {z : Size} (sized : Ok z ≡ file-size fs q) {t : Tables} (exact : Exact z t) {ws : List ℕ} (words : ws ≡ words-in fs)
+      {x : FileText} {cs : List ℕ} {u : Tables} (e : file-out (shows-as x cs) u ≡ recording-text ws q t bs) where
+    abbrev answer-of : Answer (Screen Row)
+    answer-of = rowlist-screen q (words-in fs)
 
-    pub screen-wide : Wide x.screen u.rows u.render u.fills u.depth u.painting
-    screen-wide =
-        wide v a.screen t u h hu x.screen (bytes-text fs q t bs) a.left (ap (λ (o : FileOut). o.showed.text.screen) e) (ap (λ (o : FileOut). o.tables) e) a.ended
+    abbrev accepted : Accepted q usual fs z
+    accepted = sized_file q usual fs sized
 
-    pub accepted-whole : (list : List ℕ) → piece-list ≡ length list → {j m : ℕ} {d p ls ds : List ℕ}
-        → part j d p ls ds ≡ screen-dumped v x.screen (dumped.tables u.paint-attrs u.layer-attrs u.opacities u.filter-paints) (paint.lent u.rows u.render u.fills u.depth u.painting list) (take (m - x.bytes) (drop x.bytes cs))
+    there : file-out (shows-as x cs) u ≡ recording-text (words-in fs) q t bs
+    there = rw words at e
+
+    leaves : Leaves answer-of z bs (recording-text (words-in fs) q t bs)
+    leaves = words-leave q usual (words-in fs) bs enough accepted.size t exact
+
+    shown : shows-as x cs ≡ bytes-text fs q bs
+    shown = sized-shown fs q bs sized exact there
+
+    number_is : x.number ≡ answer-of.number
+    number_is = ap (λ (o : FileOut). o.showed.text.number) there ∙ leaves.prints.number
+
+    pub call-long : x.bytes ≤ length cs
+    call-long = lines_long shown
+
+    pub refused-whole : (x.number ≡ 0 → ⊥) → Printed (file-lines-text v q fs) bs x.bytes cs
+    refused-whole n = no-details shown (accepted.lines ∙ (unfold rowdump-words in rw (ne_eqb answer-of.number 0 (λ y. n (number_is ∙ y)))))
+
+    pub accepted-whole : ((i : ℕ) → get_or fs i 0 < 256) → Exact z u → x.number ≡ 0 → (list : List ℕ) → piece-list ≡ length list → {j m : ℕ} {ds : List ℕ}
+        → PartWritten j ds (details-dumped v x.screen (rows_of (box_of x.screen.viewport)) (heads u) (given u list) (take (m - x.bytes) (drop x.bytes cs)))
         → j ≤ length (take (m - x.bytes) (drop x.bytes cs)) → m ≡ length cs → Printed (file-lines-text v q fs) bs (x.bytes + j) (put_mid x.bytes (m - x.bytes) cs ds)
-    accepted-whole list long {j} {m} {d} {p} {ls} {ds} g f y =
+    accepted-whole byte hu y list long {j} {m} {ds} g f k =
+        let done : answer-of.number ≡ 0 = sym number_is ∙ y in
         let rest = drop x.bytes cs in
         let rs = rowlist-text q fs in
-        let few = lines-few in
-        let same_rest : rest ≡ drop (length rs) (first rs bs) = rw (lines.0, lines.1) in
-        let roomy-rest : details-room ≤ length rest = rw (same_rest, first-dropped rs bs, length-drop) (omega (arith, few, lines.0)) in
-        let i : part j d p ls ds ≡ screen-dumped v x.screen (dumped.tables u.paint-attrs u.layer-attrs u.opacities u.filter-paints) (paint.lent u.rows u.render u.fills u.depth u.painting list) rest = rw (y, mid-all x.bytes cs) at g in
-        let says = screen-says v a.screen t u h hu x.screen (bytes-text fs q t bs) a.left (ap (λ (o : FileOut). o.showed.text.screen) e) (ap (λ (o : FileOut). o.tables) e) a.ended list (omega arith) rest roomy-rest in
-        let count : j ≡ length (details-text v (rowdump-lines q fs)) = ap (λ (o : Part). o.count) i ∙ says.count ∙ rw a.lines in
-        let bytes : ds ≡ first (details-text v (rowdump-lines q fs)) rest = ap (λ (o : Part). o.bytes) i ∙ says.bytes ∙ rw a.lines in
-        let rest-few : j ≤ length rest = rw (y, mid-all x.bytes cs) at f in
-        let cs-long : length cs ≡ length bs = ap (λ (o : List ℕ). length o) lines.1 ∙ first-long rs bs (omega (arith, few, lines.0)) in
+        let few = lines-few shown in
+        let (count-is, bytes-are) = lines shown in
+        let same_rest : rest ≡ drop (length rs) (first rs bs) = rw (count-is, bytes-are) in
+        let roomy-rest : details-room ≤ length rest = rw (same_rest, first-dropped rs bs, length-drop) (omega (arith, few, count-is)) in
+        let i : PartWritten j ds (details-dumped v x.screen (rows_of (box_of x.screen.viewport)) (heads u) (given u list) rest) = rw (k, mid-all x.bytes cs) at g in
+        let ended : Ended answer-of.value = play-ended (rowlist-place q (words-in fs)) (reset fresh-row rules.nothing) (words-in fs) (words_small fs byte) done in
+        let says = screen-says v answer-of.value z u hu x.screen (recording-text (words-in fs) q t bs) (leaves.left done) (ap (λ (o : FileOut). o.showed.text.screen) there) (ap (λ (o : FileOut). o.tables) there) ended list (omega arith) rest roomy-rest in
+        let own : rowdump-lines q fs ≡ detail-lines answer-of.value = accepted.lines ∙ dumped-lines q (words-in fs) done in
+        let count : j ≡ length (details-text v (rowdump-lines q fs)) = i.count ∙ says.count ∙ rw own in
+        let bytes : ds ≡ first (details-text v (rowdump-lines q fs)) rest = i.bytes ∙ says.bytes ∙ rw own in
+        let rest-few : j ≤ length rest = rw (k, mid-all x.bytes cs) at f in
+        let cs-long : length cs ≡ length bs = ap (λ (o : List ℕ). length o) bytes-are ∙ first-long rs bs (omega (arith, few, count-is)) in
         record {
-          count = rw (lines.0, count) (sym (length-append rs (details-text v (rowdump-lines q fs))));
-          bytes = rw (y, put_all x.bytes cs ds, bytes, lines.0, lines.1) (first_two rs bs (details-text v (rowdump-lines q fs)));
+          count = rw (count-is, count) (sym (length-append rs (details-text v (rowdump-lines q fs))));
+          bytes = rw (k, put_all x.bytes cs ds, bytes, count-is, bytes-are) (first_two rs bs (details-text v (rowdump-lines q fs)));
           few = omega (arith, rest-few, length-drop x.bytes cs, cs-long, few);
         }
 

@@ -1,21 +1,8 @@
 -- The parts of a recording's text, each put where the last one ended. Assumes nothing.
-use mathlib.Core.Path.{◌≡◌, refl, ap, ◌∙◌}
-use mathlib.Core.Bool.{Bool, true, false, cond}
-use mathlib.Core.List.{List, ◌++◌, append-nil}
-use Prim.Native.Nat.{ℕ, suc, ◌+◌, ◌-◌, ◌*◌, ◌≤◌, ◌<◌}
-use native.Mathlib.Numerals.{add-one}
-use native.Mathlib.Nat.{mul-le-mul}
-use native.Mathlib.Omega.{arith}
-use lib.Dec.{ltb, eqb}
-use lib.ListN.{length, take, drop, length-drop}
-use lib.Seq.{take_all, drop-length}
+use Rattle.std.proofs.Common.{◌≡◌, refl, ap, ◌∙◌, Bool, true, false, cond, List, ◌++◌, append-nil, ℕ, suc, ◌+◌, ◌-◌, ◌≤◌, ◌<◌, add-one, arith, ltb, eqb, length, take, drop, length-drop, take_all, ltb-false}
+use lib.Seq.{drop-length}
 use borrow.Rule.Slice.PartMut.{put_mid}
-use borrow.Author.Tests.{ltb-false}
 use Rattle.rules.specs.Answers.{answer, Done}
-use Rattle.rules.specs.Boxes.{rows_of}
-use Rattle.rules.specs.Plans.{buckets-across}
-use Rattle.rect.specs.Rects.{box_of}
-use Rattle.screen.specs.Screens.{frame-of}
 use Rattle.screen.specs.declared.Screen.{Screen}
 use Rattle.paint.specs.Painting.{RowLent, lent, StepOut}
 use Rattle.paint.specs.Beginning.{canvas, beginning}
@@ -26,7 +13,7 @@ use Rattle.text.specs.Listed.{Listing, listing, written, begun-with}
 use Rattle.text.specs.Bytes.{details-text}
 use Rattle.text.specs.Pieces.{row-lines}
 use Rattle.text.specs.Dumped.{AttrTables, row_out, pieces-written, stopped, row-stopped, with-text, row-dumped, good-tables, attrs-text, attrs-dumped}
-use Rattle.text_dump.specs.Dumped.{part, after, rows-dumped, begun-dumped, painted-dumped, details-dumped, in-front, screen-dumped}
+use Rattle.text_dump.specs.Dumped.{part, PartWritten, after, rows-dumped, begun-dumped, details-dumped}
 
 -- a text is no longer than the bytes that it was put into
 written-few : (ts bs : List ℕ) → (written ts bs).answer.bytes ≤ length bs
@@ -77,9 +64,6 @@ module _ (v : Bool) (s : Screen) (n r : ℕ) (a : Attributes) (l : RowLent) (bs 
   rows_none h = let e : n - r ≡ 0 = omega arith in rw e
 
   module _ {q : Listing} {d p ls cs : List ℕ} (e : row_out q d p ls cs ≡ row-dumped v s r a l bs) where
-    pub one-few : q.bytes ≤ length bs
-    one-few = rw (← e) at (row-few v s r a l bs)
-
     pub rows_more : r < n → {k m : ℕ} {d' p' ls' ds : List ℕ}
         → part k d' p' ls' ds ≡ rows-dumped v (n - (r + 1)) (r + 1) s a (lent l.state l.render l.fills d p ls) (take (m - q.bytes) (drop q.bytes cs)) → m ≡ length cs
         → part (q.bytes + k) d' p' ls' (put_mid q.bytes (m - q.bytes) cs ds) ≡ rows-dumped v (n - r) r s a l bs
@@ -90,24 +74,15 @@ module _ (v : Bool) (s : Screen) (n r : ℕ) (a : Attributes) (l : RowLent) (bs 
         rw (z, put_all q.bytes cs ds) (ap (after q.bytes cs) i ∙ rw (j, ← e))
 
 -- the rows once painting has begun
-pub begun-more : (v : Bool) (s : Screen) (n : ℕ) (a : Attributes) (l : RowLent) (bs : List ℕ) {k : ℕ} {x : Screen} {d p : List ℕ} → answer k (canvas x d p) ≡ beginning (canvas s l.depth l.painting)
-    → {j : ℕ} {d' p' ls' ds : List ℕ} → part j d' p' ls' ds ≡ rows-dumped v (n - 0) 0 x a (lent l.state l.render l.fills d p l.list) bs → part j d' p' ls' ds ≡ begun-dumped v s n a l bs
-begun-more v s n a l bs b g = let n0 : n - 0 ≡ n = omega arith in rw (← b) (rw n0 at g)
-
--- the first words of larger tables
-pub small : (n b : ℕ) → n ≤ 32 → b ≤ 64 → n * b ≤ 2048
-small n b h g = mul-le-mul {n₂ = 32} {m₂ = 64} h g
-
-pub painted-more : (v : Bool) (s : Screen) (a : Attributes) (l : RowLent) (bs : List ℕ) {n b : ℕ} → n ≡ rows_of (box_of s.viewport) → b ≡ buckets-across (frame-of s) → {k : ℕ} {d p ls cs : List ℕ}
-    → part k d p ls cs ≡ begun-dumped v s n a (lent (take (n * 54) l.state) (take (n * 256) l.render) (take (n * 128) l.fills) (take (n * b) l.depth) (take (n * 2) l.painting) l.list) bs
-    → part k (d ++ drop (n * b) l.depth) (p ++ drop (n * 2) l.painting) ls cs ≡ painted-dumped v s a l bs
-painted-more v s a l bs i j g = rw (i, j) (ap (in-front s l) (rw (i, j) at g))
+pub begun-more : (v : Bool) (s : Screen) (a : Attributes) (l : RowLent) (bs : List ℕ) {n m k : ℕ} {x : Screen} {d p : List ℕ} → n ≡ m → answer k (canvas x d p) ≡ beginning (canvas s l.depth l.painting)
+    → {j : ℕ} {d' p' ls' ds : List ℕ} → part j d' p' ls' ds ≡ rows-dumped v (n - 0) 0 x a (lent l.state l.render l.fills d p l.list) bs → part j d' p' ls' ds ≡ begun-dumped v s m a l bs
+begun-more v s a l bs {n} {m} h b g = let e : n - 0 ≡ m = omega (arith, h) in rw (← b) (rw e at g)
 
 -- the attributes, then the rows
 module _ (v : Bool) (s : Screen) (t : AttrTables) (l : RowLent) (bs : List ℕ) {q : Listing} {cs : List ℕ} (e : list.text-out q cs ≡ attrs-dumped v s t bs) where
-  pub screen-more : {j m : ℕ} {d p ls ds : List ℕ} → part j d p ls ds ≡ painted-dumped v s (attributes t.paints t.layers) l (take (m - q.bytes) (drop q.bytes cs)) → m ≡ length cs
-      → part (q.bytes + j) d p ls (put_mid q.bytes (m - q.bytes) cs ds) ≡ screen-dumped v s t l bs
-  unfolding screen-dumped details-dumped
-  screen-more {j} {m} {d} {p} {ls} {ds} g z =
-      let i : part j d p ls ds ≡ painted-dumped v s (attributes t.paints t.layers) l (drop q.bytes cs) = rw (z, mid-all q.bytes cs) at g in
-      rw (z, put_all q.bytes cs ds) (ap (after q.bytes cs) i ∙ rw (← e))
+  pub screen-more : (n : ℕ) {j m : ℕ} {d p ls ds : List ℕ} → part j d p ls ds ≡ begun-dumped v s n (attributes t.paints t.layers) l (take (m - q.bytes) (drop q.bytes cs)) → m ≡ length cs
+      → PartWritten (q.bytes + j) (put_mid q.bytes (m - q.bytes) cs ds) (details-dumped v s n t l bs)
+  unfolding details-dumped
+  screen-more n {j} {m} {d} {p} {ls} {ds} g z =
+      let i : part j d p ls ds ≡ begun-dumped v s n (attributes t.paints t.layers) l (drop q.bytes cs) = rw (z, mid-all q.bytes cs) at g in
+      rw (z, put_all q.bytes cs ds, ← e, ← i) (record { count = refl; bytes = refl })

@@ -1,20 +1,14 @@
 -- What the parts of a recording's text leave: one text after the other, each at the start of the bytes that are left.
 use Rattle.std.specs.Prelude.{ℕ, zero, suc, ◌+◌, ◌*◌, ◌≤◌, ◌≡◌, Bool, List, ◌++◌, length, take, drop}
-use Rattle.sizes.specs.Sizes.{row-size, program-rows, program-buckets, program-room, program-records, program-render, program-fills, program-depth, program-painting}
-use Rattle.rules.specs.Boxes.{rows_of}
-use Rattle.rules.specs.Plans.{buckets-across}
-use Rattle.rect.specs.Rects.{box_of}
+use Rattle.sizes.specs.Sizes.{program-rows, program-room}
 use Rattle.screen.specs.declared.Screen.{Screen}
-use Rattle.screen.specs.Screens.{frame-of}
 use Rattle.screen.specs.Tables as screen
-use Rattle.screen.specs.Lent.{tables_in}
 use Rattle.paint.specs.Painting.{RowLent, lent}
 use Rattle.paint.specs.Beginning.{canvas, beginning}
 use Rattle.paint.specs.Stepping.{Attributes, attributes}
 use Rattle.text.specs.Listed.{row_room}
 use Rattle.text.specs.Pieces.{piece-list}
 use Rattle.text.specs.Dumped.{attrs-most, row-most, AttrTables, tables, row-dumped, attrs-dumped}
-use Rattle.text_programs.specs.Tables.{Long}
 use Rattle.text_dump.specs.declared.Desk.{Desk}
 
 -- What the lines of `rowlist` have at most; what the details have; what all that stands after the first line has; and the whole text.
@@ -41,6 +35,11 @@ pub record Part : Type 0 where
 abbrev pub part : ℕ → List ℕ → List ℕ → List ℕ → List ℕ → Part
 part n d p l bs = record { count = n; depth = d; painting = p; list = l; bytes = bs }
 
+-- its text: n bytes are written, and bs are the bytes
+pub record PartWritten (n : ℕ) (bs : List ℕ) (q : Part) : Type 0 where
+  pub count : n ≡ q.count
+  pub bytes : bs ≡ q.bytes
+
 -- a part after n bytes that stand first in bs
 abbrev pub after : ℕ → List ℕ → Part → Part
 after n bs q = part (n + q.count) q.depth q.painting q.list (take n bs ++ q.bytes)
@@ -53,53 +52,17 @@ rows-dumped v (suc k) r s a l bs =
     after o.answer.bytes o.bytes
     (rows-dumped v k (suc r) s a (lent l.state l.render l.fills o.depth o.painting o.list) (drop o.answer.bytes o.bytes))
 
--- the attributes, then the n rows once painting has begun
-unfoldable pub details-dumped : Bool → Screen → ℕ → AttrTables → RowLent → List ℕ → Part
-details-dumped v s n t l bs =
-    let o = attrs-dumped v s t bs in
-    let k = (beginning (canvas s l.depth l.painting)).value in
-    after o.answer.bytes o.bytes
-    (rows-dumped v n 0 k.screen (attributes t.paints t.layers) (lent l.state l.render l.fills k.depth k.painting l.list)
-    (drop o.answer.bytes o.bytes))
-
--- in tables for 32 rows of 64 buckets: a screen's own words stand first
-abbrev pub words-before : Screen → RowLent → RowLent
-words-before s l =
-    let n = rows_of (box_of s.viewport) in
-    lent (take (n * row-size) l.state) (take (n * (4 * program-room)) l.render) (take (n * (2 * program-room)) l.fills) (take (n * buckets-across (frame-of s)) l.depth)
-    (take (n * 2) l.painting)
-    l.list
-
-abbrev pub in-front : Screen → RowLent → Part → Part
-in-front s l q =
-    let n = rows_of (box_of s.viewport) in
-    part q.count (q.depth ++ drop (n * buckets-across (frame-of s)) l.depth) (q.painting ++ drop (n * 2) l.painting) q.list q.bytes
-
--- the rows once painting has begun
+-- the n rows once painting has begun
 abbrev pub begun-dumped : Bool → Screen → ℕ → Attributes → RowLent → List ℕ → Part
 begun-dumped v s n a l bs =
     let k = (beginning (canvas s l.depth l.painting)).value in
     rows-dumped v n 0 k.screen a (lent l.state l.render l.fills k.depth k.painting l.list) bs
 
--- .. of a screen whose own words stand first
-abbrev pub painted-dumped : Bool → Screen → Attributes → RowLent → List ℕ → Part
-painted-dumped v s a l bs = in-front s l (begun-dumped v s (rows_of (box_of s.viewport)) a (words-before s l) bs)
-
-unfoldable pub screen-dumped : Bool → Screen → AttrTables → RowLent → List ℕ → Part
-screen-dumped v s t l bs = in-front s l (details-dumped v s (rows_of (box_of s.viewport)) t (words-before s l) bs)
-
--- tables for 32 rows of 64 buckets, and a screen that has no more
-pub record Wide (s : Screen) (rows render fills depth painting : List ℕ) : Type 0 where
-  pub few : rows_of (box_of s.viewport) ≤ program-rows
-  pub narrow : buckets-across (frame-of s) ≤ program-buckets
-  pub rows_long : program-records ≤ length rows
-  pub render-long : program-render ≤ length render
-  pub fills-long : program-fills ≤ length fills
-  pub depth-long : program-depth ≤ length depth
-  pub painting-long : program-painting ≤ length painting
-
-abbrev pub WideIn : Screen → screen.Tables → Type 0
-WideIn s t = Wide s t.rows t.render t.fills t.depth t.painting
+-- the attributes, then the rows
+unfoldable pub details-dumped : Bool → Screen → ℕ → AttrTables → RowLent → List ℕ → Part
+details-dumped v s n t l bs =
+    let o = attrs-dumped v s t bs in
+    after o.answer.bytes o.bytes (begun-dumped v s n (attributes t.paints t.layers) l (drop o.answer.bytes o.bytes))
 
 -- the tables' attributes, and what painting is given of them
 abbrev pub heads : screen.Tables → AttrTables
@@ -108,8 +71,7 @@ heads t = tables t.paint-attrs t.layer-attrs t.opacities t.filter-paints
 abbrev pub given : screen.Tables → List ℕ → RowLent
 given t list = lent t.rows t.render t.fills t.depth t.painting list
 
--- a desk has the programs' tables, a list for the pieces of any row, and room for the longest text
+-- a desk has a list for the pieces of any row, and room for the longest text
 pub record Ready (d : Desk) : Type 0 where
-  pub long : Long (tables_in d.lent)
   pub pieces : piece-list ≡ length d.list.now
   pub room : dump-room ≤ length d.text.now

@@ -1,5 +1,5 @@
 -- The text that `rowdump` prints of one recording: over the rules alone.
-use Rattle.std.specs.Prelude.{ℕ, ◌≤◌, ◌≡◌, Bool, true, false, cond, List, [], ◌∷◌, ◌++◌, length}
+use Rattle.std.specs.Prelude.{ℕ, ◌≤◌, ◌≡◌, Bool, true, false, cond, List, [], ◌∷◌, ◌++◌, length, codes}
 use Rattle.std.specs.Prelude.{None, Some}
 use Rattle.rules.specs.Setups.{Setup}
 use Rattle.rules.specs.Lines.{words_of, too_long, digits}
@@ -9,7 +9,7 @@ use Rattle.text_programs.specs.Programs.{rowlist-text, no-width-text, first}
 
 -- the words "recording "
 abbrev pub recording-text : List ℕ
-recording-text = 114 ∷ 101 ∷ 99 ∷ 111 ∷ 114 ∷ 100 ∷ 105 ∷ 110 ∷ 103 ∷ 32 ∷ []
+recording-text = codes "recording "
 
 -- the first line: the recording's number in the stream, in decimal
 unfoldable pub recording-line : ℕ → List ℕ

@@ -1,13 +1,13 @@
 -- The programs read at most one byte more than the longest file has. A file that is cut there is refused as the whole file is.
-use Rattle.std.proofs.Common.{◌≡◌, ℕ, ◌+◌, ◌-◌, ◌<◌, true, List, length, take, drop, drop-drop, take_all, take-take, min, arith, length-take, leb, refl, sym, ap, subst, ◌∙◌, Bool, false, [], ◌∷◌, Option, Some}
-use borrow.Author.Tests.{lt-ltb, leb-true, leb-false}
-use Rattle.std.specs.Prelude.{None, Some}
+use Rattle.std.proofs.Common.{◌≡◌, ℕ, ◌<◌, true, List, length, take, take_all, take-take, min, arith, length-take, leb, refl, sym, ap, subst, ◌∙◌, Bool, false, [], ◌∷◌, Option, None, Some, IfSome, Result, Ok, Err, OnOk, lt-ltb, leb-true, leb-false}
+use Rattle.std.specs.Io.KnownBytes.{Appends}
 use Rattle.rules.specs.Answers.{BadForm}
 use Rattle.rules.specs.Setups.{Setup}
 use Rattle.rules.specs.Lines.{refused, words_of, rowlist-words, rowlist, no-width}
 use Rattle.text.specs.Listed.{text_of}
 use Rattle.text_programs.specs.Programs.{rowlist-text, no-width-text, by_width}
-use Rattle.text_programs.specs.Streams.{Takes, Skips}
+use Rattle.text_programs.specs.Streams.{Takes}
+use Rattle.text_programs.specs.Failures.{Begins}
 
 -- what is the same of all long files is the same of a file that is cut
 pub cut : {A : Type 0} (f : List ℕ → A) → ((xs ys : List ℕ) → 65536 < length xs → 65536 < length ys → f xs ≡ f ys) → (fs : List ℕ) → f (take 65537 fs) ≡ f fs
@@ -29,14 +29,6 @@ read-cut m size bs e = go (leb size 65537) refl
         let most : m ≡ 65537 = omega (arith, leb-false _ _ h) in
         ap (λ k. take k bs) most ∙ sym (take-take 65537 size bs (omega (arith, leb-false _ _ h)))
 
--- a file's first bytes were read, and the others passed over: what is left of the stream, and what was read of the file
-pub read_over : (size m k : ℕ) (bs ts : List ℕ) (mid new : Option (List ℕ)) → m ≡ min size 65537 → k ≡ size - 65537 → Takes m (Some bs) mid ts → Skips k mid new
-    → (new ≡ Some (drop size bs)) × (ts ≡ take 65537 (take size bs))
-read_over size m k bs ts mid new e f t s =
-    let skipped : new ≡ Some (drop k (drop m bs)) = subst (λ (o : Option (List ℕ)). Skips k o new) t.1 s in
-    let n : m + k ≡ size = omega (arith, e, f) in
-    (skipped ∙ ap Some (drop-drop k m bs ∙ ap (λ j. drop j bs) n), t.0 ∙ read-cut m size bs e)
-
 long-rowlist : (q : Setup) (xs : List ℕ) → 65536 < length xs → rowlist-text q xs ≡ text_of (refused BadForm ∷ [])
 unfolding rowlist
 long-rowlist q xs h =
@@ -53,7 +45,22 @@ rowlist-cut q = cut (rowlist-text q) (λ xs ys h k. long-rowlist q xs h ∙ sym 
 pub no-width-cut : (fs : List ℕ) → no-width-text (take 65537 fs) ≡ no-width-text fs
 no-width-cut = cut no-width-text (λ xs ys h k. long-no-width xs h ∙ sym (long-no-width ys k))
 
-pub by_width-cut : (None : Bool) (q : Setup) (fs : List ℕ)
-    → by_width None (take 65537 fs) (rowlist-text q (take 65537 fs)) ≡ by_width None fs (rowlist-text q fs)
-by_width-cut true q fs = no-width-cut fs
-by_width-cut false q fs = rowlist-cut q fs
+-- .. and so is what is printed of it, given that of its text at the width asked for
+pub by_width-cut : (f : List ℕ → List ℕ) → ((fs : List ℕ) → f (take 65537 fs) ≡ f fs) → (no-width : Bool) (fs : List ℕ)
+    → by_width no-width (take 65537 fs) (f (take 65537 fs)) ≡ by_width no-width fs (f fs)
+by_width-cut f same true fs = no-width-cut fs
+by_width-cut f same false fs = same fs
+
+-- what is printed of the first bytes of an input is printed of all, and so is a beginning of it
+module _ (f : List ℕ → List ℕ) (same : (fs : List ℕ) → f (take 65537 fs) ≡ f fs) (n : ℕ) (e : n ≡ 65537) (old new : Option (List ℕ)) (ts : List ℕ) where
+  of_whole : (mid : Option (List ℕ)) (fs : List ℕ) → Takes n (Some fs) mid ts → f ts ≡ f fs
+  of_whole mid fs t = ap f (t.0 ∙ ap (λ k. take k fs) e) ∙ same fs
+
+  pub read_done : {E : Type 0} (r : Result (Unit {0}) E) (known mid : Option (List ℕ)) → Takes n known mid ts → OnOk r (Appends old new (f ts)) → OnOk r (IfSome known (λ fs. Appends old new (f fs)))
+  read_done (Err x) known mid t p = tt
+  read_done (Ok x) None mid t p = tt
+  read_done (Ok x) (Some fs) mid t p = subst (Appends old new) (of_whole mid fs t) p
+
+  pub read_begun : (known mid : Option (List ℕ)) → Takes n known mid ts → Begins old new (f ts) → IfSome known (λ fs. Begins old new (f fs))
+  read_begun None mid t p = tt
+  read_begun (Some fs) mid t p = subst (Begins old new) (of_whole mid fs t) p

@@ -1,10 +1,9 @@
 -- What reads take of an input whose bytes are known.
-use Rattle.std.proofs.Common.{◌≡◌, ℕ, ◌+◌, ◌<◌, ◌≤◌, List, [], ◌++◌, length, take, drop, zero, suc, ◌∷◌, Option, Some, None, IfSome, drop_at, refl, sym, ap, ◌∙◌, subst, arith, length-take-le, length-take, length-drop, drop-drop, drop_of_length-le}
+use Rattle.std.proofs.Common.{◌≡◌, ℕ, ◌+◌, ◌<◌, ◌≤◌, List, [], ◌++◌, length, take, drop, zero, suc, ◌∷◌, Option, Some, None, IfSome, refl, sym, ap, ◌∙◌, subst, arith, length-take-le, length-take, length-drop, drop-drop, drop_of_length-le, le-ltb, lt-ltb}
 use Rattle.std.proofs.Math.Seq.{take-append-add}
 use Rattle.std.proofs.lemmas.List.{take-append-le}
 use Rattle.std.proofs.KnownBytes.{Consumes-trans}
 use Rattle.std.specs.Io.KnownBytes.{Consumes, Keeps}
-use borrow.Author.Tests.{le-ltb, lt-ltb}
 use borrow.Rule.Slice.PartMut.{put_mid}
 use Rattle.text_programs.specs.Streams.{Takes, Skips, first_item, after_item, items}
 use Rattle.text_programs.specs.Failures.{Loses}
@@ -48,16 +47,6 @@ kept_consumes None b c bs k t = tt
 kept_consumes (Some xs) None c bs k t = absurd k
 kept_consumes (Some xs) (Some ys) None bs k t = absurd t
 kept_consumes (Some xs) (Some ys) (Some zs) bs k t = sym k ∙ t
-
--- what was read, or passed over, is a beginning
-pub consumed_gone : (n k : ℕ) (a b : Option (List ℕ)) (ts : List ℕ) → k ≤ n → k ≤ length ts → Consumes a b (take k ts) → Loses n a b
-consumed_gone n k None b ts h i t = (0, omega arith, tt)
-consumed_gone n k (Some xs) None ts h i t = absurd t
-consumed_gone n k (Some xs) (Some ys) ts h i t = (k, h, ap Some (sym (rw t (drop_at (take k ts) ys k (length-take-le k ts i)))))
-
-pub taken_gone : (n m : ℕ) (a b : Option (List ℕ)) (ts : List ℕ) → m ≤ n → Takes m a b ts → Loses n a b
-taken_gone n m None b ts h t = (0, omega arith, tt)
-taken_gone n m (Some bs) b ts h t = (m, h, t.1)
 
 -- .. and more of it after that
 pub gone_more : (n j m : ℕ) (a b c : Option (List ℕ)) → j + m ≤ n → Skips j a b → Loses m b c → Loses n a c

@@ -1,8 +1,8 @@
 -- What is written of a text where its writing ends early.
-use Rattle.std.proofs.Common.{◌≡◌, ℕ, ◌+◌, ◌-◌, ◌≤◌, List, ◌++◌, length, take, drop, take_all, length-drop, length-take-le, Option, Some, None, IfSome, sym, ap, ◌∙◌, subst, arith}
+use Rattle.std.proofs.Common.{◌≡◌, Bool, true, if◌then◌else◌, ℕ, ◌+◌, ◌-◌, ◌≤◌, List, ◌++◌, length, take, drop, take_all, length-drop, length-take-le, Option, Some, None, IfSome, sym, ap, ◌∙◌, subst, arith}
 use Rattle.std.proofs.Math.Seq.{take-append-add}
 use Rattle.std.proofs.lemmas.List.{take-append-drop}
-use Rattle.std.proofs.KnownBytes.{Appends-trans, Appends-kept, Appends-nil}
+use Rattle.std.proofs.KnownBytes.{Appends-trans, Appends-nil}
 use Rattle.std.specs.Io.KnownBytes.{Appends, Keeps}
 use Rattle.text_programs.specs.Failures.{Begins}
 
@@ -12,10 +12,6 @@ kept_appends None b c bs k t = tt
 kept_appends (Some xs) None c bs k t = absurd k
 kept_appends (Some xs) (Some ys) None bs k t = absurd t
 kept_appends (Some xs) (Some ys) (Some zs) bs k t = t ∙ ap (λ qs. qs ++ bs) k
-
--- a beginning of a text was written, and then nothing
-pub begun_kept : (a b c : Option (List ℕ)) (n : ℕ) (ts : List ℕ) → Appends a b (take n ts) → Keeps b c → Begins a c ts
-begun_kept a b c n ts p k = (n, Appends-kept a b c (take n ts) p k)
 
 -- n bytes were written of what was left of a text after its first k
 pub write_more : (a b c : Option (List ℕ)) (k n : ℕ) (ts : List ℕ) → k ≤ length ts → n ≤ length (take (length ts - k) (drop k ts)) → Appends a b (take k ts)
@@ -33,3 +29,15 @@ write_more a b c k n ts h i p q =
 pub nothing_begun : (known a : Option (List ℕ)) (f : List ℕ → List ℕ) → IfSome known (λ bs. Begins a a (f bs))
 nothing_begun None a f = tt
 nothing_begun (Some bs) a f = (0, Appends-nil a)
+
+for_any : (known : Option (List ℕ)) (P : List ℕ → Type 0) → ((bs : List ℕ) → P bs) → IfSome known P
+for_any None P h = tt
+for_any (Some bs) P h = h bs
+
+-- a program that is asked for its usage prints that, whatever its input is
+module _ (b : Bool) (known old new : Option (List ℕ)) (t : List ℕ) (f : List ℕ → List ℕ) where
+  pub usage_printed : b ≡ true → Appends old new t → IfSome known (λ bs. Appends old new (if b then t else f bs))
+  usage_printed e p = for_any known (λ bs. Appends old new (if b then t else f bs)) (λ bs. rw e p)
+
+  pub usage_begun : b ≡ true → Begins old new t → IfSome known (λ bs. Begins old new (if b then t else f bs))
+  usage_begun e p = for_any known (λ bs. Begins old new (if b then t else f bs)) (λ bs. rw e p)

@@ -1,5 +1,5 @@
 -- What a program's arguments say, each a text: the options stand first, in any order, and of a repeated one the last counts.
-use Rattle.std.specs.Prelude.{ℕ, ◌^◌, Bool, true, false, ◌&&◌, if◌then◌else◌, List, [], ◌∷◌, length, codes, Option, Some, None, nat_lt, bytes_eq, option_map}
+use Rattle.std.specs.Prelude.{ℕ, ◌^◌, Bool, true, false, ◌&&◌, ◌||◌, if◌then◌else◌, List, [], ◌∷◌, length, codes, Option, Some, None, nat_lt, bytes_eq, option_map}
 use Rattle.std.specs.Str.{all_ascii_digits}
 use Rattle.std.specs.Str.Parse.{digits_value}
 use Rattle.sizes.specs.Widths.{width_of}
@@ -56,6 +56,12 @@ arguments_after known c (w ∷ n ∷ ws) =
 
 abbrev pub read_arguments : Bool → List (List ℕ) → Arguments
 read_arguments known ws = arguments_after known no_options ws
+
+-- whether a program is asked for its usage
+abbrev pub asks_help : List (List ℕ) → Bool
+asks_help [] = false
+asks_help (w ∷ []) = bytes_eq w (codes "--help") || bytes_eq w (codes "-h")
+asks_help (w ∷ n ∷ ws) = false
 
 -- what they want of a screen
 abbrev pub wanted_by : Choice → Wanted

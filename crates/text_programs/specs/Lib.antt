@@ -3,3 +3,5 @@ pub mod Arguments
 pub mod Streams
 pub mod Failures
 pub mod Tables
+pub mod Rooms
+pub mod Usages

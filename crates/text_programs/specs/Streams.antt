@@ -1,6 +1,8 @@
 -- What is read of an input whose bytes are known, and the files of a stream.
-use Rattle.std.specs.Prelude.{◌≡◌, ℕ, zero, suc, ◌+◌, ◌-◌, ◌^◌, if◌then◌else◌, List, [], ◌∷◌, ◌++◌, length, take, drop, slice_index, Option, Some, None, ⊤, nat_lt, nat_le}
+use Rattle.std.specs.Prelude.{◌≡◌, ℕ, zero, suc, ◌+◌, ◌-◌, ◌^◌, if◌then◌else◌, List, [], ◌∷◌, ◌++◌, length, take, drop, slice_index, Option, Some, None, IfSome, ⊤, nat_lt, nat_le}
+use Rattle.std.specs.Io.KnownBytes.{Appends}
 use Rattle.rules.specs.Lines.{word_of}
+use Rattle.text_programs.specs.Rooms.{file-room}
 
 -- the next n known bytes, or as many as are left, were taken: they are ts
 abbrev pub Takes : ℕ → Option (List ℕ) → Option (List ℕ) → List ℕ → Type 0
@@ -43,3 +45,16 @@ printed_from one i (x ∷ xs) = one i x ++ printed_from one (suc i) xs
 -- .. of a stream of which no run reaches the end of what is counted
 abbrev pub stream_printed : (ℕ → Item → List ℕ) → ℕ → List ℕ → List ℕ
 stream_printed one k stream = printed_from one 0 (items k (2 ^ 64 - 1) stream)
+
+-- a file without what stands after the bytes that the programs read of it
+abbrev pub short : Item → Item
+short x = record { head = x.head; file = take file-room x.file }
+
+-- what is printed of the file at the front of a stream, as file i; of less than a head, nothing
+abbrev pub front_printed : (ℕ → Item → List ℕ) → ℕ → ℕ → List ℕ → List ℕ
+front_printed one k i bs = if nat_lt (length bs) k then [] else one i (first_item k bs)
+
+-- what was appended is what is printed of a known stream's first files, however many, each whole
+abbrev pub PrintsFirst : (ℕ → Item → List ℕ) → ℕ → Option (List ℕ) → Option (List ℕ) → Option (List ℕ) → Type 0
+PrintsFirst one k known old new =
+    IfSome known (λ stream. (xs ys : List Item) × (items k (2 ^ 64 - 1) stream ≡ xs ++ ys) × Appends old new (printed_from one 0 xs))

@@ -1,5 +1,5 @@
-// What the programs have in common: their options, their tables, the text of a file's bytes, reading to the end, streams, how they fail. Parts: where
-// a function asks something, the programs have seen to it.
+//! What the programs have in common: their options and usages, their tables, the text of a file's bytes, reading to the end, streams, how they fail. Parts:
+//! where a function asks something, the programs have seen to it.
 #![tactic(auto)]
 
 ghost use Rattle.std.specs.Prelude.{◌≡◌, ◌≢◌, ◌≤◌, true, false, length, take, Ok, IfOk, IfErr, IsOk, OnOk};
@@ -7,60 +7,81 @@ ghost use Rattle.std.specs.IoError.{error_kind};
 ghost use Rattle.std.specs.Io.KnownBytes.{Appends, ReadConsumes, WriteAppends};
 ghost use Rattle.sizes.specs.Refusals.{answer_number};
 ghost use Rattle.screen.specs.Screens.{setup-of};
-ghost use Rattle.screen.specs.Lent.{tables_in, SameLent};
-ghost use Rattle.text.specs.Files.{Usual};
+ghost use Rattle.text.specs.Files.{Usual, showed, bytes-text};
 ghost use Rattle.text_programs.specs.Programs.{rowlist-number, rowlist-text, no-width-text, first};
-ghost use Rattle.text_programs.specs.Tables.{Long};
+ghost use Rattle.text_programs.specs.Rooms.{text-room};
 ghost use Rattle.text_programs.specs.Streams.{Takes};
 ghost use Rattle.text_programs.specs.Failures.{IsOfReading, IsOfWriting, Begins, Loses};
 
 use crate::failure::Failure;
-use screen::{Lent, Setup};
+use crate::tables::Tables;
+use screen::Setup;
 use sizes::answers::Refusal;
+use sizes::{FILE_BYTES, PROGRAM_ROOM, PROGRAM_ROWS};
 use std::io;
 use std::io::{ErrorKind, Read, Write};
-use text::{file_text, no_width_refusal, refusal_line};
+use text::{
+    FILE_WORDS, FileText, no_screen, no_width_refusal, read_file, recording_text, refusal_line,
+    refuse,
+};
 
 pub mod failure;
 pub mod options;
 pub mod stream;
 pub mod tables;
+pub mod usage;
 
-// answer: whether the recording is refused. bytes: how many are written, at the start of the lent ones.
+/// Bytes of the buffer that a file is read to: the longest file, and one byte more, by which a longer one is known.
+pub const FILE_ROOM: usize = FILE_BYTES + 1;
+
+/// Bytes of the longest text of a screen's rows, or of a tile's reasons.
+pub const TEXT_ROOM: usize = 64 + PROGRAM_ROWS * (64 * (1 + 2 * PROGRAM_ROOM as usize));
+
+/// Whether the recording is refused, and how many bytes are written, at the start of the lent ones.
 #[derive(Clone, Copy)]
 pub struct Listed {
     pub answer: Result<(), Refusal>,
     pub bytes: usize,
 }
 
-// The text that `rowlist` prints of a file's bytes, put first; how long it is, and the recording's answer. The room is that of the longest text; the
-// tables take the file's screen.
-pub fn list_file(file: &[u8], setup: Setup, lent: &mut Lent<'_>, out: &mut [u8]) -> Listed
-    requires { Usual (setup-of setup) × Long (tables_in lent.old) × (264256 ≤ length out.old) }
-    ensures same { SameLent lent.old lent.new }
-    ensures long { Long (tables_in lent.new) }
+/// What `rowlist` prints of a file's bytes, in any setup and as far as there is room: 3 for more than 65,536 bytes or no whole words, then 3 and 2 by the
+/// size of its screen, then what its recording call answers. It is put first; how long it is, and the screen.
+pub fn file_text(file: &[u8], setup: Setup, tables: &mut Tables, out: &mut [u8]) -> FileText
+    ensures { showed result out.new ≡ bytes-text file.now (setup-of setup) out.old }
+{
+    let mut words = [0; FILE_WORDS];
+    match read_file(file, setup, &mut words) {
+        Ok(size) => {
+            let mut lent = tables.lend(size.rows, size.buckets);
+            recording_text(&words[..file.len() / 4], setup, &mut lent, out)
+        }
+        Err(refusal) => refuse(refusal, no_screen(), out),
+    }
+}
+
+/// The text that `rowlist` prints of a file's bytes, put first; how long it is, and the recording's answer. The room is that of the longest text.
+pub fn list_file(file: &[u8], setup: Setup, tables: &mut Tables, out: &mut [u8]) -> Listed
+    requires { Usual (setup-of setup) × (text-room ≤ length out.old) }
     ensures number_value { (answer_number result.answer ≡ rowlist-number (setup-of setup) file.now) × (result.bytes ≡ length (rowlist-text (setup-of setup) file.now)) }
     ensures out_after { out.new ≡ first (rowlist-text (setup-of setup) file.now) out.old }
 {
-    let text = file_text(file, setup, lent, out);
+    let text = file_text(file, setup, tables, out);
     Listed {
         answer: text.answer,
         bytes: text.bytes,
     }
 }
 
-// The same; how long it is.
-pub fn rowlist_text(file: &[u8], setup: Setup, lent: &mut Lent<'_>, out: &mut [u8]) -> usize
-    requires { Usual (setup-of setup) × Long (tables_in lent.old) × (264256 ≤ length out.old) }
-    ensures same { SameLent lent.old lent.new }
-    ensures long { Long (tables_in lent.new) }
+/// The same; how long it is.
+pub fn rowlist_text(file: &[u8], setup: Setup, tables: &mut Tables, out: &mut [u8]) -> usize
+    requires { Usual (setup-of setup) × (text-room ≤ length out.old) }
     ensures value { result ≡ length (rowlist-text (setup-of setup) file.now) }
     ensures out_after { out.new ≡ first (rowlist-text (setup-of setup) file.now) out.old }
 {
-    list_file(file, setup, lent, out).bytes
+    list_file(file, setup, tables, out).bytes
 }
 
-// What the programs print of a file's bytes where the width asked for is none, put first; how long it is.
+/// What the programs print of a file's bytes where the width asked for is none, put first; how long it is.
 pub fn no_width_text(file: &[u8], out: &mut [u8]) -> usize
     requires { 64 ≤ length out.old }
     ensures value { result ≡ length (no-width-text file.now) }
@@ -96,8 +117,8 @@ fn read_some<R: Read>(input: &mut R, buf: &mut [u8]) -> Result<usize, Failure>
     Err(Failure::CannotRead(io::Error::from(ErrorKind::TimedOut)))
 }
 
-// Reads until the bytes are full or the input ends; how many were read. Where it fails, what is gone of the input is a beginning of it, no more than
-// there was room for.
+/// Reads until the bytes are full or the input ends; how many were read. Where it fails, what is gone of the input is a beginning of it, no more than
+/// there was room for.
 pub fn read_all<R: Read>(input: &mut R, buf: &mut [u8]) -> Result<usize, Failure>
     ensures count { IfOk result (λ n. n ≤ length buf.new) }
     ensures bytes { IfOk result (λ n. Takes (length buf.old) (R.remaining input.old) (R.remaining input.new) (take n buf.new)) }
@@ -135,7 +156,7 @@ fn write_some<W: Write>(output: &mut W, text: &[u8]) -> Result<usize, Failure>
     Err(Failure::CannotWrite(io::Error::from(ErrorKind::TimedOut)))
 }
 
-// Writes all of a text. Where it fails, a beginning of it is written.
+/// Writes all of a text. Where it fails, a beginning of it is written.
 pub fn write_text<W: Write>(output: &mut W, text: &[u8]) -> Result<(), Failure>
     ensures ok { OnOk result (Appends (W.contents output.old) (W.contents output.new) text.now) }
     ensures begun { Begins (W.contents output.old) (W.contents output.new) text.now }

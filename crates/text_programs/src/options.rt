@@ -1,15 +1,18 @@
-// The programs' arguments. Options stand before the others, in any order, and of a repeated one the last counts.
+//! The programs' arguments. Options stand before the others, in any order, and of a repeated one the last counts.
 ghost use Rattle.std.specs.Prelude.{◌≡◌, ◌<◌, ◌⊎◌, IfErr, length, map, string_bytes, MatchOption};
 ghost use Rattle.text_programs.specs.declared.failure.Failure.TheVariants as Failure;
+ghost use Rattle.text_programs.specs.declared.failure.Stop.TheVariants as Stop;
 ghost use Rattle.sizes.specs.Widths.{width_of};
 ghost use Rattle.rules.specs.Lines as rule;
 ghost use Rattle.rect.specs.Rects.{mode_of};
 ghost use Rattle.screen.specs.Screens.{setup-of};
 ghost use Rattle.text.specs.Files.{Usual};
 ghost use Rattle.text_programs.specs.Programs.{want-of};
+ghost use Rattle.text_programs.specs.Failures.{IsUsage};
 ghost use Rattle.text_programs.specs.Arguments.{number_of, arguments, arguments_after, choice, wanted_by, wanted_of, read_arguments};
 
-use crate::failure::Failure;
+use crate::failure::{Failure, Stop};
+use crate::usage::Wrong;
 use rect::Mode;
 use screen::Setup;
 use sizes::PROGRAM_ROOM;
@@ -18,8 +21,8 @@ use std::env;
 use std::io::ErrorKind;
 use std::rt::Env;
 
-// What the options want of a screen, and of its text. no_width: the number typed for the width is none, and every file is refused. panels: lines
-// with a panel show it.
+/// What the options want of a screen, and of its text. no_width: the number typed for the width is none, and every file is refused. panels: lines
+/// with a panel show it.
 #[derive(Clone, Copy)]
 pub struct Want {
     pub setup: Setup,
@@ -27,7 +30,7 @@ pub struct Want {
     pub panels: bool,
 }
 
-// others: the arguments from the first on that is no option.
+/// others: the arguments from the first on that is no option.
 #[derive(Clone, Copy)]
 pub struct Options<'a> {
     pub want: Want,
@@ -72,7 +75,7 @@ fn want_of(mode: Mode, pixels: u32, panels: bool) -> Want
     }
 }
 
-// A number: decimal digits alone, at most 4,294,967,295.
+/// A number: decimal digits alone, at most 4,294,967,295.
 pub fn number(text: &str) -> Option<u32>
     ensures { result ≡ number_of text.now }
 {
@@ -120,8 +123,8 @@ fn next_option<'a>(
     }
 }
 
-// The options at the front of a program's arguments, 128 pixels a bucket without `--width`; panels_known: `--panels` is one of them. Whatever is none ends
-// them: what may stand there the program knows.
+/// The options at the front of a program's arguments, 128 pixels a bucket without `--width`; panels_known: `--panels` is one of them. Whatever is none ends
+/// them: what may stand there the program knows.
 pub fn read_options(args: &[String], panels_known: bool) -> Options<'_>
     ensures usual { Usual (setup-of result.want.setup) }
     ensures wanted { wanted_of result.want ≡ wanted_by (read_arguments panels_known (map string_bytes args.now)).choice }
@@ -143,16 +146,18 @@ pub fn read_options(args: &[String], panels_known: bool) -> Options<'_>
     }
 }
 
-// The arguments that the program was started with, without its name. One that is no text is no argument of a program.
-pub fn arguments<R: Env + AllocGlobal>(rt: &R) -> Result<Vec<String>, Failure>
-    ensures { IfErr result (λ failure. (failure ≡ Failure.OutOfMemory) ⊎ (failure ≡ Failure.Usage)) }
+/// The arguments that the program was started with, without its name. One that is no text is no argument of a program.
+pub fn arguments<R: Env + AllocGlobal>(rt: &R) -> Result<Vec<String>, Stop<'static>>
+    ensures { IfErr result (λ stop. (stop ≡ Stop.Failed Failure.OutOfMemory) ⊎ IsUsage stop) }
 {
     match env::args(rt) {
         Ok(mut args) => {
             args.next();
             Ok(args.collect(rt.alloc())?)
         }
-        Err(error) if error.kind() == ErrorKind::OutOfMemory => Err(Failure::OutOfMemory),
-        Err(_) => Err(Failure::Usage),
+        Err(error) if error.kind() == ErrorKind::OutOfMemory => {
+            Err(Stop::Failed(Failure::OutOfMemory))
+        }
+        Err(_) => Err(Stop::Usage(Wrong::NoText)),
     }
 }

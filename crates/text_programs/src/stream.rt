@@ -1,15 +1,16 @@
-// Streams: files one after the other, each after a head of little-endian u32s, its length in bytes first.
-ghost use Rattle.std.specs.Prelude.{◌≡◌, ◌+◌, ◌-◌, ◌≤◌, length, take, min, Ok, IfOk, IfErr, IsOk, OnOk};
-ghost use Rattle.sizes.specs.Sizes.{file-bytes};
-ghost use Rattle.text_programs.specs.Streams.{Takes, Skips, word_at};
-ghost use Rattle.text_programs.specs.Failures.{IsOfReading, Loses};
+//! Streams: files one after the other, each after a head of little-endian u32s, its length in bytes first. They are answered in their order, whatever it is
+//! that answers them.
+ghost use Rattle.std.specs.Prelude.{◌≡◌, ◌-◌, ◌≤◌, ◌<◌, ◌⊎◌, ℕ, List, ⊤, length, take, min, Ok, Some, IfSome, IfOk, IfErr, IsOk, OnOk, MatchBool};
+ghost use Rattle.std.specs.Io.KnownBytes.{Appends};
+ghost use Rattle.text_programs.specs.Rooms.{file-room};
+ghost use Rattle.text_programs.specs.Streams.{Takes, Skips, word_at, Item, short, first_item, after_item, front_printed, stream_printed, PrintsFirst};
+ghost use Rattle.text_programs.specs.Failures.{IsOfReading, IsOfWriting, Begins, Loses};
 
 use crate::failure::Failure;
-use crate::read_all;
-use sizes::FILE_BYTES;
-use std::io::Read;
+use crate::{FILE_ROOM, read_all};
+use std::io::{Read, Write};
 
-// Reads up to k bytes to the start of the buffer; how many were read.
+/// Reads up to k bytes to the start of the buffer; how many were read.
 pub fn read<R: Read>(input: &mut R, buf: &mut [u8], k: usize) -> Result<usize, Failure>
     ensures count { IfOk result (λ n. n ≤ length buf.new) }
     ensures at_most { IfOk result (λ n. n ≤ k) }
@@ -24,7 +25,7 @@ pub fn read<R: Read>(input: &mut R, buf: &mut [u8], k: usize) -> Result<usize, F
     read_all(input, buf)
 }
 
-// The u32 at a place of a head, 0 if there are not four bytes.
+/// The u32 at a place of a head, 0 if there are not four bytes.
 pub fn word(head: &[u8], at: usize) -> u32
     ensures { result ≡ word_at head.now at }
 {
@@ -56,12 +57,93 @@ fn skip<R: Read>(input: &mut R, n: usize) -> Result<(), Failure>
     Ok(())
 }
 
-// A file of so many bytes was read into the programs' buffer. One that is longer has filled it, which is too long, and the rest is passed over.
+/// A file of so many bytes was read into the programs' buffer. One that is longer has filled it, which is too long, and the rest is passed over.
 pub fn skip_rest<R: Read>(input: &mut R, size: usize) -> Result<(), Failure>
-    ensures ok { OnOk result (Skips (size - (file-bytes + 1)) (R.remaining input.old) (R.remaining input.new)) }
-    ensures gone { Loses (size - (file-bytes + 1)) (R.remaining input.old) (R.remaining input.new) }
-    ensures none_asked { size ≤ file-bytes + 1 → IsOk result }
+    ensures ok { OnOk result (Skips (size - file-room) (R.remaining input.old) (R.remaining input.new)) }
+    ensures gone { Loses (size - file-room) (R.remaining input.old) (R.remaining input.new) }
+    ensures none_asked { size ≤ file-room → IsOk result }
     ensures err { IfErr result IsOfReading }
 {
-    skip(input, size.saturating_sub(FILE_BYTES + 1))
+    skip(input, size.saturating_sub(FILE_ROOM))
+}
+
+/// What answers the files of a stream.
+pub trait Replies {
+    // What it writes of file i.
+    ghost reply: { Self → ℕ → Item → List ℕ };
+
+    ghost ready: { Self → Type 0 } = { λ _. ⊤ };
+
+    // A file is lent as far as the programs' buffer takes it; what is written of it does not depend on the rest.
+    fn answer<W: Write>(
+        &mut self,
+        i: u64,
+        head: &[u8],
+        file: &[u8],
+        output: &mut W,
+    ) -> Result<(), Failure>
+        requires { ready self.old }
+        ensures ready { ready self.new }
+        ensures same { (j : ℕ) (x : Item) → reply self.new j x ≡ reply self.old j x }
+        ensures cut { (j : ℕ) (x : Item) → reply self.old j (short x) ≡ reply self.old j x }
+        ensures ok { OnOk result (Appends (W.contents output.old) (W.contents output.new) (reply self.old i (record { head = head.now; file = file.now }))) }
+        ensures begun { Begins (W.contents output.old) (W.contents output.new) (reply self.old i (record { head = head.now; file = file.now })) }
+        ensures err { IfErr result IsOfWriting };
+}
+
+// Whether there was another file, i: it is answered. All of it is read, or passed over, before a byte of its answer is written.
+fn answer_next<R: Read, W: Write, D: Replies>(
+    input: &mut R,
+    output: &mut W,
+    i: u64,
+    head: &mut [u8],
+    buffer: &mut [u8],
+    desk: &mut D,
+) -> Result<bool, Failure>
+    requires { D.ready desk.old × (length buffer.old ≡ file-room) }
+    ensures ready { D.ready desk.new }
+    ensures same { (j : ℕ) (x : Item) → D.reply desk.new j x ≡ D.reply desk.old j x }
+    ensures ok { IfOk result (λ more. IfSome (R.remaining input.old) (λ bs. MatchBool more
+        ((length head.old ≤ length bs) × (R.remaining input.new ≡ Some (after_item (length head.old) bs))
+        × Appends (W.contents output.old) (W.contents output.new) (D.reply desk.old i (first_item (length head.old) bs)))
+        ((length bs < length head.old) × (output.new ≡ output.old)))) }
+    ensures begun { IfErr result (λ _. IfSome (R.remaining input.old) (λ bs.
+        Begins (W.contents output.old) (W.contents output.new) (front_printed (D.reply desk.old) (length head.old) i bs))) }
+    ensures unread { IfErr result (λ e. IsOfWriting e ⊎ (output.new ≡ output.old)) }
+    ensures err { IfErr result (λ e. IsOfReading e ⊎ IsOfWriting e) }
+{
+    if read_all(input, head)? < head.len() {
+        return Ok(false);
+    }
+    let size = word(head, 0) as usize;
+    let n = read(input, buffer, size)?;
+    skip_rest(input, size)?;
+    desk.answer(i, head, &buffer[..n], output)?;
+    Ok(true)
+}
+
+/// Answers each file of a stream, from number 0 on. The head is as long as each file's is; the buffer is the programs' own. Nothing says that a stream ends: the
+/// files are counted up to a number that no run reaches.
+pub fn answer_all<R: Read, W: Write, D: Replies>(
+    input: &mut R,
+    output: &mut W,
+    head: &mut [u8],
+    buffer: &mut [u8],
+    desk: &mut D,
+) -> Result<(), Failure>
+    requires { D.ready desk.old × (length buffer.old ≡ file-room) }
+    ensures ok { OnOk result (IfSome (R.remaining input.old) (λ stream.
+        Appends (W.contents output.old) (W.contents output.new) (stream_printed (D.reply desk.old) (length head.old) stream))) }
+    ensures begun { IfSome (R.remaining input.old) (λ stream.
+        Begins (W.contents output.old) (W.contents output.new) (stream_printed (D.reply desk.old) (length head.old) stream)) }
+    ensures whole { IfErr result (λ e. IsOfWriting e
+        ⊎ PrintsFirst (D.reply desk.old) (length head.old) (R.remaining input.old) (W.contents output.old) (W.contents output.new)) }
+    ensures err { IfErr result (λ e. IsOfReading e ⊎ IsOfWriting e) }
+{
+    for i in 0..u64::MAX {
+        if !answer_next(input, output, i, head, buffer, desk)? {
+            return Ok(());
+        }
+    }
+    Ok(())
 }

@@ -1,79 +1,83 @@
-// The programs' tables and buffers: made once, and lent to each recording. What is printed of one does not depend on what they held.
-ghost use Rattle.std.specs.Prelude.{◌≡◌, replicate, IfOk};
+//! The programs' tables and buffers: made once, and lent to each recording. What is printed of one does not depend on what they held.
+ghost use Rattle.std.specs.Prelude.{◌≡◌, ◌≤◌, replicate, IfOk};
+ghost use Rattle.sizes.specs.Sizes.{program-rows, program-buckets};
 ghost use Rattle.screen.specs.Lent.{tables_in};
-ghost use Rattle.text_programs.specs.Tables.{Made, Zeros, Long};
+ghost use Rattle.text.specs.Files.{size, Exact};
+ghost use Rattle.text_programs.specs.Rooms.{file-room, text-room};
+ghost use Rattle.text_programs.specs.Tables.{Zeros};
 
+use crate::{FILE_ROOM, TEXT_ROOM};
 use screen::Lent;
 use sizes::{
-    FILTER_TABLE, LAYER_TABLE, OPACITIES, OPEN_TABLE, PAINT_TABLE, PROGRAM_DEPTH, PROGRAM_FILLS,
-    PROGRAM_PAINTING, PROGRAM_RECORDS, PROGRAM_RENDER,
+    FILTER_TABLE, LAYER_TABLE, OPACITIES, OPEN_TABLE, PAINT_TABLE, PROGRAM_DEPTH, PROGRAM_DEPTHS,
+    PROGRAM_FILLS, PROGRAM_PAINTING, PROGRAM_RECORDS, PROGRAM_RENDER, PROGRAM_RENDERS, ROW,
 };
 use std::alloc::{AllocError, Global};
 
-// All that a screen of 32 rows of 64 buckets asks for.
+/// All the words that a screen of 32 rows of 64 buckets asks for, with 64 commands and 64 depth fills a row.
 #[derive(Drop)]
 pub struct Tables {
-    render: Vec<u32>,
-    fills: Vec<u32>,
-    depth: Vec<u32>,
-    rows: Vec<u32>,
-    painting: Vec<u32>,
-    layers: Vec<u32>,
-    opacities: Vec<f32>,
-    paint_attrs: Vec<u32>,
-    layer_attrs: Vec<u32>,
-    filter_paints: Vec<i32>,
+    render: Box<[u32; PROGRAM_RENDER]>,
+    fills: Box<[u32; PROGRAM_FILLS]>,
+    depth: Box<[u32; PROGRAM_DEPTH]>,
+    rows: Box<[u32; PROGRAM_RECORDS]>,
+    painting: Box<[u32; PROGRAM_PAINTING]>,
+    layers: Box<[u32; OPEN_TABLE]>,
+    opacities: Box<[f32; OPACITIES]>,
+    paint_attrs: Box<[u32; PAINT_TABLE]>,
+    layer_attrs: Box<[u32; LAYER_TABLE]>,
+    filter_paints: Box<[i32; FILTER_TABLE]>,
 }
 
 impl Tables {
+    /// Tables of zeros; an error where memory is wanting.
     pub fn new(alloc: Global) -> Result<Tables, AllocError>
-        ensures made { IfOk result Made }
-        ensures zeros { IfOk result Zeros }
+        ensures { IfOk result Zeros }
     {
         Ok(Tables {
-            render: vec![in alloc; 0; PROGRAM_RENDER]?,
-            fills: vec![in alloc; 0; PROGRAM_FILLS]?,
-            depth: vec![in alloc; 0; PROGRAM_DEPTH]?,
-            rows: vec![in alloc; 0; PROGRAM_RECORDS]?,
-            painting: vec![in alloc; 0; PROGRAM_PAINTING]?,
-            layers: vec![in alloc; 0; OPEN_TABLE]?,
-            opacities: vec![in alloc; 0.0; OPACITIES]?,
-            paint_attrs: vec![in alloc; 0; PAINT_TABLE]?,
-            layer_attrs: vec![in alloc; 0; LAYER_TABLE]?,
-            filter_paints: vec![in alloc; 0; FILTER_TABLE]?,
+            render: Box::new(alloc, [0; PROGRAM_RENDER])?,
+            fills: Box::new(alloc, [0; PROGRAM_FILLS])?,
+            depth: Box::new(alloc, [0; PROGRAM_DEPTH])?,
+            rows: Box::new(alloc, [0; PROGRAM_RECORDS])?,
+            painting: Box::new(alloc, [0; PROGRAM_PAINTING])?,
+            layers: Box::new(alloc, [0; OPEN_TABLE])?,
+            opacities: Box::new(alloc, [0.0; OPACITIES])?,
+            paint_attrs: Box::new(alloc, [0; PAINT_TABLE])?,
+            layer_attrs: Box::new(alloc, [0; LAYER_TABLE])?,
+            filter_paints: Box::new(alloc, [0; FILTER_TABLE])?,
         })
     }
 
-    // All of them at once, for as many recordings as there are.
-    pub fn lend(&mut self) -> Lent<'_>
-        requires { Made self.old }
-        ensures { Long (tables_in result) }
+    /// As many words of each as a screen of so many rows, of so many buckets each, asks for.
+    pub fn lend(&mut self, rows: usize, buckets: usize) -> Lent<'_>
+        requires { (rows ≤ program-rows) × (buckets ≤ program-buckets) }
+        ensures { Exact (size rows buckets) (tables_in result) }
     {
         Lent {
-            render: self.render.as_mut_slice(),
-            fills: self.fills.as_mut_slice(),
-            depth: self.depth.as_mut_slice(),
-            rows: self.rows.as_mut_slice(),
-            painting: self.painting.as_mut_slice(),
-            layers: self.layers.as_mut_slice(),
-            opacities: self.opacities.as_mut_slice(),
-            paint_attrs: self.paint_attrs.as_mut_slice(),
-            layer_attrs: self.layer_attrs.as_mut_slice(),
-            filter_paints: self.filter_paints.as_mut_slice(),
+            render: &mut self.render[..rows * PROGRAM_RENDERS],
+            fills: &mut self.fills[..rows * PROGRAM_DEPTHS],
+            depth: &mut self.depth[..rows * buckets],
+            rows: &mut self.rows[..rows * ROW],
+            painting: &mut self.painting[..rows * 2],
+            layers: &mut self.layers[..],
+            opacities: &mut self.opacities[..],
+            paint_attrs: &mut self.paint_attrs[..],
+            layer_attrs: &mut self.layer_attrs[..],
+            filter_paints: &mut self.filter_paints[..],
         }
     }
 }
 
-// Room for the longest file, and one byte more.
+/// Room for the longest file, and one byte more.
 pub fn file_buffer(alloc: Global) -> Result<Vec<u8>, AllocError>
-    ensures { IfOk result (λ buffer. buffer.items ≡ replicate 65537 0) }
+    ensures { IfOk result (λ buffer. buffer.items ≡ replicate file-room 0) }
 {
-    Ok(vec![in alloc; 0; 65537]?)
+    Ok(vec![in alloc; 0; FILE_ROOM]?)
 }
 
-// Room for the longest text of a screen, or of its attributes.
+/// Room for the longest text of a screen, or of its attributes.
 pub fn text_buffer(alloc: Global) -> Result<Vec<u8>, AllocError>
-    ensures { IfOk result (λ buffer. buffer.items ≡ replicate 264256 0) }
+    ensures { IfOk result (λ buffer. buffer.items ≡ replicate text-room 0) }
 {
-    Ok(vec![in alloc; 0; 264256]?)
+    Ok(vec![in alloc; 0; TEXT_ROOM]?)
 }

@@ -1,15 +1,8 @@
 -- The words of an accepted recording: what is told of its tile is the rules' answer.
-use mathlib.Core.Path.{◌≡◌, refl, sym, ap, ◌∙◌}
-use mathlib.Core.Bool.{Bool, true, false, not, ◌||◌, cond}
-use mathlib.Core.List.{List, [], ◌∷◌}
-use Rattle.std.specs.Prelude.{Option, None, Some, Result, Ok, Err}
+use Rattle.std.proofs.Common.{◌≡◌, refl, sym, ap, ◌∙◌, Bool, true, false, not, ◌||◌, cond, List, [], ◌∷◌, Option, None, Some, Result, Ok, Err, ℕ, ◌+◌, arith, leb, ltb, eqb, eq-eqb, eqb-true}
 use Rattle.sizes.specs.declared.answers.Refusal.{Refusal}
 use Rattle.sizes.specs.Refusals.{number_of}
 use Rattle.sizes.proofs.Refusals.{not_done}
-use Prim.Native.Nat.{ℕ, ◌+◌}
-use native.Mathlib.Omega.{arith}
-use lib.Dec.{leb, ltb, eqb}
-use borrow.Author.Tests.{eq-eqb, eqb-true}
 use Rattle.rules.specs.Answers.{Answer, answer, settle, first_of, Done, BadForm}
 use Rattle.rules.specs.Boxes.{Box, good_viewport, rows_of}
 use Rattle.rules.specs.Rows.{Row, fresh-row, row-ops}
@@ -21,7 +14,7 @@ use Rattle.rules.specs.Walk.{Place, frame-of, good-arenas, judge-records, walk-a
 use Rattle.rules.specs.Lines.{nothing, rowlist-place, rowlist-screen}
 use Rattle.rules.specs.Plain.{untold, tell-steps}
 use Rattle.rules.proofs.All.{never}
-use Rattle.rules.proofs.Logged.{walk-logged}
+use Rattle.rules.specs.Logged.{walk-logged}
 use Rattle.rules_picture.proofs.Walked.{all-walks}
 use Rattle.rules_reason.specs.Reasons.{Asked, reason}
 use Rattle.rules_reason.specs.Answers.{Question, answer-lines, history, off-screen, tile-answer, refused-bytes, recording-answer, answer-in, why-words}

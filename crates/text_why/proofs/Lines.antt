@@ -1,12 +1,6 @@
 -- The lines of an answer, one after the other. Assumes nothing.
-use mathlib.Core.Path.{◌≡◌, refl}
-use mathlib.Core.Bool.{Bool, true, false}
-use mathlib.Core.List.{List, [], ◌∷◌, ◌++◌}
-use Prim.Native.Nat.{ℕ, zero, suc, ◌+◌, ◌*◌, ◌≤◌}
-use native.Mathlib.Numerals.{add-one}
-use native.Mathlib.Omega.{arith}
+use Rattle.std.proofs.Common.{◌≡◌, refl, Bool, true, false, List, [], ◌∷◌, ◌++◌, ℕ, zero, suc, ◌+◌, ◌*◌, ◌≤◌, add-one, arith, length}
 use Rattle.sizes.specs.Sizes.{most-attrs}
-use lib.ListN.{length}
 use Rattle.rules.specs.Lines.{digits, number}
 use Rattle.rules_reason.specs.Reasons.{Reason, unknown-attribute, no-segment, cut-away, row-untouched, hidden-by, shown-at, Asked}
 use Rattle.rules_reason.specs.Answers.{Question, every, one, of-panel-text, panel-bytes, reason-text, reason-bytes, colon-text, kind-text, asked-bytes, attribute-line, kind-lines, answer-lines, question-line}

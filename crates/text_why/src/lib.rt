@@ -1,4 +1,4 @@
-// What `why` prints: the reasons of a tile's attributes, in words. Parts: where a function asks something, its callers have seen to it.
+//! What `why` prints: the reasons of a tile's attributes, in words. Parts: where a function asks something, its callers have seen to it.
 #![tactic(auto)]
 
 ghost use Rattle.std.specs.Prelude.{◌≡◌, ◌+◌, ◌*◌, ◌≤◌, length, take};
@@ -6,28 +6,27 @@ ghost use Rattle.sizes.specs.Sizes.{most-attrs, file-bytes, line-size, line-tabl
 ghost use Rattle.rules.specs.Lines.{rowlist-screen};
 ghost use Rattle.rules_reason.specs.Answers.{panel-bytes, reason-text, reason-bytes, kind-text, attribute-line, kind-lines, why-words, why-text, question-line};
 ghost use Rattle.screen.specs.Screens.{setup-of};
-ghost use Rattle.screen.specs.Lent.{tables_in, SameLent};
 ghost use Rattle.file.specs.Words.{words-in};
 ghost use Rattle.text.specs.Texts.{Writes};
 ghost use Rattle.tile.specs.Places.{Low};
 ghost use Rattle.tile.specs.Reasons.{reason-of as said_of, asked_of};
 ghost use Rattle.text.specs.Files.{Usual};
 ghost use Rattle.text_programs.specs.Programs.{first};
-ghost use Rattle.text_programs.specs.Tables.{Long};
 ghost use Rattle.text_why.specs.Questions.{question-of, read_by, ToldOf, answer-most};
 
 use file::form::{read_form, words_of_bytes};
 use file::judge::box_at;
-use screen::{Lent, Setup};
+use screen::Setup;
 use sizes::LINE_TABLE;
 use sizes::answers::Refusal;
 use text::lines::Refused;
 use text::{Out, Print, print_first};
 use text_programs::list_file;
+use text_programs::tables::Tables;
 use tile::{Asked, Reason, Tale, is_off_screen, reason_of, tell_tile};
 use walk::Recording;
 
-// One attribute, or every attribute.
+/// What is asked of a tile: one attribute, or every attribute.
 #[derive(Clone, Copy)]
 pub enum Question {
     Every,
@@ -215,24 +214,22 @@ fn accepted_text(
     words_text(&words[..n], setup, row, tile, question, out)
 }
 
-// The text that `why` prints of a question about a file's bytes, put first; how long it is. The room is that of the longest text of `rowlist`,
-// which is written there before; what stands after the text is free. The tables take the file's screen.
+/// The text that `why` prints of a question about a file's bytes, put first; how long it is. The room is that of the longest text of `rowlist`,
+/// which is written there before; what stands after the text is free. The tables take the file's screen.
 pub fn why_text(
     file: &[u8],
     setup: Setup,
     row: u32,
     tile: u32,
     question: Question,
-    lent: &mut Lent<'_>,
+    tables: &mut Tables,
     out: &mut [u8],
 ) -> usize
-    requires { Usual (setup-of setup) × Long (tables_in lent.old) × (264256 ≤ length out.old) }
-    ensures same { SameLent lent.old lent.new }
-    ensures long { Long (tables_in lent.new) }
+    requires { Usual (setup-of setup) × (264256 ≤ length out.old) }
     ensures value { result ≡ length (why-text (setup-of setup) file.now row tile (question-of question)) }
     ensures out_after { take result out.new ≡ why-text (setup-of setup) file.now row tile (question-of question) }
 {
-    let text = list_file(file, setup, lent, out);
+    let text = list_file(file, setup, tables, out);
     if text.answer.is_err() {
         return text.bytes;
     }
@@ -255,7 +252,7 @@ impl Print for QuestionLine {
     }
 }
 
-// That line, put first; how long it is.
+/// The line before the answer to question i of a stream, put first; how long it is.
 pub fn question_text(i: u64, out: &mut [u8]) -> usize
     requires { 30 ≤ length out.old }
     ensures value { result ≡ length (question-line i) }

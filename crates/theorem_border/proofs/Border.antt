@@ -1,13 +1,7 @@
 -- The picture, `can_skip` and recordings at the border, from the same about the calls at the words. A refused painting call gives nothing and
 -- alters nothing: it is left out of picture's schedule. Assumes nothing.
-use Prim.Native.Nat.{ℕ}
-use native.Mathlib.Omega.{arith}
-use mathlib.Core.Path.{◌≡◌, refl, sym, ap, ◌∙◌}
-use mathlib.Core.Bool.{Bool, true, false, ◌&&◌, ◌||◌}
-use mathlib.Core.List.{List, [], ◌∷◌}
-use lib.Dec.{eqb}
-use lib.ListN.{get_or}
-use borrow.Author.Tests.{ne_eqb, eqb-true, eqb-false}
+use Rattle.std.proofs.Common.{ℕ, arith, ◌≡◌, refl, sym, ap, ◌∙◌, Bool, true, false, ◌&&◌, ◌||◌, List, [], ◌∷◌, eqb, get_or, ne_eqb, eqb-true}
+use borrow.Author.Tests.{eqb-false}
 use Rattle.sizes.specs.declared.width.Width.{Width}
 use Rattle.sizes.specs.declared.width.Width.TheVariants.{W64, W128, W256}
 use Rattle.rules.specs.Answers.{Answer, answer, Done}
@@ -30,7 +24,8 @@ use Rattle.theorem_picture.proofs.Skip as picture
 use Rattle.theorem_picture.specs.Skip as lent
 use Rattle.theorem_border.specs.Hosted.{Host, Hosted, Call, one-step, whole_row, turn_in, begin-at, paint-out}
 use Rattle.theorem_border.specs.Border.{gave-words, painted, log, finished-at, finished, Picture, Clear}
-use Rattle.theorem_border.proofs.Words.{host-of, hosted, begin-on, call-of, paint-on, paint-done, paint-kept, skip-on}
+use Rattle.theorem_border.specs.Held.{host-of}
+use Rattle.theorem_border.proofs.Words.{hosted, begin-on, call-of, paint-on, paint-done, paint-kept, skip-on}
 use Rattle.theorem_border.proofs.Holds.{holds}
 
 -- a done call is read as it gave

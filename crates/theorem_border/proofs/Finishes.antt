@@ -1,12 +1,6 @@
 -- A host can paint every row to its end by `coarse_paint_step`, so `border-picture` speaks of every hosted screen. A step that says finished is
 -- done, so that its result words say so too. Assumes nothing.
-use Prim.Native.Nat.{ℕ, ◌/◌}
-use mathlib.Core.Path.{◌≡◌, refl, sym, ap, ◌∙◌}
-use mathlib.Core.Bool.{Bool, true, false, ◌&&◌, ◌||◌, cond}
-use mathlib.Core.List.{List, [], ◌∷◌, map}
-use Rattle.std.specs.Prelude.{Option, None, Some}
-use lib.Dec.{eqb, ltb}
-use lib.ListN.{length}
+use Rattle.std.proofs.Common.{ℕ, ◌/◌, ◌≡◌, refl, sym, ap, ◌∙◌, Bool, true, false, ◌&&◌, ◌||◌, cond, List, [], ◌∷◌, map, Option, None, Some, eqb, ltb, length}
 use Rattle.sizes.specs.Sizes.{piece-size}
 use Rattle.sizes.specs.Widths.{bucket-tiles}
 use Rattle.rules.specs.Answers.{Answer, Done, NoRoom}
@@ -23,7 +17,8 @@ use Rattle.theorem_picture.specs.Reached as reached
 use Rattle.theorem_picture.proofs.Finishes.{finishes}
 use Rattle.theorem_border.specs.Hosted.{Host, host, with-painting, Call, one-step, begin-at, paint-out, paint-at}
 use Rattle.theorem_border.specs.Border.{gave-words, painted, log, finished-at, finished, Finishes}
-use Rattle.theorem_border.proofs.Words.{host-of, hosted, begin-on, paint-lent}
+use Rattle.theorem_border.specs.Held.{host-of}
+use Rattle.theorem_border.proofs.Words.{hosted, begin-on, paint-lent}
 use Rattle.theorem_border.proofs.Holds.{holds}
 use Rattle.theorem_border.proofs.Border.{left-read}
 

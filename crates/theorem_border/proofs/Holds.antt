@@ -1,10 +1,6 @@
 -- A host's words are those of a screen that the calls have reached, by the same steps. Assumes nothing.
-use Prim.Native.Nat.{ℕ}
-use mathlib.Core.Path.{◌≡◌, refl, sym, ap, ◌∙◌}
-use mathlib.Core.List.{List, []}
-use Rattle.std.specs.Prelude.{Option, None, Some}
-use lib.Dec.{eqb}
-use borrow.Author.Tests.{eqb-true, eqb-false}
+use Rattle.std.proofs.Common.{ℕ, ◌≡◌, refl, sym, ap, ◌∙◌, List, [], Option, None, Some, eqb, eqb-true}
+use borrow.Author.Tests.{eqb-false}
 use Rattle.rules.specs.Answers.{Answer, Done}
 use Rattle.rules.specs.Spans.{Span}
 use Rattle.rules.specs.Plans.{Frame, Step}
@@ -28,14 +24,10 @@ use Rattle.theorem_picture.specs.Reached.{Reached}
 use Rattle.theorem_picture.proofs.Rows.{row-reached}
 use Rattle.theorem_picture.proofs.Recorded.{recorded-reached}
 use Rattle.layers.specs.Filter.{given}
+use Rattle.theorem_border.specs.Held.{host-of, Holds}
 use Rattle.theorem_border.specs.Hosted.{Host, Asks, Hosted, by-reset, by-recording, by-fill, by-push, by-pop, by-filter, by-begin, by-paint, by-write}
 use Rattle.theorem_border.specs.Hosted.{Call, one-step, whole_row, place, reset-at, recording-at, fill-at, push_at, pop-at, filter-at, begin-at, paint-out, paint-at, write-at}
-use Rattle.theorem_border.proofs.Words.{host-of, hosted, reset-on, recording_on, Known, nothing, these, known, reset-never, recording-never, fill_on, push-on, pop-on, filter-on, begin-on, call-of, paint-done, paint-kept, write_done, write_kept}
-
-pub record Holds (f : Frame) (xs : List Step) (h : Host) : Type 0 where
-  pub words : ScreenLent
-  pub reached : Reached f xs words
-  pub same : h ≡ host-of words
+use Rattle.theorem_border.proofs.Words.{hosted, reset-on, recording_on, Known, nothing, these, known, reset-never, recording-never, fill_on, push-on, pop-on, filter-on, begin-on, call-of, paint-done, paint-kept, write_done, write_kept}
 
 -- a call at the border that is a call at the words
 made : {f : Frame} {ys : List Step} (a : Answer Host) (b : Answer ScreenLent) → a ≡ hosted b → Reached f ys b.value → Holds f ys a.value

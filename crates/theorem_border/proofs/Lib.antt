@@ -3,4 +3,7 @@ pub mod Holds
 pub mod Border
 pub mod Finishes
 pub mod Recorded
+pub mod Numbers
+pub mod Why
+pub mod Sized
 pub mod Panel

@@ -1,8 +1,5 @@
 -- What `coarse_bucket_recording` leaves, and what a done `coarse_reset` was asked for, from the same about the call at the words. Assumes nothing.
-use Prim.Native.Nat.{ℕ, ◌≤◌, ◌<◌}
-use native.Mathlib.Omega.{arith}
-use mathlib.Core.Path.{◌≡◌, sym, ap, ◌∙◌}
-use mathlib.Core.List.{List}
+use Rattle.std.proofs.Common.{ℕ, ◌≤◌, ◌<◌, arith, ◌≡◌, sym, ap, ◌∙◌, List}
 use Rattle.rules.specs.Answers.{Answer, Done}
 use Rattle.rules.specs.Setups.{Setup}
 use Rattle.rect.specs.declared.Rect.{Rect}
@@ -14,7 +11,8 @@ use Rattle.theorem_picture.proofs.Recorded.{recorded-reached, recorded-refused}
 use Rattle.sizes.proofs.Refusals.{not_done}
 use Rattle.theorem_border.specs.Hosted.{Host, Asks, by-recording, reset-at, recording-at, begin-at}
 use Rattle.theorem_border.specs.Border.{Accepted, Refused, kept, emptied}
-use Rattle.theorem_border.proofs.Words.{host-of, hosted, Asking, for-none, for_some, asking, reset-none, recording-none, unasked-late, reset-on, recording_on, begin-on, Known, nothing, these, known, recording-never, recording-left}
+use Rattle.theorem_border.specs.Held.{host-of}
+use Rattle.theorem_border.proofs.Words.{hosted, Asking, for-none, for_some, asking, reset-none, recording-none, unasked-late, reset-on, recording_on, begin-on, Known, nothing, these, known, recording-never, recording-left}
 
 -- A done reset was asked for a setup: `Hosted` has a case for it.
 pub reset-asks : (v : Rect) (w : SetupWords) (h : Host) → (reset-at v w h).number ≡ Done → (q : Setup) × Asks w q

@@ -1,19 +1,10 @@
 -- A done `coarse_` call on the words of a screen is the call itself, and leaves the words of what that leaves; a refused one leaves what it was
 -- given. Assumes nothing.
-use Prim.Native.Nat.{ℕ}
-use native.Mathlib.Omega.{arith}
-use mathlib.Core.Path.{◌≡◌, refl, sym, ap, ◌∙◌}
-use mathlib.Core.Bool.{Bool, true, false, ◌&&◌, cond}
-use mathlib.Core.List.{List}
-use Rattle.std.specs.Prelude.{Option, None, Some, Result, Ok, Err}
+use Rattle.std.proofs.Common.{ℕ, arith, ◌≡◌, refl, sym, ap, ◌∙◌, Bool, true, false, ◌&&◌, cond, List, Option, None, Some, Result, Ok, Err, ltb, leb, eqb, ℤ, length, ltb-true}
 use Rattle.sizes.specs.declared.answers.Refusal.{Refusal}
 use Rattle.sizes.specs.Refusals.{number_of}
 use Rattle.sizes.proofs.Refusals.{not_done}
-use lib.Dec.{ltb, leb, eqb}
 use lib.Ieee.{Float}
-use lib.IntN.{ℤ}
-use lib.ListN.{length}
-use borrow.Author.Tests.{ltb-true}
 use Rattle.sizes.specs.Sizes.{state-size}
 use Rattle.rules.specs.Answers.{Answer, answer, Done, BadRecord}
 use Rattle.rules.specs.Spans.{Span}
@@ -53,11 +44,8 @@ use Rattle.host.proofs.Kept.{step-refused, row-refused, write-refused}
 use Rattle.theorem_picture.specs.Calls as calls
 use Rattle.theorem_picture.specs.Reached as reached
 use Rattle.theorem_picture.specs.Rows as rows
+use Rattle.theorem_border.specs.Held.{host-of}
 use Rattle.theorem_border.specs.Hosted.{Host, host, Asks, with_rows, with-painting, reset-at, recording-at, fill-at, push_at, pop-at, filter-at, begin-at, Turn, Call, one-step, whole_row, turn_in, paint-out, paint-at, write-at}
-
--- the words of a screen and its tables
-abbrev pub host-of : ScreenLent → Host
-host-of l = host (screen-words l.screen) l.tables
 
 abbrev pub hosted : Answer ScreenLent → Answer Host
 hosted a = answer a.number (host-of a.value)
@@ -273,4 +261,4 @@ module _ (i id : ℕ) (b : Span) (list count : List ℕ) (l : ScreenLent) where
 
   pub write_kept : (a.number ≡ Done → ⊥) → write-at i id b list count (host-of l) ≡ host-of l
   unfolding write-at
-  write_kept q = ap (λ (o : Painted). put (answer 0 o)) (write-refused i b id (screen-words l.screen) l.tables.depth list count q)
+  write_kept q = ap (λ (o : Painted). put (answer 0 o)) (write-refused i b (screen-words l.screen) l.tables.depth list count id q)

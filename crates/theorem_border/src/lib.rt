@@ -1,31 +1,96 @@
-// Theorems about the calls that a host links: the picture, `can_skip` and recordings, over the state's words and the tables alone. What a
-// function here promises is a theorem, and it does nothing else.
+//! Theorems about the calls that a host links: the picture, `can_skip`, recordings, refusals, an example, over the state's words and the tables alone. What a
+//! function here promises is a theorem, and it does nothing else.
 #![tactic(auto)]
 
 ghost use Rattle.std.specs.Prelude.{List};
 ghost use Rattle.rules.specs.Plans.{Frame, Step};
 ghost use Rattle.theorem_border.specs.Hosted.{Host, Hosted};
 ghost use Rattle.theorem_border.specs.Border.{Picture, Clear, Finishes, RecordingAccepted, RecordingRefused, RecordingEarly, ResetAsks};
+ghost use Rattle.theorem_border.specs.Refused.{BeginRefused, FillRefused, FilterRefused, PopRefused, PushRefused, ResetRefused, RowRefused, SizesRefused, SkipRefused, SpansRefused, SplitRefused, StepRefused, UnsetRefused, VisibleRefused, WhyRefused, WriteRefused};
+ghost use Rattle.theorem_border.specs.Numbers.{BeginKeeps, FillKeeps, FilterKeeps, PopKeeps, PushKeeps, RecordingKeeps, ResetKeeps, RowKeeps, SkipKeeps, SpansKeeps, StepKeeps, UnsetKeeps, VisibleKeeps, WhyKeeps, WriteKeeps};
+ghost use Rattle.theorem_border.specs.Words.{ScreenReadBack, SizesFit, WordsWrittenBack};
+ghost use Rattle.theorem_border.specs.Held.{HostedReached};
+ghost use Rattle.theorem_border.specs.Panel.{CallsDone, EachTile, MixedFinish, PaintsTaken, StepsFinish, Tile10, Tile25, Tile40};
 
-// What each tile receives, whatever a host calls in between.
+/// What each tile receives, whatever a host calls in between.
 pub fn picture_at_border()
     ensures { Picture }
 {}
 
-// Where `coarse_can_skip` says yes, nothing of the span is hidden.
+/// Where `coarse_can_skip` says yes, nothing of the span is hidden.
 pub fn skip_at_border()
     ensures { (f : Frame) (xs : List Step) (h : Host) → Hosted f xs h → Clear h }
 {}
 
-// Painting ends.
+/// Painting ends.
 pub fn painting_ends_at_border()
     ensures { Finishes }
 {}
 
-// What `coarse_bucket_recording` leaves, accepted or refused, and that a done reset was asked for a setup.
+/// What `coarse_bucket_recording` leaves, accepted or refused, and that a done reset was asked for a setup.
 pub fn recordings_at_border()
     ensures accepted { RecordingAccepted }
     ensures refused { RecordingRefused }
     ensures early { RecordingEarly }
     ensures asks { ResetAsks }
+{}
+
+/// A refused call leaves everything that it was lent as it was: one clause a `coarse_` call.
+pub fn refusals_at_border()
+    ensures reset { ResetRefused }
+    ensures fill { FillRefused }
+    ensures push_layer { PushRefused }
+    ensures pop_layer { PopRefused }
+    ensures filter_fill { FilterRefused }
+    ensures begin_painting { BeginRefused }
+    ensures paint_step { StepRefused }
+    ensures paint_row { RowRefused }
+    ensures unset_runs { UnsetRefused }
+    ensures visible_runs { VisibleRefused }
+    ensures visible_spans { SpansRefused }
+    ensures unset_runs_and_write { WriteRefused }
+    ensures can_skip { SkipRefused }
+    ensures split_opaque_span { SplitRefused }
+    ensures sizes { SizesRefused }
+    ensures why { WhyRefused }
+{}
+
+/// A call answers its own 1, 2 and 3 also where the border refuses what the host gives.
+pub fn numbers_at_border()
+    ensures reset { ResetKeeps }
+    ensures bucket_recording { RecordingKeeps }
+    ensures why { WhyKeeps }
+    ensures fill { FillKeeps }
+    ensures push_layer { PushKeeps }
+    ensures pop_layer { PopKeeps }
+    ensures filter_fill { FilterKeeps }
+    ensures begin_painting { BeginKeeps }
+    ensures paint_step { StepKeeps }
+    ensures paint_row { RowKeeps }
+    ensures unset_runs { UnsetKeeps }
+    ensures visible_runs { VisibleKeeps }
+    ensures visible_spans { SpansKeeps }
+    ensures unset_runs_and_write { WriteKeeps }
+    ensures can_skip { SkipKeeps }
+{}
+
+/// The state's words are a screen's, there and back; a host's are those of a screen that calls have reached; and tables of the lengths that
+/// `coarse_sizes` answers are what a reset takes.
+pub fn words_at_border()
+    ensures screen_read { ScreenReadBack }
+    ensures words_written { WordsWrittenBack }
+    ensures reached { HostedReached }
+    ensures sizes { SizesFit }
+{}
+
+/// The calls of examples/panel.c, and what its tiles receive.
+pub fn panel_example_at_border()
+    ensures calls { CallsDone }
+    ensures paints { PaintsTaken }
+    ensures by_steps { StepsFinish }
+    ensures in_a_mixture { MixedFinish }
+    ensures each_tile { EachTile }
+    ensures tile_40 { Tile40 }
+    ensures tile_25 { Tile25 }
+    ensures tile_10 { Tile10 }
 {}

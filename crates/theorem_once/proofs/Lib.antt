@@ -1,6 +1,0 @@
-pub mod Runs
-pub mod Building
-pub mod Painting
-pub mod Recording
-pub mod Texts
-pub mod Host

@@ -1,6 +1,5 @@
 -- Every call at the words of a whole canvas is the rules' call; building calls are steps, and what is refused alters no word. Assumes nothing.
-use mathlib.Core.Path.{◌≡◌, sym, ap, ◌∙◌, subst}
-use borrow.Author.Tests.{ne_eqb}
+use Rattle.std.proofs.Common.{◌≡◌, sym, ap, ◌∙◌, subst, ne_eqb}
 use Rattle.rules.specs.Answers.{Answer, Done}
 use Rattle.rules.specs.Plans.{Step, a-push}
 use Rattle.rules.specs.Rows.{Row, row-ops}

@@ -1,19 +1,13 @@
 -- A done building call, whatever words it was lent, is the step that these words say; and every step of the rules is such a call. A list that
 -- is no number of whole records is refused, and the calls read no more of a list than what it says. Assumes nothing.
-use Prim.Native.Nat.{ℕ, zero, suc, ◌+◌, ◌/◌, ◌%◌}
-use native.Mathlib.Omega.{arith}
-use mathlib.Core.Path.{◌≡◌, refl, sym, ap, ◌∙◌}
-use mathlib.Core.Bool.{Bool, true, false, ◌&&◌, not, cond}
-use mathlib.Core.List.{List, [], ◌∷◌}
-use lib.Dec.{eqb}
-use lib.ListN.{length}
-use borrow.Author.Tests.{eqb-true, eqb-false}
+use Rattle.std.proofs.Common.{ℕ, zero, suc, ◌+◌, ◌*◌, ◌/◌, ◌%◌, arith, ◌≡◌, refl, sym, ap, ◌∙◌, Bool, true, false, ◌&&◌, not, cond, List, [], ◌∷◌, eqb, length, get_or, eqb-true}
+use borrow.Author.Tests.{eqb-false}
 use Rattle.sizes.specs.Sizes.{paint-attr-table, layer-attr-table, open-layer-table, opacity-count}
 use Rattle.rules.specs.Lists.{join}
 use Rattle.rules.specs.Answers.{first_of, Done, BadRecord}
-use Rattle.rules.proofs.Words.{paint-words, segment-words}
+use Rattle.rules.specs.Words.{paint-words, segment-words}
 use Rattle.rules.specs.Inputs.{Props}
-use Rattle.rules.specs.Plans.{Plan, a-fill, a-push}
+use Rattle.rules.specs.Plans.{Plan, a-push}
 use Rattle.rules.specs.Steps.{Screen, refusal, done}
 use Rattle.rules.proofs.All.{both, never}
 use Rattle.row.specs.Words.{Words, word-ops}
@@ -111,11 +105,15 @@ fill-steps ps ss d l e =
     let h = fill-lists (fill-part l) ps ss d (unfold fill-at in e) in
     fill-whole ps ss d l h.0 h.1
 
--- for instance: a paint with a shift says the paint without
-shifted : (opaque handle x y : ℕ) (ss : List ℕ) (d : Draw)
-    → fill-said (opaque ∷ handle ∷ x ∷ y ∷ []) ss d ≡ a-fill (record { opaque = opaque; handle = handle } ∷ []) (segs-of ss) (draw-of d)
-unfolding paints
-shifted opaque handle x y ss d = refl
+-- the shift words are read by no rule
+module _ (ps qs : List ℕ) (f : (i : ℕ) → get_or ps (4 * i) 0 ≡ get_or qs (4 * i) 0) (h : (i : ℕ) → get_or ps (4 * i + 1) 0 ≡ get_or qs (4 * i + 1) 0) where
+  same-paints : (i k : ℕ) → paints ps i k ≡ paints qs i k
+  unfolding paints
+  same-paints i zero = refl
+  same-paints i (suc k) = rw (f i, h i, same-paints (i + 1) k)
+
+  pub shifts-free : length ps ≡ length qs → (ss : List ℕ) (d : Draw) → fill-said ps ss d ≡ fill-said qs ss d
+  shifts-free e ss d = rw (e, same-paints 0 (length qs / 4))
 
 -- a push is the step whose properties it is given
 pub push-steps : (p : LayerProps) (q : Props) → p ≡ props_in q → (l : ScreenLent) → push_at p l ≡ call_at (a-push q) l

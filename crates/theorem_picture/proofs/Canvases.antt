@@ -1,10 +1,6 @@
 -- A recording call at the words of a canvas is the rules' recording call, every word: from the reset on, the walk's steps keep words that are
 -- those of a whole canvas, and a refusal leaves either the words as they were or those of the reset. Assumes nothing.
-use Prim.Native.Nat.{ℕ}
-use mathlib.Core.Path.{◌≡◌, sym, ap, ◌∙◌}
-use mathlib.Core.Bool.{true}
-use mathlib.Core.List.{List}
-use Rattle.std.specs.Prelude.{Some}
+use Rattle.std.proofs.Common.{ℕ, ◌≡◌, sym, ap, ◌∙◌, true, List, Some}
 use Rattle.rules.specs.Answers.{Answer, answer}
 use Rattle.rules.specs.Boxes.{rows_of}
 use Rattle.rules.specs.Plans.{Step}

@@ -14,5 +14,4 @@ pub mod RowEnds
 pub mod Canvases
 pub mod Answered
 pub mod Refined
-pub mod Snapped
-pub mod Cases
+pub mod Bounded

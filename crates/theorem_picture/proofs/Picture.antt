@@ -1,10 +1,5 @@
 -- The picture, about the calls as they are. Assumes nothing.
-use mathlib.Core.Path.{◌≡◌, sym, ap, ◌∙◌}
-use mathlib.Core.Bool.{true}
-use mathlib.Core.List.{List, [], map}
-use Prim.Native.Nat.{ℕ, ◌<◌}
-use lib.Dec.{eqb}
-use lib.ListN.{length}
+use Rattle.std.proofs.Common.{◌≡◌, sym, ap, ◌∙◌, true, List, [], map, ℕ, ◌<◌, eqb, length}
 use Rattle.rules.specs.Answers.{Answer, Done}
 use Rattle.rules.specs.Painting.{Painted}
 use Rattle.rules.specs.Calls.{Canvas, begin-call, paint-call}

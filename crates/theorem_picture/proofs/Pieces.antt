@@ -1,14 +1,7 @@
 -- Pieces read from a list's words are those that were laid there. Assumes nothing.
-use mathlib.Core.Path.{◌≡◌, refl, sym, ap, ◌∙◌}
-use mathlib.Core.Bool.{Bool, true, false, ◌||◌, cond}
-use mathlib.Core.List.{List, [], ◌∷◌, ◌++◌}
-use Rattle.std.specs.Prelude.{Option, None, Some}
-use Prim.Native.Nat.{ℕ, suc}
-use native.Mathlib.Omega.{arith}
-use lib.Dec.{leb, ltb, eqb}
-use lib.ListN.{length, get_or, take, drop, length-take, get_or-eq_default}
-use lib.Seq.{get_or-take, take_at, drop_at}
-use borrow.Author.Tests.{ltb-true, ltb-false}
+use Rattle.std.proofs.Common.{◌≡◌, refl, sym, ap, ◌∙◌, Bool, true, false, ◌||◌, cond, List, [], ◌∷◌, ◌++◌, Option, None, Some, ℕ, suc, arith, leb, ltb, eqb, length, get_or, take, drop, length-take}
+use Rattle.std.proofs.Common.{get_or-take, take_at, drop_at, ltb-true, ltb-false}
+use lib.ListN.{get_or-eq_default}
 use Rattle.sizes.specs.Sizes.{piece-size}
 use Rattle.rules.specs.Lists.{join}
 use Rattle.rules.specs.Painting.{Piece}

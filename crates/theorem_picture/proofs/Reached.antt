@@ -1,11 +1,5 @@
 -- All reached words hold a whole canvas of the rules, built by the same steps. Assumes nothing.
-use mathlib.Core.Path.{◌≡◌, refl, sym, ap, ◌∙◌}
-use mathlib.Core.Bool.{◌&&◌, false}
-use mathlib.Core.List.{List, [], ◌∷◌, ◌++◌}
-use Prim.Native.Nat.{ℕ, ◌*◌, ◌/◌}
-use lib.Dec.{eqb}
-use lib.ListN.{length, replicate}
-use borrow.Author.Tests.{eqb-true}
+use Rattle.std.proofs.Common.{◌≡◌, refl, sym, ap, ◌∙◌, ◌&&◌, false, List, [], ◌∷◌, ◌++◌, ℕ, ◌*◌, ◌/◌, eqb, length, replicate, eqb-true}
 use Rattle.sizes.specs.Sizes.{piece-size}
 use Rattle.rules.specs.Lists.{join}
 use Rattle.rules.specs.Answers.{Answer, Done}
@@ -14,7 +8,7 @@ use Rattle.rules.specs.Boxes.{rows_of}
 use Rattle.rules.specs.Rows.{Row, fresh-row, row-ops}
 use Rattle.rules.specs.Plans.{Frame, buckets-across, Step, a-fill, a-push, a-pop, a-filter}
 use Rattle.rules.specs.Steps.{Screen, reset, call}
-use Rattle.rules.proofs.Words as words_of
+use Rattle.rules.specs.Words as words_of
 use Rattle.rules.specs.Walk.{good-room}
 use Rattle.rules.specs.Calls.{Canvas, fresh-canvas, step_call, begin-call, paint-call, write-call, blank}
 use Rattle.rules.proofs.All.{both}

@@ -1,13 +1,6 @@
 -- A recording call at the words: what is accepted is reached by the steps of its walk. Assumes nothing.
-use mathlib.Core.Path.{◌≡◌, refl, sym, ap, ◌∙◌}
-use mathlib.Core.Bool.{Bool, true, false, not, cond}
-use mathlib.Core.List.{List, [], ◌∷◌}
-use Rattle.std.specs.Prelude.{Option, None, Some}
-use Prim.Native.Nat.{ℕ, ◌≤◌, ◌<◌}
-use native.Mathlib.Omega.{arith}
-use lib.Dec.{eqb}
-use lib.ListN.{length}
-use borrow.Author.Tests.{eqb-true, eqb-false}
+use Rattle.std.proofs.Common.{◌≡◌, refl, sym, ap, ◌∙◌, Bool, true, false, not, cond, List, [], ◌∷◌, Option, None, Some, ℕ, ◌≤◌, ◌<◌, arith, eqb, length, eqb-true}
+use borrow.Author.Tests.{eqb-false}
 use Rattle.rules.specs.Lists.{is-empty}
 use Rattle.rules.specs.Answers.{Answer, answer, first_of, Done, BadRecord, BadOrder}
 use Rattle.rules.specs.Rows.{Row, fresh-row, row-ops}
@@ -16,7 +9,7 @@ use Rattle.rules.specs.Steps.{Screen, reset}
 use Rattle.rules.specs.Recording.{Recording, shape, sections, good-records, good-order}
 use Rattle.rules.specs.Setups.{Setup}
 use Rattle.rules.specs.Walk.{Place, frame-of, go_on, ◌then◌, walk-all}
-use Rattle.rules.proofs.Logged.{Logged, logged-call, walk-logged}
+use Rattle.rules.specs.Logged.{Logged, logged-call, walk-logged}
 use Rattle.rules.specs.Calls.{begin-call}
 use Rattle.screen.specs.Judging.{judged_reset}
 use Rattle.screen.specs.Tables.{lengths, ScreenLent, reset_to}

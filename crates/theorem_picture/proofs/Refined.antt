@@ -1,7 +1,6 @@
 -- The refinement's own results, as the statements say them. Assumes nothing.
 use Prim.{tt}
-use Prim.Native.Nat.{ℕ}
-use mathlib.Core.List.{List, [], ◌∷◌}
+use Rattle.std.proofs.Common.{ℕ, List, [], ◌∷◌}
 use Rattle.rules.specs.Rows.{Row}
 use Rattle.rules.specs.Plans.{Act, paint, opaque, touch, close, pop, Put}
 use Rattle.rules.specs.Steps.{Screen}

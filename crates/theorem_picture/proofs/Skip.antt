@@ -1,7 +1,5 @@
 -- Where `can_skip` says yes while a screen is painted, nothing of the span is hidden. Assumes nothing.
-use mathlib.Core.Path.{sym, ap, ◌∙◌}
-use mathlib.Core.Bool.{Bool}
-use mathlib.Core.List.{List}
+use Rattle.std.proofs.Common.{sym, ap, ◌∙◌, Bool, List}
 use Rattle.rules.specs.Answers.{Answer}
 use Rattle.rules.specs.Plans.{Frame, Step}
 use Rattle.rules.specs.Calls.{Canvas}

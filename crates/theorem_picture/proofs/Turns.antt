@@ -1,8 +1,5 @@
 -- Painting steps by turns at the words of a whole canvas are the rules' turns. Assumes nothing.
-use mathlib.Core.Path.{◌≡◌, refl, ap, ◌∙◌}
-use mathlib.Core.List.{List, [], ◌∷◌, map}
-use Prim.Native.Nat.{◌/◌}
-use lib.ListN.{length}
+use Rattle.std.proofs.Common.{◌≡◌, refl, ap, ◌∙◌, List, [], ◌∷◌, map, ◌/◌, length}
 use Rattle.sizes.specs.Sizes.{piece-size}
 use Rattle.rules.specs.Calls.{Canvas, paint-call}
 use Rattle.screen.specs.Tables.{ScreenLent}

@@ -10,10 +10,7 @@ pub mod Skip
 pub mod Recorded
 pub mod Rows
 pub mod Ends
-pub mod Snapped
 pub mod Alone
-pub mod Cases
-pub mod Samples
-pub mod Refusals
-pub mod Edges
-pub mod TwoPanels
+pub mod Kept
+pub mod Apart
+pub mod Bounded

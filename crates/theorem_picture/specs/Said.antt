@@ -1,6 +1,6 @@
 -- The building calls and the steps of the rules are the same: a done call, whatever words it was lent, is the step that its words say, and each
 -- step is such a call.
-use Rattle.std.specs.Prelude.{ℕ, ◌%◌, ◌≡◌, true, T, List, [], ◌∷◌, ◌++◌, length}
+use Rattle.std.specs.Prelude.{ℕ, ◌+◌, ◌*◌, ◌%◌, ◌≡◌, true, T, List, [], ◌∷◌, ◌++◌, length, get_or}
 use lib.Ieee.{binary32, fits}
 use Rattle.rules.specs.Answers.{Done}
 use Rattle.rules.specs.Inputs.{Props, good-props}
@@ -55,3 +55,9 @@ abbrev pub PushReached : Type 0
 PushReached =
     (f : Frame) (xs : List Step) (l : ScreenLent) (p : LayerProps) → T (fits binary32 p.opacity) → Reached f xs l → (push_at p l).number ≡ Done
     → Reached f (xs ++ (a-push (props_said p) ∷ [])) (push_at p l).value
+
+-- What no rule reads is free: lists of paints that differ in their shift words alone say the same step.
+abbrev pub ShiftsFree : Type 0
+ShiftsFree =
+    (ps qs : List ℕ) → length ps ≡ length qs → ((i : ℕ) → get_or ps (4 * i) 0 ≡ get_or qs (4 * i) 0)
+    → ((i : ℕ) → get_or ps (4 * i + 1) 0 ≡ get_or qs (4 * i + 1) 0) → (ss : List ℕ) (d : Draw) → fill-said ps ss d ≡ fill-said qs ss d

@@ -1,5 +1,5 @@
-// Theorems about the calls on a screen's words: they are the rules' calls, the picture, `can_skip`, recordings, snapping. What a function here
-// promises is a theorem, and it does nothing else.
+//! Theorems about the calls on a screen's words: they are the rules' calls, the picture, `can_skip`, recordings. What a function here
+//! promises is a theorem, and it does nothing else.
 #![tactic(auto)]
 
 ghost use Rattle.std.specs.Prelude.{List};
@@ -7,25 +7,22 @@ ghost use Rattle.rules.specs.Plans.{Frame, Step};
 ghost use Rattle.screen.specs.Tables.{ScreenLent};
 ghost use Rattle.rules_picture.specs.Turns as rules;
 ghost use Rattle.rules_picture.specs.Skip.{Skipped-visible};
-ghost use Rattle.rules_picture.specs.Panels.{Answered-alike, Built-alike, Panel-blind, Painted-alike, Told-alike};
 ghost use Rattle.theorem_picture.specs.Reached.{Reached};
 ghost use Rattle.theorem_picture.specs.Picture.{Picture};
 ghost use Rattle.theorem_picture.specs.Rows.{PictureByRows};
 ghost use Rattle.theorem_picture.specs.Skip.{Clear, FinishedFills, SkippedBuckets, SkippedRuns};
 ghost use Rattle.theorem_picture.specs.Alone.{AllShown, FinishedAlone, RowPicture, SaidFinished};
-ghost use Rattle.theorem_picture.specs.Cases.{KnownPoints, WorkedExample};
-ghost use Rattle.theorem_picture.specs.Refusals.{AnswersDue, LeftAlone};
-ghost use Rattle.theorem_picture.specs.Edges.{EdgesHold};
-ghost use Rattle.theorem_picture.specs.TwoPanels.{TwoPanels};
 ghost use Rattle.theorem_picture.specs.Answered.{CanvasAnswered, ReachedStands, StandsAnswered};
-ghost use Rattle.theorem_picture.specs.Said.{CallsSaid, PropertiesGood, PushReached, RefusedKept, StepReached};
+ghost use Rattle.theorem_picture.specs.Said.{CallsSaid, PropertiesGood, PushReached, RefusedKept, ShiftsFree, StepReached};
+ghost use Rattle.theorem_picture.specs.Kept.{BeginKept, ResetKept, RowKept, StepKept, UnsetKept, VisibleKept, WriteKept};
+ghost use Rattle.theorem_picture.specs.Apart.{RowApart, StepApart};
+ghost use Rattle.theorem_picture.specs.Bounded.{FrameKept, RowsFew};
 ghost use Rattle.theorem_picture.specs.Refined.{FilePlays, ResetRefined, RowsRefined, StepRefined, StepsAgree, TouchedOwn, WalksAgree, WholeKept};
 ghost use Rattle.theorem_picture.specs.Ends.{RowReached, RowsAreSteps, RowsFinish, RulesFinish, StepsEnough, WordsFinish};
 ghost use Rattle.theorem_picture.specs.Recorded.{RecordingAccepted, RecordingEarly, RecordingRefused, RecordingRules, RulesPicture, RulesPlayed};
-ghost use Rattle.theorem_picture.specs.Snapped.{ExactSnapped, FarRefused, ModesSame, SnappedSmallest};
 
-// Whatever calls were made, the words are those of a screen that the rules have built by the same steps, and every call there answers as the
-// rules do.
+/// Whatever calls were made, the words are those of a screen that the rules have built by the same steps, and every call there answers as the
+/// rules do.
 pub fn reached_words_are_the_rules_screen()
     ensures stands { ReachedStands }
     ensures answered { StandsAnswered }
@@ -34,9 +31,33 @@ pub fn reached_words_are_the_rules_screen()
     ensures steps { StepReached }
     ensures pushes { PushReached }
     ensures properties { PropertiesGood }
+    ensures shifts { ShiftsFree }
 {}
 
-// Below the calls: rows, steps, walks and files at the words of the rules' screens, and every call at the words of a canvas.
+/// What is refused alters nothing that it was lent: a reset and the calls of painting. Of the building calls the theorem above says so.
+pub fn refused_calls_change_nothing()
+    ensures resets { ResetKept }
+    ensures begins { BeginKept }
+    ensures steps { StepKept }
+    ensures rows { RowKept }
+    ensures unset_runs { UnsetKept }
+    ensures visible_runs { VisibleKept }
+    ensures writes { WriteKept }
+{}
+
+/// Painting a row leaves every other row as it was.
+pub fn rows_are_apart()
+    ensures steps { StepApart }
+    ensures rows { RowApart }
+{}
+
+/// Whatever its steps, a screen keeps its frame, and no row of it gives more than 65,536 pieces.
+pub fn built_screens_are_bounded()
+    ensures frame { FrameKept }
+    ensures pieces { RowsFew }
+{}
+
+/// Below the calls: rows, steps, walks and files at the words of the rules' screens, and every call at the words of a canvas.
 pub fn words_follow_the_rules()
     ensures rows { RowsRefined }
     ensures touched { TouchedOwn }
@@ -50,7 +71,7 @@ pub fn words_follow_the_rules()
     ensures whole { WholeKept }
 {}
 
-// What each tile receives: by the rules, by painting steps on the words, and with rows that are painted by one call among them.
+/// What each tile receives: by the rules, by painting steps on the words, and with rows that are painted by one call among them.
 pub fn each_tile_receives_draw_order()
     ensures by_rules { rules.Picture }
     ensures by_words { Picture }
@@ -61,7 +82,7 @@ pub fn each_tile_receives_draw_order()
     ensures unhidden { AllShown }
 {}
 
-// Every row can be painted to its end, and a row's call is painting steps.
+/// Every row can be painted to its end, and a row's call is painting steps.
 pub fn painting_ends()
     ensures by_rules { RulesFinish }
     ensures by_steps { StepsEnough }
@@ -71,7 +92,7 @@ pub fn painting_ends()
     ensures reached { RowReached }
 {}
 
-// Where `can_skip` says yes, nothing of the span is hidden.
+/// Where `can_skip` says yes, nothing of the span is hidden.
 pub fn skip_hides_nothing()
     ensures by_rules { Skipped-visible }
     ensures by_words { (f : Frame) (xs : List Step) (l : ScreenLent) → Reached f xs l → Clear l }
@@ -80,38 +101,11 @@ pub fn skip_hides_nothing()
     ensures fills { FinishedFills }
 {}
 
-// What a recording leaves, accepted or refused.
+/// What a recording leaves, accepted or refused.
 pub fn recordings_leave_their_steps()
     ensures by_rules { RulesPlayed }
     ensures picture { RulesPicture }
     ensures accepted { RecordingAccepted }
     ensures refused { RecordingRefused }
     ensures early { RecordingEarly }
-{}
-
-// Who draws decides nothing.
-pub fn panels_decide_nothing()
-    ensures answered { Answered-alike }
-    ensures built { Built-alike }
-    ensures left { Panel-blind }
-    ensures painted { Painted-alike }
-    ensures told { Told-alike }
-    ensures two { TwoPanels }
-{}
-
-// What the snapping mode makes of a box: the smallest box of tile edges around it.
-pub fn snapping_takes_the_smallest_box()
-    ensures smallest { SnappedSmallest }
-    ensures same { ModesSame }
-    ensures exact { ExactSnapped }
-    ensures far { FarRefused }
-{}
-
-// The rules at known points, their worked example, each answer and each bound on both sides of its edge.
-pub fn rules_hold_at_known_points()
-    ensures points { KnownPoints }
-    ensures worked { WorkedExample }
-    ensures answers { AnswersDue }
-    ensures left { LeftAlone }
-    ensures edges { EdgesHold }
 {}

@@ -1,11 +1,7 @@
 -- The call `why` at the words: an accepted recording is walked to its end by the rules, so that its story is told to its end, and the reason read
 -- off it is the rules' reason of the file's history. Assumes nothing.
-use Prim.Native.Nat.{ℕ, ◌/◌, ◌<◌}
-use mathlib.Core.Path.{◌≡◌, refl, sym, ap, ◌∙◌, subst}
-use mathlib.Core.Bool.{true, false}
-use mathlib.Core.List.{List, []}
-use Rattle.std.specs.Prelude.{Option, unwrap_or}
-use lib.ListN.{replicate}
+use Rattle.std.proofs.Common.{ℕ, ◌/◌, ◌<◌, ◌≡◌, refl, sym, ap, ◌∙◌, subst, true, false, List, [], Option, replicate}
+use Rattle.std.specs.Prelude.{unwrap_or}
 use borrow.Author.Tests.{lt-leb}
 use Rattle.sizes.specs.Sizes.{line-table}
 use Rattle.rules.specs.Answers.{Done}
@@ -17,7 +13,7 @@ use Rattle.rules.specs.Painting.{Entry}
 use Rattle.rules.specs.Recording.{Recording, recording}
 use Rattle.rules.specs.Setups.{Setup, frame}
 use Rattle.rules.specs.Walk.{Place, frame-of, walk-all}
-use Rattle.rules.proofs.Logged.{walk-logged}
+use Rattle.rules.specs.Logged.{walk-logged}
 use Rattle.rules_picture.specs.Built.{Built}
 use Rattle.rules_picture.specs.Recorded.{history, Readable, said}
 use Rattle.rules_picture.proofs.Walked.{all-walks}

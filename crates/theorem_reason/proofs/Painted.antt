@@ -1,6 +1,5 @@
 -- Reasons beside painting: what the picture has a tile receive is what its reasons say.
-use mathlib.Core.Path.{sym, subst}
-use mathlib.Core.List.{List}
+use Rattle.std.proofs.Common.{sym, subst, List}
 use Rattle.rules.specs.Painting.{Entry}
 use Rattle.rules_picture.proofs.Picture.{picture}
 use Rattle.theorem_reason.specs.Reasons.{Listed, Unlisted, Reason-painted}

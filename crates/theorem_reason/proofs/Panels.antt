@@ -1,11 +1,5 @@
 -- A reason's panels are those of the attributes: each account has the panel of the attribute that its step adds, and attributes are only added.
-use Prim.Native.Nat.{ℕ}
-use native.Mathlib.Omega.{arith}
-use mathlib.Core.Path.{◌≡◌, refl, sym, ◌∙◌, ap, subst}
-use mathlib.Core.Bool.{Bool, true, false, ◌&&◌}
-use Rattle.std.specs.Prelude.{Option, None, Some}
-use mathlib.Core.List.{List, [], ◌∷◌, ◌++◌, map, append_assoc, append-nil}
-use lib.ListN.{length, get_or}
+use Rattle.std.proofs.Common.{ℕ, arith, ◌≡◌, refl, sym, ◌∙◌, ap, subst, Bool, true, false, ◌&&◌, Option, None, Some, List, [], ◌∷◌, ◌++◌, map, append_assoc, append-nil, length, get_or}
 use lib.Seq.{get_or-append_seam}
 use Rattle.rules.specs.Lists.{keep, is-empty}
 use Rattle.rules.specs.Answers.{Done}

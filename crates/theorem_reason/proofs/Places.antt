@@ -1,13 +1,7 @@
 -- Where an attribute's account and its entries stand: at most one account is the asked attribute's, and it tells at most one entry.
-use Prim.Native.Nat.{ℕ, suc, ◌+◌, ◌≤◌, ◌<◌}
-use native.Mathlib.Nat.{add-zero}
-use native.Mathlib.Omega.{arith}
-use mathlib.Core.Path.{◌≡◌, refl, sym, ◌∙◌, ap, subst}
-use mathlib.Core.Bool.{Bool, true, false, ◌&&◌, ◌||◌, cond, beq}
-use Rattle.std.specs.Prelude.{Option, None, Some}
-use mathlib.Core.List.{List, [], ◌∷◌, ◌++◌, map}
-use lib.Dec.{leb, eqb}
-use borrow.Author.Tests.{eqb-true, eqb-false, eq-eqb, leb-true, leb-false}
+use Rattle.std.proofs.Common.{ℕ, suc, ◌+◌, ◌≤◌, ◌<◌, add-zero, arith, ◌≡◌, refl, sym, ◌∙◌, ap, subst, Bool, true, false, ◌&&◌, ◌||◌, cond, Option, None, Some, List, [], ◌∷◌, ◌++◌, map, leb, eqb, eqb-true, eq-eqb, leb-true, leb-false}
+use mathlib.Core.Bool.{beq}
+use borrow.Author.Tests.{eqb-false}
 use Rattle.rules.specs.Lists.{keep}
 use Rattle.rules.specs.Painting.{Entry}
 use Rattle.rules.specs.Plain.{Told, shown}

@@ -1,15 +1,7 @@
 -- The reason that is given is the first that holds, and no other is.
-use Prim.Native.Nat.{ℕ, zero, suc, ◌≤◌, ◌<◌}
-use native.Mathlib.Nat.{zero-add}
-use native.Mathlib.Omega.{arith}
-use mathlib.Core.Path.{◌≡◌, refl, sym, ◌∙◌, ap, subst}
+use Rattle.std.proofs.Common.{ℕ, zero, suc, ◌≤◌, ◌<◌, zero-add, arith, ◌≡◌, refl, sym, ◌∙◌, ap, subst, Bool, true, false, ◌&&◌, cond, Option, None, Some, List, [], ◌∷◌, map, length, ltb, ltb-true, ltb-false}
 use mathlib.Core.Logic.{◌↔◌}
-use mathlib.Core.Bool.{Bool, true, false, ◌&&◌, cond}
-use Rattle.std.specs.Prelude.{Option, None, Some, unwrap_or}
-use mathlib.Core.List.{List, [], ◌∷◌, map}
-use lib.ListN.{length}
-use lib.Dec.{ltb}
-use borrow.Author.Tests.{ltb-true, ltb-false}
+use Rattle.std.specs.Prelude.{unwrap_or}
 use Rattle.rules.specs.Lists.{is-empty, is_none}
 use Rattle.rules.specs.Spans.{covers, solid-tiles}
 use Rattle.rules.specs.Boxes.{Box, span_of, good_viewport}

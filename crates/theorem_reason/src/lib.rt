@@ -1,11 +1,11 @@
-// Theorems: the reason why a tile shows what it shows is the first that holds, and the only one. What a function here promises is a theorem, and
-// it does nothing else.
+//! Theorems: the reason why a tile shows what it shows is the first that holds, and the only one. What a function here promises is a theorem, and
+//! it does nothing else.
 #![tactic(auto)]
 
 ghost use Rattle.theorem_reason.specs.Reasons.{Told-exact, Reason-true, Unknown-exact, Shown-exact, Hidden-exact, Panel-true, Reason-painted};
 ghost use Rattle.theorem_reason.specs.Explained.{Explained-true, Explained-painted};
 
-// A reason is true of the recording's history, and of what the tile receives.
+/// A reason is true of the recording's history, and of what the tile receives.
 pub fn reasons_are_true()
     ensures told { Told-exact }
     ensures first { Reason-true }
@@ -16,7 +16,7 @@ pub fn reasons_are_true()
     ensures painted { Reason-painted }
 {}
 
-// So is what the call `why` answers.
+/// So is what the call `why` answers.
 pub fn answers_are_true()
     ensures history { Explained-true }
     ensures painted { Explained-painted }

@@ -1,13 +1,9 @@
 -- What `attrs_text` writes at the words of a screen of the rules is the text of the rules' own lines of its attributes and filter paints,
 -- where each layer attribute's opacity is a pattern of 32 bits. Assumes nothing.
-use mathlib.Core.Path.{◌≡◌, refl, sym, ap, ◌∙◌}
-use mathlib.Core.Bool.{Bool, true, false, cond}
-use mathlib.Core.List.{List, [], ◌∷◌, ◌++◌, map, append_assoc}
-use Prim.Native.Nat.{ℕ, zero, suc, ◌+◌, ◌-◌, ◌*◌, ◌≤◌, ◌<◌}
-use native.Mathlib.Omega.{arith}
-use lib.ListN.{length, get_or, take, drop, replicate, length-append, length-map, length-replicate, get_or-append}
-use lib.Seq.{take-suc, take-length, get_or-append-add, drop_at, drop-drop}
-use lib.IntN.{ℤ, pos}
+use Rattle.std.proofs.Common.{◌≡◌, refl, sym, ap, ◌∙◌, Bool, true, false, cond, List, [], ◌∷◌, ◌++◌, map, append_assoc, ℕ, zero, suc, ◌+◌, ◌-◌, ◌*◌, ◌≤◌, ◌<◌, arith, length, get_or, take, drop}
+use Rattle.std.proofs.Common.{replicate, length-append, take-suc, get_or-append-add, drop_at, drop-drop, ℤ, pos}
+use lib.ListN.{length-map, length-replicate, get_or-append}
+use lib.Seq.{take-length}
 use lib.Ieee.{Float, nan, is_nan, ne, binary32, of_bits, to_bits}
 use lib.Ieee.Bits.{nan_bits_is, to_bits-of_bits}
 use lib.Ieee.Compare.{differs_from_itself}

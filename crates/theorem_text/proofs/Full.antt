@@ -1,15 +1,7 @@
 -- A row that waits is painted to its end by one call of `paint_row` into a list of the programs' length: it has at most 64 buckets and 64 commands, and
 -- gives at most one piece for each bucket and 32 for each command. So `row_text` writes the rules' text of it wherever that fits. Assumes nothing.
-use mathlib.Core.Path.{◌≡◌, refl, ap, ◌∙◌}
-use mathlib.Core.Bool.{Bool, true, false, cond}
-use mathlib.Core.List.{List, [], ◌∷◌}
-use Rattle.std.specs.Prelude.{Option, None, Some}
-use Prim.Native.Nat.{ℕ, zero, suc, ◌+◌, ◌*◌, ◌/◌, ◌≤◌}
-use native.Mathlib.Omega.{arith}
-use lib.Dec.{ltb, eqb}
-use lib.ListN.{length, get_or, length-append, length-drop, length-replicate}
-use lib.Seq.{length-take-le}
-use borrow.Author.Tests.{le-ltb, ltb-false}
+use Rattle.std.proofs.Common.{◌≡◌, refl, ap, ◌∙◌, Bool, true, false, cond, List, [], ◌∷◌, Option, None, Some, ℕ, zero, suc, ◌+◌, ◌*◌, ◌/◌, ◌≤◌, arith, ltb, eqb, length, get_or, length-append, length-drop, length-take-le, le-ltb, ltb-false}
+use lib.ListN.{length-replicate}
 use Rattle.sizes.specs.Sizes.{piece-size}
 use Rattle.rules.specs.Answers.{Done}
 use Rattle.rules.specs.Rows.{Row, fresh-row}

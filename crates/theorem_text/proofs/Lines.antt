@@ -1,14 +1,5 @@
 -- How long the lines of attributes and of pieces are at most. Assumes nothing.
-use mathlib.Core.Path.{◌≡◌}
-use mathlib.Core.Bool.{Bool, true, false, ◌||◌}
-use mathlib.Core.List.{List, [], ◌∷◌, ◌++◌, map}
-use Rattle.std.specs.Prelude.{Option}
-use Prim.Native.Nat.{ℕ, suc, ◌+◌, ◌*◌, ◌≤◌}
-use native.Mathlib.Omega.{arith}
-use lib.Dec.{ltb}
-use lib.ListN.{length, length-append}
-use lib.IntN.{ℤ, pos, negsuc}
-use borrow.Author.Tests.{ltb-false}
+use Rattle.std.proofs.Common.{◌≡◌, Bool, true, false, ◌||◌, List, [], ◌∷◌, ◌++◌, map, Option, ℕ, suc, ◌+◌, ◌*◌, ◌≤◌, arith, ltb, length, length-append, ℤ, pos, negsuc, ltb-false}
 use Rattle.sizes.specs.Sizes.{most-attrs, most-filters}
 use Rattle.rules.specs.Attributes.{PaintAttr, LayerAttr, FilterPaint, Attrs, attrs-full}
 use Rattle.rules.specs.Painting.{Piece}

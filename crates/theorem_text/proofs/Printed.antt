@@ -1,9 +1,5 @@
 -- The printed texts, as the statements say them. Assumes nothing.
-use mathlib.Core.Path.{ap}
-use mathlib.Core.List.{List, [], ◌∷◌}
-use Prim.Native.Nat.{ℕ, zero, suc, ◌<◌}
-use native.Mathlib.Omega.{arith}
-use lib.ListN.{get_or}
+use Rattle.std.proofs.Common.{ap, List, [], ◌∷◌, ℕ, zero, suc, ◌<◌, arith, get_or}
 use Rattle.rules.specs.Attributes.{LayerAttr, no-layer}
 use Rattle.rules.specs.Rows.{Row}
 use Rattle.rules.specs.Steps.{Screen}
@@ -13,8 +9,9 @@ use Rattle.refine_steps.proofs.Refined.{Refines}
 use Rattle.refine_paint.specs.Fair.{FairRows}
 use Rattle.refine_paint.specs.Canvases.{depth-of, painting-of}
 use Rattle.refine_text.proofs.Printed.{lines-held, listed-held}
-use Rattle.refine_text.proofs.Files.{file-printed, file-few, words-leave}
-use Rattle.theorem_text.specs.Printed.{Listed, HeldListed, ReachedListed, FilePrinted, WordsLeave, WordsSmall, PlayEnded, HeldBegun, RowWhole}
+use Rattle.rules.specs.Lines.{rowlist-words}
+use Rattle.refine_text.proofs.Files.{words-print, words-leave, file-printed, file-few}
+use Rattle.theorem_text.specs.Printed.{Listed, HeldListed, ReachedListed, WordsPrinted, FilePrinted, WordsLeave, WordsSmall, PlayEnded, HeldBegun, RowWhole}
 use Rattle.theorem_text.proofs.Small.{Word, words_small}
 use Rattle.theorem_text.proofs.Played.{play-ended}
 use Rattle.theorem_text.proofs.Begun.{begin-accepted, all-wait}
@@ -33,25 +30,37 @@ reached-listed f xs l s =
     (record { sound = s.whole.sound; holds = record { begun = k.begun; depth = depth-of k.painters; painting = painting-of k.painters; same = s.same } })
     s.whole.fair
 
+pub words-text : WordsPrinted
+unfolding rowlist-words
+words-text q u ws bs room =
+    let e = words-print q u ws bs room in
+    record {
+      number = e.number;
+      count = ap (λ (x : ℕ × List ℕ). x.0) e.shows;
+      bytes = ap (λ (x : ℕ × List ℕ). x.1) e.shows;
+      few = e.few;
+    }
+
 pub file-text : FilePrinted
-file-text q u fs t roomy fixed bs room =
-    let e = file-printed q u fs t roomy fixed bs room in
+file-text q u fs bs room =
+    let e = file-printed q u fs bs room in
     record {
       count = ap (λ (x : ℕ × List ℕ). x.0) e;
       bytes = ap (λ (x : ℕ × List ℕ). x.1) e;
-      few = file-few q u fs t roomy fixed bs room;
+      few = file-few q u fs bs room;
     }
 
 pub words-left : WordsLeave
-words-left q u ws t roomy fixed bs room =
-    let a = words-leave q u ws t roomy fixed bs room in
+words-left q u ws z e t h bs room =
+    let a = words-leave q u ws bs room e t h in
     record {
-      number = a.number;
-      left = λ e.
-          let l = a.left e in
+      number = a.prints.number;
+      left = λ i.
+          let l = a.left i in
           record {
             viewport = l.viewport;
             width = l.width;
+            size = l.size;
             few = l.few;
             fair = l.kept.fair;
             frame = l.kept.frame;

@@ -1,12 +1,5 @@
 -- The words of a file are below 2^32, since bytes are below 256, and so is every opacity of the screen that its walk leaves. Assumes nothing.
-use mathlib.Core.Path.{◌≡◌, refl}
-use mathlib.Core.Bool.{Bool, true, false, ◌&&◌, not, cond}
-use mathlib.Core.List.{List, [], ◌∷◌, map}
-use Rattle.std.specs.Prelude.{Option, None, Some, option_map}
-use Prim.Native.Nat.{ℕ, zero, suc, ◌+◌, ◌*◌, ◌/◌, ◌<◌}
-use native.Mathlib.Omega.{arith}
-use lib.Dec.{leb, eqb}
-use lib.ListN.{length, get_or, drop}
+use Rattle.std.proofs.Common.{◌≡◌, refl, Bool, true, false, ◌&&◌, not, cond, List, [], ◌∷◌, map, Option, None, Some, option_map, ℕ, zero, suc, ◌+◌, ◌*◌, ◌/◌, ◌<◌, arith, leb, eqb, length, get_or, drop}
 use Rattle.rules.specs.Lists.{is-empty}
 use Rattle.rules.specs.Answers.{answer, Done, BadRecord}
 use Rattle.rules.specs.Boxes.{Box}

@@ -1,5 +1,5 @@
 -- The text of a recording's rows and of its painted rows is the rules' text of them.
-use Rattle.std.specs.Prelude.{ℕ, suc, ◌*◌, ◌≤◌, ◌<◌, ◌≡◌, true, Bool, List, [], ◌∷◌, ◌++◌, length, get_or, drop}
+use Rattle.std.specs.Prelude.{Ok, ℕ, suc, ◌*◌, ◌≤◌, ◌<◌, ◌≡◌, true, Bool, List, [], ◌∷◌, ◌++◌, length, get_or, drop}
 use Rattle.sizes.specs.declared.width.Width.{Width}
 use Rattle.sizes.specs.Widths.{bucket-tiles}
 use Rattle.rules.specs.Answers.{Answer, Done}
@@ -12,10 +12,9 @@ use Rattle.rules.specs.Setups.{Setup}
 use Rattle.rules.specs.Walk.{Place, play}
 use Rattle.rules.specs.Painting.{paint-row}
 use Rattle.rules.specs.Lines as rules
-use Rattle.rules.specs.Lines.{rowlist-screen, rowlist}
+use Rattle.rules.specs.Lines.{rowlist-screen, rowlist-words, rowlist}
 use Rattle.row.specs.Words.{words}
-use Rattle.screen.specs.Judging.{good-fixed}
-use Rattle.screen.specs.Tables.{Tables, lengths, ScreenLent}
+use Rattle.screen.specs.Tables.{Tables, ScreenLent}
 use Rattle.file.specs.Words.{words-in}
 use Rattle.paint.specs.Painting as paint
 use Rattle.paint.specs.Stepping.{attributes}
@@ -24,7 +23,8 @@ use Rattle.text.specs.Details.{Detail, attr-lines, painted-row, painted-lines, d
 use Rattle.text.specs.Bytes.{details-text}
 use Rattle.text.specs.Pieces.{piece-list}
 use Rattle.text.specs.Dumped.{RowOut, with-text, row-dumped, tables, attrs-text}
-use Rattle.text.specs.Files.{FileOut, size, over, words-text, bytes-text, Usual, is-roomy}
+use Rattle.text.specs.declared.recording.Size.{Size}
+use Rattle.text.specs.Files.{Showed, FileOut, size, size_of, sized-text, recording-text, bytes-text, Usual, Exact}
 use Rattle.refine_steps.specs.Sound.{Sound}
 use Rattle.refine_steps.specs.Lent.{lent_of}
 use Rattle.refine_paint.specs.Fair.{FairRows}
@@ -47,37 +47,52 @@ HeldListed = (s : Screen Row) (l : ScreenLent) → Refined s l → FairRows s �
 abbrev pub ReachedListed : Type 0
 ReachedListed = (f : Frame) (xs : List Step) (l : ScreenLent) (s : Stands f xs l) → Listed s.canvas.screen l
 
+-- What is printed of a file's words is the rules' answer to them: its number, and the text of its lines, which fits.
+pub record WordsListed (q : Setup) (ws : List ℕ) (bs : List ℕ) (x : Showed) : Type 0 where
+  pub number : x.text.number ≡ (rowlist-screen q ws).number
+  pub count : x.text.bytes ≡ length (text_of (rowlist-words q ws))
+  pub bytes : x.bytes ≡ text_of (rowlist-words q ws) ++ drop (length (text_of (rowlist-words q ws))) bs
+  pub few : length (text_of (rowlist-words q ws)) ≤ 264256
+
+abbrev pub WordsPrinted : Type 0
+WordsPrinted = (q : Setup) → Usual q → (ws bs : List ℕ) → 264256 ≤ length bs → WordsListed q ws bs (sized-text (size_of ws q) ws q bs)
+
 -- What `rowlist` writes of a file's bytes into its buffers is the text of the rules' own `rowlist` of these bytes, refusals too; it fits.
-pub record FileListed (q : Setup) (fs : List ℕ) (t : Tables) (bs : List ℕ) : Type 0 where
-  pub count : (bytes-text fs q t bs).showed.text.bytes ≡ length (text_of (rowlist q fs))
-  pub bytes : (bytes-text fs q t bs).showed.bytes ≡ text_of (rowlist q fs) ++ drop (length (text_of (rowlist q fs))) bs
+pub record FileListed (q : Setup) (fs : List ℕ) (bs : List ℕ) : Type 0 where
+  pub count : (bytes-text fs q bs).text.bytes ≡ length (text_of (rowlist q fs))
+  pub bytes : (bytes-text fs q bs).bytes ≡ text_of (rowlist q fs) ++ drop (length (text_of (rowlist q fs))) bs
   pub few : length (text_of (rowlist q fs)) ≤ 264256
 
 abbrev pub FilePrinted : Type 0
-FilePrinted =
-    (q : Setup) → Usual q → (fs : List ℕ) (t : Tables) → is-roomy t ≡ true → good-fixed (lengths t) ≡ true
-    → (bs : List ℕ) → 264256 ≤ length bs → FileListed q fs t bs
+FilePrinted = (q : Setup) → Usual q → (fs bs : List ℕ) → 264256 ≤ length bs → FileListed q fs bs
 
--- An accepted file leaves words that hold the rules' screen of it; they stand first in the tables.
-pub record Left (s : Screen Row) (t : Tables) (o : FileOut) : Type 0 where
+-- Tables of one size print the same, in any setup: no text tells what they held before.
+abbrev pub TablesUntold : Type 0
+TablesUntold =
+    (z : Size) (t u : Tables) → Exact z t → Exact z u → (ws : List ℕ) (q : Setup) (bs : List ℕ)
+    → (recording-text ws q t bs).showed ≡ (recording-text ws q u bs).showed
+
+-- A file's words in tables of the size of its screen: an accepted one leaves words that hold the rules' screen of it.
+pub record Left (s : Screen Row) (z : Size) (o : FileOut) : Type 0 where
   pub viewport : Box
   pub width : Width
+  pub size : z ≡ size (rows_of viewport) (buckets-of (bucket-tiles width) viewport)
   pub few : rows_of viewport ≤ 32
   pub fair : FairRows s
   pub frame : s.state.frame ≡ record { viewport = viewport; c = 64; d = 64; width = width }
   pub words : ScreenLent
   pub refined : Refined s words
   pub screen : o.showed.text.screen ≡ words.screen
-  pub tables : o.tables ≡ over (size (rows_of viewport) (buckets-of (bucket-tiles width) viewport)) t words.tables
+  pub tables : o.tables ≡ words.tables
 
-pub record Leaves (a : Answer (Screen Row)) (t : Tables) (o : FileOut) : Type 0 where
+pub record Leaves (a : Answer (Screen Row)) (z : Size) (o : FileOut) : Type 0 where
   pub number : o.showed.text.number ≡ a.number
-  pub left : a.number ≡ Done → Left a.value t o
+  pub left : a.number ≡ Done → Left a.value z o
 
 abbrev pub WordsLeave : Type 0
 WordsLeave =
-    (q : Setup) → Usual q → (ws : List ℕ) (t : Tables) → is-roomy t ≡ true → good-fixed (lengths t) ≡ true
-    → (bs : List ℕ) → 264256 ≤ length bs → Leaves (rowlist-screen q ws) t (words-text ws q t bs)
+    (q : Setup) → Usual q → (ws : List ℕ) (z : Size) → Ok z ≡ size_of ws q → (t : Tables) → Exact z t
+    → (bs : List ℕ) → 264256 ≤ length bs → Leaves (rowlist-screen q ws) z (recording-text ws q t bs)
 
 -- The words of bytes are words, ..
 abbrev pub WordsSmall : Type 0

@@ -1,8 +1,5 @@
 -- What is known of a file that the recording call accepted: its frame's viewport is good, and so is every record.
-use Prim.Native.Nat.{ℕ}
-use mathlib.Core.Path.{◌≡◌, sym, ap, ◌∙◌}
-use mathlib.Core.Bool.{true}
-use mathlib.Core.List.{List}
+use Rattle.std.proofs.Common.{ℕ, ◌≡◌, sym, ap, ◌∙◌, true, List}
 use Rattle.rules.specs.Answers.{Answer, Done}
 use Rattle.rules.specs.Boxes.{good_viewport}
 use Rattle.rules.specs.Setups.{Setup, frame}

@@ -1,14 +1,6 @@
 -- What each step tells of a tile: refused by its number, or done, with what is known afterwards. c is the clip box in force, n layers are open.
-use mathlib.Core.Path.{◌≡◌, refl, sym, ◌∙◌}
-use mathlib.Core.Bool.{Bool, true, false, ◌&&◌, ◌||◌, not, cond}
-use mathlib.Core.List.{List, ◌∷◌}
-use Rattle.std.specs.Prelude.{Option, None, Some}
-use Prim.Native.Nat.{ℕ, ◌+◌, ◌-◌, ◌*◌, ◌/◌, ◌≤◌, ◌<◌, min}
-use native.Mathlib.Numerals.{add-one}
-use native.Mathlib.Omega.{arith}
-use lib.Dec.{ltb}
-use lib.ListN.{length}
-use borrow.Author.Tests.{lt-ltb, le-ltb, le-leb, lt-leb, ltb-true, ltb-false}
+use Rattle.std.proofs.Common.{◌≡◌, refl, sym, ◌∙◌, Bool, true, false, ◌&&◌, ◌||◌, not, cond, List, ◌∷◌, Option, None, Some, ℕ, ◌+◌, ◌-◌, ◌*◌, ◌/◌, ◌≤◌, ◌<◌, min, add-one, arith, ltb, length, lt-ltb, le-ltb, le-leb, ltb-true, ltb-false}
+use borrow.Author.Tests.{lt-leb}
 use Rattle.sizes.specs.Sizes.{line-size}
 use Rattle.rules.specs.Lists.{is-empty, is_none}
 use Rattle.rules.specs.Answers.{answer}
@@ -41,15 +33,6 @@ layer-small v c (Some x) s g =
     record {
       left = omega (arith, b.across, b.right, s.left);
       top = omega (arith, b.down, b.bottom, s.top);
-      right = omega (arith, s.right);
-      bottom = omega (arith, s.bottom);
-    }
-
-pub meet-small : (v c d : Box) → Small c → Small d → Small (meet (to-local v d) c)
-meet-small v c d s g =
-    record {
-      left = omega (arith, g.left, s.left);
-      top = omega (arith, g.top, s.top);
       right = omega (arith, s.right);
       bottom = omega (arith, s.bottom);
     }

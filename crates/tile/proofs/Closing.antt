@@ -1,17 +1,11 @@
 -- A clip's segments, as the code reads them when its layer closes.
-use mathlib.Core.Path.{◌≡◌, ◌∙◌}
-use mathlib.Core.Bool.{true}
-use mathlib.Core.List.{List}
-use Prim.Native.Nat.{ℕ, ◌-◌, ◌*◌, ◌≤◌}
-use native.Mathlib.Omega.{arith}
-use lib.ListN.{length}
+use Rattle.std.proofs.Common.{◌≡◌, ◌∙◌, true, List, ℕ, ◌-◌, ◌*◌, ◌≤◌, arith, length, Option, Some}
 use Rattle.rules.specs.Lists.{every}
 use Rattle.rules.specs.Boxes.{Box}
 use Rattle.rules.specs.Segments.{good-segment}
 use Rattle.segments.specs.Segs.{segs, segs-of}
 use Rattle.segments.proofs.Laws.{segs-slice}
 use Rattle.screen.specs.declared.layers.Clip.{Clip}
-use Rattle.std.specs.Prelude.{Option, Some}
 use Rattle.screen.specs.Layers.{clip-of}
 use Rattle.tile.specs.Telling.{Look, no-look, look, closing-look}
 use Rattle.tile.specs.Places.{ClipReady}

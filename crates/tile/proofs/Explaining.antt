@@ -1,12 +1,6 @@
 -- The public call from the recording's answer on: each way that the code takes gives what the definition gives.
-use Prim.Native.Nat.{ℕ, ◌+◌}
-use mathlib.Core.Path.{◌≡◌, refl, sym, ap, ◌∙◌}
-use mathlib.Core.Bool.{true, false}
-use mathlib.Core.List.{List}
-use Rattle.std.specs.Prelude.{None, Ok, Err}
+use Rattle.std.proofs.Common.{ℕ, ◌+◌, ◌≡◌, refl, sym, ap, ◌∙◌, true, false, List, None, Ok, Err, replicate, ne_eqb}
 use Rattle.sizes.specs.declared.answers.Refusal.{Refusal}
-use lib.ListN.{replicate}
-use borrow.Author.Tests.{ne_eqb}
 use Rattle.sizes.specs.Sizes.{line-table}
 use Rattle.sizes.specs.Widths.{bucket-tiles}
 use Rattle.rules.specs.Answers.{Answer, answer, Done, BadForm, BadRun}

@@ -1,12 +1,5 @@
 -- A layer's steps, one after the other.
-use Prim.Native.Nat.{ℕ, zero, suc, ◌-◌, ◌≤◌, ◌+◌, ◌*◌}
-use native.Mathlib.Omega.{arith}
-use mathlib.Core.Path.{◌≡◌, refl, ap, ◌∙◌}
-use mathlib.Core.Bool.{true, false, not}
-use mathlib.Core.List.{List, []}
-use lib.ListN.{length, get_or}
-use lib.Dec.{eqb}
-use borrow.Author.Tests.{eq-eqb, ne_eqb}
+use Rattle.std.proofs.Common.{ℕ, zero, suc, ◌-◌, ◌≤◌, ◌+◌, ◌*◌, arith, ◌≡◌, refl, ap, ◌∙◌, true, false, not, List, [], length, get_or, eqb, eq-eqb, ne_eqb}
 use Rattle.rules.specs.Answers.{Answer, answer}
 use Rattle.rules.specs.Inputs.{needs-buffer}
 use Rattle.rules.specs.Recording.{Recording, LayerRec, layer-rec}

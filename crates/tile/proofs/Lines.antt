@@ -1,11 +1,6 @@
 -- One more line read makes the list at most one longer. Then the lines of a run: those
 -- that are left give what all of them give.
-use Prim.Native.Nat.{ℕ, suc, ◌+◌, ◌-◌, ◌≤◌, ◌<◌}
-use native.Mathlib.Omega.{arith}
-use mathlib.Core.Path.{◌≡◌}
-use mathlib.Core.Bool.{Bool, true, false, ◌&&◌, not, cond}
-use mathlib.Core.List.{List}
-use lib.Dec.{eqb}
+use Rattle.std.proofs.Common.{ℕ, suc, ◌+◌, ◌-◌, ◌≤◌, ◌<◌, arith, ◌≡◌, Bool, true, false, ◌&&◌, not, cond, List, eqb}
 use Rattle.rules_reason.specs.Reasons.{Asked}
 use Rattle.tile.specs.Reading.{Mark, mark_at, marks, Search, is-asked, is-told, anew, renewed, found-now, met, one_more, counted, read, read_all}
 

@@ -1,11 +1,5 @@
 -- What a list of segments is to one tile: a stretch, one more segment, and the loop over them.
-use mathlib.Core.Path.{◌≡◌, refl, ap}
-use mathlib.Core.Bool.{true}
-use mathlib.Core.List.{List, [], ◌∷◌}
-use Rattle.std.specs.Prelude.{Option, None, Some}
-use Prim.Native.Nat.{ℕ, ◌+◌, ◌-◌, ◌/◌, ◌≤◌, ◌<◌}
-use native.Mathlib.Omega.{arith}
-use borrow.Author.Tests.{eq-eqb}
+use Rattle.std.proofs.Common.{◌≡◌, ap, true, List, [], ◌∷◌, Option, None, Some, ℕ, ◌+◌, ◌-◌, ◌/◌, ◌≤◌, ◌<◌, arith, eq-eqb}
 use Rattle.rules.specs.Lists.{every}
 use Rattle.rules.specs.Boxes.{Box, scene-tiles}
 use Rattle.rules.specs.Spans.{Span}
@@ -34,9 +28,6 @@ pub record Looking (w : ℕ) (v c : Box) (row tile : ℕ) (ws : List ℕ) (a n :
   pub before : i ≤ n
   pub good : every good-segment (segs ws i (n - i)) ≡ true
   pub rest : look w v row tile c k (segs ws i (n - i)) ≡ look w v row tile c no-look (segs ws a (n - a))
-
-pub begun : (w : ℕ) (v c : Box) (row tile : ℕ) (ws : List ℕ) (a n : ℕ) → a ≤ n → every good-segment (segs ws a (n - a)) ≡ true → Looking w v c row tile ws a n no-look a
-begun w v c row tile ws a n h g = record { before = h; good = g; rest = refl }
 
 module _ {w : ℕ} {v c : Box} {row tile : ℕ} {ws : List ℕ} {a n : ℕ} {k : Look} {i : ℕ} (l : Looking w v c row tile ws a n k i) where
   pub ended : n ≤ i → k ≡ look w v row tile c no-look (segs ws a (n - a))

@@ -1,13 +1,6 @@
 -- What a judged file's records are to the tile's steps: a draw's paint and segments, a layer's clip, a filter's dest box.
-use Prim.Native.Nat.{ℕ, zero, suc, ◌+◌, ◌-◌, ◌*◌, ◌/◌, ◌≤◌, ◌<◌}
-use native.Mathlib.Omega.{arith}
-use mathlib.Core.Path.{◌≡◌, refl, ap, ◌∙◌}
-use mathlib.Core.Bool.{Bool, true, false, ◌&&◌, cond}
-use mathlib.Core.List.{List, [], ◌∷◌}
-use Rattle.std.specs.Prelude.{Option, None, Some}
-use lib.ListN.{length, take, drop, length-take, length-drop}
-use lib.Dec.{leb, ltb, eqb}
-use borrow.Author.Tests.{leb-true, ltb-true, eq-eqb}
+use Rattle.std.proofs.Common.{ℕ, zero, suc, ◌+◌, ◌-◌, ◌*◌, ◌/◌, ◌≤◌, ◌<◌, arith, ◌≡◌, refl, ap, ◌∙◌, Bool, true, false, ◌&&◌, cond, List, [], ◌∷◌, Option, None, Some, length, take, drop, length-take}
+use Rattle.std.proofs.Common.{length-drop, leb, ltb, eqb, leb-true, ltb-true, eq-eqb}
 use Rattle.rules.specs.Lists.{every, slice}
 use Rattle.rules.specs.Boxes.{Box, by_4, bounded, good-box, good-dest}
 use Rattle.rules.specs.Blends.{good-blend}

@@ -1,12 +1,5 @@
 -- A tile of a good viewport's screen, and what its story goes by before the first step.
-use Prim.Native.Nat.{ℕ, ◌+◌, ◌/◌, ◌≤◌}
-use native.Mathlib.Omega.{arith}
-use mathlib.Core.Path.{◌≡◌, refl, sym}
-use mathlib.Core.Bool.{Bool, true, false, ◌||◌}
-use mathlib.Core.List.{List, []}
-use lib.ListN.{length, get_or}
-use lib.Dec.{leb}
-use borrow.Author.Tests.{leb-false}
+use Rattle.std.proofs.Common.{ℕ, ◌+◌, ◌/◌, ◌≤◌, arith, ◌≡◌, refl, sym, Bool, true, false, ◌||◌, List, [], length, get_or, leb, leb-false}
 use Rattle.sizes.specs.Sizes.{most-layers, line-table}
 use Rattle.sizes.specs.declared.width.Width.{Width}
 use Rattle.sizes.specs.Widths.{bucket-tiles}

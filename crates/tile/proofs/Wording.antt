@@ -1,10 +1,5 @@
 -- The words of a line, as they are stored one after the other.
-use mathlib.Core.Path.{◌≡◌, ap, ◌∙◌}
-use mathlib.Core.Bool.{cond}
-use mathlib.Core.List.{List, [], ◌∷◌}
-use Rattle.std.specs.Prelude.{Option, None, Some}
-use Prim.Native.Nat.{ℕ, ◌+◌, ◌≤◌}
-use lib.ListN.{length, set}
+use Rattle.std.proofs.Common.{◌≡◌, ap, ◌∙◌, cond, List, [], ◌∷◌, Option, None, Some, ℕ, ◌+◌, ◌≤◌, length, set}
 use Rattle.sizes.specs.Sizes.{line-size}
 use Rattle.cmd.specs.Attrs.{words-at}
 use Rattle.cmd.proofs.Tables.{stores, stored}

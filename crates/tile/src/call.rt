@@ -1,4 +1,4 @@
-// Why a tile of a recording shows what it shows. `why` is a public call; the others are parts of it, and two of them of a program that asks of many attributes.
+//! Why a tile of a recording shows what it shows. `why` is a public call; the others are parts of it, and two of them of a program that asks of many attributes.
 ghost use Rattle.std.specs.Prelude.{◌≡◌, true, false, length};
 ghost use Rattle.sizes.specs.Sizes.{line-table};
 ghost use Rattle.sizes.specs.Widths.{bucket-tiles};
@@ -31,15 +31,15 @@ use sizes::width::Width;
 use sizes::{LINE_TABLE, MOST_LAYERS};
 use walk::{Recording, bucket_recording};
 
-// Whether the screen of this viewport does not have the row, or the tile in a row (answer 12).
+/// Whether the screen of this viewport does not have the row, or the tile in a row (answer 12).
 pub fn is_off_screen(viewport: Rect, row: u32, tile: u32) -> bool
     ensures { result ≡ off-screen (box_of viewport) row tile }
 {
     viewport.height() / 4 <= row || viewport.width() / 4 <= tile
 }
 
-// The story of a tile of the screen, from the root of a recording that was judged, told into the lines; it gives what was counted. Deep, Ids or FullAttrs, as a
-// step of the walk; the story has no rows, so that none is full.
+/// The story of a tile of the screen, from the root of a recording that was judged, told into the lines; it gives what was counted. Deep, Ids or FullAttrs, as a
+/// step of the walk; the story has no rows, so that none is full.
 pub fn tell_tile(
     file: &Recording<'_>,
     viewport: Rect,
@@ -123,8 +123,8 @@ fn explain(
     reason_at(&file, viewport, setup.width, row, tile, asked)
 }
 
-// A recording is bucketed, and answers for one attribute at one tile. The recording call's own refusal comes first, then BadRun, 12, for a row or a tile off
-// the screen; the screen and the words are those that the recording call leaves, in each case.
+/// A recording is bucketed, and answers for one attribute at one tile. The recording call's own refusal comes first, then BadRun, 12, for a row or a tile off
+/// the screen; the screen and the words are those that the recording call leaves, in each case.
 pub fn why(
     screen: &mut Screen,
     file: &[u32],

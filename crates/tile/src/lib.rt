@@ -1,5 +1,5 @@
-// One tile in plain draw order: what each step of a recording says of it, and why it shows what it shows (docs/RULES.md, Why a tile shows what it shows). `why`
-// is a public call; the others are parts of it. `tell_tile`, `is_off_screen` and `reason_of` are also those of a program that asks of many attributes at once.
+//! One tile in plain draw order: what each step of a recording says of it, and why it shows what it shows (docs/RULES.md, Why a tile shows what it shows). `why`
+//! is a public call; the others are parts of it. `tell_tile`, `is_off_screen` and `reason_of` are also those of a program that asks of many attributes at once.
 #![tactic(auto)]
 
 pub mod call;

@@ -1,4 +1,4 @@
-// Why a tile shows what it shows: a reason, read off the lines that were told of the tile (docs/RULES.md, Why a tile shows what it shows). Parts.
+//! Why a tile shows what it shows: a reason, read off the lines that were told of the tile (docs/RULES.md, Why a tile shows what it shows). Parts.
 ghost use Rattle.std.specs.Prelude.{◌≡◌, ◌+◌, ◌*◌, ◌≤◌, ◌<◌, length};
 ghost use Rattle.sizes.specs.Sizes.{most-attrs, line-size, line-table};
 ghost use Rattle.tile.specs.Reading.{mark_at, is-asked, read, reason-by, reason-read};
@@ -7,7 +7,7 @@ ghost use Rattle.tile.specs.Reasons.{reason-of, asked_of, mark_of, search-of};
 use crate::steps::lines::{CUT_AWAY, HIDES, LINE_PANEL, NO_SEGMENT, TOLD, UNTOUCHED};
 use sizes::LINE;
 
-// `attribute` is the paint attribute of the newest eligible solid segment over the tile's whole bucket, `hider_panel` its panel; `panel` the asked attribute's.
+/// `attribute` is the paint attribute of the newest eligible solid segment over the tile's whole bucket, `hider_panel` its panel; `panel` the asked attribute's.
 #[derive(Clone, Copy)]
 pub struct Hidden {
     pub attribute: u32,
@@ -15,14 +15,14 @@ pub struct Hidden {
     pub panel: u32,
 }
 
-// `place` is the entry's place in the tile's list, from 0; `panel` the asked attribute's.
+/// `place` is the entry's place in the tile's list, from 0; `panel` the asked attribute's.
 #[derive(Clone, Copy)]
 pub struct Shown {
     pub place: u32,
     pub panel: u32,
 }
 
-// The first that holds, in this order; with the asked attribute's panel, where there is such an attribute.
+/// The first that holds, in this order; with the asked attribute's panel, where there is such an attribute.
 #[derive(Clone, Copy)]
 pub enum Reason {
     // No step adds it.
@@ -39,7 +39,7 @@ pub enum Reason {
     ShownAt(Shown),
 }
 
-// An attribute that is asked about: a layer's, or a paint's, and its place in their table.
+/// An attribute that is asked about: a layer's, or a paint's, and its place in their table.
 #[derive(Clone, Copy)]
 pub struct Asked {
     pub layer: bool,
@@ -147,7 +147,7 @@ fn reason_by(search: Search) -> Reason
     })
 }
 
-// The reason that the first n lines give of an attribute.
+/// The reason that the first n lines give of an attribute.
 pub fn reason_of(lines: &[u32], n: usize, asked: Asked) -> Reason
     requires { (n ≤ most-attrs + most-attrs) × (line-size * n ≤ length lines.now) }
     ensures { reason-of result ≡ reason-read (asked_of asked) lines.now n }

@@ -1,5 +1,5 @@
-// What each building step says of one tile, in plain draw order: a line for each attribute that it adds, and no row. Parts: callers have judged the records and
-// chosen a tile of the screen. `lines` holds the lines of all attributes. The refusals are the step's own, but for those of rows.
+//! What each building step says of one tile, in plain draw order: a line for each attribute that it adds, and no row. Parts: callers have judged the records and
+//! chosen a tile of the screen. `lines` holds the lines of all attributes. The refusals are the step's own, but for those of rows.
 ghost use Rattle.std.specs.Prelude.{◌≡◌, true, ◌&&◌, not, List, ◌∷◌, ℕ, ◌+◌, ◌-◌, ◌*◌, ◌≤◌, length, ltb};
 ghost use Rattle.sizes.specs.Sizes.{last-id, line-table};
 ghost use Rattle.sizes.specs.Refusals.{answer_number};
@@ -30,7 +30,7 @@ use sizes::{LAST_ID, MOST_ATTRS, MOST_FILTERS, MOST_LAYERS};
 pub mod lines;
 pub mod looks;
 
-// The tile that is told of: a row and a tile of the viewport's screen, at so many tiles a bucket (`width`).
+/// The tile that is told of: a row and a tile of the viewport's screen, at so many tiles a bucket (`width`).
 #[derive(Clone, Copy)]
 pub struct Spot {
     pub viewport: Rect,
@@ -39,15 +39,15 @@ pub struct Spot {
     pub width: u32,
 }
 
-// The clip box in force, in pixels, local to the viewport, and how many layers are open.
+/// The clip box in force, in pixels, local to the viewport, and how many layers are open.
 #[derive(Clone, Copy)]
 pub struct Within {
     pub clip: Rect,
     pub open: u32,
 }
 
-// What is counted: the next id, the paint attributes, layer attributes and filter paints so far, and for how many of the open layers, from the outermost, the
-// row is touched.
+/// What is counted: the next id, the paint attributes, layer attributes and filter paints so far, and for how many of the open layers, from the outermost, the
+/// row is touched.
 #[derive(Clone, Copy)]
 pub struct Tale {
     pub next: u32,
@@ -57,7 +57,7 @@ pub struct Tale {
     pub levels: u32,
 }
 
-// A draw of this panel with the segments from start to end of a list; `eligible`: those that are solid are (rule 6).
+/// A draw of this panel with the segments from start to end of a list; `eligible`: those that are solid are (rule 6).
 #[derive(Clone, Copy)]
 pub struct Stroke {
     pub start: usize,
@@ -80,7 +80,7 @@ fn is_hiding(eligible: bool, look: Look) -> bool
     eligible && look.alpha.is_none() && look.whole
 }
 
-// Rules 3, 4 and 6: a draw. Ids, 8; FullAttrs, 9, if it has a segment.
+/// Rules 3, 4 and 6: a draw. Ids, 8; FullAttrs, 9, if it has a segment.
 pub fn tell_fill(
     tale: &mut Tale,
     spot: Spot,
@@ -136,7 +136,7 @@ fn touches(blend: Blend, bbox: Rect, row: u32) -> bool
     blend.is_destructive() && !bbox.is_empty() && is_in_row(bbox, row)
 }
 
-// Rule 8: a layer is pushed; a destructive one touches the rows of its box. It gives what holds within the layer. Deep, 6, with 16 open.
+/// Rule 8: a layer is pushed; a destructive one touches the rows of its box. It gives what holds within the layer. Deep, 6, with 16 open.
 pub fn tell_push(
     tale: &mut Tale,
     spot: Spot,
@@ -181,7 +181,7 @@ fn closing_look(spot: Spot, own: Rect, parent: Rect, clip: Option<Clip>, segment
     }
 }
 
-// Rule 9: the innermost layer closes; `within` holds in it, `outer` outside of it. Its entry is told only in a touched row. Ids, 8; FullAttrs, 9.
+/// Rule 9: the innermost layer closes; `within` holds in it, `outer` outside of it. Its entry is told only in a touched row. Ids, 8; FullAttrs, 9.
 pub fn tell_pop(
     tale: &mut Tale,
     spot: Spot,
@@ -220,7 +220,7 @@ pub fn tell_pop(
     Ok(())
 }
 
-// Rule 11: a filter fill of this panel into a dest box, in each row of what the clip box leaves of it. Ids, 8, and FullAttrs, 9, if it draws.
+/// Rule 11: a filter fill of this panel into a dest box, in each row of what the clip box leaves of it. Ids, 8, and FullAttrs, 9, if it draws.
 pub fn tell_filter(
     tale: &mut Tale,
     spot: Spot,

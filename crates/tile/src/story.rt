@@ -1,5 +1,5 @@
-// The walk over a recording that tells the story of one tile (rule 2), in plain draw order: over a run of nodes, and over a layer, which call each other.
-// Parts: callers have read the form, judged the records and chosen a tile of the screen.
+//! The walk over a recording that tells the story of one tile (rule 2), in plain draw order: over a run of nodes, and over a layer, which call each other.
+//! Parts: callers have read the form, judged the records and chosen a tile of the screen.
 ghost use Rattle.std.specs.Prelude.{◌≡◌, true, not, List, [], ◌+◌, ◌-◌, ◌*◌, ◌≤◌, ◌<◌, eqb, length, get_or};
 ghost use Rattle.sizes.specs.Sizes.{line-table};
 ghost use Rattle.sizes.specs.Refusals.{answer_number};
@@ -139,7 +139,7 @@ fn tell_filter_layer(
     )
 }
 
-// Nodes a to b, each its draws and then its layer, up to the first step that is refused. Layers in them may be nested `depth` deep.
+/// Nodes a to b, each its draws and then its layer, up to the first step that is refused. Layers in them may be nested `depth` deep.
 #[cycle(tell)]
 pub fn tell_nodes(
     depth: u32,

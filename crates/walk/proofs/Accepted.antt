@@ -1,9 +1,6 @@
 -- What is known of a recording that the recording call accepted: its frame is good, and so is every record; its walk is done to the end.
-use Prim.Native.Nat.{ℕ}
-use mathlib.Core.Path.{◌≡◌, refl}
-use mathlib.Core.Bool.{Bool, true, false, cond}
-use lib.Dec.{eqb}
-use borrow.Author.Tests.{eqb-true, eqb-false}
+use Rattle.std.proofs.Common.{ℕ, ◌≡◌, refl, Bool, true, false, cond, eqb, eqb-true}
+use borrow.Author.Tests.{eqb-false}
 use Rattle.rules.specs.Answers.{Answer, answer, settle, Done}
 use Rattle.rules.specs.Boxes.{good_viewport}
 use Rattle.rules.specs.Plans.{Frame}

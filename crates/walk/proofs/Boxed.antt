@@ -1,5 +1,5 @@
 -- A rectangle by its box.
-use mathlib.Core.Path.{◌≡◌, ap}
+use Rattle.std.proofs.Common.{◌≡◌, ap}
 use Rattle.rules.specs.Boxes.{Box}
 use Rattle.rect.specs.declared.Rect.{Rect}
 use Rattle.rect.specs.Rects.{box_of, rect-of}

@@ -1,14 +1,11 @@
 -- The calls as steps: each reads and writes its own part of what is lent, and reads no more of the lent lists than what these say.
-use Prim.Native.Nat.{ℕ}
-use mathlib.Core.Path.{◌≡◌}
-use mathlib.Core.List.{List}
-use lib.ListN.{length}
+use Rattle.std.proofs.Common.{ℕ, ◌≡◌, List, length}
 use Rattle.rules.specs.Lists.{join}
 use Rattle.rules.specs.Answers.{answer}
 use Rattle.rules.specs.Inputs as rule
 use Rattle.rules.specs.Segments.{Segment}
 use Rattle.rules.specs.Recording.{Recording}
-use Rattle.rules.proofs.Words.{paint-words, segment-words}
+use Rattle.rules.specs.Words.{paint-words, segment-words}
 use Rattle.rules.specs.Plans.{a-push, a-pop, a-filter}
 use Rattle.segments.specs.Segs.{segs-of}
 use Rattle.screen.specs.declared.Screen.{Screen}

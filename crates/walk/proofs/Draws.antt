@@ -1,9 +1,5 @@
 -- A run of draws, one more draw at a time.
-use Prim.Native.Nat.{ℕ, ◌+◌, ◌*◌, ◌≤◌, ◌<◌}
-use native.Mathlib.Omega.{arith}
-use mathlib.Core.Path.{◌≡◌, sym}
-use mathlib.Core.List.{List, []}
-use lib.ListN.{length, get_or}
+use Rattle.std.proofs.Common.{ℕ, ◌+◌, ◌*◌, ◌≤◌, ◌<◌, arith, ◌≡◌, sym, List, [], length, get_or}
 use Rattle.rules.specs.Lists.{slice}
 use Rattle.rules.specs.Answers.{Answer, answer}
 use Rattle.rules.specs.Recording.{draw-rec}

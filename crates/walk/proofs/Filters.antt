@@ -1,8 +1,5 @@
 -- A filter layer's steps, one after the other.
-use Prim.Native.Nat.{ℕ}
-use mathlib.Core.Path.{◌≡◌, sym, ◌∙◌}
-use mathlib.Core.Bool.{true, false}
-use lib.ListN.{length}
+use Rattle.std.proofs.Common.{ℕ, ◌≡◌, sym, ◌∙◌, true, false, length}
 use Rattle.rules.specs.Answers.{Answer, answer}
 use Rattle.rules.specs.Inputs.{needs-buffer}
 use Rattle.rules.specs.Recording.{Recording, LayerRec}

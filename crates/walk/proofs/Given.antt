@@ -1,12 +1,7 @@
 -- What a push accepts are some layer's properties of the rules, and those are accepted.
-use Prim.Native.Nat.{ℕ}
-use mathlib.Core.Path.{◌≡◌, refl, sym, ap, ◌∙◌}
-use mathlib.Core.Bool.{Bool, true, false, ◌&&◌, cond}
-use Rattle.std.specs.Prelude.{Option, None, Some}
-use lib.Dec.{T, eqb}
-use lib.Ieee.{Float, nan, binary32, of_bits, to_bits, fits, is_nan, nan_bits}
+use Rattle.std.proofs.Common.{ℕ, ◌≡◌, refl, sym, ap, ◌∙◌, Bool, true, false, cond, Option, None, Some, T, eqb, eqb-true}
+use lib.Ieee.{Float, binary32, of_bits, to_bits, fits, is_nan, nan_bits}
 use lib.Ieee.Bits.{nan_bits_is, of_bits-to_bits}
-use borrow.Author.Tests.{eqb-true}
 use Rattle.rules.specs.Inputs as rule
 use Rattle.rules.specs.Inputs.{good-props}
 use Rattle.rules.proofs.All.{both}

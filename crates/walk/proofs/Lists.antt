@@ -1,15 +1,9 @@
 -- The words that say paints and segments, and the parts of a file's words that are lent for them.
-use Prim.Native.Nat.{ℕ, zero, suc, ◌+◌, ◌-◌, ◌*◌, ◌/◌, ◌<◌}
-use native.Mathlib.Nat.{add_assoc, mul-zero}
-use native.Mathlib.Omega.{arith}
-use mathlib.Core.Path.{◌≡◌, refl, sym, ap, ◌∙◌}
-use mathlib.Core.List.{List, [], ◌∷◌}
-use lib.ListN.{length, get_or, take, drop, length-take, length-drop}
-use lib.Seq.{get_or-drop}
+use Rattle.std.proofs.Common.{ℕ, zero, suc, ◌+◌, ◌-◌, ◌*◌, ◌/◌, ◌<◌, add_assoc, mul-zero, arith, ◌≡◌, refl, sym, ap, ◌∙◌, List, [], ◌∷◌, length, get_or, take, drop, length-take, length-drop, get_or-drop}
 use Rattle.rules.specs.Lists.{join}
 use Rattle.rules.specs.Inputs.{Paint, Draw}
 use Rattle.rules.specs.Segments.{Segment}
-use Rattle.rules.proofs.Words.{paint-words, segment-words}
+use Rattle.rules.specs.Words.{paint-words, segment-words}
 use Rattle.segments.specs.Segs.{seg-at, segs, segs-of}
 use Rattle.file.specs.declared.form.Layout.{Layout}
 use Rattle.file.specs.Each.{each}

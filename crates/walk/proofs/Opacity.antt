@@ -1,15 +1,9 @@
 -- An opacity's word and its f32.
-use Prim.Native.Nat.{ℕ, suc, ◌<◌, ◌≤◌, ◌*◌, ◌/◌, ◌%◌, ◌^◌}
-use native.Mathlib.Nat.{mul-div_cancel_left, mul-one, one-mul}
-use native.Mathlib.Omega.{arith}
-use mathlib.Core.Path.{◌≡◌, refl, sym, subst, ◌∙◌}
-use mathlib.Core.Bool.{Bool, true, false, ◌||◌, not, beq}
-use Rattle.std.specs.Prelude.{Option, None, Some}
-use lib.Dec.{T, eqb}
+use Rattle.std.proofs.Common.{ℕ, suc, ◌<◌, ◌≤◌, ◌*◌, ◌/◌, ◌%◌, ◌^◌, mul-one, one-mul, arith, ◌≡◌, refl, sym, subst, ◌∙◌, Bool, true, false, ◌||◌, not, Option, None, Some, T, eqb, pow_pos, ℤ, pos}
+use Rattle.std.proofs.Common.{negsuc, le-ltb, lt-ltb, eq-eqb, ne_eqb, eqb-true}
+use native.Mathlib.Nat.{mul-div_cancel_left}
+use mathlib.Core.Bool.{beq}
 use lib.Count.{count_trailing_zeros}
-use lib.Pow.{pow_pos}
-use lib.IntN.{ℤ, pos, negsuc}
-use borrow.Author.Tests.{le-ltb, lt-ltb, eq-eqb, ne_eqb, eqb-true}
 use lib.Ieee.{Float, nan, inf, fin, binary32, of_bits, to_bits, of_fields, odd, span, climb, size, div, is_nan, nan_bits, eq, ne, up, down, low}
 use lib.Ieee.Bits.{nan_bits_is, nan_bits_above, to_bits-of_bits}
 use Rattle.rules.proofs.All.{both}

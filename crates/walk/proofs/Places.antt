@@ -1,12 +1,5 @@
 -- A judged file's nodes and layers, at their places.
-use Prim.Native.Nat.{ℕ, ◌+◌, ◌*◌, ◌≤◌, ◌<◌}
-use native.Mathlib.Omega.{arith}
-use mathlib.Core.Path.{◌≡◌}
-use mathlib.Core.Bool.{true, ◌&&◌, cond}
-use mathlib.Core.List.{List, []}
-use lib.ListN.{length, get_or}
-use lib.Dec.{leb, eqb}
-use borrow.Author.Tests.{leb-true}
+use Rattle.std.proofs.Common.{ℕ, ◌+◌, ◌*◌, ◌≤◌, ◌<◌, arith, ◌≡◌, true, ◌&&◌, cond, List, [], length, get_or, leb, eqb, leb-true}
 use Rattle.rules.specs.Spans.{good-range}
 use Rattle.rules.specs.Inputs.{good-handle, good-filter, good-panel}
 use Rattle.rules.specs.Blends.{good-blend}
@@ -78,9 +71,6 @@ module _ (l : Layout) (ws : List ℕ) where
           × ((get_or ws (l.nodes.at + 3 * i + 1) 0 ≤ l.draws.count) × (get_or ws (l.nodes.at + 3 * i + 2) 0 ≤ l.layers.count))
       unfolding node_from
       node-range = in-range
-
-      pub node-room : l.nodes.at + 3 * i + 3 ≤ length ws
-      node-room = let e = g.fits.nodes.ends in omega arith
 
     module _ (i : ℕ) (h : i < l.layers.count) where
       fit : Walkable (recorded l ws) (layer_from ws (l.layers.at + 22 * i))

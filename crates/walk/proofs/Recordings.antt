@@ -1,12 +1,6 @@
 -- The recording call, from the form to the last step.
-use Prim.Native.Nat.{ℕ, ◌+◌, ◌≤◌}
-use mathlib.Core.Path.{◌≡◌, refl, sym, ap, ◌∙◌}
-use mathlib.Core.Bool.{Bool, true, false, cond}
-use mathlib.Core.List.{List}
-use Rattle.std.specs.Prelude.{None}
-use lib.ListN.{length, get_or}
-use lib.Dec.{eqb}
-use borrow.Author.Tests.{eq-eqb, ne_eqb, eqb-false}
+use Rattle.std.proofs.Common.{ℕ, ◌+◌, ◌≤◌, ◌≡◌, refl, sym, ap, ◌∙◌, Bool, true, false, cond, List, None, length, get_or, eqb, eq-eqb, ne_eqb}
+use borrow.Author.Tests.{eqb-false}
 use Rattle.rules.specs.Answers.{Answer, answer}
 use Rattle.rules.specs.Boxes.{Box}
 use Rattle.rules.specs.Plans.{Frame}

@@ -1,14 +1,5 @@
 -- Laws of steps one after another.
-use Prim.Native.Nat.{ℕ, suc, ◌+◌, ◌-◌, ◌≤◌, ◌<◌}
-use native.Mathlib.Numerals.{add-one}
-use native.Mathlib.Omega.{arith}
-use mathlib.Core.Path.{◌≡◌, refl}
-use mathlib.Core.Bool.{Bool, true, false}
-use mathlib.Core.List.{List, [], ◌∷◌}
-use lib.ListN.{length, get_or}
-use lib.Seq.{drop-cons}
-use lib.Dec.{eqb}
-use borrow.Author.Tests.{eq-eqb, ne_eqb, eqb-true}
+use Rattle.std.proofs.Common.{ℕ, suc, ◌+◌, ◌-◌, ◌≤◌, ◌<◌, add-one, arith, ◌≡◌, refl, Bool, true, false, List, [], ◌∷◌, length, get_or, drop-cons, eqb, eq-eqb, ne_eqb, eqb-true}
 use Rattle.rules.specs.Lists.{slice}
 use Rattle.rules.specs.Answers.{Answer, answer}
 use Rattle.rules.specs.Walk.{◌then◌, when, each, go_on}

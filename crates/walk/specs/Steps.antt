@@ -3,7 +3,7 @@ use Rattle.rules.specs.Lists.{join}
 use Rattle.rules.specs.Answers.{Answer, answer}
 use Rattle.rules.specs.Inputs as rule
 use Rattle.rules.specs.Recording.{Recording}
-use Rattle.rules.proofs.Words.{paint-words, segment-words}
+use Rattle.rules.specs.Words.{paint-words, segment-words}
 use Rattle.rules.specs.Plans.{Step, a-fill, a-push, a-pop, a-filter}
 use Rattle.row.specs.Words.{Words, words}
 use Rattle.rect.specs.Rects.{rect-of}

@@ -1,4 +1,4 @@
-// The recording call: a file is judged, and walked as building steps (rule 2). `bucket_recording` is a public call; `play` is a part of it.
+//! The recording call: a file is judged, and walked as building steps (rule 2). `bucket_recording` is a public call; `play` is a part of it.
 ghost use Rattle.std.specs.Prelude.{◌≡◌};
 ghost use Rattle.sizes.specs.Refusals.{answer_number};
 ghost use Rattle.rules.specs.Answers.{answer};
@@ -32,8 +32,8 @@ fn play(screen: &mut Screen, file: &Recording<'_>, lent: &mut Lent<'_>) -> Resul
     walk_nodes(MOST_LAYERS, screen, file, first, end, lent)
 }
 
-// Rule 2: the words of a recording file, in a setup. 3 for its form, then 2, 1 or 4 as a reset of its viewport, with nothing changed; then 4 and 5 for its
-// records, or the number of the first refused step of its walk, with the screen freshly reset and every word 0.
+/// Rule 2: the words of a recording file, in a setup. 3 for its form, then 2, 1 or 4 as a reset of its viewport, with nothing changed; then 4 and 5 for its
+/// records, or the number of the first refused step of its walk, with the screen freshly reset and every word 0.
 pub fn bucket_recording(
     screen: &mut Screen,
     file: &[u32],

@@ -1,5 +1,5 @@
-// The walk over a recording (rule 2; bucketer.rs, bucket_commands): over a run of nodes, and over a layer, which call each other. Parts: callers have read the
-// form and judged the records.
+//! The walk over a recording (rule 2; bucketer.rs, bucket_commands): over a run of nodes, and over a layer, which call each other. Parts: callers have read the
+//! form and judged the records.
 ghost use Rattle.std.specs.Prelude.{[], ◌≡◌, not, ◌-◌, ◌≤◌, eqb, get_or};
 ghost use Rattle.sizes.specs.Refusals.{answer_number};
 ghost use Rattle.rules.specs.Answers.{answer};
@@ -17,7 +17,7 @@ use screen::{Lent, Screen};
 use sizes::answers::Refusal;
 use sizes::{LAYER, NODE};
 
-// Nodes a to b, each its draws and then its layer, up to the first step that is refused. Layers in them may be nested `depth` deep.
+/// Nodes a to b, each its draws and then its layer, up to the first step that is refused. Layers in them may be nested `depth` deep.
 #[cycle(walk)]
 pub fn walk_nodes(
     depth: u32,
@@ -42,8 +42,8 @@ pub fn walk_nodes(
     Ok(())
 }
 
-// The layer that a node names by its number + 1; 0 names none. A regular layer is pushed, its nodes walked, popped. With no depth left 16 layers
-// are open, and the push is refused.
+/// The layer that a node names by its number + 1; 0 names none. A regular layer is pushed, its nodes walked, popped. With no depth left 16 layers
+/// are open, and the push is refused.
 #[cycle(walk)]
 pub fn walk_layer(
     depth: u32,

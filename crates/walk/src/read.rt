@@ -1,4 +1,4 @@
-// What the building calls take, read off a recording file's words. Parts: callers have judged the records. `at` is a record's place among the words.
+//! What the building calls take, read off a recording file's words. Parts: callers have judged the records. `at` is a record's place among the words.
 ghost use Rattle.std.specs.Prelude.{◌≡◌, ◌+◌, ◌≤◌, ◌<◌, length};
 ghost use Rattle.std.specs.Float.{binary32};
 ghost use Rattle.std.specs.Float.Ieee.{of_bits, nan_bits};
@@ -14,7 +14,7 @@ use screen::layers::{Clip, LayerProps};
 // A file has no panel numbers: its draws and layers have this one.
 const NO_PANEL: u32 = 0;
 
-// The draw at a place, seven words. Its panel is 0.
+/// The draw at a place, seven words. Its panel is 0.
 #[tactic(auto, unfolding(file::specs::Places::draw_from))]
 pub fn draw_at(w: &[u32], at: usize) -> Draw
     requires { at + 7 ≤ length w.now }
@@ -78,7 +78,7 @@ fn clip_at(w: &[u32], at: usize) -> Option<Clip>
     }
 }
 
-// What a push is given of the layer at a place, 22 words. The opacity's word is the bits of an f32; the panel is 0.
+/// What a push is given of the layer at a place, 22 words. The opacity's word is the bits of an f32; the panel is 0.
 #[tactic(auto, unfolding(file::specs::Places::layer_from))]
 pub fn props_at(w: &[u32], at: usize) -> LayerProps
     requires { at + 22 ≤ length w.now }
@@ -98,7 +98,7 @@ pub fn props_at(w: &[u32], at: usize) -> LayerProps
     }
 }
 
-// Rule 2: whether a filter layer is pushed and popped around its filter fill. A NaN opacity is not equal to 1.0, so it is.
+/// Rule 2: whether a filter layer is pushed and popped around its filter fill. A NaN opacity is not equal to 1.0, so it is.
 pub fn needs_buffer(props: LayerProps) -> bool
     ensures { result ≡ buffered props }
 {

@@ -1,5 +1,5 @@
-// The building steps of a recording, called from its words: a draw's fill and a run of them, a push, a pop, a filter layer. Parts: callers have read the form
-// and judged the records. Paints and segments are parts of the file's words, handed on. Each step refuses as the call that it makes.
+//! The building steps of a recording, called from its words: a draw's fill and a run of them, a push, a pop, a filter layer. Parts: callers have read the form
+//! and judged the records. Paints and segments are parts of the file's words, handed on. Each step refuses as the call that it makes.
 ghost use Rattle.std.specs.Prelude.{◌≡◌, ◌+◌, ◌*◌, ◌≤◌, ◌<◌, length};
 ghost use Rattle.sizes.specs.Refusals.{answer_number};
 ghost use Rattle.rules.specs.Answers.{answer};
@@ -28,7 +28,7 @@ use screen::{Lent, Screen};
 use sizes::answers::Refusal;
 use sizes::{DRAW, PAINT, SEGMENT};
 
-// A recording file's words, and where its sections stand in them.
+/// A recording file's words, and where its sections stand in them.
 #[derive(Clone, Copy)]
 pub struct Recording<'a> {
     pub words: &'a [u32],
@@ -43,7 +43,7 @@ fn records(words: &[u32], section: Section, size: usize) -> &[u32]
     &words[section.at..section.at + size * section.count]
 }
 
-// The picture that a file's word says: its handle, counted from 0, is the word - 1; 0 is none.
+/// The picture that a file's word says: its handle, counted from 0, is the word - 1; 0 is none.
 pub fn pixmap_of(word: u32) -> Option<u32>
     ensures { result ≡ pixmap-of word }
 {
@@ -94,7 +94,7 @@ fn fill_draw(
     )
 }
 
-// The fills of draws a to b, in order, up to the first that is refused.
+/// The fills of draws a to b, in order, up to the first that is refused.
 pub fn walk_draws(
     screen: &mut Screen,
     file: &Recording<'_>,
@@ -113,7 +113,7 @@ pub fn walk_draws(
     Ok(())
 }
 
-// A push of what the words of a layer say.
+/// A push of what the words of a layer say.
 pub fn push_at(screen: &mut Screen, props: LayerProps, lent: &mut Lent<'_>) -> Result<(), Refusal>
     ensures same { SameLent lent.old lent.new }
     ensures pushed { (p : Props) → props ≡ props_in p → answer (answer_number result) (whole screen.new lent.new) ≡ call_at (a-push p) (whole screen.old lent.old) }
@@ -130,7 +130,7 @@ pub fn push_at(screen: &mut Screen, props: LayerProps, lent: &mut Lent<'_>) -> R
     push_layer(screen, &mut rows, &mut layers, props)
 }
 
-// A pop, lent the file's segments for the layer's clip.
+/// A pop, lent the file's segments for the layer's clip.
 pub fn pop_at(screen: &mut Screen, file: &Recording<'_>, lent: &mut Lent<'_>) -> Result<(), Refusal>
     requires { FitsIn file.now }
     ensures same { SameLent lent.old lent.new }
@@ -180,7 +180,7 @@ fn fill_filter(
     )
 }
 
-// Rule 2: the filter layer at a place. Its nodes are not walked; it is pushed and popped around its filter fill only if it needs a buffer.
+/// Rule 2: the filter layer at a place. Its nodes are not walked; it is pushed and popped around its filter fill only if it needs a buffer.
 pub fn walk_filter(
     screen: &mut Screen,
     file: &Recording<'_>,

@@ -1,4 +1,4 @@
-// A row's runs as spans in a lent list of any length: found as tile numbers in words of the call's own, then written as spans.
+//! A row's runs as spans in a lent list of any length: found as tile numbers in words of the call's own, then written as spans.
 ghost use Rattle.std.specs.Prelude.{◌≡◌, length};
 ghost use Rattle.sizes.specs.Widths.{bucket-tiles};
 ghost use Rattle.rules.specs.Depth.{visible_answer};
@@ -39,8 +39,8 @@ fn found_runs(
     Ok(Found { count, words })
 }
 
-// The runs of a span's tiles whose buckets hold at most the id, as spans at the list's start; the entries after them stay. It gives their number. BadRun, 12,
-// for no range; NoRoom, 14, where the list is shorter than the runs. At id 0 they are the unset runs.
+/// The runs of a span's tiles whose buckets hold at most the id, as spans at the list's start; the entries after them stay. It gives their number. BadRun, 12,
+/// for no range; NoRoom, 14, where the list is shorter than the runs. At id 0 they are the unset runs.
 pub fn list_visible_spans(
     depth: &[u32],
     span: TileSpan,

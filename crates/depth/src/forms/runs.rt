@@ -1,4 +1,4 @@
-// Runs as spans, from a list of tile numbers, two words a run.
+//! Runs as spans, from a list of tile numbers, two words a run.
 ghost use Rattle.std.specs.Prelude.{◌≡◌, ◌+◌, ◌*◌, ◌<◌, ◌≤◌, length, replicate};
 ghost use Rattle.sizes.specs.Sizes.{most-runs};
 ghost use Rattle.depth.specs.Spans.{span-at, no_span, with-spans};
@@ -6,7 +6,7 @@ ghost use Rattle.depth.specs.Spans.{span-at, no_span, with-spans};
 use sizes::MOST_RUNS;
 use span::TileSpan;
 
-// Run n of a list of tile numbers.
+/// Run n of a list of tile numbers.
 pub fn run_at(words: &[u32], n: usize) -> TileSpan
     requires { n * 2 + 1 < length words.now }
     ensures { result ≡ span-at words.now n }
@@ -18,7 +18,7 @@ pub fn run_at(words: &[u32], n: usize) -> TileSpan
     }
 }
 
-// The first `count` runs of a list of tile numbers as spans, left to right; the entries after them stay.
+/// The first `count` runs of a list of tile numbers as spans, left to right; the entries after them stay.
 pub fn write_runs(list: &mut [TileSpan], words: &[u32], count: usize)
     requires { (count ≤ length list.old) × (count * 2 ≤ length words.now) }
     ensures { list.new ≡ with-spans words.now count list.old }
@@ -30,7 +30,7 @@ pub fn write_runs(list: &mut [TileSpan], words: &[u32], count: usize)
     }
 }
 
-// The same by value, in MOST_RUNS spans: no row of a screen has more runs. The spans after the runs are 0 to 0.
+/// The same by value, in MOST_RUNS spans: no row of a screen has more runs. The spans after the runs are 0 to 0.
 pub fn runs_of(words: &[u32], count: usize) -> [TileSpan; MOST_RUNS]
     requires { (count ≤ most-runs) × (count * 2 ≤ length words.now) }
     ensures { result ≡ with-spans words.now count (replicate most-runs no_span) }

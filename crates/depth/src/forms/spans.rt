@@ -1,4 +1,4 @@
-// A row's runs as spans by value: found as tile numbers, then written as spans.
+//! A row's runs as spans by value: found as tile numbers, then written as spans.
 ghost use Rattle.std.specs.Prelude.{◌≡◌};
 ghost use Rattle.sizes.specs.Sizes.{most-runs};
 ghost use Rattle.rules.specs.Depth.{visible_answer};
@@ -13,14 +13,14 @@ use sizes::answers::Refusal;
 use sizes::width::Width;
 use span::TileSpan;
 
-// How many runs there are, and their spans; the spans after them are 0 to 0.
+/// How many runs there are, and their spans; the spans after them are 0 to 0.
 #[derive(Clone, Copy)]
 pub struct Visible {
     pub count: usize,
     pub spans: [TileSpan; MOST_RUNS],
 }
 
-// The runs of a span's tiles whose buckets hold at most the id. BadRun, 12, for no range; NoRoom, 14, where there are more than MOST_RUNS.
+/// The runs of a span's tiles whose buckets hold at most the id. BadRun, 12, for no range; NoRoom, 14, where there are more than MOST_RUNS.
 pub fn visible_spans(
     depth: &[u32],
     span: TileSpan,

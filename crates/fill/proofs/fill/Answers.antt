@@ -1,6 +1,5 @@
 -- The call is judged as a whole; refused, nothing is written. Done, the rows get what the rules' puts are, and the table the draw's attribute.
-use mathlib.Core.Path.{sym}
-use native.Mathlib.Omega.{arith}
+use Rattle.std.proofs.Common.{sym, arith}
 use Rattle.rect.specs.Rects.{box_of}
 use Rattle.rules.specs.Boxes.{rows_of}
 use Rattle.screen.proofs.ScreenLaws.{bounds}

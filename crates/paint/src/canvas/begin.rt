@@ -1,4 +1,4 @@
-// Beginning to paint.
+//! Beginning to paint.
 ghost use Rattle.std.specs.Prelude.{◌≡◌};
 ghost use Rattle.sizes.specs.Refusals.{answer_number};
 ghost use Rattle.rules.specs.Answers.{answer};
@@ -8,8 +8,8 @@ use crate::canvas::judge::judge_begin;
 use screen::Screen;
 use sizes::answers::Refusal;
 
-// Clears the depth words and sets every row to its first step, at nesting 0. BadViewport, BadArena, BadRecord, or Open, 13, with a layer open: refused, the
-// screen and every word stay.
+/// Clears the depth words and sets every row to its first step, at nesting 0. BadViewport, BadArena, BadRecord, or Open, 13, with a layer open: refused, the
+/// screen and every word stay.
 #[tactic(auto, unfolding(crate::specs::Beginning::beginning))]
 pub fn begin_painting(
     screen: &mut Screen,

@@ -1,4 +1,4 @@
-// What a call's screen, its lengths and its row say, before anything of the row is read.
+//! What a call's screen, its lengths and its row say, before anything of the row is read.
 ghost use Rattle.std.specs.Prelude.{◌≡◌, true, length};
 ghost use Rattle.sizes.specs.Refusals.{answer_number};
 ghost use Rattle.paint.specs.Judging.{depth-long, arenas-long, tables-long, judged, of_row, begin_number, step_number, runs_number, skip_number};
@@ -66,7 +66,7 @@ fn judge_row(screen: Screen, row: usize, arenas: bool, tables: bool) -> Result<(
     Ok(())
 }
 
-// Before painting is begun: 2, 1, 4, then 13 with a layer open.
+/// Before painting is begun: 2, 1, 4, then 13 with a layer open.
 #[tactic(auto, unfolding(crate::specs::Judging::begin_number))]
 pub fn judge_begin(screen: Screen, depth: usize, painting: usize) -> Result<(), Refusal>
     ensures { answer_number result ≡ begin_number screen depth painting }
@@ -82,7 +82,7 @@ pub fn judge_begin(screen: Screen, depth: usize, painting: usize) -> Result<(), 
     Ok(())
 }
 
-// Before a step of a row: 2, 1, 4, 12 for no such row, then 13 with a layer open or where painting has not begun.
+/// Before a step of a row: 2, 1, 4, 12 for no such row, then 13 with a layer open or where painting has not begun.
 #[tactic(auto, unfolding(crate::specs::Judging::step_number))]
 #[inline(always)]
 pub fn judge_step(
@@ -103,7 +103,7 @@ pub fn judge_step(
     Ok(())
 }
 
-// Before a call that is lent the depth words: 2, 1, 4, 12 for no such row.
+/// Before a call that is lent the depth words: 2, 1, 4, 12 for no such row.
 #[tactic(auto, unfolding(crate::specs::Judging::runs_number))]
 pub fn judge_runs(screen: Screen, row: usize, depth: usize) -> Result<(), Refusal>
     ensures { answer_number result ≡ runs_number screen row depth }
@@ -111,7 +111,7 @@ pub fn judge_runs(screen: Screen, row: usize, depth: usize) -> Result<(), Refusa
     judge_row(screen, row, is_depth(screen, depth), true)
 }
 
-// Before one that is lent the rows' records: the same.
+/// Before one that is lent the rows' records: the same.
 #[tactic(auto, unfolding(crate::specs::Judging::skip_number))]
 pub fn judge_skip(screen: Screen, row: usize, rows: usize) -> Result<(), Refusal>
     ensures { answer_number result ≡ skip_number screen row rows }

@@ -1,4 +1,4 @@
-// The runs of a row's depth words and its `can_skip`, by the row's number. The row's own part is cut out and handed on.
+//! The runs of a row's depth words and its `can_skip`, by the row's number. The row's own part is cut out and handed on.
 ghost use Rattle.std.specs.Prelude.{◌≡◌, length};
 ghost use Rattle.sizes.specs.Sizes.{row-size};
 ghost use Rattle.span.specs.Spans.{tiles, buckets};
@@ -14,7 +14,7 @@ use sizes::ROW;
 use sizes::answers::Refusal;
 use span::{BucketRange, TileSpan};
 
-// The runs of a span's tiles whose buckets hold 0; how many. 2, 1, 4, 12 for no such row or no range, 14.
+/// The runs of a span's tiles whose buckets hold 0; how many. 2, 1, 4, 12 for no such row or no range, 14.
 #[tactic(auto, using(crate::proofs::ScreenParts::depth_within, crate::proofs::ScreenRuns::unset_done))]
 pub fn unset_runs(
     screen: Screen,
@@ -29,7 +29,7 @@ pub fn unset_runs(
     depth::unset_runs(part(depth, screen.buckets(), row), span, list, screen.width)
 }
 
-// The runs of a span's tiles whose buckets hold at most the id; how many. 2, 1, 4, 12 for no such row or no range, 14.
+/// The runs of a span's tiles whose buckets hold at most the id; how many. 2, 1, 4, 12 for no such row or no range, 14.
 #[tactic(auto, using(crate::proofs::ScreenParts::depth_within, crate::proofs::ScreenRuns::visible_done))]
 pub fn visible_runs(
     screen: Screen,
@@ -51,8 +51,8 @@ pub fn visible_runs(
     )
 }
 
-// Lists the unset runs of a bucket range as buckets, and stores the id there; how many. Done, it ends painting. 2, 1, 4, 12 for no such row, no range or id 0,
-// 14: refused, the screen and every word stay.
+/// Lists the unset runs of a bucket range as buckets, and stores the id there; how many. Done, it ends painting. 2, 1, 4, 12 for no such row, no range or id 0,
+/// 14: refused, the screen and every word stay.
 pub fn unset_runs_and_write(
     screen: &mut Screen,
     row: usize,
@@ -82,8 +82,8 @@ fn skip_by(state: &[u32], span: TileSpan, draw_id: u32) -> Result<bool, Refusal>
     summary_of(state).can_skip(span, draw_id)
 }
 
-// Whether a draw need not look at the row's depth words: no depth fill of the row is above it, or the span of tiles meets none (bucketer.rs, can_skip_depth).
-// 2, 1, 4, 12 for no such row or no range.
+/// Whether a draw need not look at the row's depth words: no depth fill of the row is above it, or the span of tiles meets none (bucketer.rs, can_skip_depth).
+/// 2, 1, 4, 12 for no such row or no range.
 #[tactic(auto, using(crate::proofs::ScreenParts::state_within, crate::proofs::ScreenRuns::skip_done))]
 pub fn can_skip(
     screen: Screen,

@@ -1,6 +1,6 @@
-// What painting reads of a screen's lent words.
+//! What painting reads of a screen's lent words.
 
-// The rows' records, render commands and depth fills, and the tables of attributes, whole.
+/// The rows' records, render commands and depth fills, and the tables of attributes, whole.
 #[derive(Clone, Copy)]
 pub struct Stored<'a> {
     pub rows: &'a [u32],

@@ -1,14 +1,11 @@
-// The doing halves of a step: the runs of a judged fill become pieces at the list's start, and the row's steps go up by one.
-ghost use Rattle.std.specs.Prelude.{◌≡◌, Some, map, ◌+◌, ◌-◌, ◌≤◌, ◌<◌, length};
+//! The doing halves of a step: the runs of a judged fill become pieces at the list's start, and the row's steps go up by one.
+ghost use Rattle.std.specs.Prelude.{◌≡◌, Some, ◌-◌, ◌≤◌, ◌<◌, length};
 ghost use Rattle.sizes.specs.Sizes.{tile-end};
-ghost use Rattle.rules.specs.Attributes.{no-attrs};
-ghost use Rattle.rules.specs.Depth.{write-runs, written};
-ghost use Rattle.rules.specs.Painting.{gives, depth-piece};
 ghost use Rattle.span.specs.Spans.{tiles, buckets, Moves};
 ghost use Rattle.sizes.specs.Widths.{bucket-tiles};
 ghost use Rattle.paint.specs.Answers.{painted_of};
-ghost use Rattle.paint.specs.Summaries.{summary-at};
-ghost use Rattle.paint.specs.Painting.{word, out, painter-at, settled, fill-shown};
+ghost use Rattle.paint.specs.Painting.{word, out, settled};
+ghost use Rattle.paint.specs.Named.{depth_painted, fill_painted};
 
 use crate::command::marks::Mark;
 use crate::command::reading::Row;
@@ -21,7 +18,7 @@ use sizes::PIECE;
 use sizes::answers::Refusal;
 use sizes::width::Width;
 
-// A depth fill gives its unset runs, whole buckets, and writes its id there. NoRoom, 14, where the list has no room for its pieces: nothing changes.
+/// A depth fill gives its unset runs, whole buckets, and writes its id there. NoRoom, 14, where the list has no room for its pieces: nothing changes.
 pub fn paint_depth(
     depth: &mut [u32],
     painting: &mut [u32],
@@ -32,7 +29,7 @@ pub fn paint_depth(
 ) -> Result<Stepped, Refusal>
     requires first_bound { (fill.buckets.first ≤ fill.buckets.«end») × (fill.buckets.«end» ≤ length depth.old) × (fill.buckets.«end» ≤ 65535) × (0 < mark.id) }
     requires painting_len { (length painting.old ≡ 2) × (word painting.old 0 < 4294967295) }
-    ensures { out (painted_of result) depth.new painting.new list.new ≡ settled (Some (gives (map (depth-piece (bucket-tiles width) no-attrs fill.attrs_idx mark.panel) (write-runs depth.old (buckets fill.buckets))) (written depth.old mark.id (buckets fill.buckets)) (word painting.old 0 + 1) (word painting.old 1))) depth.old painting.old list.old }
+    ensures { out (painted_of result) depth.new painting.new list.new ≡ settled (Some (depth_painted (bucket-tiles width) fill mark depth.old painting.old)) depth.old painting.old list.old }
 {
     let room = list.len() / PIECE;
     let n = unset_runs_and_write(depth, fill.buckets, mark.id, &mut list[..2 * room])?;
@@ -49,7 +46,7 @@ pub fn paint_depth(
     Ok(advance(painting, nesting, n))
 }
 
-// A paint's or a layer's fill gives the runs of its tiles that are shown for its attribute's id. NoRoom, 14, where the list has no room: nothing changes.
+/// A paint's or a layer's fill gives the runs of its tiles that are shown for its attribute's id. NoRoom, 14, where the list has no room: nothing changes.
 #[inline(always)]
 pub fn paint_fill(
     row: &Row<'_>,
@@ -62,7 +59,7 @@ pub fn paint_fill(
 ) -> Result<Stepped, Refusal>
     requires first_bound { (fill.span.first ≤ fill.span.«end») × (fill.span.«end» ≤ tile-end) × Moves fill.alpha (fill.span.«end» - fill.span.first) × (length depth.now ≤ 65535) }
     requires painting_len { (length painting.old ≡ 2) × (word painting.old 0 < 4294967295) }
-    ensures { out (painted_of result) depth.now painting.new list.new ≡ settled (Some (fill-shown (bucket-tiles row.now.width) no-attrs (summary-at row.now.state.now) layer mark.id fill.attrs_idx mark.panel (tiles fill.span) fill.alpha (painter-at depth.now painting.old))) depth.now painting.old list.old }
+    ensures { out (painted_of result) depth.now painting.new list.new ≡ settled (Some (fill_painted row.now layer fill mark depth.now painting.old)) depth.now painting.old list.old }
 {
     let room = list.len() / PIECE;
     let sum = summary_of(row.state);

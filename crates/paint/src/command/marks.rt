@@ -1,4 +1,4 @@
-// What is read of a fill's attribute, and whether it may be painted.
+//! What is read of a fill's attribute, and whether it may be painted.
 ghost use Rattle.std.specs.Prelude.{◌≡◌, ◌&&◌};
 ghost use Rattle.rules.specs.Inputs.{good-panel};
 ghost use Rattle.cmd.specs.Reading.{only_if};
@@ -9,7 +9,7 @@ use crate::command::reading::Attributes;
 use cmd::attrs::{layer_id, layer_panel, paint_id, paint_panel};
 use sizes::{LAST_ID, PANEL_END};
 
-// What a fill's attribute says: the id of its draw or closing layer, from 1 to LAST_ID, and its panel.
+/// What a fill's attribute says: the id of its draw or closing layer, from 1 to LAST_ID, and its panel.
 #[derive(Clone, Copy)]
 pub struct Mark {
     pub id: u32,
@@ -24,7 +24,7 @@ fn good_mark(id: u32, panel: u32) -> Option<Mark>
 }
 
 impl Attributes<'_> {
-    // Of paint attribute i, if it is there and good.
+    /// Of paint attribute i, if it is there and good.
     #[tactic(auto, using(crate::proofs::Judging::paint_there, crate::proofs::Judging::paint_missing))]
     pub fn paint(&self, i: u32) -> Option<Mark>
         ensures { result ≡ paint_mark (attrs_of self.now) i }
@@ -39,7 +39,7 @@ impl Attributes<'_> {
         )
     }
 
-    // Of layer attribute i, if it is there and good.
+    /// Of layer attribute i, if it is there and good.
     #[tactic(auto, using(crate::proofs::Judging::layer_there, crate::proofs::Judging::layer_missing))]
     pub fn layer(&self, i: u32) -> Option<Mark>
         ensures { result ≡ layer_mark (attrs_of self.now) i }

@@ -1,10 +1,10 @@
-// What is read of one row while it is painted, besides its depth words.
+//! What is read of one row while it is painted, besides its depth words.
 ghost use Rattle.std.specs.Prelude.{◌≡◌, ◌*◌, ◌≤◌, length};
 ghost use Rattle.sizes.specs.Sizes.{most-room, most-attrs, row-size, paint-attr-table, layer-attr-table};
 
 use sizes::width::Width;
 
-// The tables of attributes, and how many of each the screen has.
+/// The tables of attributes, and how many of each the screen has.
 #[derive(Clone, Copy)]
 pub struct Attributes<'a> {
     pub paint_attrs: &'a [u32],
@@ -17,7 +17,7 @@ pub struct Attributes<'a> {
     ghost layers_few: { layers ≤ most-attrs },
 }
 
-// A row's record, its render commands and its depth fills, the attributes, and how wide a bucket is.
+/// A row's record, its render commands and its depth fills, the attributes, and how wide a bucket is.
 #[derive(Clone, Copy)]
 pub struct Row<'a> {
     pub state: &'a [u32],

@@ -1,4 +1,4 @@
-// One step of one row: judged first, then done.
+//! One step of one row: judged first, then done.
 ghost use Rattle.std.specs.Prelude.{◌≡◌, Some, [], option_map, ◌+◌, ◌*◌, ◌≤◌, ◌<◌, length};
 ghost use Rattle.sizes.specs.Widths.{bucket-tiles};
 ghost use Rattle.cmd.specs.Commands.{command};
@@ -105,8 +105,8 @@ fn read_command(render: &[u32], k: usize) -> Option<RenderCmd>
     words.read()
 }
 
-// One step of a row: its depth fills last to first, then its commands in order, then finished, as often as asked. `painting` has its two words: steps done, and
-// nesting. BadRecord, 4, for words that are no row's; NoRoom, 14.
+/// One step of a row: its depth fills last to first, then its commands in order, then finished, as often as asked. `painting` has its two words: steps done, and
+/// nesting. BadRecord, 4, for words that are no row's; NoRoom, 14.
 pub fn step_row(
     row: &Row<'_>,
     depth: &mut [u32],

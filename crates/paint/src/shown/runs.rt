@@ -1,4 +1,4 @@
-// The runs of a fill that are shown. `shown_runs` is a part: its callers have judged the span.
+//! The runs of a fill that are shown. `shown_runs` is a part: its callers have judged the span.
 ghost use Rattle.std.specs.Prelude.{◌≡◌, false, ◌/◌, ◌≤◌, length};
 ghost use Rattle.sizes.specs.Sizes.{tile-end};
 ghost use Rattle.rules.specs.Depth.{listed};
@@ -38,8 +38,8 @@ fn list_whole(span: TileSpan, list: &mut [u32]) -> Result<usize, Refusal>
     Ok(1)
 }
 
-// The runs of a fill's tiles that are shown for an id; how many. The span is listed whole where the summary says so: only else are the depth words searched.
-// NoRoom, 14.
+/// The runs of a fill's tiles that are shown for an id; how many. The span is listed whole where the summary says so: only else are the depth words searched.
+/// NoRoom, 14.
 #[tactic(auto, using(crate::proofs::Clear::shown_whole, crate::proofs::Clear::shown_searched))]
 pub fn shown_runs(
     depth: &[u32],

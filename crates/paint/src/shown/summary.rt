@@ -1,4 +1,4 @@
-// A row's depth summary as its record has it: the union's first tile and end, and the largest id, in words 2 to 4.
+//! A row's depth summary as its record has it: the union's first tile and end, and the largest id, in words 2 to 4.
 ghost use Rattle.std.specs.Prelude.{◌≡◌, length};
 ghost use Rattle.sizes.specs.Sizes.{row-size};
 ghost use Rattle.depth.specs.Answers.{summary};
@@ -8,7 +8,7 @@ use depth::DepthState;
 use sizes::{END, FIRST, LARGEST, LAST_ID, TILE_END};
 use span::TileSpan;
 
-// Whether it is in order, up to tile 8,192, and its id one that a draw can have taken, or 0.
+/// Whether it is in order, up to tile 8,192, and its id one that a draw can have taken, or 0.
 pub fn is_good_summary(state: &[u32]) -> bool
     requires { length state.now ≡ row-size }
     ensures { result ≡ good-summary state.now }
@@ -16,7 +16,7 @@ pub fn is_good_summary(state: &[u32]) -> bool
     state[FIRST] <= state[END] && state[END] <= TILE_END && state[LARGEST] <= LAST_ID
 }
 
-// The summary of a record. A largest id of 0 says that there is no union.
+/// The summary of a record. A largest id of 0 says that there is no union.
 pub fn summary_of(state: &[u32]) -> DepthState
     requires { length state.now ≡ row-size }
     ensures { summary result ≡ summary-at state.now }

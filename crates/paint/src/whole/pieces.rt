@@ -1,4 +1,4 @@
-// The pieces of a fill that is shown in part. Parts: where a function asks something, its callers have judged it.
+//! The pieces of a fill that is shown in part. Parts: where a function asks something, its callers have judged it.
 ghost use Rattle.std.specs.Prelude.{◌≡◌, ◌+◌, ◌-◌, ◌*◌, ◌/◌, ◌≤◌, ◌<◌, length};
 ghost use Rattle.sizes.specs.Sizes.{tile-alphas, piece-size};
 ghost use Rattle.rules.specs.Lists.{join};
@@ -17,7 +17,7 @@ use depth::search::{Run, next_run};
 use sizes::TILE_ALPHAS;
 use sizes::width::Width;
 
-// A fill that becomes pieces, a run each: its words, the nesting, what its attribute says, and how wide a bucket is.
+/// A fill that becomes pieces, a run each: its words, the nesting, what its attribute says, and how wide a bucket is.
 #[derive(Clone, Copy)]
 pub struct Cut {
     pub words: CmdWords,
@@ -80,8 +80,8 @@ impl Cut {
     }
 }
 
-// A fill that some of its buckets show and some hide. The look has seen its buckets up to `stop`, which are all shown if `seen` and else all hidden, and bucket
-// `stop`, which is not.
+/// A fill that some of its buckets show and some hide. The look has seen its buckets up to `stop`, which are all shown if `seen` and else all hidden, and bucket
+/// `stop`, which is not.
 pub fn put_fill(depth: &[u32], cut: Cut, seen: bool, stop: usize, pieces: &mut Pieces<'_>)
     requires { LookedCut cut depth.now seen stop × FillsCut cut × (piece-size * (pieces.old.count + length (met cut depth.now)) ≤ length pieces.old.list.now) }
     ensures same { pieces.new.list.ghost_name ≡ pieces.old.list.ghost_name }
@@ -97,7 +97,7 @@ pub fn put_fill(depth: &[u32], cut: Cut, seen: bool, stop: usize, pieces: &mut P
     }
 }
 
-// How many runs the buckets that a fill meets have at most. `tiles` is the fill's span word.
+/// How many runs the buckets that a fill meets have at most. `tiles` is the fill's span word.
 pub fn most_runs(tiles: u32, width: Width) -> usize
     requires { low-met (bucket-tiles width) tiles ≤ high-met (bucket-tiles width) tiles }
     ensures { result ≡ (high-met (bucket-tiles width) tiles - low-met (bucket-tiles width) tiles + 1) / 2 }

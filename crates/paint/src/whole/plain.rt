@@ -1,4 +1,4 @@
-// Commands that one look at their words and the depth words settles: fills and buffers. Parts: where a function asks something, its callers have judged it.
+//! Commands that one look at their words and the depth words settles: fills and buffers. Parts: where a function asks something, its callers have judged it.
 ghost use Rattle.std.specs.Prelude.{◌≡◌, IfSome, List, ℕ, ◌+◌, ◌*◌, ◌≤◌, ◌<◌, length};
 ghost use Rattle.sizes.specs.Sizes.{tile-end, most-layers, piece-size};
 ghost use Rattle.rules.specs.Attributes.{Attrs};
@@ -267,7 +267,7 @@ fn run_commands(
     }
 }
 
-// How far a run went: the steps done, and how many pieces stand in the list.
+/// How far a run went: the steps done, and how many pieces stand in the list.
 #[derive(Clone, Copy)]
 pub struct Gone {
     pub steps: usize,
@@ -281,8 +281,8 @@ fn none_done(pieces: usize) -> Gone
     Gone { steps: 0, pieces }
 }
 
-// The row's next commands, at most `limit`, as far as one look settles each, after `pieces` pieces of the list; none where depth fills are left or the words
-// are no row's. It refuses nothing: what it leaves is judged step by step.
+/// The row's next commands, at most `limit`, as far as one look settles each, after `pieces` pieces of the list; none where depth fills are left or the words
+/// are no row's. It refuses nothing: what it leaves is judged step by step.
 pub fn run_plain(
     row: &Row<'_>,
     depth: &[u32],

@@ -1,4 +1,4 @@
-// The steps of one row, over its own words. Parts: where a function asks something, its callers have judged it.
+//! The steps of one row, over its own words. Parts: where a function asks something, its callers have judged it.
 ghost use Rattle.std.specs.Prelude.{◌≡◌, ◌*◌, ◌≤◌, length};
 ghost use Rattle.sizes.specs.Sizes.{piece-size};
 ghost use Rattle.sizes.specs.Widths.{bucket-tiles};
@@ -35,8 +35,8 @@ fn step_on(
     })
 }
 
-// The row's steps, at most `limit`, until one is refused or the row is finished: commands that one look settles together, every other step by itself. Refused,
-// 4 or 14, only where the first step is.
+/// The row's steps, at most `limit`, until one is refused or the row is finished: commands that one look settles together, every other step by itself. Refused,
+/// 4 or 14, only where the first step is.
 #[inline(never)]
 pub fn run_row(
     row: &Row<'_>,

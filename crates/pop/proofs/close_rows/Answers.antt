@@ -1,6 +1,5 @@
 -- With a clip the LayerFills of its segments, without one a LayerFill on each touched row; then the PopBufs.
-use mathlib.Core.Path.{refl}
-use native.Mathlib.Omega.{arith}
+use Rattle.std.proofs.Common.{refl, arith}
 use Rattle.pop.proofs.Doing.{seen, small-boxes, plain-requires, plain_done, clip-requires, clip-done}
 use Rattle.pop.proofs.close_rows.Goals as goal
 

@@ -1,7 +1,6 @@
-use native.Mathlib.Omega.{arith}
+use Rattle.std.proofs.Common.{arith, rules}
 use Rattle.pop.proofs.Rooms.{long_after}
 use Rattle.pop.proofs.Doing.{seen, b-bottom, pop-requires, pop-done}
-use borrow.Author.Rules.{rules}
 use Rattle.pop.proofs.do_rows.Goals as goal
 
 pub open_at-layer-requires : goal.open_at-layer-requires

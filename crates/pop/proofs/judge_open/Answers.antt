@@ -1,7 +1,5 @@
 -- The layer's words are read once and judged; then its clip's list, if it has one, and the rows of its box.
-use mathlib.Core.Path.{refl, ap}
-use mathlib.Core.Bool.{not}
-use native.Mathlib.Omega.{arith}
+use Rattle.std.proofs.Common.{refl, ap, not, arith}
 use Rattle.row.specs.Rows.{all-held}
 use Rattle.pop.proofs.Numbers.{screened}
 use Rattle.pop.proofs.Opening.{open-bad, open-range, open-small, open-scene, open-bottom, open_plain, open-long, open-clip}

@@ -1,31 +1,38 @@
-use mathlib.Core.Path.{sym, ◌∙◌}
+use Rattle.std.proofs.Common.{sym, ◌∙◌, arith}
+use Rattle.std.proofs.lemmas.Bool.Decides.{nat_tests}
 use Rattle.std.proofs.lemmas.Result.{err_from_is_err_and}
 use Rattle.sizes.proofs.Refusals.{not_done}
-use Rattle.pop.proofs.Numbers.{by-screen, by_lengths, by-none, by-opened, lengths-facts, above-0}
+use Rattle.row.specs.Rows.{all-held}
+use Rattle.pop.specs.Pop.{PopLent, lent}
+use Rattle.pop.proofs.Numbers.{tests, none-left, lengths-facts}
 use Rattle.pop.proofs.judge_pop.Goals as goal
 
 pub returns-in_err-judge_screen : goal.returns-in_err-judge_screen
 returns-in_err-judge_screen c =
     let p = err_from_is_err_and c.from_residual.result c.from_residual.ensures.1 in
-    rw (p.1, p.2) (by-screen _ _ _ c.in_err-judge_screen.ensures (not_done _))
+    let t = tests c.args.screen (lent (all-held c.args.rows.now) c.args.layers.now.table.now c.args.layers.now.opacities.now c.args.layer_attrs.now) c.args.list.now in
+    rw (p.1, p.2) (grind (arith, nat_tests, not_done))
 
 pub returns-then-not-is_good_lengths : goal.returns-then-not-is_good_lengths
 returns-then-not-is_good_lengths c =
-    by_lengths _ _ _ (sym c.in_ok-judge_screen.ensures) (sym c.is_good_lengths.ensures ∙ c.if-not-is_good_lengths.true)
+    let t = tests c.args.screen (lent (all-held c.args.rows.now) c.args.layers.now.table.now c.args.layers.now.opacities.now c.args.layer_attrs.now) c.args.list.now in
+    grind (arith, nat_tests)
 
 pub returns-then-screen-eq0 : goal.returns-then-screen-eq0
 returns-then-screen-eq0 c =
-    by-none _ _ _ (sym c.in_ok-judge_screen.ensures) (sym c.is_good_lengths.ensures ∙ c.if-not-is_good_lengths.false)
-    c.if-screen-eq0.true
+    let l : PopLent = lent (all-held c.args.rows.now) c.args.layers.now.table.now c.args.layers.now.opacities.now c.args.layer_attrs.now in
+    let t = tests c.args.screen l c.args.list.now in
+    let n = none-left c.args.screen l c.args.list.now c.if-screen-eq0.true in
+    grind (arith, nat_tests)
 
 pub judge_open-requires : goal.judge_open-requires
 judge_open-requires c = (
   sym c.in_ok-judge_screen.ensures,
   (lengths-facts _ _ _ _ (sym c.is_good_lengths.ensures ∙ c.if-not-is_good_lengths.false)).0,
-  above-0 _ c.if-screen-eq0.false,
+  omega (arith, c.if-screen-eq0.false),
 )
 
 pub returns : goal.returns
 returns c =
-    c.judge_open.ensures
-    ∙ by-opened _ _ _ (sym c.in_ok-judge_screen.ensures) (sym c.is_good_lengths.ensures ∙ c.if-not-is_good_lengths.false)
+    let t = tests c.args.screen (lent (all-held c.args.rows.now) c.args.layers.now.table.now c.args.layers.now.opacities.now c.args.layer_attrs.now) c.args.list.now in
+    grind (arith, nat_tests)

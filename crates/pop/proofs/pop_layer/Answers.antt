@@ -1,7 +1,6 @@
 -- Judged first; refused, nothing is written. Done, the rows are closed, the layer's properties go to a new attribute, the table's last layer is
 -- dropped and the clip box is the one before.
-use Rattle.std.proofs.Common.{rules}
-use mathlib.Core.Path.{sym, ◌∙◌}
+use Rattle.std.proofs.Common.{rules, sym, ◌∙◌}
 use Rattle.std.proofs.lemmas.Result.{err_from_is_err_and}
 use Rattle.sizes.proofs.Refusals.{not_done}
 use Rattle.row.specs.Rows.{all-held}

@@ -1,9 +1,5 @@
 -- The number and the value of what `settle` gives. Assumes nothing.
-use mathlib.Core.Path.{◌≡◌, refl, sym}
-use mathlib.Core.Bool.{Bool, true, false, cond}
-use Prim.Native.Nat.{ℕ}
-use lib.Dec.{eqb}
-use borrow.Author.Tests.{eqb-true}
+use Rattle.std.proofs.Common.{◌≡◌, refl, sym, Bool, true, false, cond, ℕ, eqb, eqb-true}
 use Rattle.rules.specs.Answers.{answer, settle, Done}
 use Rattle.rules.proofs.All.{never}
 

@@ -1,13 +1,5 @@
 -- Steps keep within bounds: what they put on rows ends at tile 8,192 at the latest, and layers' boxes stay on the screen. Assumes nothing.
-use mathlib.Core.Path.{◌≡◌, refl}
-use mathlib.Core.Bool.{Bool, true, false, ◌&&◌, ◌||◌, not, cond}
-use mathlib.Core.List.{List, [], ◌∷◌}
-use Rattle.std.specs.Prelude.{Option, None, Some}
-use Prim.Native.Nat.{ℕ, ◌+◌, ◌-◌, ◌*◌, ◌/◌, ◌≤◌, ◌<◌, min, max}
-use native.Mathlib.Omega.{arith}
-use lib.Dec.{leb, ltb, eqb}
-use lib.ListN.{length}
-use borrow.Author.Tests.{leb-true, ltb-true, eqb-true}
+use Rattle.std.proofs.Common.{◌≡◌, refl, Bool, true, false, ◌&&◌, ◌||◌, not, cond, List, [], ◌∷◌, Option, None, Some, ℕ, ◌+◌, ◌-◌, ◌*◌, ◌/◌, ◌≤◌, ◌<◌, min, max, arith, leb, ltb, eqb, length, leb-true, ltb-true, eqb-true}
 use Rattle.rules.specs.Lists.{every, some_of}
 use Rattle.rules.specs.Answers.{answer, first_of, Done, BadRecord, BadOrder}
 use Rattle.rules.specs.Boxes.{Box, width, height, by_4, bounded, good-box, good-dest, good_viewport, empty-box, rows_in, span_of, scene-tiles}

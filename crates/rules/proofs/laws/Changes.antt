@@ -1,11 +1,5 @@
 -- What a change of one row, and a list of puts, do to a list of rows. Assumes nothing.
-use mathlib.Core.Path.{◌≡◌, refl, ap, ◌∙◌}
-use mathlib.Core.Bool.{Bool, false}
-use mathlib.Core.List.{List, [], ◌∷◌, ◌++◌}
-use Prim.Native.Nat.{ℕ, zero, suc, ◌<◌}
-use native.Mathlib.Omega.{arith}
-use lib.Dec.{eqb}
-use lib.ListN.{length, get_or, set}
+use Rattle.std.proofs.Common.{◌≡◌, refl, ap, ◌∙◌, Bool, false, List, [], ◌∷◌, ◌++◌, ℕ, zero, suc, ◌<◌, arith, eqb, length, get_or, set}
 use borrow.Author.Tests.{eqb-false}
 use Rattle.rules.specs.Lists.{some_of, change}
 use Rattle.rules.specs.Rows.{RowOps}

@@ -1,13 +1,6 @@
 -- A map of rows that follows every row operation follows every act, every list of puts and every step. Assumes nothing.
-use mathlib.Core.Path.{◌≡◌, refl, sym, ap, ◌∙◌}
-use mathlib.Core.Bool.{Bool, true, false, cond}
-use mathlib.Core.List.{List, [], ◌∷◌, map, foldl}
-use Rattle.std.specs.Prelude.{Option, None}
-use Prim.Native.Nat.{ℕ, zero, suc, ◌+◌, ◌-◌, ◌≤◌, ◌<◌}
-use native.Mathlib.Omega.{arith}
-use lib.Dec.{ltb, eqb}
-use lib.ListN.{length}
-use borrow.Author.Tests.{ltb-false, eqb-true}
+use Rattle.std.proofs.Common.{◌≡◌, refl, sym, ap, ◌∙◌, Bool, true, false, cond, List, [], ◌∷◌, map, Option, None, ℕ, zero, suc, ◌+◌, ◌-◌, ◌≤◌, ◌<◌, arith, ltb, eqb, length, ltb-false, eqb-true}
+use mathlib.Core.List.{foldl}
 use Rattle.rules.specs.Lists.{times, change}
 use Rattle.rules.specs.Answers.{Answer, answer, settle, Done, Deep}
 use Rattle.rules.specs.Spans.{Span}

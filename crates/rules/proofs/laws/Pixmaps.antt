@@ -1,27 +1,17 @@
 -- A filter layer's pixmap in a file, a picture's handle + 1 or 0 for none, and the choice that it says are the same both ways. Assumes nothing.
-use mathlib.Core.Path.{◌≡◌, refl}
-use Rattle.std.specs.Prelude.{Option, None, Some}
-use Prim.Native.Nat.{ℕ, zero, suc, ◌-◌}
-use native.Mathlib.Omega.{arith}
-use lib.Dec.{leb, eqb}
-use borrow.Author.Tests.{ne_eqb}
+use Rattle.std.proofs.Common.{◌≡◌, refl, None, Some, ℕ, zero, suc, ◌-◌, arith, leb, eqb, ne_eqb}
 use Rattle.rules.specs.Lists.{is_none}
 use Rattle.rules.specs.Inputs.{good-pixmap}
 use Rattle.rules.specs.Recording.{pixmap-of}
-use Rattle.rules.proofs.Words.{pixmap-word}
+use Rattle.rules.specs.Words.{PixmapsReadBack, PixmapsWrittenBack}
 
-pub read_back : (p : Option ℕ) → pixmap-of (pixmap-word p) ≡ p
+pub read_back : PixmapsReadBack
 read_back None = refl
 read_back (Some h) = refl
 
-pub written_back : (n : ℕ) → pixmap-word (pixmap-of n) ≡ n
+pub written_back : PixmapsWrittenBack
 written_back zero = refl
 written_back (suc h) = refl
-
--- a word other than 0 says the handle before it
-pub present : (n : ℕ) → (n ≡ 0 → ⊥) → pixmap-of n ≡ Some (n - 1)
-present zero p = absurd (p refl)
-present (suc h) p = let e : suc h - 1 ≡ h = omega arith in rw e
 
 -- how a file's word is judged: in a regular layer, and in a filter layer
 pub none_is : (n : ℕ) → is_none (pixmap-of n) ≡ eqb n 0

@@ -1,35 +1,8 @@
--- A snapped box is the smallest box of tile edges that contains an ordered box; on boxes of tile edges both modes are the same. Assumes nothing.
-use mathlib.Core.Path.{◌≡◌}
-use Prim.Native.Nat.{ℕ, ◌+◌, ◌*◌, ◌/◌, ◌%◌, ◌≤◌}
-use native.Mathlib.Omega.{arith}
-use Rattle.rules.specs.Boxes.{Box}
-use Rattle.rules.specs.Setups.{exact, snapping, lowered, raised, snapped, viewport-in}
-
--- ends not before starts
-pub record Ordered (b : Box) : Type 0 where
-  pub across : b.x0 ≤ b.x1
-  pub down : b.y0 ≤ b.y1
-
--- every side is a tile edge
-pub record Tiled (b : Box) : Type 0 where
-  pub left : b.x0 % 4 ≡ 0
-  pub top : b.y0 % 4 ≡ 0
-  pub right : b.x1 % 4 ≡ 0
-  pub bottom : b.y1 % 4 ≡ 0
-
--- the box a contains the box b
-pub record Contains (a b : Box) : Type 0 where
-  pub left : a.x0 ≤ b.x0
-  pub top : a.y0 ≤ b.y0
-  pub right : b.x1 ≤ a.x1
-  pub bottom : b.y1 ≤ a.y1
-
--- what the snapped box of a box is
-pub record Smallest (s b : Box) : Type 0 where
-  pub ordered : Ordered s
-  pub tiled : Tiled s
-  pub contains : Contains s b
-  pub least : (t : Box) → Tiled t → Contains t b → Contains t s
+-- What snapping makes of a box (`specs/Snapping`). Assumes nothing.
+use Rattle.std.proofs.Common.{◌≡◌, refl, Bool, true, false, ℕ, ◌%◌, ◌≤◌, arith}
+use Rattle.rules.specs.Setups.{lowered, raised, snapped}
+use Rattle.rules.specs.Snapping.{SnappedSmallest, ModesSame, ExactSnapped, FarRefused}
+use Rattle.rules.proofs.laws.Viewports.{view}
 
 lowered-tiled : (n : ℕ) → lowered n % 4 ≡ 0
 lowered-tiled n = omega arith
@@ -52,8 +25,8 @@ above-raised t n e h = omega (arith, e, h)
 ordered-sides : (a b : ℕ) → a ≤ b → lowered a ≤ raised b
 ordered-sides a b h = omega (arith, h)
 
-pub smallest : (b : Box) → Ordered b → Smallest (snapped b) b
-smallest b o =
+pub snapped-smallest : SnappedSmallest
+snapped-smallest b o =
     record {
       ordered = record { across = ordered-sides b.x0 b.x1 o.across; down = ordered-sides b.y0 b.y1 o.down };
       tiled =
@@ -85,6 +58,19 @@ lowered-same n e = omega (arith, e)
 raised-same : (n : ℕ) → n % 4 ≡ 0 → raised n ≡ n
 raised-same n e = omega (arith, e)
 
--- on tile edges both modes are the same
-pub same-modes : (b : Box) → Tiled b → viewport-in snapping b ≡ viewport-in exact b
-same-modes b e = rw (lowered-same b.x0 e.left, lowered-same b.y0 e.top, raised-same b.x1 e.right, raised-same b.y1 e.bottom)
+pub modes-same : ModesSame
+modes-same b e = rw (lowered-same b.x0 e.left, lowered-same b.y0 e.top, raised-same b.x1 e.right, raised-same b.y1 e.bottom)
+
+pub exact-snapped : ExactSnapped
+exact-snapped b g = let v = view b g in modes-same b (record { left = v.x0-by-4; top = v.y0-by-4; right = v.x1-by-4; bottom = v.y1-by-4 })
+
+is_false : (t : Bool) → (t ≡ true → ⊥) → t ≡ false
+is_false true h = absurd (h refl)
+is_false false h = refl
+
+pub far-refused : FarRefused
+far-refused b =
+    record {
+      right = λ h. is_false _ (λ g. omega (arith, (view (snapped b) g).right, h));
+      down = λ h. is_false _ (λ g. omega (arith, (view (snapped b) g).bottom, h));
+    }

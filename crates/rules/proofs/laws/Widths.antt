@@ -1,9 +1,5 @@
 -- Laws of a bucket's width: what holds at 16, 32 and 64 tiles holds at each width. Assumes nothing.
-use mathlib.Core.Path.{◌≡◌, refl}
-use Prim.Native.Nat.{ℕ, zero, suc, ◌+◌, ◌-◌, ◌*◌, ◌/◌, ◌%◌, ◌≤◌, ◌<◌}
-use native.Mathlib.Omega.{arith}
-use lib.Dec.{ltb}
-use borrow.Author.Tests.{lt-ltb, le-ltb}
+use Rattle.std.proofs.Common.{◌≡◌, refl, ℕ, zero, suc, ◌+◌, ◌-◌, ◌*◌, ◌/◌, ◌%◌, ◌≤◌, ◌<◌, arith, ltb, lt-ltb, le-ltb}
 use Rattle.sizes.specs.Sizes.{tile-end}
 use Rattle.sizes.specs.declared.width.Width.{Width}
 use Rattle.sizes.specs.declared.width.Width.TheVariants.{W64, W128, W256}
@@ -31,10 +27,6 @@ module _ (w : Width) where
   -- a tile's bucket is no greater than the tile
   pub below-small : (x : ℕ) → x / bucket-tiles w ≤ x
   below-small x = each (λ w. x / w ≤ x) (omega arith) (omega arith) (omega arith) w
-
-  -- .. nor is the first bucket that starts no earlier
-  pub above-small : (x : ℕ) → (x + (bucket-tiles w - 1)) / bucket-tiles w ≤ x
-  above-small x = each (λ w. (x + (w - 1)) / w ≤ x) (omega arith) (omega arith) (omega arith) w
 
   -- the last tile's end is a multiple of each width, so that no tile is raised past it
   pub raised-short : (x : ℕ) → x ≤ tile-end → raised (bucket-tiles w) x ≤ tile-end
@@ -71,7 +63,3 @@ module _ (w : Width) where
   -- a bucket that tiles up to x meet starts before x
   pub starts-before : (k x : ℕ) → k < (x + (bucket-tiles w - 1)) / bucket-tiles w → k * bucket-tiles w < x
   starts-before k x h = each (λ w. k < (x + (w - 1)) / w → k * w < x) (λ h. omega arith) (λ h. omega arith) (λ h. omega arith) w h
-
-  -- .. and the end of those is near
-  pub ends-near : (k x : ℕ) → k ≤ (x + (bucket-tiles w - 1)) / bucket-tiles w → k * bucket-tiles w ≤ x + 63
-  ends-near k x h = each (λ w. k ≤ (x + (w - 1)) / w → k * w ≤ x + 63) (λ h. omega arith) (λ h. omega arith) (λ h. omega arith) w h

@@ -1,4 +1,4 @@
-use mathlib.Core.Path.{sym, ◌∙◌}
+use Rattle.std.proofs.Common.{sym, ◌∙◌}
 use Rattle.segments.proofs.Judging.{rest-begun, rest-bad, rest-on, rest-done}
 use Rattle.segments.proofs.judge_rest.Goals as goal
 

@@ -1,4 +1,4 @@
-use mathlib.Core.Path.{refl, sym, ◌∙◌}
+use Rattle.std.proofs.Common.{refl, sym, ◌∙◌}
 use Rattle.segments.proofs.Judging.{nothing, first-bad, begun, all-ordered, broken-here, bad-here, again}
 use Rattle.segments.proofs.judge_segments.Goals as goal
 

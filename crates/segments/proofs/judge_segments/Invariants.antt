@@ -1,5 +1,5 @@
 -- So far the segments before i are good and in order.
-use Rattle.std.specs.Prelude.{true}
+use Rattle.std.proofs.Common.{true}
 use Rattle.segments.specs.Segs.{segment-of}
 use Rattle.segments.proofs.Judging.{AtPlace}
 use Rattle.segments.proofs.judge_segments.Given as goal

@@ -1,7 +1,5 @@
 -- The segment's row is tested against the scene's rows, its tiles are cut to the scene's, and what is left is made local.
-use mathlib.Core.Path.{◌≡◌}
-use Rattle.std.specs.Prelude.{Some}
-use native.Mathlib.Omega.{arith}
+use Rattle.std.proofs.Common.{◌≡◌, Some, arith}
 use Rattle.rules.specs.Spans.{cut_to}
 use Rattle.rules.specs.Segments.{stretch-of}
 use Rattle.span.specs.Spans.{tiles, stretch}

@@ -1,4 +1,4 @@
-use mathlib.Core.Path.{refl}
+use Rattle.std.proofs.Common.{refl}
 use Rattle.rules.specs.Boxes.{scene-tiles}
 use Rattle.segments.proofs.scene_of.Goals as goal
 

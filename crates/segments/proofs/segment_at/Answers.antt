@@ -1,4 +1,4 @@
-use mathlib.Core.Path.{refl}
+use Rattle.std.proofs.Common.{refl}
 use Rattle.segments.specs.Segs.{seg-at}
 use Rattle.segments.proofs.segment_at.Goals as goal
 

@@ -1,5 +1,5 @@
 -- None are left, or one row's text and then those after it.
-use native.Mathlib.Omega.{arith}
+use Rattle.std.proofs.Common.{arith}
 use Rattle.text_dump.proofs.Parts.{rows_none, row-few, rows_more}
 use Rattle.text_dump.proofs.+rows_text.Goals as goal
 

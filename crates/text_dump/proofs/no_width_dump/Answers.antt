@@ -1,5 +1,5 @@
 -- The first line stands first, the refusal after it.
-use native.Mathlib.Omega.{arith}
+use Rattle.std.proofs.Common.{arith}
 use Rattle.text_dump.proofs.Files.{whole-text}
 use Rattle.text_dump.proofs.no_width_dump.Goals as goal
 

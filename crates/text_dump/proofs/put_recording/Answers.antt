@@ -1,4 +1,4 @@
-use native.Mathlib.Omega.{arith}
+use Rattle.std.proofs.Common.{arith}
 use Rattle.text_dump.proofs.Files.{line-few}
 use Rattle.text_dump.proofs.put_recording.Goals as goal
 

@@ -1,4 +1,4 @@
-use mathlib.Core.Path.{◌∙◌}
+use Rattle.std.proofs.Common.{◌∙◌}
 use Rattle.text_programs.proofs.Laws.{no-width-shown}
 use Rattle.text_programs.proofs.no_width_text.Goals as goal
 

@@ -1,4 +1,4 @@
-use native.Mathlib.Omega.{arith}
+use Rattle.std.proofs.Common.{arith}
 use Rattle.text_why.proofs.Lines.{question-few}
 use Rattle.text_why.proofs.question_text.Goals as goal
 

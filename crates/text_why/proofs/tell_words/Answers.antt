@@ -1,6 +1,6 @@
 -- The words have a form, their frame's viewport and their records are good and their walk is done, since the recording is accepted: so 12 comes
 -- first, and the story is told to its end.
-use mathlib.Core.Path.{sym, ◌∙◌}
+use Rattle.std.proofs.Common.{sym, ◌∙◌}
 use Rattle.std.proofs.lemmas.Result.{err_from_is_err_and}
 use Rattle.rules.proofs.All.{never}
 use Rattle.screen.specs.Screens.{setup-of}

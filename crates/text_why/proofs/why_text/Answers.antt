@@ -1,10 +1,9 @@
 -- Where the file is refused, the refusal is printed as `rowlist` prints it; else the answer, over what was written before.
-use mathlib.Core.Path.{sym, ◌∙◌}
-use native.Mathlib.Omega.{arith}
+use Rattle.std.proofs.Common.{sym, ◌∙◌, arith}
 use Rattle.screen.specs.Screens.{setup-of}
 use Rattle.text_why.specs.Questions.{question-of}
-use Rattle.text_programs.proofs.Laws.{first_taken}
-use Rattle.text_why.proofs.Files.{refused-text, accepted-file, is-refused, is-done}
+use Rattle.text_programs.proofs.Laws.{first_taken, is-refused, is-done}
+use Rattle.text_why.proofs.Files.{refused-text, accepted-file}
 use Rattle.text_why.proofs.why_text.Goals as goal
 
 pub returns-then-is_err-clause-value : goal.returns-then-is_err-clause-value

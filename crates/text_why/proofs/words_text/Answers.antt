@@ -1,6 +1,5 @@
 -- What is told answers the question, or the refusal does.
-use Prim.Native.Nat.{◌+◌}
-use native.Mathlib.Omega.{arith}
+use Rattle.std.proofs.Common.{◌+◌, arith}
 use Rattle.rules.specs.Lines.{refused}
 use Rattle.text.proofs.Lengths.{line-few}
 use Rattle.text_why.specs.Questions.{question-of, read_by}

@@ -1,4 +1,4 @@
-use lib.ListN.{length}
+use Rattle.std.proofs.Common.{length}
 use Rattle.rules.specs.Calls.{begin-call}
 use Rattle.rules_picture.proofs.Finishes as rules
 use Rattle.theorem_picture.proofs.Finishes.{finishes}

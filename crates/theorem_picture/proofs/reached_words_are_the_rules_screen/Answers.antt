@@ -1,4 +1,5 @@
 use Rattle.walk.proofs.Given.{good-props-said, props-good}
+use Rattle.theorem_picture.proofs.Calls.{shifts-free}
 use Rattle.theorem_picture.proofs.Props.{push-reached}
 use Rattle.theorem_picture.proofs.Reached.{reached, step-reached}
 use Rattle.theorem_picture.proofs.Answered.{stands-answered, calls-said, refused-kept}
@@ -24,3 +25,6 @@ returns-clause-pushes c = λ f xs l p z r e. push-reached p z r e
 
 pub returns-clause-properties : goal.returns-clause-properties
 returns-clause-properties c = record { said = good-props-said; given = props-good }
+
+pub returns-clause-shifts : goal.returns-clause-shifts
+returns-clause-shifts c = λ ps qs e f h ss d. shifts-free ps qs f h e ss d

@@ -1,5 +1,5 @@
-// The lines that are told of a tile, one for each attribute, LINE words each: layer (1) or paint (0), attribute, standing, whether it has an alpha index, that
-// index, nesting, panel.
+//! The lines that are told of a tile, one for each attribute, LINE words each: layer (1) or paint (0), attribute, standing, whether it has an alpha index, that
+//! index, nesting, panel.
 ghost use Rattle.std.specs.Prelude.{◌≡◌, [], ◌∷◌, ◌+◌, ◌*◌, ◌<◌, length};
 ghost use Rattle.sizes.specs.Sizes.{most-attrs, line-size, line-table};
 ghost use Rattle.cmd.specs.Attrs.{words-at};
@@ -8,23 +8,23 @@ ghost use Rattle.tile.specs.Places.{line_of};
 
 use sizes::LINE;
 
-// How an attribute's step stands to the tile, the first that holds: before the cut, nothing of it covers the tile.
+/// How an attribute's step stands to the tile, the first that holds: before the cut, nothing of it covers the tile.
 pub const NO_SEGMENT: u32 = 0;
 
-// .. nothing after the cut.
+/// .. nothing after the cut.
 pub const CUT_AWAY: u32 = 1;
 
-// .. the row is not touched for the layer that closes.
+/// .. the row is not touched for the layer that closes.
 pub const UNTOUCHED: u32 = 2;
 
-// Else it is told: it has an entry in the tile's list.
+/// Else it is told: it has an entry in the tile's list.
 pub const TOLD: u32 = 3;
 
-// Told, and it hides what came before: an eligible solid segment over the whole bucket.
+/// Told, and it hides what came before: an eligible solid segment over the whole bucket.
 pub const HIDES: u32 = 4;
 
-// One line: a layer's attribute or a paint's, its place in their table, how it stands to the tile, and of what covers the tile the alpha index there, if it has
-// one.
+/// One line: a layer's attribute or a paint's, its place in their table, how it stands to the tile, and of what covers the tile the alpha index there, if it has
+/// one.
 #[derive(Clone, Copy)]
 pub struct Line {
     pub layer: bool,
@@ -35,10 +35,10 @@ pub struct Line {
     pub panel: u32,
 }
 
-// Which word of a line is the panel.
+/// Which word of a line is the panel.
 pub const LINE_PANEL: usize = 6;
 
-// The first that holds, as a number.
+/// The first that holds, as a number.
 pub fn standing(covered: bool, kept: bool, touched: bool, hides: bool) -> u32
     ensures { result ≡ standing-of covered kept touched hides }
 {
@@ -65,7 +65,7 @@ fn index_of(alpha: Option<u32>) -> (u32, u32)
     }
 }
 
-// Stores line i: lines stand in the order in which the attributes are added.
+/// Stores line i: lines stand in the order in which the attributes are added.
 pub fn put_line(lines: &mut [u32], i: u32, line: Line)
     requires { (i < most-attrs + most-attrs) × (length lines.old ≡ line-table) }
     ensures { lines.new ≡ words-at lines.old (line-size * i) (line-words (line_of line)) }

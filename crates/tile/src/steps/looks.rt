@@ -1,4 +1,4 @@
-// What a list of segments is to one tile, before it is cut to the clip box and after.
+//! What a list of segments is to one tile, before it is cut to the clip box and after.
 ghost use Rattle.std.specs.Prelude.{◌≡◌, true, ◌+◌, ◌-◌, ◌*◌, ◌≤◌, length};
 ghost use Rattle.rules.specs.Lists.{every};
 ghost use Rattle.rules.specs.Spans as rule;
@@ -16,8 +16,8 @@ use rect::Rect;
 use segments::{Scene, Segment, place, scene_of, segment_at};
 use span::{Stretch, TileSpan, moved};
 
-// covered: a segment covers the tile before the cut; reached: one is left in its row; kept: one that is left covers it, with the tile's own alpha index, and
-// whether it covers the tile's whole bucket.
+/// covered: a segment covers the tile before the cut; reached: one is left in its row; kept: one that is left covers it, with the tile's own alpha index, and
+/// whether it covers the tile's whole bucket.
 #[derive(Clone, Copy)]
 pub struct Look {
     pub covered: bool,
@@ -27,14 +27,14 @@ pub struct Look {
     pub whole: bool,
 }
 
-// The tile is one of the span's.
+/// The tile is one of the span's.
 pub fn covers(span: TileSpan, tile: u32) -> bool
     ensures { result ≡ rule.covers (tiles span) tile }
 {
     (span.first..span.end).contains(&tile)
 }
 
-// The box, in pixels, meets the row.
+/// The box, in pixels, meets the row.
 pub fn is_in_row(bbox: Rect, row: u32) -> bool
     requires { Small (box_of bbox) }
     ensures { result ≡ in_row (box_of bbox) row }
@@ -42,7 +42,7 @@ pub fn is_in_row(bbox: Rect, row: u32) -> bool
     (bbox.y0 / 4..(bbox.y1 + 3) / 4).contains(&row)
 }
 
-// The box, in pixels, meets the tile of the row.
+/// The box, in pixels, meets the tile of the row.
 pub fn is_met(bbox: Rect, row: u32, tile: u32) -> bool
     requires { Small (box_of bbox) }
     ensures { result ≡ met (box_of bbox) row tile }
@@ -109,7 +109,7 @@ fn see(spot: Spot, scene: Scene, clip: Rect, look: Look, segment: Segment) -> Lo
     }
 }
 
-// What the segments from start to end of a list are to the tile, cut to the clip box.
+/// What the segments from start to end of a list are to the tile, cut to the clip box.
 pub fn look_at(spot: Spot, clip: Rect, list: &[u32], start: usize, end: usize) -> Look
     requires { Spotted spot × Small (box_of clip) × (start ≤ «end») × (5 * «end» ≤ length list.now) × (every good-segment (segs list.now start («end» - start)) ≡ true) }
     ensures { look-of result ≡ tell.look spot.width (box_of spot.viewport) spot.row spot.tile (box_of clip) no-look (segs list.now start («end» - start)) }

@@ -1,9 +1,5 @@
-use mathlib.Core.List.{[], ◌∷◌}
-use Prim.Native.Nat.{◌*◌}
-use native.Mathlib.Omega.{arith}
-use lib.IntN.{pos}
-use mir.Syntax.{w32}
-use mir.Facts.{to_z-of_z, to_z_pos}
+use Rattle.std.proofs.Common.{[], ◌∷◌, ◌*◌, arith, pos, w32, to_z-of_z}
+use mir.Facts.{to_z_pos}
 use Rattle.cmd.proofs.Tables.{stored}
 use Rattle.cmd.proofs.attrs.put_filter_paint.Goals as goal
 

@@ -1,6 +1,4 @@
-use mathlib.Core.List.{[], ◌∷◌}
-use Prim.Native.Nat.{◌*◌}
-use native.Mathlib.Omega.{arith}
+use Rattle.std.proofs.Common.{[], ◌∷◌, ◌*◌, arith}
 use Rattle.sizes.specs.Sizes.{layer-attr-size}
 use Rattle.cmd.proofs.Tables.{stored}
 use Rattle.cmd.proofs.attrs.put_layer_attrs.Goals as goal

@@ -1,7 +1,5 @@
 -- Invariant: the runs counted and those from `from` on are all the runs.
-use mathlib.Core.Path.{◌≡◌}
-use Prim.Native.Nat.{◌≤◌, ◌-◌, ◌+◌}
-use lib.ListN.{length}
+use Rattle.std.proofs.Common.{◌≡◌, ◌≤◌, ◌-◌, ◌+◌, length}
 use Rattle.rules.specs.Spans.{span}
 use Rattle.rules.specs.Depth.{is-visible, runs-in}
 use Rattle.depth.proofs.runs.count_runs.Given as goal

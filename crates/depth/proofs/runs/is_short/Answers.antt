@@ -1,5 +1,4 @@
-use mathlib.Core.Path.{sym, ◌∙◌}
-use borrow.Author.Tests.{ltb-false}
+use Rattle.std.proofs.Common.{sym, ◌∙◌, ltb-false}
 use Rattle.rules.specs.Depth.{is-visible}
 use Rattle.depth.proofs.Answering.{roomy, empty}
 use Rattle.depth.proofs.runs.is_short.Goals as goal

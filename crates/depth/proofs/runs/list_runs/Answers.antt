@@ -1,4 +1,4 @@
-use native.Mathlib.Omega.{arith}
+use Rattle.std.proofs.Common.{arith}
 use Rattle.rules.specs.Depth.{is-visible}
 use Rattle.depth.proofs.Filling.{fill_next, fill_all}
 use Rattle.depth.proofs.runs.list_runs.Goals as goal

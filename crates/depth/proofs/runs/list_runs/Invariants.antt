@@ -1,5 +1,5 @@
 -- Invariant: n runs stand in the list, those from `from` on are still to come.
-use Prim.Native.Nat.{◌-◌}
+use Rattle.std.proofs.Common.{◌-◌}
 use Rattle.rules.specs.Spans.{Span, common}
 use Rattle.rules.specs.Depth.{is-visible, tiles-of}
 use Rattle.span.specs.Spans.{tiles}

@@ -1,11 +1,5 @@
-use mathlib.Core.Path.{◌≡◌, refl, sym, ◌∙◌}
-use mathlib.Core.Bool.{true}
-use mathlib.Core.List.{List}
-use Prim.Native.Nat.{ℕ, zero, suc, ◌<◌, ◌≤◌, ◌+◌, ◌*◌}
-use native.Mathlib.Nat.{le_refl}
-use native.Mathlib.Omega.{arith}
-use lib.ListN.{length, length-set}
-use borrow.Author.Tests.{le-leb, lt-leb}
+use Rattle.std.proofs.Common.{◌≡◌, refl, sym, ◌∙◌, true, List, ℕ, zero, suc, ◌<◌, ◌≤◌, ◌+◌, ◌*◌, le_refl, arith, length, length-set, le-leb}
+use borrow.Author.Tests.{lt-leb}
 use Rattle.rules.specs.Spans.{span}
 use Rattle.rules.specs.Depth.{is-visible, runs-in}
 use Rattle.depth.specs.Listing.{done, listing, open-runs}

@@ -1,8 +1,6 @@
 -- Invariant: n runs of the words as they were stand in the list, those from `at` on are still to come; the buckets before `at` are written, those from it on are as they were, and `found`
 -- is what bucket `at` holds. In the inner loop: the run from `at` has come to `next`, and is written to there.
-use mathlib.Core.List.{List}
-use Prim.Native.Nat.{ℕ, ◌≤◌, ◌-◌}
-use lib.ListN.{length}
+use Rattle.std.proofs.Common.{List, ℕ, ◌≤◌, ◌-◌, length}
 use Rattle.rules.specs.Spans.{Span}
 use Rattle.rules.specs.Depth.{is-visible}
 use Rattle.depth.proofs.Searching.{Carried, Reached}

@@ -1,4 +1,4 @@
-use mathlib.Core.Path.{◌∙◌}
+use Rattle.std.proofs.Common.{◌∙◌}
 use Rattle.depth.proofs.Answering.{unset-same}
 use Rattle.depth.proofs.runs.unset_runs.Goals as goal
 

@@ -1,5 +1,5 @@
 -- Each refusal is the rules' answer, in the order of the tests; past them the list has room for the runs, and one pass lists and writes them.
-use mathlib.Core.Path.{sym, ◌∙◌}
+use Rattle.std.proofs.Common.{sym, ◌∙◌}
 use Rattle.depth.proofs.Answering.{write-backward, write-past, write-no-id, write-short, write_done}
 use Rattle.depth.proofs.runs.unset_runs_and_write.Goals as goal
 use Rattle.depth.proofs.runs.unset_runs_and_write.Goals.{then-hi-lo-via-then-hi-lo, then-hi-lo-via-else-hi-lo+then-depth-hi, then-hi-lo-via-else-hi-lo+else-depth-hi+then-draw_id-eq0}

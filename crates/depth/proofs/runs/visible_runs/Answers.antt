@@ -1,4 +1,4 @@
-use mathlib.Core.Path.{sym, ◌∙◌}
+use Rattle.std.proofs.Common.{sym, ◌∙◌}
 use Rattle.depth.proofs.Answering.{tiles-backward, tiles-past, tiles-short, tiles-done}
 use Rattle.depth.proofs.runs.visible_runs.Goals as goal
 use Rattle.depth.proofs.runs.visible_runs.Goals.{then-span-via-then-span, then-span-via-else-span+then-span-gt-TILE_END}

@@ -1,5 +1,5 @@
 -- Invariant: the buckets before `first` are closed; in the inner loop those from it to `next` are open.
-use Prim.Native.Nat.{◌-◌}
+use Rattle.std.proofs.Common.{◌-◌}
 use Rattle.depth.proofs.Stepping.{Before, Within}
 use Rattle.depth.proofs.search.next_run.Given as goal
 

@@ -1,5 +1,5 @@
 -- The sections follow each other, each after its count; the first that does not fit ends the reading, and words after the last are refused.
-use native.Mathlib.Omega.{arith}
+use Rattle.std.proofs.Common.{arith}
 use Rattle.std.proofs.lemmas.Result.{err_from_is_err_and}
 use Rattle.file.proofs.Laid.{begin, more, lacking, longer, exact}
 use Rattle.file.proofs.form.read_form.Goals as goal

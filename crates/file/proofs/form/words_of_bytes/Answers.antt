@@ -1,5 +1,4 @@
-use mathlib.Core.Path.{refl}
-use native.Mathlib.Omega.{arith}
+use Rattle.std.proofs.Common.{refl, arith}
 use Rattle.file.proofs.Bytes.{put_next}
 use Rattle.file.specs.Each.{each}
 use Rattle.file.specs.Words.{word_from}

@@ -1,6 +1,5 @@
 -- So far the first i words are made of their four bytes each.
-use Prim.Native.Nat.{◌≤◌, ◌-◌, ◌/◌}
-use lib.ListN.{length}
+use Rattle.std.proofs.Common.{◌≤◌, ◌-◌, ◌/◌, length}
 use Rattle.file.proofs.Bytes.{Put}
 use Rattle.file.proofs.form.words_of_bytes.Given as goal
 

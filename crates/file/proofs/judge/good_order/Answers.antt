@@ -1,5 +1,4 @@
-use mathlib.Core.Path.{sym, ◌∙◌}
-use borrow.Author.Rules.{rules}
+use Rattle.std.proofs.Common.{sym, ◌∙◌, rules}
 use Rattle.file.proofs.Orders.{ready, bad-draw-order, clips-left}
 use Rattle.file.proofs.judge.good_order.Goals as goal
 

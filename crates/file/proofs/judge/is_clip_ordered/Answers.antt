@@ -1,4 +1,4 @@
-use borrow.Author.Tests.{eq-eqb, ne_eqb}
+use Rattle.std.proofs.Common.{eq-eqb, ne_eqb}
 use Rattle.file.specs.Places.{layer_from, clip_from}
 use Rattle.file.specs.Judging.{clip_range, clip_ordered}
 use Rattle.file.proofs.judge.is_clip_ordered.Goals as goal

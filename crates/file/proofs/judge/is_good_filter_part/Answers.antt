@@ -1,5 +1,4 @@
-use mathlib.Core.Path.{◌∙◌}
-use borrow.Author.Tests.{eq-eqb, ne_eqb}
+use Rattle.std.proofs.Common.{◌∙◌, eq-eqb, ne_eqb}
 use Rattle.file.specs.Places.{layer_from}
 use Rattle.file.specs.Judging.{filter_part}
 use Rattle.file.proofs.Fields.{filter-zeros}

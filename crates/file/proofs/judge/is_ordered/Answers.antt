@@ -1,4 +1,4 @@
-use mathlib.Core.Path.{◌∙◌}
+use Rattle.std.proofs.Common.{◌∙◌}
 use Rattle.file.proofs.Listed.{range-judged, fine}
 use Rattle.file.proofs.judge.is_ordered.Goals as goal
 

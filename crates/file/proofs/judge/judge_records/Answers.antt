@@ -1,4 +1,4 @@
-use mathlib.Core.Path.{sym, ◌∙◌}
+use Rattle.std.proofs.Common.{sym, ◌∙◌}
 use Rattle.file.proofs.Counted.{all-counted}
 use Rattle.file.proofs.judge.judge_records.Goals as goal
 

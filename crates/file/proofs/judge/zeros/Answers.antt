@@ -1,9 +1,4 @@
-use Prim.Native.Nat.{◌+◌, ◌-◌}
-use native.Mathlib.Omega.{arith}
-use mathlib.Core.Path.{◌≡◌, ◌∙◌}
-use borrow.Author.Rules.{rules}
-use borrow.Author.Tests.{tests}
-use lib.ListN.{take, drop}
+use Rattle.std.proofs.Common.{◌+◌, ◌-◌, arith, ◌≡◌, ◌∙◌, rules, tests, take, drop}
 use Rattle.std.proofs.lemmas.Iterator.{YieldsList-from_slice}
 use Rattle.std.proofs.lemmas.Iterator.Search.{all_from_yields_List}
 use Rattle.file.specs.Judging.{is_zero}

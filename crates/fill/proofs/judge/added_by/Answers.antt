@@ -1,4 +1,4 @@
-use mathlib.Core.Path.{sym, ◌∙◌}
+use Rattle.std.proofs.Common.{sym, ◌∙◌}
 use Rattle.span.specs.Spans.{tiles}
 use Rattle.fill.proofs.JudgeLaws.{found-unsplit, found-whole, found-pieces}
 use Rattle.fill.proofs.judge.added_by.Goals as goal

@@ -1,6 +1,5 @@
 -- The record is good, and the sums stay within C and D.
-use mathlib.Core.Path.{sym, ◌∙◌}
-use borrow.Author.Tests.{leb-true}
+use Rattle.std.proofs.Common.{sym, ◌∙◌, leb-true}
 use Rattle.fill.proofs.Sure.{room-found}
 use Rattle.fill.proofs.judge.has_room.Goals as goal
 

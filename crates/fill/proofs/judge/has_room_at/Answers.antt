@@ -1,5 +1,5 @@
 -- A row of the scene has its record among all.
-use native.Mathlib.Omega.{arith}
+use Rattle.std.proofs.Common.{arith}
 use Rattle.row.proofs.RoomLaws.{record-long}
 use Rattle.fill.proofs.judge.has_room_at.Goals as goal
 

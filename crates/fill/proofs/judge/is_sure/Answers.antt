@@ -1,7 +1,4 @@
-use mathlib.Core.Path.{◌≡◌, sym, ◌∙◌}
-use Prim.Native.Nat.{◌+◌, ◌*◌}
-use native.Mathlib.Omega.{arith}
-use lib.ListN.{get_or}
+use Rattle.std.proofs.Common.{◌≡◌, sym, ◌∙◌, ◌+◌, ◌*◌, arith, get_or}
 use Rattle.row.specs.Arena.{count-rows}
 use Rattle.fill.proofs.Sure.{split_off, Walking, set_out, turns-over, all-sure, one-solid, one-alpha}
 use Rattle.fill.proofs.judge.is_sure.Goals as goal

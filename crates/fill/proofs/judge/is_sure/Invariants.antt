@@ -1,6 +1,5 @@
 -- The walk goes by runs of segments on one row (`Walking`); each that ends is looked at for room.
-use mathlib.Core.Path.{◌≡◌}
-use Prim.Native.Nat.{◌-◌}
+use Rattle.std.proofs.Common.{◌≡◌, ◌-◌}
 use Rattle.row.specs.Arena.{count-rows}
 use Rattle.fill.proofs.Sure.{split_off, Walking}
 use Rattle.fill.proofs.judge.is_sure.Given as goal

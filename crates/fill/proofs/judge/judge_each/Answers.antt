@@ -1,4 +1,4 @@
-use mathlib.Core.Path.{refl, sym, ◌∙◌}
+use Rattle.std.proofs.Common.{refl, sym, ◌∙◌}
 use Rattle.std.proofs.lemmas.Result.{err_from_is_err_and}
 use Rattle.row.proofs.RoomLaws.{never_bad}
 use Rattle.fill.proofs.Hands.{begun, bad-here, bad-record, again, told-at-last}

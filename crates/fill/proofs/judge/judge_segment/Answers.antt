@@ -1,6 +1,5 @@
 -- What is left of the segment is nothing or one cut segment, on the row at hand or on another, whose record is judged.
-use mathlib.Core.Path.{ap, ◌∙◌}
-use native.Mathlib.Omega.{arith}
+use Rattle.std.proofs.Common.{ap, ◌∙◌, arith}
 use Rattle.std.proofs.lemmas.Result.{err_from_is_err_and}
 use Rattle.row.specs.declared.room.Limits.{Limits}
 use Rattle.row.specs.Room.{at-hand}

@@ -1,6 +1,5 @@
-use native.Mathlib.Omega.{arith}
+use Rattle.std.proofs.Common.{arith, rules}
 use Rattle.row.proofs.RowsLaws.{rows-counted}
-use borrow.Author.Rules.{rules}
 use Rattle.fill.proofs.RowsLaws.{filled, good-here, room-here, again, long_after}
 use Rattle.fill.proofs.Runs.{after_run, kind-read}
 use Rattle.fill.proofs.rows.fill_rows.Goals as goal

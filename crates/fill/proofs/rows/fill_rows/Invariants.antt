@@ -1,5 +1,5 @@
 -- At segment i the rest has room, and doing it from here gives what doing all from start would (`Filling`).
-use Prim.Native.Nat.{◌-◌}
+use Rattle.std.proofs.Common.{◌-◌}
 use Rattle.row.specs.Rows.{all-held, SameRows}
 use Rattle.row.specs.Arena.{count-rows}
 use Rattle.fill.proofs.RowsLaws.{Filling}

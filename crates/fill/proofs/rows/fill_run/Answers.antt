@@ -1,6 +1,5 @@
 -- Nothing is left of the segment, or its row is lent for the run that it begins, and comes back changed once.
-use mathlib.Core.Path.{ap, ◌∙◌}
-use native.Mathlib.Omega.{arith}
+use Rattle.std.proofs.Common.{ap, ◌∙◌, arith}
 use Rattle.rules.specs.Segments.{Segment, good-segment}
 use Rattle.segments.proofs.Laws.{good-first}
 use Rattle.row.proofs.RowsLaws.{x-end, z-end}

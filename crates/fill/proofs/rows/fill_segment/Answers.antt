@@ -1,5 +1,5 @@
 -- By where the segment is placed: nothing is done, or its act on its row.
-use mathlib.Core.Path.{sym, ◌∙◌}
+use Rattle.std.proofs.Common.{sym, ◌∙◌}
 use Rattle.fill.proofs.RowsLaws.{on-its-row, one_none, one-some}
 use Rattle.fill.proofs.rows.fill_segment.Goals as goal
 

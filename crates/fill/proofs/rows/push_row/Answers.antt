@@ -1,6 +1,5 @@
-use Rattle.std.proofs.Common.{rules}
+use Rattle.std.proofs.Common.{rules, sym, ◌∙◌}
 -- A row that has its layers gets one command, which is what drawing puts there (`drawn-once`); any other goes by `push_fill`.
-use mathlib.Core.Path.{sym, ◌∙◌}
 use Rattle.row.specs.Words.{words}
 use Rattle.span.specs.Spans.{tiles}
 use Rattle.sizes.specs.Widths.{bucket-tiles}

@@ -1,6 +1,4 @@
-use Rattle.std.proofs.Common.{rules}
-use mathlib.Core.Path.{sym, ap, ◌∙◌}
-use native.Mathlib.Omega.{arith}
+use Rattle.std.proofs.Common.{rules, sym, ap, ◌∙◌, arith}
 use Rattle.rules.specs.Segments.{Segment}
 use Rattle.fill.proofs.Runs.{layers-room, set-off, row-left, solid-met, runs_past, paint-asks, runs_on, run-done}
 use Rattle.fill.proofs.rows.push_run.Goals as goal

@@ -1,5 +1,5 @@
 -- At segment next the segments before it stand on the row and are drawn there (`Running`); the row got its layers before the first.
-use Prim.Native.Nat.{◌-◌}
+use Rattle.std.proofs.Common.{◌-◌}
 use Rattle.row.specs.Row.{held, Same}
 use Rattle.fill.proofs.Runs.{Running}
 use Rattle.fill.proofs.rows.push_run.Given as goal

@@ -1,6 +1,5 @@
 -- The viewport first, then the arenas of the screen that a reset makes.
-use mathlib.Core.Path.{ap, ◌∙◌}
-use Rattle.std.proofs.Common.{rules}
+use Rattle.std.proofs.Common.{ap, ◌∙◌, rules}
 use Rattle.std.proofs.lemmas.Result.{err_from_is_err_and}
 use Rattle.rect.proofs.Snapping.{bad-seen}
 use Rattle.screen.specs.declared.Screen.{Screen}

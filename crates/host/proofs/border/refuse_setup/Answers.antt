@@ -1,5 +1,5 @@
 -- The form, then the number.
-use mathlib.Core.Path.{◌∙◌}
+use Rattle.std.proofs.Common.{◌∙◌}
 use Rattle.file.proofs.Laid.{good-form, bad-form}
 use Rattle.host.proofs.Ways.{unasked-form, unasked-file}
 use Rattle.host.proofs.border.refuse_setup.Goals as goal

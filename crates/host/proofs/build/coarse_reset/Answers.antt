@@ -1,7 +1,6 @@
 -- Words that ask for no setup are refused. Where the state's words stand for no screen the border answers; else the call's own equation, carried over to
 -- the words.
-use mathlib.Core.Path.{◌∙◌}
-use Rattle.std.proofs.Common.{rules, true}
+use Rattle.std.proofs.Common.{◌∙◌, rules, true}
 use Rattle.screen.specs.Screens.{setup-of}
 use Rattle.screen.specs.Tables.{Tables}
 use Rattle.host.specs.Lent.{tables_in}

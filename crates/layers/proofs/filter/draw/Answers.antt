@@ -1,5 +1,5 @@
 -- The rows of the box get the fill; then the paint and the attribute are stored at their next places.
-use native.Mathlib.Omega.{arith}
+use Rattle.std.proofs.Common.{arith}
 use Rattle.layers.proofs.Doing.{paint-needs, attrs-needs, put-paint-needs, put-attrs-needs, bottom, rows-needs, counts-needs, leaves}
 use Rattle.layers.proofs.filter.draw.Goals as goal
 

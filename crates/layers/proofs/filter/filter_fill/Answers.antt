@@ -1,5 +1,5 @@
 -- Judged first; refused, nothing is written. Done, the rows of the box get the fill, the tables its paint and its attribute.
-use mathlib.Core.Path.{sym, ◌∙◌}
+use Rattle.std.proofs.Common.{sym, ◌∙◌}
 use Rattle.std.proofs.lemmas.Result.{err_from_is_err_and}
 use Rattle.sizes.proofs.Refusals.{not_done}
 use Rattle.layers.proofs.FilterLaws.{refused-is, done-is}

@@ -1,7 +1,6 @@
 -- Judged first; refused, nothing is written. Done, the rows of the layer's box get their buffers, where it needs one; the table gets the layer;
 -- the clip box narrows.
-use mathlib.Core.Path.{sym}
-use native.Mathlib.Omega.{arith}
+use Rattle.std.proofs.Common.{sym, arith}
 use Rattle.std.proofs.lemmas.Result.{err_from_is_err_and}
 use Rattle.sizes.proofs.Refusals.{not_done}
 use Rattle.layers.proofs.PushLaws.{ready, bottom-small, run_is, after_is, refused-is, done-is}

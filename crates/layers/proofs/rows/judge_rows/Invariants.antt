@@ -1,5 +1,5 @@
 -- Judging the rows from r to b with the number so far gives what judging all from a would (`Going`); each row is turned to, and gets one command.
-use Prim.Native.Nat.{ℕ}
+use Rattle.std.proofs.Common.{ℕ}
 use Rattle.row.specs.Building.{good_row}
 use Rattle.row.specs.Room.{record-at, fault_number}
 use Rattle.row.proofs.RoomRows.{Going}

@@ -1,5 +1,5 @@
 -- Row r stands where `place_of` says, so the three parts lie within the slices, are row r as they are lent, and come back as row r.
-use mathlib.Core.Path.{sym, ◌∙◌}
+use Rattle.std.proofs.Common.{sym, ◌∙◌}
 use Rattle.sizes.specs.Widths.{bucket-tiles}
 use Rattle.row.proofs.RowsLaws.{roomy, back}
 use Rattle.row.specs.Acts.{acted}

@@ -1,4 +1,4 @@
-use borrow.Author.Rules.{rules}
+use Rattle.std.proofs.Common.{rules}
 use Rattle.layers.proofs.RowsLaws.{band_row, band-end, band-again, long_after}
 use Rattle.layers.proofs.rows.on_rows.Goals as goal
 

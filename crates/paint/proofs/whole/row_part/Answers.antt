@@ -1,7 +1,5 @@
 -- Row r's parts are cut out of the slices and handed on; what the steps make of them is put back, and every other row stays.
-use mathlib.Core.Path.{ap, ◌∙◌}
-use native.Mathlib.Omega.{arith}
-use lib.ListN.{length}
+use Rattle.std.proofs.Common.{ap, ◌∙◌, arith, length}
 use Rattle.paint.specs.Painting.{lent}
 use Rattle.paint.proofs.WholeParts.{part-of-length, run-back}
 use Rattle.paint.proofs.whole.row_part.Goals as goal

@@ -1,7 +1,5 @@
 -- The segment is cut; on a touched row of the box it becomes a LayerFill, elsewhere nothing.
-use Prim.Native.Nat.{◌-◌}
-use mathlib.Core.Path.{refl, sym, ap, ◌∙◌}
-use mathlib.Core.Bool.{not}
+use Rattle.std.proofs.Common.{◌-◌, refl, sym, ap, ◌∙◌, not}
 use Rattle.segments.specs.Segs.{seg-at}
 use Rattle.pop.proofs.Clipping.{one_none, one_out, one_in}
 use Rattle.pop.proofs.Judging.{touched-no, touched-yes, clip-here}

@@ -1,5 +1,4 @@
-use native.Mathlib.Omega.{arith}
-use borrow.Author.Rules.{rules}
+use Rattle.std.proofs.Common.{arith, rules}
 use Rattle.pop.proofs.Clipping.{clipping-done, good-here, room-here, clipping-on}
 use Rattle.pop.proofs.Rooms.{long_after}
 use Rattle.pop.proofs.rows.close_segments.Goals as goal

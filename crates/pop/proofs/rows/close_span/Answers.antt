@@ -1,6 +1,4 @@
-use Prim.Native.Nat.{◌-◌}
-use mathlib.Core.Path.{◌∙◌}
-use Rattle.std.specs.Prelude.{None}
+use Rattle.std.proofs.Common.{◌-◌, ◌∙◌, None}
 use Rattle.rules.specs.Plans.{close}
 use Rattle.span.specs.Spans.{tiles}
 use Rattle.pop.specs.Closing.{Fillable}

@@ -1,5 +1,4 @@
-use native.Mathlib.Omega.{arith}
-use borrow.Author.Rules.{rules}
+use Rattle.std.proofs.Common.{arith, rules}
 use Rattle.pop.proofs.Going.{going_done, going-here, going_on}
 use Rattle.pop.proofs.Rooms.{long_after}
 use Rattle.pop.proofs.rows.close_spans.Goals as goal

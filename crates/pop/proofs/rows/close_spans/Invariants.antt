@@ -1,6 +1,5 @@
 -- So far the touched rows before r have their LayerFill; each from r on still has room for its own.
-use Prim.Native.Nat.{◌-◌}
-use Rattle.std.specs.Prelude.{None}
+use Rattle.std.proofs.Common.{◌-◌, None}
 use Rattle.rules.specs.Plans.{close}
 use Rattle.span.specs.Spans.{tiles}
 use Rattle.screen.specs.Screens.{frame-of}

@@ -1,5 +1,5 @@
 -- The part is row r's record. A touched row has all its layers, so its own commands, its PopBuf and `more` are what is counted.
-use native.Mathlib.Omega.{arith}
+use Rattle.std.proofs.Common.{arith}
 use Rattle.row.proofs.RoomLaws.{record-long}
 use Rattle.pop.proofs.Judging.{count-here}
 use Rattle.pop.proofs.rows.count_pop_row.Goals as goal

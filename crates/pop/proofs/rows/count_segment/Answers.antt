@@ -1,7 +1,5 @@
 -- The segment is cut; on a touched row it is one command more there: of the row at hand, or of its record.
-use mathlib.Core.Path.{refl, ap}
-use mathlib.Core.Bool.{not}
-use native.Mathlib.Omega.{arith}
+use Rattle.std.proofs.Common.{refl, ap, not, arith}
 use Rattle.row.specs.Room.{record-at}
 use Rattle.row.proofs.RoomLaws.{record-long}
 use Rattle.pop.proofs.Clipping.{counted_none, counted-out, counted-held, counted-else}

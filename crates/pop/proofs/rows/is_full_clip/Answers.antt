@@ -1,5 +1,4 @@
-use mathlib.Core.Path.{sym, ◌∙◌}
-use native.Mathlib.Omega.{arith}
+use Rattle.std.proofs.Common.{sym, ◌∙◌, arith}
 use Rattle.pop.proofs.Judging.{found_done, found_some}
 use Rattle.pop.proofs.Clipping.{counting-done, counting-good, counting-full, counting-on}
 use Rattle.pop.proofs.rows.is_full_clip.Goals as goal

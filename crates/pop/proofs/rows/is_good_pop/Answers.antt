@@ -1,4 +1,4 @@
-use mathlib.Core.Path.{refl, sym, ◌∙◌}
+use Rattle.std.proofs.Common.{refl, sym, ◌∙◌}
 use Rattle.row.specs.Words.{words}
 use Rattle.pop.proofs.Judging.{place-within, tag_at, pop-other, pop-bad}
 use Rattle.pop.proofs.rows.is_good_pop.Goals as goal

@@ -1,5 +1,4 @@
-use mathlib.Core.Path.{sym, ◌∙◌}
-use native.Mathlib.Omega.{arith}
+use Rattle.std.proofs.Common.{sym, ◌∙◌, arith}
 use Rattle.row.proofs.RoomRows.{going_end, going-bad, going_on}
 use Rattle.pop.proofs.Judging.{pops-told, row-there, row-shallow, row-counted}
 use Rattle.pop.proofs.rows.judge_pop_rows.Goals as goal

@@ -1,5 +1,5 @@
 -- Judging the rows from r to b with the number so far gives what judging all from a would (`Going`).
-use Prim.Native.Nat.{ℕ, ◌+◌}
+use Rattle.std.proofs.Common.{ℕ, ◌+◌}
 use Rattle.screen.specs.Screens.{frame-of}
 use Rattle.row.specs.Rows.{all-held}
 use Rattle.row.specs.Building.{rows_at}

@@ -1,5 +1,4 @@
-use Prim.Native.Nat.{◌-◌}
-use mathlib.Core.Path.{◌∙◌}
+use Rattle.std.proofs.Common.{◌-◌, ◌∙◌}
 use Rattle.rules.specs.Plans.{pop}
 use Rattle.pop.specs.Closing.{Poppable}
 use Rattle.pop.proofs.Judging.{act-other, pop-here, each-here}

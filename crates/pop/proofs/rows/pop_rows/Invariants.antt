@@ -1,5 +1,5 @@
 -- So far the touched rows before r have their PopBuf; each from r on still has a level and room for its own.
-use Prim.Native.Nat.{◌-◌}
+use Rattle.std.proofs.Common.{◌-◌}
 use Rattle.rules.specs.Plans.{pop}
 use Rattle.screen.specs.Screens.{frame-of}
 use Rattle.sizes.specs.Widths.{bucket-tiles}

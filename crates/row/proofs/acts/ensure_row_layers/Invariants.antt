@@ -1,5 +1,5 @@
 -- So far the row has k levels; putting the rest gives the same row as from the start.
-use Prim.Native.Nat.{◌-◌}
+use Rattle.std.proofs.Common.{◌-◌}
 use Rattle.row.specs.Row.{held, Same}
 use Rattle.row.specs.Acts.{ensured}
 use Rattle.row.proofs.ActsLaws.{Layering}

@@ -1,5 +1,5 @@
 -- First the buffers that the row lacks; then one command, or the split of an eligible solid span.
-use mathlib.Core.Path.{sym, ◌∙◌}
+use Rattle.std.proofs.Common.{sym, ◌∙◌}
 use Rattle.span.specs.Spans.{tiles}
 use Rattle.row.specs.Row.{held}
 use Rattle.row.proofs.ActsLaws.{one_asks, parts_ask}

@@ -1,7 +1,6 @@
 -- The span is split at bucket edges: an edge before, a depth fill, an edge after, each put where it is there; a span without a whole bucket is one
 -- command.
-use Rattle.std.proofs.Common.{rules}
-use mathlib.Core.Path.{sym, ◌∙◌}
+use Rattle.std.proofs.Common.{rules, sym, ◌∙◌}
 use Rattle.row.proofs.ActsLaws.{refused_is, refused_asks, whole_asks, before_asks, buckets_ask, after_asks, pieces_done}
 use Rattle.span.specs.Spans.{tiles}
 use Rattle.row.proofs.acts.push_opaque.Goals as goal

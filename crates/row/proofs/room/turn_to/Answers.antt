@@ -1,5 +1,5 @@
 -- The part is row r's record, of 54 words; a good one has no more levels than layers are open.
-use mathlib.Core.Path.{sym, ◌∙◌}
+use Rattle.std.proofs.Common.{sym, ◌∙◌}
 use Rattle.row.proofs.RoomLaws.{good-small, record-long}
 use Rattle.row.proofs.room.turn_to.Goals as goal
 

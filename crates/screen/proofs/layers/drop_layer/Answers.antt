@@ -1,5 +1,4 @@
-use Prim.Native.Nat.{◌*◌}
-use native.Mathlib.Omega.{arith}
+use Rattle.std.proofs.Common.{◌*◌, arith}
 use Rattle.sizes.specs.Sizes.{open-layer-size}
 use Rattle.screen.proofs.LayersLaws.{dropped}
 use Rattle.screen.proofs.layers.drop_layer.Goals as goal

@@ -1,7 +1,5 @@
 -- The words are stored one after the other; each store keeps the table's length, and together they are the layer's words.
-use mathlib.Core.List.{[], ◌∷◌}
-use Prim.Native.Nat.{◌*◌}
-use native.Mathlib.Omega.{arith}
+use Rattle.std.proofs.Common.{[], ◌∷◌, ◌*◌, arith}
 use Rattle.cmd.proofs.Tables.{stored}
 use Rattle.sizes.specs.Sizes.{open-layer-size}
 use Rattle.screen.proofs.layers.put_layer.Goals as goal

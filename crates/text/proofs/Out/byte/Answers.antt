@@ -1,7 +1,5 @@
 -- A byte is written where its place is among the bytes, and passed over where it is not.
-use mathlib.Core.Path.{◌≡◌}
-use Prim.Native.Nat.{min, ◌+◌}
-use borrow.Author.Rules.{rules}
+use Rattle.std.proofs.Common.{◌≡◌, min, ◌+◌, rules}
 use Rattle.std.proofs.Math.Nat.{min-eq_left}
 use Rattle.std.proofs.lemmas.List.{set_past}
 use Rattle.text.specs.Texts.{put}

@@ -1,5 +1,5 @@
 -- So far the first bytes are written.
-use lib.ListN.{take}
+use Rattle.std.proofs.Common.{take}
 use Rattle.text.specs.Texts.{Writes}
 use Rattle.text.proofs.Out.text.Given as goal
 

@@ -1,4 +1,4 @@
-use borrow.Author.Rules.{rules}
+use Rattle.std.proofs.Common.{rules}
 use Rattle.text.proofs.DetailsLines.{filter-written}
 use Rattle.text.proofs.details.print_filter.Goals as goal
 

@@ -1,4 +1,4 @@
-use mathlib.Core.Bool.{false}
+use Rattle.std.proofs.Common.{false}
 use Rattle.text.proofs.Joins.{one_of, places-none, places-more}
 use Rattle.text.specs.Bytes.{detail-bytes}
 use Rattle.text.proofs.DetailsLines.{filter-lines-written}

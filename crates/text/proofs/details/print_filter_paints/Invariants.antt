@@ -1,7 +1,5 @@
 -- So far the lines of the first i filter paints are written.
-use mathlib.Core.Bool.{false}
-use mathlib.Core.List.{[], ◌∷◌}
-use Prim.Native.Nat.{ℕ}
+use Rattle.std.proofs.Common.{false, [], ◌∷◌, ℕ}
 use Rattle.text.specs.Texts.{Writes}
 use Rattle.text.specs.Places.{joined}
 use Rattle.text.specs.Bytes.{details-text}

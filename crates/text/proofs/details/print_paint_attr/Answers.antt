@@ -1,5 +1,4 @@
-use lib.Seq.{get_or-drop}
-use native.Mathlib.Nat.{add-zero}
+use Rattle.std.proofs.Common.{get_or-drop, add-zero}
 use Rattle.text.proofs.Laws.{then}
 use Rattle.text.specs.Bytes.{detail-bytes}
 use Rattle.text.specs.Tables.{paint-attr-at}

@@ -1,8 +1,4 @@
-use Prim.Native.Nat.{ℕ}
-use native.Mathlib.Omega.{arith}
-use mathlib.Core.Path.{refl, ◌∙◌}
-use mathlib.Core.Bool.{Bool}
-use borrow.Author.Rules.{rules}
+use Rattle.std.proofs.Common.{ℕ, arith, refl, ◌∙◌, Bool, rules}
 use Rattle.std.proofs.lemmas.Iterator.{YieldsList-from_range}
 use Rattle.std.proofs.lemmas.Iterator.Search.{all_from_yields_List}
 use Rattle.text.specs.Places.{is_some}

@@ -1,4 +1,4 @@
-use mathlib.Core.Path.{refl}
+use Rattle.std.proofs.Common.{refl}
 use Rattle.text.proofs.Leaving.{length-measured}
 use Rattle.text.proofs.listing.length_of.Goals as goal
 

@@ -1,5 +1,5 @@
 -- A judged screen's text has at most what `screen_room` says.
-use mathlib.Core.Path.{sym, ◌∙◌}
+use Rattle.std.proofs.Common.{sym, ◌∙◌}
 use Rattle.std.proofs.lemmas.Result.{err_from_is_err_and}
 use Rattle.sizes.proofs.Refusals.{not_done}
 use Rattle.row.specs.Rows.{all-held}

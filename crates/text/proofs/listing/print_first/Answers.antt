@@ -1,6 +1,4 @@
-use mathlib.Core.Path.{refl, ap}
-use native.Mathlib.Omega.{arith}
-use borrow.Author.Rules.{rules}
+use Rattle.std.proofs.Common.{refl, ap, arith, rules}
 use Rattle.text.specs.Texts.{Text}
 use Rattle.text.proofs.Leaving.{written-first}
 use Rattle.text.proofs.listing.print_first.Goals as goal

@@ -1,7 +1,5 @@
 -- An item has at most `most` bytes, or was measured.
-use Prim.Native.Nat.{◌≤◌}
-use native.Mathlib.Omega.{arith}
-use lib.ListN.{length}
+use Rattle.std.proofs.Common.{◌≤◌, arith, length}
 use Rattle.text.proofs.Leaving.{written-done, written-full}
 use Rattle.text.proofs.listing.try_print_first.Goals.{else-out-most-via-then-out-most+else-out-length_of, else-out-most-via-else-out-most}
 use Rattle.text.proofs.listing.try_print_first.Goals as goal

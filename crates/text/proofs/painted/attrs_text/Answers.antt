@@ -1,5 +1,5 @@
 -- 4 for the tables, else the text.
-use mathlib.Core.Path.{sym, ◌∙◌}
+use Rattle.std.proofs.Common.{sym, ◌∙◌}
 use Rattle.text.specs.Dumped.{tables_of}
 use Rattle.text.proofs.Pieces.{attrs-few}
 use Rattle.text.proofs.RowTexts.{attrs-bad, attrs-done}

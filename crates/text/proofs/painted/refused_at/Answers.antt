@@ -1,5 +1,5 @@
 -- The step on no list, its number alone.
-use mathlib.Core.List.{[]}
+use Rattle.std.proofs.Common.{[]}
 use Rattle.std.proofs.lemmas.Result.{err_from_is_err_and}
 use Rattle.sizes.specs.Refusals.{number_of}
 use Rattle.paint.specs.Answers.{refused}

@@ -1,6 +1,5 @@
 -- A refusal of the first step, of a later one, or the whole row with its text.
-use mathlib.Core.List.{[]}
-use borrow.Author.Rules.{rules}
+use Rattle.std.proofs.Common.{[], rules}
 use Rattle.std.proofs.lemmas.Result.{err_from_is_err_and}
 use Rattle.sizes.proofs.Refusals.{not_done}
 use Rattle.sizes.specs.Refusals.{number_of}

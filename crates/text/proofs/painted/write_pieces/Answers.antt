@@ -1,5 +1,5 @@
 -- 14 for too many pieces, else the lines.
-use mathlib.Core.Path.{◌∙◌}
+use Rattle.std.proofs.Common.{◌∙◌}
 use Rattle.text.proofs.Pieces.{row-text-few}
 use Rattle.text.proofs.RowTexts.{many-pieces, lines-done}
 use Rattle.text.proofs.painted.write_pieces.Goals as goal

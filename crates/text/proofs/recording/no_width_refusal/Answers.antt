@@ -1,5 +1,5 @@
 -- 3 for the bytes; else what their words say.
-use mathlib.Core.Path.{sym, ◌∙◌}
+use Rattle.std.proofs.Common.{sym, ◌∙◌}
 use Rattle.text.proofs.Bytes.{no-width-bad, no-width-read}
 use Rattle.text.proofs.recording.no_width_refusal.Goals as goal
 
@@ -8,5 +8,5 @@ returns-then-not-is_good_bytes c = no-width-bad c.args.file.now (sym c.is_good_b
 
 pub returns : goal.returns
 returns c =
-    no-width-read c.args.file.now c.no_words-words.result (sym c.is_good_bytes.ensures ∙ c.if-not-is_good_bytes.false) c.words_of_bytes-n.ensures
+    no-width-read c.args.file.now _ (sym c.is_good_bytes.ensures ∙ c.if-not-is_good_bytes.false) c.words_of_bytes-n.ensures
     c.no_width_of.ensures

@@ -1,5 +1,5 @@
 -- The recording is bucketed into what is lent, and its screen listed, or the refusal's line written.
-use mathlib.Core.Path.{refl}
+use Rattle.std.proofs.Common.{refl}
 use Rattle.sizes.proofs.Refusals.{not_done}
 use Rattle.screen.specs.Lent.{tables_in}
 use Rattle.screen.specs.Screens.{setup-of}

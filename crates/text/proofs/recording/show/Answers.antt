@@ -1,4 +1,4 @@
-use mathlib.Core.Path.{refl}
+use Rattle.std.proofs.Common.{refl}
 use Rattle.sizes.proofs.Refusals.{not_done}
 use Rattle.row.specs.Rows.{all-held}
 use Rattle.text.proofs.FileTexts.{show-refused, show-done}

@@ -1,5 +1,5 @@
 -- The draws' lines, then the layers'; or one reason.
-use mathlib.Core.Path.{refl}
+use Rattle.std.proofs.Common.{refl}
 use Rattle.text_why.proofs.Lines.{every-line, one_line}
 use Rattle.text_why.proofs.AnswerPrint.print.Goals as goal
 

@@ -1,7 +1,6 @@
 -- A form that cannot be read comes first, then a tile off the screen. What is left is a recording that the call accepted: its frame's viewport is
 -- good, and so is every record.
-use mathlib.Core.Path.{◌≡◌, sym, ◌∙◌}
-use mathlib.Core.Bool.{true, false}
+use Rattle.std.proofs.Common.{◌≡◌, sym, ◌∙◌, true, false}
 use Rattle.std.proofs.lemmas.Result.{err_from_is_err_and}
 use Rattle.screen.specs.Screens.{setup-of}
 use Rattle.file.proofs.Laid.{good-form, bad-form}

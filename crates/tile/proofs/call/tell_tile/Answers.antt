@@ -1,6 +1,5 @@
 -- The tile is one of the screen's, no layer is open and nothing is told; the walk from the root is the walk of the whole recording.
-use mathlib.Core.List.{[]}
-use native.Mathlib.Omega.{arith}
+use Rattle.std.proofs.Common.{[], arith}
 use Rattle.std.proofs.lemmas.Result.{err_from_is_err_and}
 use Rattle.tile.proofs.Spots.{ready_at, holds-nothing, root, all_told}
 use Rattle.tile.proofs.call.tell_tile.Goals as goal

@@ -1,6 +1,4 @@
-use Prim.Native.Nat.{◌+◌, ◌-◌}
-use native.Mathlib.Omega.{arith}
-use mathlib.Core.Path.{ap, ◌∙◌}
+use Rattle.std.proofs.Common.{◌+◌, ◌-◌, arith, ap, ◌∙◌}
 use Rattle.tile.specs.Reading.{Mark, Search, mark_at, marks, read, read_all, reason-by, reason-read}
 use Rattle.tile.specs.Reasons.{asked_of, search-of}
 use Rattle.tile.proofs.Lines.{read_count, turned, ended}

@@ -1,7 +1,6 @@
 -- After i lines: the lines that are left give, from what is known, what all the lines give from nothing; the tile's list is at most as long as the
 -- lines that were read.
-use Prim.Native.Nat.{◌-◌, ◌≤◌}
-use mathlib.Core.Path.{◌≡◌}
+use Rattle.std.proofs.Common.{◌-◌, ◌≤◌, ◌≡◌}
 use Rattle.tile.specs.Reading.{marks, no-search, read_all}
 use Rattle.tile.specs.Reasons.{asked_of, search-of}
 use Rattle.tile.proofs.reason.reason_of.Given as goal

@@ -1,5 +1,5 @@
 -- By whether the layer has a clip.
-use mathlib.Core.Path.{refl}
+use Rattle.std.proofs.Common.{refl}
 use Rattle.tile.proofs.Closing.{closed-by}
 use Rattle.tile.proofs.steps.closing_look.Goals as goal
 

@@ -1,5 +1,5 @@
 -- Refused with no id left, or no room for one more attribute; with no segments only an id is used; else a line is told.
-use mathlib.Core.Path.{refl, ◌∙◌}
+use Rattle.std.proofs.Common.{refl, ◌∙◌}
 use Rattle.tile.proofs.Answered.{none-there, some-there, out-of-ids, ids-left, fill-ids, fill-empty, fill-full, fill-drawn}
 use Rattle.tile.proofs.steps.tell_fill.Goals as goal
 

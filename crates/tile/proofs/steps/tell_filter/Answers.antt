@@ -1,5 +1,5 @@
 -- Nothing is drawn without a picture or a box; refused with no id left, or no room for one more attribute or picture; else a line is told.
-use mathlib.Core.Path.{refl, ◌∙◌}
+use Rattle.std.proofs.Common.{refl, ◌∙◌}
 use Rattle.tile.proofs.Answered.{out-of-ids, ids-left, filter-nothing, filter-ids, filter-full, filter-crowded, filter-done}
 use Rattle.tile.proofs.steps.tell_filter.Goals.{then-tale-ge-MOST_ATTRS-via-then-tale-ge-MOST_ATTRS, then-tale-ge-MOST_ATTRS-via-else-tale-ge-MOST_ATTRS+then-tale-ge-MOST_FILTERS}
 use Rattle.tile.proofs.steps.tell_filter.Goals as goal

@@ -1,5 +1,5 @@
 -- Refused with no id left, or no room for one more attribute; else a line is told, and the parent holds again.
-use mathlib.Core.Path.{refl, ◌∙◌}
+use Rattle.std.proofs.Common.{refl, ◌∙◌}
 use Rattle.tile.proofs.Answered.{out-of-ids, ids-left, pop-ids, pop-full, pop-done}
 use Rattle.tile.proofs.steps.tell_pop.Goals as goal
 

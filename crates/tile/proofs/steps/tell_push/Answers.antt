@@ -1,6 +1,5 @@
 -- Refused with 16 layers open; else the layer's box holds, and a destructive blend may touch the row.
-use mathlib.Core.Path.{refl}
-use native.Mathlib.Omega.{arith}
+use Rattle.std.proofs.Common.{refl, arith}
 use Rattle.rect.specs.Rects.{box_of}
 use Rattle.screen.specs.Layers.{clip-of}
 use Rattle.tile.proofs.Answered.{small_by, layer-small, push-deep, push-done}

@@ -1,7 +1,6 @@
 -- The two walks call each other, a layer's nodes one level deeper each time: the levels that are left fall with every layer. So far the nodes before
 -- this one are told as the rules walk them.
-use Prim.Native.Nat.{◌+◌, ◌*◌}
-use mathlib.Core.List.{List}
+use Rattle.std.proofs.Common.{◌+◌, ◌*◌, List}
 use Rattle.rules.specs.Plans.{Layer}
 use Rattle.rect.specs.Rects.{box_of}
 use Rattle.tile.specs.Places.{Low, telling}

@@ -1,5 +1,5 @@
 -- So far the draws before this one are told as the rules' steps, none of them refused.
-use mathlib.Core.List.{List}
+use Rattle.std.proofs.Common.{List}
 use Rattle.rules.specs.Plans.{Layer}
 use Rattle.rect.specs.Rects.{box_of}
 use Rattle.tile.specs.Places.{Low, telling}

@@ -1,6 +1,6 @@
 -- The layer is pushed, its picture drawn in it, and popped; the first refusal ends it. Each of the three is the rules' step at what is told so far. A layer
 -- that needs no buffer is only drawn.
-use mathlib.Core.Path.{refl, ◌∙◌}
+use Rattle.std.proofs.Common.{refl, ◌∙◌}
 use Rattle.std.proofs.lemmas.Result.{err_from_is_err_and}
 use Rattle.sizes.proofs.Refusals.{not_done}
 use Rattle.rules.specs.Walk.{props-of}

@@ -1,5 +1,5 @@
 -- The call is the rules' filter fill, at the picture and the dest box that the file's words say.
-use mathlib.Core.Path.{sym, ◌∙◌}
+use Rattle.std.proofs.Common.{sym, ◌∙◌}
 use Rattle.file.specs.Places.{filter_from}
 use Rattle.file.proofs.Fields.{filter-box}
 use Rattle.tile.proofs.Said.{says}

@@ -1,6 +1,6 @@
 -- A refusal before the walk leaves what the rules' `play` leaves: 3, 2 and 1 alter nothing, 4 and 5 come after the reset. An accepted walk gives
 -- its own words; after a refused one all is as the reset left it.
-use mathlib.Core.Path.{refl}
+use Rattle.std.proofs.Common.{refl}
 use Rattle.std.proofs.lemmas.Result.{err_from_is_err_and}
 use Rattle.sizes.proofs.Refusals.{not_done}
 use Rattle.screen.specs.Screens.{setup-of}

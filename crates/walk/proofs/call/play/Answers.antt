@@ -1,5 +1,5 @@
 -- The records are judged, then the nodes from the root are walked.
-use mathlib.Core.Path.{refl}
+use Rattle.std.proofs.Common.{refl}
 use Rattle.std.proofs.lemmas.Result.{err_from_is_err_and}
 use Rattle.sizes.proofs.Refusals.{not_done}
 use Rattle.walk.proofs.Recordings.{bad-records, ready, root, good-walk}

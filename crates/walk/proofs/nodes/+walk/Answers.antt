@@ -1,5 +1,4 @@
-use Rattle.std.proofs.Common.{arith, rules, sym, ◌∙◌, ◌+◌, ◌*◌, ◌-◌}
-use mathlib.Core.Path.{refl}
+use Rattle.std.proofs.Common.{arith, rules, sym, ◌∙◌, ◌+◌, ◌*◌, ◌-◌, refl}
 use Rattle.std.proofs.lemmas.Result.{err_from_is_err_and}
 use Rattle.sizes.proofs.Refusals.{not_done}
 use Rattle.file.specs.Places.{layer_from}

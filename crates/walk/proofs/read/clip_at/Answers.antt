@@ -1,5 +1,4 @@
-use mathlib.Core.Path.{◌∙◌}
-use borrow.Author.Tests.{eq-eqb}
+use Rattle.std.proofs.Common.{◌∙◌, eq-eqb}
 use Rattle.file.specs.Places.{layer_from, clip_from}
 use Rattle.file.proofs.Fields.{clip-box}
 use Rattle.walk.proofs.Boxed.{boxed}

@@ -1,4 +1,4 @@
-use mathlib.Core.Path.{sym, ◌∙◌}
+use Rattle.std.proofs.Common.{sym, ◌∙◌}
 use Rattle.walk.proofs.Opacity.{zero_by_zero, by_division}
 use Rattle.walk.proofs.read.float_of.Goals as goal
 

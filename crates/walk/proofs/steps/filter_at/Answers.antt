@@ -1,4 +1,4 @@
-use mathlib.Core.Path.{◌∙◌}
+use Rattle.std.proofs.Common.{◌∙◌}
 use Rattle.file.specs.Places.{filter_from}
 use Rattle.file.proofs.Fields.{filter-box}
 use Rattle.walk.proofs.Boxed.{boxed}

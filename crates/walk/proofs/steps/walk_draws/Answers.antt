@@ -1,5 +1,4 @@
-use mathlib.Core.Path.{refl}
-use Rattle.std.proofs.Common.{rules, ◌∙◌}
+use Rattle.std.proofs.Common.{refl, rules, ◌∙◌}
 use Rattle.std.proofs.lemmas.Result.{err_from_is_err_and}
 use Rattle.sizes.proofs.Refusals.{not_done}
 use Rattle.walk.proofs.Draws.{all_filled, draw_refused, draw_turned}

@@ -1,5 +1,5 @@
 -- So far none of the draws is refused, and those that are left say what all of them say.
-use mathlib.Core.Path.{◌≡◌}
+use Rattle.std.proofs.Common.{◌≡◌}
 use Rattle.screen.specs.Lent.{whole, SameLent}
 use Rattle.walk.proofs.Draws.{filled_from}
 use Rattle.walk.proofs.steps.walk_draws.Given as goal

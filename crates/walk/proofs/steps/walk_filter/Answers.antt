@@ -1,6 +1,5 @@
 -- The layer is pushed, its fill is drawn, it is popped; the first refusal ends it. Each of the three is the rules' step at the words so far.
-use mathlib.Core.Path.{refl}
-use Rattle.std.proofs.Common.{ℕ, Bool, List, ◌≡◌, ◌<◌, sym, ◌∙◌}
+use Rattle.std.proofs.Common.{refl, ℕ, Bool, List, ◌≡◌, ◌<◌, sym, ◌∙◌}
 use Rattle.std.proofs.lemmas.Result.{err_from_is_err_and}
 use Rattle.sizes.proofs.Refusals.{not_done}
 use Rattle.rules.specs.Inputs.{needs-buffer}

@@ -1,5 +1,4 @@
-use Rattle.std.proofs.Common.{rules}
-use native.Mathlib.Numerals.{add-one}
+use Rattle.std.proofs.Common.{rules, add-one}
 use Rattle.depth.specs.Spans.{with-spans}
 use Rattle.depth.proofs.forms.runs.write_runs.Goals as goal
 

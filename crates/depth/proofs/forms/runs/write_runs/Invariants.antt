@@ -1,6 +1,5 @@
 -- So far the first n runs are written.
-use mathlib.Core.Path.{◌≡◌}
-use Prim.Native.Nat.{◌-◌, ◌≤◌}
+use Rattle.std.proofs.Common.{◌≡◌, ◌-◌, ◌≤◌}
 use Rattle.depth.specs.Spans.{with-spans}
 use Rattle.depth.proofs.forms.runs.write_runs.Given as goal
 

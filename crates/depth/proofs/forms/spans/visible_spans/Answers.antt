@@ -1,7 +1,6 @@
 -- What `visible_runs` lists in words `runs_of` gives as spans. Assumes nothing.
-use Rattle.std.proofs.Common.{rules}
+use Rattle.std.proofs.Common.{rules, arith}
 use Rattle.std.proofs.lemmas.Result.{err_from_is_err_and}
-use native.Mathlib.Omega.{arith}
 use Rattle.depth.proofs.Laws.{seen, listed-fits, refused}
 use Rattle.depth.proofs.forms.spans.visible_spans.Goals as goal
 

@@ -1,4 +1,4 @@
-use native.Mathlib.Omega.{arith}
+use Rattle.std.proofs.Common.{arith}
 use Rattle.std.proofs.lemmas.Result.{err_from_is_err_and}
 use Rattle.paint.specs.Stepping.{Within}
 use Rattle.paint.proofs.ScreenParts.{depth_within}

@@ -1,5 +1,5 @@
 -- A fill gives its runs, a PushBuf and a PopBuf change the nesting; a bad one is answered by its number.
-use mathlib.Core.Path.{sym, ◌∙◌}
+use Rattle.std.proofs.Common.{sym, ◌∙◌}
 use Rattle.std.proofs.lemmas.Result.{err_from_is_err_and}
 use Rattle.paint.specs.Reading.{attrs_of}
 use Rattle.paint.proofs.Judging.{ok_none}

@@ -1,6 +1,5 @@
 -- The fill's words are judged, then its attribute; its unset runs become pieces and its id is written.
-use mathlib.Core.Path.{sym, ◌∙◌}
-use native.Mathlib.Omega.{arith}
+use Rattle.std.proofs.Common.{sym, ◌∙◌, arith}
 use Rattle.std.proofs.lemmas.Result.{err_from_is_err_and}
 use Rattle.paint.specs.Reading.{attrs_of}
 use Rattle.paint.proofs.Judging.{ok_none, ok_some, paint_some}

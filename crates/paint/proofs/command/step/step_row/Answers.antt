@@ -1,8 +1,6 @@
 -- The step's number decides: depth fills from the last, then commands from the first, then finished. In each part the words that are read are judged
 -- before anything is written.
-use mathlib.Core.Path.{refl, sym, ◌∙◌}
-use Prim.Native.Nat.{◌-◌}
-use native.Mathlib.Omega.{arith}
+use Rattle.std.proofs.Common.{refl, sym, ◌∙◌, ◌-◌, arith}
 use Rattle.std.proofs.lemmas.Result.{err_from_is_err_and}
 use Rattle.paint.specs.Painting.{word}
 use Rattle.paint.specs.Reading.{attrs_of}

@@ -1,7 +1,5 @@
 -- The words are stored one after the other.
-use mathlib.Core.List.{[], ◌∷◌}
-use Prim.Native.Nat.{◌*◌}
-use native.Mathlib.Omega.{arith}
+use Rattle.std.proofs.Common.{[], ◌∷◌, ◌*◌, arith}
 use Rattle.sizes.specs.Sizes.{piece-size}
 use Rattle.cmd.proofs.Tables.{stored}
 use Rattle.paint.proofs.pieces.PieceWords.put.Goals as goal

@@ -1,5 +1,5 @@
 -- Invariant: the runs from a, which is shut, are those from i.
-use Prim.Native.Nat.{◌-◌}
+use Rattle.std.proofs.Common.{◌-◌}
 use Rattle.paint.proofs.Looks.{Hidden}
 use Rattle.paint.proofs.whole.ends.hidden_end.Given as goal
 

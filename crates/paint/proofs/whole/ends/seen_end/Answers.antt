@@ -1,4 +1,4 @@
-use borrow.Author.Tests.{le-leb}
+use Rattle.std.proofs.Common.{le-leb}
 use Rattle.rules.specs.Depth.{is-visible}
 use Rattle.depth.proofs.Searching.{reach-first, reach-more}
 use Rattle.paint.proofs.Looks.{seen-stop, seen_end}

@@ -1,5 +1,5 @@
 -- Invariant: the run from a, which is open, has come to i.
-use Prim.Native.Nat.{◌-◌}
+use Rattle.std.proofs.Common.{◌-◌}
 use Rattle.rules.specs.Depth.{is-visible}
 use Rattle.depth.proofs.Searching.{Reached}
 use Rattle.paint.proofs.whole.ends.seen_end.Given as goal

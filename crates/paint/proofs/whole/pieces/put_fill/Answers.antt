@@ -1,4 +1,4 @@
-use mathlib.Core.Path.{refl, ◌∙◌}
+use Rattle.std.proofs.Common.{refl, ◌∙◌}
 use Rattle.paint.proofs.Putting.{put_first, put_room, put_more, room_left, all_put}
 use Rattle.paint.proofs.whole.pieces.put_fill.Goals as goal
 

@@ -1,6 +1,5 @@
 -- Invariant: after the first run, the runs up to bucket `from` are in the list, and those from there on are still to come.
-use mathlib.Core.Path.{◌≡◌}
-use Prim.Native.Nat.{◌-◌}
+use Rattle.std.proofs.Common.{◌≡◌, ◌-◌}
 use Rattle.sizes.specs.Widths.{bucket-tiles}
 use Rattle.paint.specs.Kinds.{high-met}
 use Rattle.paint.proofs.Putting.{PutCut}

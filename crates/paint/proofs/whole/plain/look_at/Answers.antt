@@ -1,5 +1,4 @@
-use mathlib.Core.Path.{sym, ◌∙◌}
-use native.Mathlib.Omega.{arith}
+use Rattle.std.proofs.Common.{sym, ◌∙◌, arith}
 use Rattle.paint.specs.Reading.{attrs_of}
 use Rattle.paint.proofs.Saying.{said_fill}
 use Rattle.paint.proofs.whole.plain.look_at.Goals as goal

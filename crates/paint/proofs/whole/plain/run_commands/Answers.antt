@@ -1,9 +1,4 @@
-use mathlib.Core.Path.{◌≡◌, refl, ◌∙◌}
-use mathlib.Core.Bool.{Bool, true, false, cond}
-use Prim.Native.Nat.{◌+◌, ◌*◌, ◌≤◌, ◌<◌}
-use native.Mathlib.Omega.{arith}
-use lib.ListN.{length}
-use lib.Dec.{eqb}
+use Rattle.std.proofs.Common.{◌≡◌, refl, ◌∙◌, Bool, true, false, cond, ◌+◌, ◌*◌, ◌≤◌, ◌<◌, arith, length, eqb}
 use Rattle.sizes.specs.Sizes.{piece-size}
 use Rattle.sizes.specs.Widths.{bucket-tiles}
 use Rattle.depth.proofs.Searching.{runs-few}

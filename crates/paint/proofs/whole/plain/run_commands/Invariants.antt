@@ -1,7 +1,6 @@
 -- Invariant: so far the commands are painted as single steps would paint them. A run of commands that one look settles goes on from there, and then a fill
 -- that is shown in part, whose pieces are those of its step.
-use mathlib.Core.Path.{◌≡◌}
-use Prim.Native.Nat.{◌-◌, ◌≤◌}
+use Rattle.std.proofs.Common.{◌≡◌, ◌-◌, ◌≤◌}
 use Rattle.paint.specs.Painting.{word}
 use Rattle.paint.specs.Kinds.{place, Reaches}
 use Rattle.paint.specs.Rows.{steps_of}

@@ -1,5 +1,4 @@
-use mathlib.Core.Path.{refl, ◌∙◌}
-use native.Mathlib.Omega.{arith}
+use Rattle.std.proofs.Common.{refl, ◌∙◌, arith}
 use Rattle.paint.proofs.Along.{reach-none, on-whole, on-hidden, on-pushed, on-popped}
 use Rattle.paint.proofs.whole.plain.run_sure.Goals as goal
 use Rattle.paint.proofs.whole.plain.run_sure.Goals.{in-Whole+else-left-lt-PIECE, in-Hidden, in-Push, in-Pop}

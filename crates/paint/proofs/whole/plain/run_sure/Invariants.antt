@@ -1,6 +1,5 @@
 -- So far the commands before this one are painted as single steps would paint them: each gave one piece, none, or changed the nesting.
-use mathlib.Core.Path.{◌≡◌}
-use Prim.Native.Nat.{◌-◌, ◌≤◌}
+use Rattle.std.proofs.Common.{◌≡◌, ◌-◌, ◌≤◌}
 use Rattle.paint.specs.Painting.{word}
 use Rattle.paint.specs.Kinds.{place, Reaches}
 use Rattle.paint.specs.Rows.{steps_of}

@@ -1,6 +1,5 @@
 -- What is said of a fill is said only where the full step says the same: 1 whole, 2 hidden, 5 and 6 how far the look came; 0 leaves it to the full step.
-use Prim.Native.Nat.{◌<◌}
-use mathlib.Core.Path.{sym, ◌∙◌}
+use Rattle.std.proofs.Common.{◌<◌, sym, ◌∙◌}
 use Rattle.rules.proofs.laws.Widths.{meets}
 use Rattle.paint.proofs.Looks.{seen_all, hidden-all, one_seen, one-hidden, clear-said, all_seen, all-hidden, some-seen, some-hidden}
 use Rattle.paint.proofs.whole.plain.sure_fill.Goals as goal

@@ -1,6 +1,4 @@
-use mathlib.Core.Path.{refl, ◌∙◌}
-use mathlib.Core.Bool.{false}
-use native.Mathlib.Omega.{arith}
+use Rattle.std.proofs.Common.{refl, ◌∙◌, false, arith}
 use Rattle.sizes.proofs.Refusals.{not_done}
 use Rattle.paint.specs.Running.{own-run}
 use Rattle.paint.proofs.WholeRuns.{rest-far, rest-refused, rest-stopped, rest-finished, rest-on, rest_end}

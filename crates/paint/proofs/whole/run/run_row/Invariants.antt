@@ -1,8 +1,6 @@
 -- So far the row's steps before this one are those of the rules, and their pieces stand in the list. The run ends at the limit, among commands that go
 -- together or after a step.
-use mathlib.Core.Path.{◌≡◌}
-use Prim.Native.Nat.{◌-◌, ◌≤◌, ◌*◌}
-use lib.ListN.{length}
+use Rattle.std.proofs.Common.{◌≡◌, ◌-◌, ◌≤◌, ◌*◌, length}
 use Rattle.sizes.specs.Sizes.{piece-size}
 use Rattle.paint.specs.Painting.{out, listed}
 use Rattle.paint.specs.Running.{standing}

@@ -1,5 +1,4 @@
-use native.Mathlib.Nat.{add-zero}
-use native.Mathlib.Omega.{arith}
+use Rattle.std.proofs.Common.{add-zero, arith}
 use Rattle.std.proofs.lemmas.Result.{err_from_is_err_and}
 use Rattle.paint.proofs.WholeRuns.{one-done, one-few}
 use Rattle.paint.proofs.whole.run.step_on.Goals as goal

@@ -1,7 +1,5 @@
 -- The row's parts have their lengths.
-use mathlib.Core.Path.{◌≡◌, sym, subst}
-use Prim.Native.Nat.{◌*◌}
-use lib.ListN.{length}
+use Rattle.std.proofs.Common.{◌≡◌, sym, subst, ◌*◌, length}
 use Rattle.sizes.specs.Sizes.{row-size}
 use Rattle.row.specs.Words.{Words}
 use Rattle.row.proofs.RowsLaws.{at-state, at-render, at-fills}

@@ -1,9 +1,8 @@
 -- 2, 1 or 4 of the screen and the lengths comes first, then 4 of a row.
-use mathlib.Core.Path.{sym, ◌∙◌}
+use Rattle.std.proofs.Common.{sym, ◌∙◌, arith}
 use Rattle.std.proofs.lemmas.Result.{err_from_is_err_and}
 use Rattle.sizes.proofs.Refusals.{not_done}
 use Rattle.text.specs.Printed.{screen_words}
-use native.Mathlib.Omega.{arith}
 use Rattle.screen.proofs.ScreenLaws.{few-buckets}
 use Rattle.screen.proofs.Passed.{passed}
 use Rattle.text.proofs.Judging.{by-screen, by_rows, by-none, whole}

@@ -1,5 +1,5 @@
 -- The header, then the rows; a judged screen's numbers are small.
-use native.Mathlib.Omega.{arith}
+use Rattle.std.proofs.Common.{arith}
 use Rattle.text.specs.Printed.{screen_words}
 use Rattle.text.proofs.Judging.{listable, row-ready}
 use Rattle.text.proofs.Runs.{joined-none, joined-more, screen-written}

@@ -1,6 +1,5 @@
 -- So far the lines of the first k pieces are written.
-use mathlib.Core.List.{[], ◌∷◌}
-use Prim.Native.Nat.{ℕ}
+use Rattle.std.proofs.Common.{[], ◌∷◌, ℕ}
 use Rattle.text.specs.Texts.{Writes}
 use Rattle.text.specs.Places.{joined}
 use Rattle.text.specs.Bytes.{details-text}

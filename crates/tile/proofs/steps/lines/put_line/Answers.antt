@@ -1,6 +1,5 @@
 -- The words are stored one after the other, which makes the line.
-use native.Mathlib.Omega.{arith}
-use Rattle.std.proofs.Common.{rules}
+use Rattle.std.proofs.Common.{arith, rules}
 use Rattle.tile.specs.Places.{line_of}
 use Rattle.tile.proofs.Wording.{line-stored}
 use Rattle.tile.proofs.steps.lines.put_line.Goals as goal

@@ -1,4 +1,4 @@
-use mathlib.Core.Path.{ap, ◌∙◌}
+use Rattle.std.proofs.Common.{ap, ◌∙◌}
 use Rattle.rules.specs.Segments.{good-segment}
 use Rattle.tile.proofs.Looking.{ended, good-here, again}
 use Rattle.tile.proofs.steps.looks.look_at.Goals as goal

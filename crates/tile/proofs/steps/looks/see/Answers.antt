@@ -1,5 +1,5 @@
 -- By what is left of the segment after the cut.
-use mathlib.Core.Path.{◌∙◌}
+use Rattle.std.proofs.Common.{◌∙◌}
 use Rattle.rect.specs.Rects.{box_of}
 use Rattle.span.specs.Spans.{tiles}
 use Rattle.segments.specs.Segs.{segment-of, origin, bounds}

@@ -1,0 +1,35 @@
+use Rattle.std.proofs.Common.{refl}
+use Rattle.rules.proofs.Computing.{computing}
+use Rattle.rules.proofs.rules_hold_at_known_points.Goals as goal
+
+pub returns-clause-points : goal.returns-clause-points
+unfolding computing
+returns-clause-points c =
+    record {
+      around = refl;
+      within = refl;
+      whole = refl;
+      one = refl;
+      none = refl;
+      unset = refl;
+      visible = refl;
+      hidden = refl;
+      spared = refl;
+      destroyed = refl;
+    }
+
+pub returns-clause-worked : goal.returns-clause-worked
+unfolding computing
+returns-clause-worked c = record { lines = refl; file = refl; text = refl; attributes = refl; pieces = refl; again = refl }
+
+pub returns-clause-answers : goal.returns-clause-answers
+unfolding computing
+returns-clause-answers c = refl
+
+pub returns-clause-left : goal.returns-clause-left
+unfolding computing
+returns-clause-left c = record { recording = refl; paint = refl; write = refl; runs = refl; skip = refl }
+
+pub returns-clause-edges : goal.returns-clause-edges
+unfolding computing
+returns-clause-edges c = refl

@@ -1,0 +1,119 @@
+//! What `rowlist` does with its arguments, from its input to its output: it prints the rows of a recording, or the number of its refusal.
+#![tactic(auto)]
+
+ghost use Rattle.std.specs.Prelude.{◌≡◌, ◌≢◌, ◌≤◌, ◌↔◌, ◌⊎◌, true, false, [], length, map, string_bytes, IfSome, IfErr, OnOk, IsErrAnd};
+ghost use Rattle.std.specs.Io.KnownBytes.{Appends};
+ghost use Rattle.screen.specs.Screens.{setup-of};
+ghost use Rattle.text.specs.Files.{Usual};
+ghost use Rattle.text_programs.specs.Programs.{rowlist-text, by_width, first};
+ghost use Rattle.text_programs.specs.Arguments.{asks_help, read_arguments, wanted_of};
+ghost use Rattle.text_programs.specs.Rooms.{file-room, text-room};
+ghost use Rattle.text_programs.specs.Failures.{IsOfReading, IsOfWriting, IsUsage, IsUnwritten, Begins};
+ghost use Rattle.run_rowlist.specs.Printed.{usage, listed, printed};
+
+use std::alloc::Global;
+use std::io::{Read, Write};
+use text_programs::failure::{Failure, Stop};
+use text_programs::options::{Want, read_options};
+use text_programs::tables::{Tables, file_buffer, text_buffer};
+use text_programs::usage::{Usage, Wrong, asks_help, print_usage, wrong_option};
+use text_programs::{no_width_text, read_all, rowlist_text, write_text};
+
+/// What it says where it is asked how it is called.
+pub const USAGE: Usage = Usage {
+    program: "rowlist",
+    calls: "usage: rowlist [--snap] [--width N] < FILE\noptions, in any order; the last of a repeated one counts:\n",
+    options: "",
+};
+
+// What is wanted, put first; how long it is.
+fn wanted_text(file: &[u8], want: Want, tables: &mut Tables, out: &mut [u8]) -> usize
+    requires { Usual (setup-of want.setup) × (text-room ≤ length out.old) }
+    ensures value { result ≡ length (listed (wanted_of want) file.now) }
+    ensures out_after { out.new ≡ first (listed (wanted_of want) file.now) out.old }
+{
+    if want.no_width {
+        return no_width_text(file, out);
+    }
+    rowlist_text(file, want.setup, tables, out)
+}
+
+// Lists the recording on the input, in tables and buffers that are lent. Nothing is written before the input is read; where writing fails, a beginning
+// of the list is written.
+fn list_in<R: Read, W: Write>(
+    input: &mut R,
+    output: &mut W,
+    want: Want,
+    tables: &mut Tables,
+    buffer: &mut [u8],
+    text: &mut [u8],
+) -> Result<(), Failure>
+    requires { Usual (setup-of want.setup) × (length buffer.old ≡ file-room) × (text-room ≤ length text.old) }
+    ensures ok { OnOk result (IfSome (R.remaining input.old) (λ file. Appends (W.contents output.old) (W.contents output.new) (listed (wanted_of want) file))) }
+    ensures begun { IfSome (R.remaining input.old) (λ file. Begins (W.contents output.old) (W.contents output.new) (listed (wanted_of want) file)) }
+    ensures unread { IfErr result (λ e. IsOfWriting e ⊎ (output.new ≡ output.old)) }
+    ensures err { IfErr result (λ e. IsOfReading e ⊎ IsOfWriting e) }
+{
+    let n = read_all(input, buffer)?;
+    let k = wanted_text(&buffer[..n], want, tables, text);
+    write_text(output, &text[..k])
+}
+
+// The same, in the programs' own tables and buffers.
+fn list_input<R: Read, W: Write>(
+    alloc: Global,
+    input: &mut R,
+    output: &mut W,
+    want: Want,
+) -> Result<(), Failure>
+    requires { Usual (setup-of want.setup) }
+    ensures ok { OnOk result (IfSome (R.remaining input.old) (λ file. Appends (W.contents output.old) (W.contents output.new) (listed (wanted_of want) file))) }
+    ensures begun { IfSome (R.remaining input.old) (λ file. Begins (W.contents output.old) (W.contents output.new) (listed (wanted_of want) file)) }
+    ensures unread { IfErr result (λ e. IsOfWriting e ⊎ (output.new ≡ output.old)) }
+{
+    let mut tables = Tables::new(alloc)?;
+    let mut buffer = file_buffer(alloc)?;
+    let mut text = text_buffer(alloc)?;
+    list_in(
+        input,
+        output,
+        want,
+        &mut tables,
+        buffer.as_mut_slice(),
+        text.as_mut_slice(),
+    )
+}
+
+/// Prints what the arguments ask for, over any input and output: the usage, or the list of the recording on the input.
+pub fn run<'a, R: Read, W: Write>(
+    alloc: Global,
+    args: &'a [String],
+    input: &mut R,
+    output: &mut W,
+) -> Result<(), Stop<'a>>
+    ensures usage { IsErrAnd result IsUsage
+        ↔ ((asks_help (map string_bytes args.now) ≡ false) × ((read_arguments false (map string_bytes args.now)).others ≢ [])) }
+    ensures untouched { IfErr result (λ stop. IsUsage stop → (input.new ≡ input.old) × (output.new ≡ output.old)) }
+
+    ensures printed { OnOk result (IfSome (R.remaining input.old) (λ file.
+        Appends (W.contents output.old) (W.contents output.new) (printed (map string_bytes args.now) file))) }
+    ensures begun { IfSome (R.remaining input.old) (λ file.
+        Begins (W.contents output.old) (W.contents output.new) (printed (map string_bytes args.now) file)) }
+    ensures unread { IfErr result (λ stop. IsUnwritten stop ⊎ (output.new ≡ output.old)) }
+
+    // Asked for its usage, it prints that whatever the input is.
+    ensures help { asks_help (map string_bytes args.now) ≡ true
+        → (input.new ≡ input.old) × OnOk result (Appends (W.contents output.old) (W.contents output.new) usage) }
+{
+    if asks_help(args) {
+        print_usage(alloc, output, &USAGE)?;
+        return Ok(());
+    }
+    let options = read_options(args, false);
+    if let Some(word) = options.others.first() {
+        let wrong = wrong_option(options.others).unwrap_or(Wrong::TooMany(word.as_str()));
+        return Err(Stop::Usage(wrong));
+    }
+    list_input(alloc, input, output, options.want)?;
+    Ok(())
+}

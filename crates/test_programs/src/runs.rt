@@ -1,0 +1,334 @@
+use crate::fakes::Turn::{Bytes, Fails};
+use crate::fakes::{Input, Output, Turn};
+use std::alloc::{AllocError, Global};
+use std::io::ErrorKind;
+use std::test::*;
+use text_programs::failure::{Failure, Stop};
+
+// samples/worked.rec, and what the original lists of it.
+const WORKED: [u32; 69] = [
+    1, 0, 0, 256, 8, 1, 1, 1, 0, 0, 2, 0, 0, 10, 64, 0, 0, 1, 0, 8, 0, 2, 0, 0, 1, 0, 0, 3, 0, 0,
+    1, 2, 0, 0, 3, 0, 1, 0, 1, 2, 0, 3, 1056964608, 0, 0, 0, 0, 0, 0, 0, 0, 0, 0, 0, 0, 0, 0, 0, 0,
+    2, 0, 1, 1, 1, 2, 0, 1, 0, 1,
+];
+
+const LIST: &[u8] =
+    b"rows 2 buckets 2 ids 3\nrow 0 depth 1 render 1\nD 1 2 0\nP 10 32 - 0\nrow 1 depth 0 render 4\nB 0 64\nP 0 8 - 1\nL 0 64 - 0\nE\n";
+
+// What the original tells of it in a stream, under the line with its number.
+const DUMP: &[u8] =
+    b"rows 2 buckets 2 ids 3\nrow 0 depth 1 render 1\nD 1 2 0\nP 10 32 - 0\nrow 1 depth 0 render 4\nB 0 64\nP 0 8 - 1\nL 0 64 - 0\nE\npaint attributes 2\nA 0 0 3 0 1 0 0 0\nA 0 0 3 0 2 0 0 0\nlayer attributes 1\nY 0 3 1056964608 0 3 0\nfilter paints 0\npainted 0 pieces 2\np 0 32 64 - 0\np 0 10 32 - 0\npainted 1 pieces 2\np 1 0 8 - 1\nl 0 0 64 - 1\n";
+
+const ANY: usize = usize::MAX;
+
+#[derive(Clone, Copy)]
+enum Program {
+    Rowlist,
+    Rowdump,
+    Why,
+}
+
+// How a run ended: done, a usage with its first line, or a failure of memory, of reading or of writing.
+#[derive(Debug, Drop, PartialEq, Eq)]
+enum End {
+    Done,
+    Usage(String),
+    NoMemory,
+    Read(ErrorKind),
+    Write(ErrorKind),
+}
+
+fn ended(alloc: Global, ran: Result<(), Stop<'_>>) -> Result<End, AllocError> {
+    Ok(match ran {
+        Ok(()) => End::Done,
+        Err(Stop::Usage(wrong)) => End::Usage(format!(in alloc; "{wrong}")?),
+        Err(Stop::Failed(Failure::OutOfMemory)) => End::NoMemory,
+        Err(Stop::Failed(Failure::CannotRead(error))) => End::Read(error.kind()),
+        Err(Stop::Failed(Failure::CannotWrite(error))) => End::Write(error.kind()),
+    })
+}
+
+// Runs a program on words; how it ended, and what it has written.
+fn run(
+    alloc: Global,
+    program: Program,
+    args: &[&str],
+    words: &[u32],
+    reads: &[Turn],
+    writes: &[Turn],
+) -> Result<(End, Vec<u8>), AllocError> {
+    let mut given = Vec::new(alloc);
+    for arg in args {
+        given.push(arg.to_string(alloc)?)?;
+    }
+    let mut bytes = Vec::new(alloc);
+    for word in words {
+        bytes.extend_from_slice(&word.to_le_bytes())?;
+    }
+    let mut input = Input {
+        turns: reads,
+        bytes: bytes.as_slice(),
+    };
+    let mut output = Output {
+        turns: writes,
+        held: Vec::new(alloc),
+    };
+    let ran = match program {
+        Program::Rowlist => run_rowlist::run(alloc, given.as_slice(), &mut input, &mut output),
+        Program::Rowdump => run_rowdump::run(alloc, given.as_slice(), &mut input, &mut output),
+        Program::Why => run_why::run(alloc, given.as_slice(), &mut input, &mut output),
+    };
+    let end = ended(alloc, ran)?;
+    Ok((end, output.held))
+}
+
+// Usages: nothing is read or written, and the first line says which word is wrong.
+#[test]
+fn a_usage_names_the_word_that_is_wrong(rt: HostRuntime) -> Result<(), Fail> {
+    let cases: [(Program, &[&str], &str); 18] = [
+        (Program::Rowlist, &["--wdith"], "--wdith is no option"),
+        (Program::Rowlist, &["--panels"], "--panels is no option"),
+        (
+            Program::Rowlist,
+            &["--width"],
+            "--width wants a number after it",
+        ),
+        (Program::Rowlist, &["--width", "+64"], "+64 is no number"),
+        (
+            Program::Rowlist,
+            &["--snap", "--help"],
+            "--help stands alone or not at all",
+        ),
+        (Program::Rowlist, &["x"], "x is one argument too many"),
+        (
+            Program::Rowdump,
+            &["--panels", "--snpa"],
+            "--snpa is no option",
+        ),
+        (
+            Program::Rowdump,
+            &["--width", "4294967296"],
+            "4294967296 is no number",
+        ),
+        (
+            Program::Rowdump,
+            &["x", "--panels"],
+            "x is one argument too many",
+        ),
+        (Program::Why, &[], "ROW is missing"),
+        (Program::Why, &["3"], "TILE is missing"),
+        (Program::Why, &["3", "x"], "x is no number"),
+        (
+            Program::Why,
+            &["3", "70", "shape", "1"],
+            "shape is neither draw nor layer",
+        ),
+        (
+            Program::Why,
+            &["3", "70", "draw"],
+            "draw wants a number after it",
+        ),
+        (
+            Program::Why,
+            &["3", "70", "draw", "1", "2"],
+            "2 is one argument too many",
+        ),
+        (Program::Why, &["--panels", "3"], "--panels is no option"),
+        (
+            Program::Why,
+            &["--stream", "3"],
+            "3 is one argument too many",
+        ),
+        (
+            Program::Why,
+            &["3", "70", "--help"],
+            "--help is neither draw nor layer",
+        ),
+    ];
+    for (program, args, line) in cases {
+        let (end, held) = run(
+            rt.alloc(),
+            program,
+            args,
+            &WORKED,
+            &[Fails(ErrorKind::Other)],
+            &[],
+        )?;
+        assert_eq!(rt; end, End::Usage(line.to_string(rt.alloc())?));
+        assert!(rt; held.is_empty());
+    }
+    Ok(())
+}
+
+#[test]
+fn help_prints_the_usage_and_reads_nothing(rt: HostRuntime) -> Result<(), Fail> {
+    let programs: [(Program, &[u8]); 3] = [
+        (
+            Program::Rowlist,
+            b"usage: rowlist [--snap] [--width N] < FILE\n",
+        ),
+        (
+            Program::Rowdump,
+            b"usage: rowdump [--snap] [--width N] [--panels] < STREAM\n",
+        ),
+        (
+            Program::Why,
+            b"usage: why [--snap] [--width N] ROW TILE [draw N | layer N] < FILE\n",
+        ),
+    ];
+    for (program, line) in programs {
+        for word in ["--help", "-h"] {
+            let (end, held) = run(
+                rt.alloc(),
+                program,
+                &[word],
+                &[],
+                &[Fails(ErrorKind::Other)],
+                &[Bytes(ANY)],
+            )?;
+            assert_eq!(rt; end, End::Done);
+            assert!(rt; held.as_slice().starts_with(line));
+            assert!(rt;
+                held.as_slice()
+                    .ends_with(b"  14: the list has no room for the result\n")
+            );
+        }
+    }
+    Ok(())
+}
+
+// The list of one recording, through short and interrupted reads and writes, and under options that change nothing of it; what a width that is none
+// gives.
+#[test]
+fn a_recording_is_listed(rt: HostRuntime) -> Result<(), Fail> {
+    let reads = [
+        Bytes(5),
+        Fails(ErrorKind::Interrupted),
+        Bytes(ANY),
+        Bytes(0),
+    ];
+    let writes = [
+        Bytes(1),
+        Fails(ErrorKind::Interrupted),
+        Bytes(7),
+        Bytes(ANY),
+    ];
+    let cases: [(&[&str], &[u8]); 4] = [
+        (&[], LIST),
+        (&["--width", "64", "--width", "128"], LIST),
+        (&["--width", "100"], b"refused 2\n"),
+        (&["--width", "100", "--snap", "--width", "128"], LIST),
+    ];
+    for (args, text) in cases {
+        let (end, held) = run(rt.alloc(), Program::Rowlist, args, &WORKED, &reads, &writes)?;
+        assert_eq!(rt; end, End::Done);
+        assert_eq!(rt; held.as_slice(), text);
+    }
+    Ok(())
+}
+
+// Two recordings of a stream, the second with a reader or a writer that fails in the middle of it: the first is there whole, and of the second what was
+// written before.
+#[test]
+fn a_stream_that_fails_leaves_whole_recordings(rt: HostRuntime) -> Result<(), Fail> {
+    let mut words = Vec::new(rt.alloc());
+    for _ in 0..2 {
+        words.push(276)?;
+        words.extend_from_slice(&WORKED)?;
+    }
+    let mut first = Vec::new(rt.alloc());
+    first.extend_from_slice(b"recording 0\n")?;
+    first.extend_from_slice(DUMP)?;
+    let mut both = Vec::new(rt.alloc());
+    both.extend_from_slice(first.as_slice())?;
+    both.extend_from_slice(b"recording 1\n")?;
+    both.extend_from_slice(DUMP)?;
+    let all = [Bytes(ANY), Bytes(ANY), Bytes(ANY), Bytes(ANY), Bytes(ANY)];
+    let (end, whole) = run(
+        rt.alloc(),
+        Program::Rowdump,
+        &[],
+        words.as_slice(),
+        &all,
+        &all,
+    )?;
+    assert_eq!(rt; end, End::Done);
+    assert_eq!(rt; whole.as_slice(), both.as_slice());
+
+    let reads = [
+        Bytes(ANY),
+        Bytes(ANY),
+        Bytes(ANY),
+        Bytes(9),
+        Fails(ErrorKind::Other),
+    ];
+    let (end, held) = run(
+        rt.alloc(),
+        Program::Rowdump,
+        &[],
+        words.as_slice(),
+        &reads,
+        &all,
+    )?;
+    assert_eq!(rt; end, End::Read(ErrorKind::Other));
+    assert_eq!(rt; held.as_slice(), first.as_slice());
+
+    let writes = [Bytes(ANY), Bytes(3), Fails(ErrorKind::BrokenPipe)];
+    let (end, held) = run(
+        rt.alloc(),
+        Program::Rowdump,
+        &[],
+        words.as_slice(),
+        &all,
+        &writes,
+    )?;
+    assert_eq!(rt; end, End::Write(ErrorKind::BrokenPipe));
+    first.extend_from_slice(b"rec")?;
+    assert_eq!(rt; held.as_slice(), first.as_slice());
+    Ok(())
+}
+
+// A file that is too long is refused after all of it was read over: where that fails, nothing of it is printed.
+#[test]
+fn the_rest_of_a_long_file_comes_first(rt: HostRuntime) -> Result<(), Fail> {
+    let cases: [(Program, &[&str], &[u32], &[u8]); 2] = [
+        (Program::Rowdump, &[], &[65544], b"recording 0\nrefused 3\n"),
+        (
+            Program::Why,
+            &["--stream"],
+            &[65544, 0, 0],
+            b"question 0\nrefused 3\n",
+        ),
+    ];
+    for (program, args, head, text) in cases {
+        let mut words = Vec::new(rt.alloc());
+        words.extend_from_slice(head)?;
+        for _ in 0..16386 {
+            words.push(0)?;
+        }
+        let reads = [Bytes(ANY), Bytes(ANY), Bytes(ANY), Bytes(ANY), Bytes(ANY)];
+        let (end, held) = run(
+            rt.alloc(),
+            program,
+            args,
+            words.as_slice(),
+            &reads,
+            &[Bytes(ANY), Bytes(ANY)],
+        )?;
+        assert_eq!(rt; end, End::Done);
+        assert_eq!(rt; held.as_slice(), text);
+
+        let reads = [Bytes(ANY), Bytes(ANY), Fails(ErrorKind::Other)];
+        let (end, held) = run(
+            rt.alloc(),
+            program,
+            args,
+            words.as_slice(),
+            &reads,
+            &[Bytes(ANY), Bytes(ANY)],
+        )?;
+        assert_eq!(rt; end, End::Read(ErrorKind::Other));
+        assert!(rt; held.is_empty());
+    }
+    Ok(())
+}

@@ -1,9 +1,0 @@
--- The first line stands first, the file's text after it.
-use native.Mathlib.Omega.{arith}
-use Rattle.text_dump.proofs.Files.{whole-text}
-use Rattle.text_dump.proofs.recording_text.Goals as goal
-
-pub returns-clause-out_after : goal.returns-clause-out_after
-returns-clause-out_after c =
-    let line = c.put_recording-k.ensures in
-    (whole-text c.args.i _ _ line.value line.out_after c.lines_text-more.ensures.text.count c.lines_text-more.ensures.text.bytes (omega arith)).1

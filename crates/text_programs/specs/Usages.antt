@@ -1,0 +1,28 @@
+-- What a program's usage says.
+use Rattle.std.specs.Prelude.{ℕ, List, [], ◌∷◌, ◌++◌, codes, flat_map}
+use Rattle.std.specs.Fmt.{decimal}
+use Rattle.sizes.specs.Refusals.{number_of, refusal_text}
+use Rattle.sizes.specs.declared.answers.Refusal.{Refusal}
+use Rattle.sizes.specs.declared.answers.Refusal.TheVariants as refusal
+
+-- in the order of their numbers
+abbrev pub refusals : List Refusal
+refusals =
+    refusal.BadArena ∷ refusal.BadViewport ∷ refusal.BadForm ∷ refusal.BadRecord ∷ refusal.BadOrder ∷ refusal.Deep ∷ refusal.NoLayer ∷ refusal.Ids ∷ refusal.FullAttrs
+    ∷ refusal.FullRow ∷ refusal.FullDepth ∷ refusal.BadRun ∷ refusal.Open ∷ refusal.NoRoom ∷ []
+
+-- what a refusal's number stands for
+abbrev pub refusal_line : Refusal → List ℕ
+refusal_line r = codes "  " ++ (decimal (number_of r) ++ (codes ": " ++ (refusal_text r ++ (10 ∷ []))))
+
+abbrev pub refusal_lines : List ℕ
+refusal_lines = flat_map refusal_line refusals
+
+-- the options that every program has, and the line before the refusals
+abbrev pub common_lines : List ℕ
+common_lines =
+    codes "  --snap     read the viewport in snapping mode\n  --width N  N pixels a depth bucket: 64, 128 or 256; without it 128\n  --help     print this; so does -h; no other argument may stand beside it\nwhat `refused N` stands for:\n"
+
+-- a program's usage, given how it is called and the options that it has beside those
+abbrev pub usage_text : List ℕ → List ℕ → List ℕ
+usage_text calls own = calls ++ (own ++ (common_lines ++ refusal_lines))

@@ -1,0 +1,119 @@
+//! The programs' usages, and what is wrong with arguments that ask for nothing.
+ghost use Rattle.std.specs.Prelude.{◌≡◌, ◌⊎◌, Some, map, string_bytes, OnOk, IfErr};
+ghost use Rattle.std.specs.Io.KnownBytes.{Appends};
+ghost use Rattle.text_programs.specs.declared.failure.Failure.TheVariants as Failure;
+ghost use Rattle.text_programs.specs.Failures.{IsOfWriting, Begins};
+ghost use Rattle.text_programs.specs.Arguments.{asks_help};
+ghost use Rattle.text_programs.specs.Usages.{refusal_lines, usage_text};
+
+use crate::failure::Failure;
+use crate::write_text;
+use sizes::answers::Refusal;
+use std::alloc::Global;
+use std::fmt;
+use std::io::Write;
+
+/// What is wrong with a program's arguments: the first word that is, or what is missing.
+#[derive(Clone, Copy, Debug)]
+pub enum Wrong<'a> {
+    // An argument is no text.
+    NoText,
+    // One that has to be there is not: its name.
+    Missing(&'a str),
+    NoOption(&'a str),
+    NoNumber(&'a str),
+    // A number has to follow it, and nothing does.
+    Unfollowed(&'a str),
+    // It stands where `draw` or `layer` has to.
+    NoKind(&'a str),
+    // It asks for the usage, and other arguments stand beside it.
+    NotAlone(&'a str),
+    TooMany(&'a str),
+}
+
+impl fmt::Display for Wrong<'_> {
+    fn fmt<W: fmt::Write>(&self, f: &mut fmt::Formatter<W>) -> fmt::Result {
+        match *self {
+            Wrong::NoText => f.write_str("an argument is no text"),
+            Wrong::Missing(name) => write!(f, "{name} is missing"),
+            Wrong::NoOption(word) => write!(f, "{word} is no option"),
+            Wrong::NoNumber(word) => write!(f, "{word} is no number"),
+            Wrong::Unfollowed(word) => write!(f, "{word} wants a number after it"),
+            Wrong::NoKind(word) => write!(f, "{word} is neither draw nor layer"),
+            Wrong::NotAlone(word) => write!(f, "{word} stands alone or not at all"),
+            Wrong::TooMany(word) => write!(f, "{word} is one argument too many"),
+        }
+    }
+}
+
+/// What is wrong with arguments that begin with a word that is meant as an option; none where the first is not.
+pub fn wrong_option(args: &[String]) -> Option<Wrong<'_>> {
+    let (first, rest) = args.split_first()?;
+    match first.as_str() {
+        "--width" => match rest.first() {
+            Some(text) => Some(Wrong::NoNumber(text.as_str())),
+            None => Some(Wrong::Unfollowed(first.as_str())),
+        },
+        "--help" | "-h" => Some(Wrong::NotAlone(first.as_str())),
+        word if word.starts_with('-') => Some(Wrong::NoOption(word)),
+        _ => None,
+    }
+}
+
+/// Whether a program is asked for its usage: by `--help` or `-h`, its only argument.
+pub fn asks_help(args: &[String]) -> bool
+    ensures { result ≡ asks_help (map string_bytes args.now) }
+{
+    match args {
+        [word] => word.as_str() == "--help" || word.as_str() == "-h",
+        _ => false,
+    }
+}
+
+// The options that every program has, and the line before the refusals.
+const COMMON: &str =
+    "  --snap     read the viewport in snapping mode\n  --width N  N pixels a depth bucket: 64, 128 or 256; without it 128\n  --help     print this; so does -h; no other argument may stand beside it\nwhat `refused N` stands for:\n";
+
+/// A program's usage: its name, how it is called, up to its options, and a line for each option that not every program has.
+#[derive(Clone, Copy)]
+pub struct Usage {
+    pub program: &'static str,
+    pub calls: &'static str,
+    pub options: &'static str,
+}
+
+// What the number of a refusal stands for: a line for each.
+#[derive(Clone, Copy)]
+struct Numbers;
+
+impl fmt::Display for Numbers {
+    ghost output = { λ _. Some refusal_lines };
+
+    fn fmt<W: fmt::Write>(&self, f: &mut fmt::Formatter<W>) -> fmt::Result {
+        for refusal in Refusal::ALL {
+            writeln!(f, "  {}: {refusal}", refusal.number())?;
+        }
+        Ok(())
+    }
+}
+
+impl fmt::Display for Usage {
+    ghost output = { λ usage. Some (usage_text usage.calls.now usage.options.now) };
+
+    fn fmt<W: fmt::Write>(&self, f: &mut fmt::Formatter<W>) -> fmt::Result {
+        f.write_str(self.calls)?;
+        f.write_str(self.options)?;
+        f.write_str(COMMON)?;
+        write!(f, "{}", Numbers)
+    }
+}
+
+/// Writes it.
+pub fn print_usage<W: Write>(alloc: Global, output: &mut W, usage: &Usage) -> Result<(), Failure>
+    ensures ok { OnOk result (Appends (W.contents output.old) (W.contents output.new) (usage_text usage.now.calls.now usage.now.options.now)) }
+    ensures begun { Begins (W.contents output.old) (W.contents output.new) (usage_text usage.now.calls.now usage.now.options.now) }
+    ensures unwritten { IfErr result (λ e. IsOfWriting e ⊎ (output.new ≡ output.old)) }
+{
+    let text = usage.to_string(alloc)?;
+    write_text(output, text.as_bytes())
+}

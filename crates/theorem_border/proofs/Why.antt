@@ -1,0 +1,32 @@
+-- A refused `coarse_why` leaves its result words. Assumes nothing.
+use Rattle.std.proofs.Common.{ℕ, ◌≡◌, refl, ◌&&◌, List, Option, None, Some, Result, Ok, Err, leb, eqb, length}
+use Rattle.sizes.specs.declared.answers.Refusal.{Refusal}
+use Rattle.rules.specs.Setups.{Setup}
+use Rattle.screen.specs.declared.Screen.{Screen}
+use Rattle.screen.specs.Tables.{Tables, lent}
+use Rattle.tile.specs.Explained.{explained}
+use Rattle.paint.proofs.Kept.{Refused, unsettled}
+use Rattle.host.specs.State.{screen_of, at_held}
+use Rattle.host.specs.Asked.{asked_setup, in-setup}
+use Rattle.host.specs.Border.{unasked_number}
+use Rattle.host.specs.Reasons.{reason-words, reason-size, asked, why-left, why_in, why_call}
+use Rattle.theorem_border.specs.Refused.{WhyRefused}
+
+module _ (file : List ℕ) (row tile layer attribute : ℕ) (st : List ℕ) (t : Tables) (old : List ℕ) where
+  in-one : (q : Setup) → Refused (why_in file q row tile layer attribute st t old) → (why_in file q row tile layer attribute st t old).value.2 ≡ old
+  unfolding why_in
+  in-one q = go (screen_of (leb layer 1 && eqb (length old) reason-size) st)
+    where
+      go : (h : Option Screen) → let a = at_held h st (st, t, old) (λ (s : Screen). why-left old (explained file q row tile (asked layer attribute) (lent s t))) in
+          Refused a → a.value.2 ≡ old
+      go None e = refl
+      go (Some s) e = let x = explained file q row tile (asked layer attribute) (lent s t) in unsettled x.number old (reason-words x.reason) e
+
+  in-any : (o : Result Setup Refusal) → let a = in-setup o (unasked_number file) (st, t, old) (λ (q : Setup). why_in file q row tile layer attribute st t old) in
+      Refused a → a.value.2 ≡ old
+  in-any (Err r) e = refl
+  in-any (Ok q) e = in-one q e
+
+pub why-refused : WhyRefused
+unfolding why_call
+why-refused file w row tile layer attribute st t old = in-any file row tile layer attribute st t old (asked_setup w)

@@ -1,0 +1,53 @@
+use Rattle.host.proofs.Refused.{reset-refused, fill-refused, push-refused, pop-refused, filter-refused, begin-refused}
+use Rattle.host.proofs.Kept.{step-refused, row-refused, unset-refused, visible-refused, spans-refused, write-refused, skip-refused, split-refused}
+use Rattle.host.proofs.Sized.{size-refused}
+use Rattle.theorem_border.proofs.Why.{why-refused}
+use Rattle.theorem_border.proofs.refusals_at_border.Goals as goal
+
+pub returns-clause-reset : goal.returns-clause-reset
+returns-clause-reset c = reset-refused
+
+pub returns-clause-fill : goal.returns-clause-fill
+returns-clause-fill c = fill-refused
+
+pub returns-clause-push_layer : goal.returns-clause-push_layer
+returns-clause-push_layer c = push-refused
+
+pub returns-clause-pop_layer : goal.returns-clause-pop_layer
+returns-clause-pop_layer c = pop-refused
+
+pub returns-clause-filter_fill : goal.returns-clause-filter_fill
+returns-clause-filter_fill c = filter-refused
+
+pub returns-clause-begin_painting : goal.returns-clause-begin_painting
+returns-clause-begin_painting c = begin-refused
+
+pub returns-clause-paint_step : goal.returns-clause-paint_step
+returns-clause-paint_step c = step-refused
+
+pub returns-clause-paint_row : goal.returns-clause-paint_row
+returns-clause-paint_row c = row-refused
+
+pub returns-clause-unset_runs : goal.returns-clause-unset_runs
+returns-clause-unset_runs c = unset-refused
+
+pub returns-clause-visible_runs : goal.returns-clause-visible_runs
+returns-clause-visible_runs c = λ r t id st d l n. visible-refused r t st d l n id
+
+pub returns-clause-visible_spans : goal.returns-clause-visible_spans
+returns-clause-visible_spans c = spans-refused
+
+pub returns-clause-unset_runs_and_write : goal.returns-clause-unset_runs_and_write
+returns-clause-unset_runs_and_write c = λ r t id st d l n. write-refused r t st d l n id
+
+pub returns-clause-can_skip : goal.returns-clause-can_skip
+returns-clause-can_skip c = skip-refused
+
+pub returns-clause-split_opaque_span : goal.returns-clause-split_opaque_span
+returns-clause-split_opaque_span c = split-refused
+
+pub returns-clause-sizes : goal.returns-clause-sizes
+returns-clause-sizes c = size-refused
+
+pub returns-clause-why : goal.returns-clause-why
+returns-clause-why c = why-refused

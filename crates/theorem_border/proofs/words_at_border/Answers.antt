@@ -1,0 +1,16 @@
+use Rattle.host.proofs.Words.{read_back, written_back}
+use Rattle.theorem_border.proofs.Holds.{holds}
+use Rattle.theorem_border.proofs.Sized.{sizes-fit}
+use Rattle.theorem_border.proofs.words_at_border.Goals as goal
+
+pub returns-clause-screen_read : goal.returns-clause-screen_read
+returns-clause-screen_read c = read_back
+
+pub returns-clause-words_written : goal.returns-clause-words_written
+returns-clause-words_written c = written_back
+
+pub returns-clause-reached : goal.returns-clause-reached
+returns-clause-reached c = λ f xs h hosted. holds hosted
+
+pub returns-clause-sizes : goal.returns-clause-sizes
+returns-clause-sizes c = sizes-fit

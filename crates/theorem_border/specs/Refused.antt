@@ -1,0 +1,95 @@
+-- A refused `coarse_` call leaves the state's words, and everything else that it was lent, as they were: each call by the definition that its contract
+-- cites, at any words whatever. Of a refused recording `RecordingRefused` says what it leaves, since it may have reset the screen.
+use Rattle.std.specs.Prelude.{ℕ, ◌≡◌, List, Float, ℤ}
+use Rattle.rules.specs.Spans.{Span}
+use Rattle.span.specs.declared.TileSpan.{TileSpan}
+use Rattle.rect.specs.declared.Rect.{Rect}
+use Rattle.row.specs.Words.{Words}
+use Rattle.screen.specs.Tables.{Tables}
+use Rattle.screen.specs.declared.layers.LayerProps.{LayerProps}
+use Rattle.fill.specs.declared.Draw.{Draw}
+use Rattle.layers.specs.Filter.{FilterGiven}
+use Rattle.pop.specs.Pop as pop
+use Rattle.paint.specs.Painting as paint
+use Rattle.paint.specs.Stepping.{Attributes}
+use Rattle.theorem_picture.specs.Kept.{Refused}
+use Rattle.host.specs.declared.state.SetupWords.{SetupWords}
+use Rattle.host.specs.Sizes.{size_call}
+use Rattle.host.specs.Reasons.{why_call}
+use Rattle.host.specs.Building.{reset_call, fill_call, push_call, pop_call, filter_call}
+use Rattle.host.specs.Painting.{begin_call, step_call, row_call, unset_call, visible_call, write_call, skip_call, split_call}
+use Rattle.host.specs.Spans.{spans_call}
+
+-- state and all tables
+abbrev pub ResetRefused : Type 0
+ResetRefused = (v : Rect) (w : SetupWords) (st : List ℕ) (t : Tables) → Refused (reset_call v w st t) → (reset_call v w st t).value ≡ (st, t)
+
+-- state, rows, and the tables that the step writes
+abbrev pub FillRefused : Type 0
+FillRefused =
+    (ps ss : List ℕ) (d : Draw) (st : List ℕ) (w : Words) (pas : List ℕ) → Refused (fill_call ps ss d st w pas)
+    → (fill_call ps ss d st w pas).value ≡ (st, w, pas)
+
+abbrev pub PushRefused : Type 0
+PushRefused =
+    (flag : ℕ) (p : LayerProps) (st : List ℕ) (w : Words) (ls : List ℕ) (os : List Float) → Refused (push_call flag p st w ls os)
+    → (push_call flag p st w ls os).value ≡ (st, w, ls, os)
+
+abbrev pub PopRefused : Type 0
+PopRefused = (ss st : List ℕ) (l : pop.PopLent) → Refused (pop_call ss st l) → (pop_call ss st l).value ≡ (st, l)
+
+abbrev pub FilterRefused : Type 0
+FilterRefused =
+    (flag : ℕ) (g : FilterGiven) (st : List ℕ) (w : Words) (pas : List ℕ) (fps : List ℤ) → Refused (filter_call flag g st w pas fps)
+    → (filter_call flag g st w pas fps).value ≡ (st, w, pas, fps)
+
+-- state, depth words, painting words
+abbrev pub BeginRefused : Type 0
+BeginRefused = (st d p : List ℕ) → Refused (begin_call st d p) → (begin_call st d p).value ≡ (st, d, p)
+
+-- depth words, painting words, the list, the result words
+abbrev pub StepRefused : Type 0
+StepRefused =
+    (r : ℕ) (a : Attributes) (st : List ℕ) (l : paint.RowLent) (res : List ℕ) → Refused (step_call r a st l res)
+    → (step_call r a st l res).value ≡ (l.depth, l.painting, l.list, res)
+
+abbrev pub RowRefused : Type 0
+RowRefused =
+    (r : ℕ) (a : Attributes) (st : List ℕ) (l : paint.RowLent) (res : List ℕ) → Refused (row_call r a st l res)
+    → (row_call r a st l res).value ≡ (l.depth, l.painting, l.list, res)
+
+-- the list and the count
+abbrev pub UnsetRefused : Type 0
+UnsetRefused =
+    (r : ℕ) (t : Span) (st d l n : List ℕ) → Refused (unset_call r t st d l n) → (unset_call r t st d l n).value ≡ (l, n)
+
+abbrev pub VisibleRefused : Type 0
+VisibleRefused =
+    (r : ℕ) (t : Span) (id : ℕ) (st d l n : List ℕ) → Refused (visible_call r t id st d l n) → (visible_call r t id st d l n).value ≡ (l, n)
+
+abbrev pub SpansRefused : Type 0
+SpansRefused =
+    (r : ℕ) (t : Span) (id : ℕ) (st d : List ℕ) (l : List TileSpan) (n : List ℕ) → Refused (spans_call r t id st d l n)
+    → (spans_call r t id st d l n).value ≡ (l, n)
+
+-- state, depth words, the list and the count
+abbrev pub WriteRefused : Type 0
+WriteRefused =
+    (r : ℕ) (t : Span) (id : ℕ) (st d l n : List ℕ) → Refused (write_call r t id st d l n) → (write_call r t id st d l n).value ≡ (st, d, l, n)
+
+-- the result words
+abbrev pub SkipRefused : Type 0
+SkipRefused =
+    (r : ℕ) (t : Span) (id : ℕ) (st rows old : List ℕ) → Refused (skip_call r t id st rows old) → (skip_call r t id st rows old).value ≡ old
+
+abbrev pub SplitRefused : Type 0
+SplitRefused = (pixels : ℕ) (s : Span) (old : List ℕ) → Refused (split_call pixels s old) → (split_call pixels s old).value ≡ old
+
+abbrev pub SizesRefused : Type 0
+SizesRefused = (v : Rect) (w : SetupWords) (old : List ℕ) → Refused (size_call v w old) → (size_call v w old).value ≡ old
+
+-- `coarse_why`: its result words. The rest is what `coarse_bucket_recording` leaves.
+abbrev pub WhyRefused : Type 0
+WhyRefused =
+    (file : List ℕ) (w : SetupWords) (row tile layer attribute : ℕ) (st : List ℕ) (t : Tables) (old : List ℕ)
+    → Refused (why_call file w row tile layer attribute st t old) → (why_call file w row tile layer attribute st t old).value.2 ≡ old

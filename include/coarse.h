@@ -127,172 +127,140 @@ enum coarse_reason_case {
     COARSE_SHOWN = 5              /* number: its place in the tile's list, from 0 */
 };
 
+/* A box, in pixels. */
+typedef struct coarse_rect { uint32_t x0, y0, x1, y1; } coarse_rect;
+
+/* The screen's own numbers, said at COARSE_STATE. A host starts with zeros and lends them to every call. */
+typedef struct coarse_state {
+    coarse_rect viewport, clip;
+    uint32_t c, d, next_draw_id, paint_attrs, layer_attrs, filter_paints, layers, painting, width;
+} coarse_state;
+
+/* The ten tables, with the lengths that coarse_sizes gives. A pointer in a struct is never null, with length 0 too: unlike a pointer that
+ * is a parameter, it is taken as it is. A call writes what the pointers point to, and never the pointers. */
+typedef struct coarse_tables {
+    uint32_t *render; size_t render_len;
+    uint32_t *fills; size_t fills_len;
+    uint32_t *depth; size_t depth_len;
+    uint32_t *rows; size_t rows_len;
+    uint32_t *painting; size_t painting_len;
+    uint32_t *layers; size_t layers_len;
+    float *opacities; size_t opacities_len;
+    uint32_t *paint_attrs; size_t paint_attrs_len;
+    uint32_t *layer_attrs; size_t layer_attrs_len;
+    int32_t *filter_paints; size_t filter_paints_len;
+} coarse_tables;
+
+/* What painting only reads. */
+typedef struct coarse_stored {
+    const uint32_t *rows; size_t rows_len;
+    const uint32_t *render; size_t render_len;
+    const uint32_t *fills; size_t fills_len;
+    const uint32_t *paint_attrs; size_t paint_attrs_len;
+    const uint32_t *layer_attrs; size_t layer_attrs_len;
+} coarse_stored;
+
+/* What painting writes: one screen may be painted in several threads, each with a canvas of its own. */
+typedef struct coarse_canvas {
+    uint32_t *depth; size_t depth_len;
+    uint32_t *painting; size_t painting_len;
+} coarse_canvas;
+
+/* What a painting call gives: 1 if no command was left or the row has come to its end, else 0; how many pieces. */
+typedef struct coarse_painted { uint32_t finished; size_t pieces; } coarse_painted;
+
+/* What is drawn: the segments start to end of a list, with the paint at a place of a list. */
+typedef struct coarse_blend { uint32_t mix, compose; } coarse_blend;
+typedef struct coarse_draw { uint32_t thread, paint; size_t start, end; coarse_blend blend; uint32_t mask, panel; } coarse_draw;
+
+/* A layer; opacity: the bits of an f32; flag: 1 with a clip, 0 without. */
+typedef struct coarse_props { coarse_blend blend; uint32_t opacity, mask, flag; coarse_rect bounds; uint32_t start, end, thread, panel; } coarse_props;
+
+/* A filter layer's picture, drawn into a box. */
+typedef struct coarse_filter { coarse_rect dest; uint32_t source_x, source_y, has_pixmap, pixmap, paint_count, panel; } coarse_filter;
+
+/* What is asked of a recording, and the answer. */
+typedef struct coarse_question { uint32_t row, tile, layer, attribute; } coarse_question;
+typedef struct coarse_reason { uint32_t reason, number, panel, hider_panel; } coarse_reason;
+
+/* A run as a struct: from a first tile or bucket of the screen's row to an end, which is not among them. */
+typedef struct coarse_span { uint32_t first, end; } coarse_span;
+
 /* The lengths of the ten tables for a viewport in a setup, in the order that coarse_reset takes them. x0 to y1: the viewport in
  * pixels of the scene. sizes_len is 10. */
-uint32_t coarse_sizes(uint32_t x0, uint32_t y0, uint32_t x1, uint32_t y1, coarse_setup setup,
-                      size_t *sizes, size_t sizes_len);
+uint32_t coarse_sizes(coarse_rect viewport, coarse_setup setup, size_t *sizes, size_t sizes_len);
 
 /* A fresh screen of this viewport, in pixels of the scene, in a setup: every lent word is 0. */
-uint32_t coarse_reset(uint32_t *state, size_t state_len,
-                      uint32_t x0, uint32_t y0, uint32_t x1, uint32_t y1, coarse_setup setup,
-                      uint32_t *render, size_t render_len,
-                      uint32_t *fills, size_t fills_len,
-                      uint32_t *depth, size_t depth_len,
-                      uint32_t *rows, size_t rows_len,
-                      uint32_t *painting, size_t painting_len,
-                      uint32_t *layers, size_t layers_len,
-                      float *opacities, size_t opacities_len,
-                      uint32_t *paint_attrs, size_t paint_attrs_len,
-                      uint32_t *layer_attrs, size_t layer_attrs_len,
-                      int32_t *filter_paints, size_t filter_paints_len);
+uint32_t coarse_reset(coarse_state *state, coarse_rect viewport, coarse_setup setup, coarse_tables *tables);
 
 /* A recording, as the little-endian words of its file, bucketed from a fresh screen of its own viewport in a setup. The tables have
  * the lengths that coarse_sizes gives for that. The file's viewport and boxes are in pixels, its segments in tiles, all of the
  * scene. */
-uint32_t coarse_bucket_recording(uint32_t *state, size_t state_len,
-                                 const uint32_t *file, size_t file_len, coarse_setup setup,
-                                 uint32_t *render, size_t render_len,
-                                 uint32_t *fills, size_t fills_len,
-                                 uint32_t *depth, size_t depth_len,
-                                 uint32_t *rows, size_t rows_len,
-                                 uint32_t *painting, size_t painting_len,
-                                 uint32_t *layers, size_t layers_len,
-                                 float *opacities, size_t opacities_len,
-                                 uint32_t *paint_attrs, size_t paint_attrs_len,
-                                 uint32_t *layer_attrs, size_t layer_attrs_len,
-                                 int32_t *filter_paints, size_t filter_paints_len);
+uint32_t coarse_bucket_recording(coarse_state *state, const uint32_t *file, size_t file_len, coarse_setup setup, coarse_tables *tables);
 
 /* Why does this tile show that? A recording is bucketed as by coarse_bucket_recording, and answers for one attribute at one row and
  * tile of its screen, each from 0: a draw's (layer 0) or a layer's (layer 1; above 1 is answer 4 after 3, 2 and 1). The answer is
  * the recording's own, then 12 for a row or tile off the screen; the state and the tables are what coarse_bucket_recording leaves.
  * result_len is COARSE_REASON; result is written only with answer 0. */
-uint32_t coarse_why(uint32_t *state, size_t state_len,
-                    const uint32_t *file, size_t file_len, coarse_setup setup,
-                    uint32_t row, uint32_t tile, uint32_t layer, uint32_t attribute,
-                    uint32_t *render, size_t render_len,
-                    uint32_t *fills, size_t fills_len,
-                    uint32_t *depth, size_t depth_len,
-                    uint32_t *rows, size_t rows_len,
-                    uint32_t *painting, size_t painting_len,
-                    uint32_t *layers, size_t layers_len,
-                    float *opacities, size_t opacities_len,
-                    uint32_t *paint_attrs, size_t paint_attrs_len,
-                    uint32_t *layer_attrs, size_t layer_attrs_len,
-                    int32_t *filter_paints, size_t filter_paints_len,
-                    uint32_t *result, size_t result_len);
+uint32_t coarse_why(coarse_state *state, const uint32_t *file, size_t file_len, coarse_setup setup,
+                    const coarse_question *question, coarse_tables *tables, coarse_reason *result);
 
 /* The segments start to end of a list, filled with the paint at a place of a paint list. The segments are in tiles of the scene;
  * start, end and paint are places in the lists. Default blend is mix 0, compose 3; mask 0 is none. */
-uint32_t coarse_fill(uint32_t *state, size_t state_len,
-                     uint32_t *rows, size_t rows_len,
-                     uint32_t *render, size_t render_len,
-                     uint32_t *fills, size_t fills_len,
-                     uint32_t *paint_attrs, size_t paint_attrs_len,
-                     const uint32_t *paints, size_t paints_len,
-                     const uint32_t *segments, size_t segments_len,
-                     uint32_t thread, size_t start, size_t end, uint32_t paint,
-                     uint32_t mix, uint32_t compose, uint32_t mask, uint32_t panel);
+uint32_t coarse_fill(coarse_state *state, coarse_tables *tables, const uint32_t *paints, size_t paints_len,
+                     const uint32_t *segments, size_t segments_len, const coarse_draw *draw);
 
 /* Opens a layer. opacity: the bits of an f32, any; every pattern is kept. flag: 1 with a clip, whose box (x0 to y1, in pixels of the
  * scene), segment range (start to end, places in the list that the pop is lent) and thread follow, or 0 without, and those are not
  * read. */
-uint32_t coarse_push_layer(uint32_t *state, size_t state_len,
-                           uint32_t *rows, size_t rows_len,
-                           uint32_t *render, size_t render_len,
-                           uint32_t *fills, size_t fills_len,
-                           uint32_t *layers, size_t layers_len,
-                           float *opacities, size_t opacities_len,
-                           uint32_t mix, uint32_t compose, uint32_t opacity, uint32_t mask,
-                           uint32_t flag, uint32_t x0, uint32_t y0, uint32_t x1, uint32_t y1,
-                           uint32_t start, uint32_t end, uint32_t thread, uint32_t panel);
+uint32_t coarse_push_layer(coarse_state *state, coarse_tables *tables, const coarse_props *props);
 
 /* Closes the innermost layer, whose attribute has the panel that it was pushed with. segments: the list that its clip's range lies
  * in, in tiles of the scene; empty without a clip. */
-uint32_t coarse_pop_layer(uint32_t *state, size_t state_len,
-                          uint32_t *rows, size_t rows_len,
-                          uint32_t *render, size_t render_len,
-                          uint32_t *fills, size_t fills_len,
-                          uint32_t *layers, size_t layers_len,
-                          float *opacities, size_t opacities_len,
-                          uint32_t *layer_attrs, size_t layer_attrs_len,
-                          const uint32_t *segments, size_t segments_len);
+uint32_t coarse_pop_layer(coarse_state *state, coarse_tables *tables, const uint32_t *segments, size_t segments_len);
 
 /* Draws a filter layer's picture into a box: x0 to y1, in pixels of the scene. source_x, source_y: from where in the picture, in its
  * pixels. has_pixmap: 1 with a picture, whose handle follows, any below 2^31 and 0 too; or 0 without, and the handle is not read:
  * then nothing is drawn. paint_count: how many paints the paint list has. panel: the layer's. */
-uint32_t coarse_filter_fill(uint32_t *state, size_t state_len,
-                            uint32_t *rows, size_t rows_len,
-                            uint32_t *render, size_t render_len,
-                            uint32_t *fills, size_t fills_len,
-                            uint32_t *paint_attrs, size_t paint_attrs_len,
-                            int32_t *filter_paints, size_t filter_paints_len,
-                            uint32_t x0, uint32_t y0, uint32_t x1, uint32_t y1,
-                            uint32_t source_x, uint32_t source_y, uint32_t has_pixmap, uint32_t pixmap, uint32_t paint_count,
-                            uint32_t panel);
+uint32_t coarse_filter_fill(coarse_state *state, coarse_tables *tables, const coarse_filter *filter);
 
 /* Clears the depth words and sets every row to its first step. */
-uint32_t coarse_begin_painting(uint32_t *state, size_t state_len,
-                               uint32_t *depth, size_t depth_len,
-                               uint32_t *painting, size_t painting_len);
+uint32_t coarse_begin_painting(coarse_state *state, coarse_canvas *canvas);
 
 /* The next stored command of a row of the screen: its pieces at the start of the list, COARSE_PIECE words each, in tiles of that
  * row. result_len is 2: 1 if no command was left, else 0; how many pieces. */
-uint32_t coarse_paint_step(const uint32_t *state, size_t state_len, size_t row,
-                           const uint32_t *rows, size_t rows_len,
-                           const uint32_t *render, size_t render_len,
-                           const uint32_t *fills, size_t fills_len,
-                           uint32_t *depth, size_t depth_len,
-                           uint32_t *painting, size_t painting_len,
-                           const uint32_t *paint_attrs, size_t paint_attrs_len,
-                           const uint32_t *layer_attrs, size_t layer_attrs_len,
-                           uint32_t *list, size_t list_len,
-                           size_t *result, size_t result_len);
+uint32_t coarse_paint_step(const coarse_state *state, const coarse_stored *stored, coarse_canvas *canvas, size_t row,
+                           uint32_t *list, size_t list_len, coarse_painted *result);
 
 /* The steps of a row of the screen, from where it stands to its end, or up to the first whose pieces have no room left in the list:
  * then call again with more room. The pieces, in tiles of that row, stand one after the other. result_len is 2: 1 if the row has
  * come to its end, else 0; how many pieces. */
-uint32_t coarse_paint_row(const uint32_t *state, size_t state_len, size_t row,
-                          const uint32_t *rows, size_t rows_len,
-                          const uint32_t *render, size_t render_len,
-                          const uint32_t *fills, size_t fills_len,
-                          uint32_t *depth, size_t depth_len,
-                          uint32_t *painting, size_t painting_len,
-                          const uint32_t *paint_attrs, size_t paint_attrs_len,
-                          const uint32_t *layer_attrs, size_t layer_attrs_len,
-                          uint32_t *list, size_t list_len,
-                          size_t *result, size_t result_len);
+uint32_t coarse_paint_row(const coarse_state *state, const coarse_stored *stored, coarse_canvas *canvas, size_t row,
+                           uint32_t *list, size_t list_len, coarse_painted *result);
 
 /* The runs of the tiles first to end of a row of the screen whose buckets are unset, in tiles: two words a run. first and end may
  * lie past the screen, up to 8,192; a run ends with the row's last bucket at the latest. count_len is 1. */
-uint32_t coarse_unset_runs(const uint32_t *state, size_t state_len, size_t row,
-                           const uint32_t *depth, size_t depth_len, uint32_t first, uint32_t end,
-                           uint32_t *list, size_t list_len, size_t *count, size_t count_len);
+uint32_t coarse_unset_runs(const coarse_state *state, const coarse_canvas *canvas, size_t row, coarse_span tiles,
+                             uint32_t *list, size_t list_len, size_t *count);
 
 /* The runs of those tiles whose buckets hold at most the id, in tiles too. */
-uint32_t coarse_visible_runs(const uint32_t *state, size_t state_len, size_t row,
-                             const uint32_t *depth, size_t depth_len, uint32_t first, uint32_t end, uint32_t id,
-                             uint32_t *list, size_t list_len, size_t *count, size_t count_len);
-
-/* A run as a struct: from a first tile or bucket of the screen's row to an end, which is not among them. */
-typedef struct { uint32_t first, end; } coarse_span;
+uint32_t coarse_visible_runs(const coarse_state *state, const coarse_canvas *canvas, size_t row, coarse_span tiles,
+                             uint32_t id, uint32_t *list, size_t list_len, size_t *count);
 
 /* The runs of coarse_visible_runs, with its answers, in a list of list_len spans of tiles of the screen's row; the spans after them
  * stay. count_len is 1. */
-uint32_t coarse_visible_spans(const uint32_t *state, size_t state_len, size_t row,
-                              const uint32_t *depth, size_t depth_len, uint32_t first, uint32_t end, uint32_t id,
-                              coarse_span *list, size_t list_len, size_t *count, size_t count_len);
+uint32_t coarse_visible_spans(const coarse_state *state, const coarse_canvas *canvas, size_t row, coarse_span tiles,
+                             uint32_t id, coarse_span *list, size_t list_len, size_t *count);
 
 /* Lists the unset runs of the buckets first to end of a row of the screen, in buckets, and stores the id there. Done, it ends
  * painting. count_len is 1. */
-uint32_t coarse_unset_runs_and_write(uint32_t *state, size_t state_len, size_t row,
-                                     uint32_t *depth, size_t depth_len, uint32_t first, uint32_t end, uint32_t id,
-                                     uint32_t *list, size_t list_len, size_t *count, size_t count_len);
+uint32_t coarse_unset_runs_and_write(coarse_state *state, coarse_canvas *canvas, size_t row, coarse_span buckets,
+                                     uint32_t id, uint32_t *list, size_t list_len, size_t *count);
 
 /* 1 if a draw of the id over the tiles first to end of a row of the screen need not look at the row's depth words, else 0. yes_len
  * is 1. */
-uint32_t coarse_can_skip(const uint32_t *state, size_t state_len, size_t row,
-                         const uint32_t *rows, size_t rows_len, uint32_t first, uint32_t end, uint32_t id,
-                         uint32_t *yes, size_t yes_len);
+uint32_t coarse_can_skip(const coarse_state *state, const coarse_stored *stored, size_t row, coarse_span tiles,
+                         uint32_t id, uint32_t *yes);
 
 /* The parts of an opaque span, the tiles first to end of a row of the screen, over buckets of so many pixels, left to right, three
  * words each: 1 for a regular piece or 2 for a depth fill, first, end (tiles of a piece, buckets of a depth fill). parts_len is 9;

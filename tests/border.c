@@ -35,37 +35,30 @@ static const coarse_paint paints[] = {{1, 1, 5, -5}, {0, 2, 0, 0}};
 static const coarse_segment segments[] = {{0, 0, 0, 64, 0}, {1, 0, 64, 70, 32}};
 static const coarse_draw both = {.start = 0, .end = 2, .paint = 0, .blend = COARSE_DEFAULT_BLEND};
 
-/* A viewport of height 0 has no rows: every arena is empty, and may be null. */
+/* A viewport of height 0 has no rows: every arena is empty. A parameter with length 0 may be null; a pointer in a struct is never. */
 static void null_pointers(void) {
-    uint32_t state[COARSE_STATE] = {0};
+    coarse_state state = {{0, 0, 0, 0}, {0, 0, 0, 0}, 0, 0, 0, 0, 0, 0, 0, 0, 0};
+    uint32_t none[1] = {0};
     uint32_t *layers = calloc(COARSE_LAYERS, 4), *paint_attrs = calloc(COARSE_PAINT_ATTRS, 4);
     uint32_t *layer_attrs = calloc(COARSE_LAYER_ATTRS, 4);
     float *opacities = calloc(COARSE_OPACITIES, 4);
     int32_t *filter_paints = calloc(COARSE_FILTER_PAINTS, 4);
-    size_t count[2] = {7, 7};
+    coarse_tables tables = {none, 0, none, 0, none, 0, none, 0, none, 0, layers, COARSE_LAYERS, opacities, COARSE_OPACITIES,
+                            paint_attrs, COARSE_PAINT_ATTRS, layer_attrs, COARSE_LAYER_ATTRS, filter_paints, COARSE_FILTER_PAINTS};
+    coarse_canvas canvas = {none, 0, none, 0};
+    coarse_draw draw = {0, 0, 0, 0, {0, 3}, 0, 0};
+    size_t count = 7;
     coarse_setup one = {1, 1, COARSE_EXACT, COARSE_128};
-    expect("reset to no rows", COARSE_DONE,
-           coarse_reset(state, COARSE_STATE, 0, 0, 128, 0, one, NULL, 0, NULL, 0, NULL, 0, NULL, 0, NULL, 0, layers, COARSE_LAYERS,
-                        opacities, COARSE_OPACITIES, paint_attrs, COARSE_PAINT_ATTRS, layer_attrs, COARSE_LAYER_ATTRS,
-                        filter_paints, COARSE_FILTER_PAINTS));
-    expect("a pop with none open", COARSE_NO_LAYER,
-           coarse_pop_layer(state, COARSE_STATE, NULL, 0, NULL, 0, NULL, 0, layers, COARSE_LAYERS, opacities, COARSE_OPACITIES,
-                            layer_attrs, COARSE_LAYER_ATTRS, NULL, 0));
-    expect("a fill without a paint", COARSE_BAD_RECORD,
-           coarse_fill(state, COARSE_STATE, NULL, 0, NULL, 0, NULL, 0, paint_attrs, COARSE_PAINT_ATTRS, NULL, 0, NULL, 0, 0, 0, 0, 0,
-                       0, 3, 0, 0));
-    expect("painting no rows", COARSE_DONE, coarse_begin_painting(state, COARSE_STATE, NULL, 0, NULL, 0));
-    expect("a run of no row", COARSE_BAD_RUN, coarse_unset_runs(state, COARSE_STATE, 0, NULL, 0, 0, 4, NULL, 0, count, 1));
-    expect("its count stays", 7, (uint32_t)count[0]);
-    expect("spans of no row", COARSE_BAD_RUN, coarse_visible_spans(state, COARSE_STATE, 0, NULL, 0, 0, 4, 1, NULL, 0, count, 1));
-    expect("spans, a count of two words", COARSE_BAD_RECORD,
-           coarse_visible_spans(state, COARSE_STATE, 0, NULL, 0, 0, 4, 1, NULL, 0, count, 2));
-    expect("their count stays", 7, (uint32_t)count[0]);
-    expect("no state", COARSE_BAD_RECORD, coarse_begin_painting(NULL, 0, NULL, 0, NULL, 0));
-    expect("a recording of no words", COARSE_BAD_FORM,
-           coarse_bucket_recording(state, COARSE_STATE, NULL, 0, one, NULL, 0, NULL, 0, NULL, 0, NULL, 0, NULL, 0, layers,
-                                   COARSE_LAYERS, opacities, COARSE_OPACITIES, paint_attrs, COARSE_PAINT_ATTRS, layer_attrs,
-                                   COARSE_LAYER_ATTRS, filter_paints, COARSE_FILTER_PAINTS));
+    expect("reset to no rows", COARSE_DONE, coarse_reset(&state, (coarse_rect){0, 0, 128, 0}, one, &tables));
+    expect("the structs hold what they held", 1, tables.layers == layers && tables.layers_len == COARSE_LAYERS && tables.render == none);
+    expect("a pop with none open", COARSE_NO_LAYER, coarse_pop_layer(&state, &tables, NULL, 0));
+    expect("a fill without a paint", COARSE_BAD_RECORD, coarse_fill(&state, &tables, NULL, 0, NULL, 0, &draw));
+    expect("painting no rows", COARSE_DONE, coarse_begin_painting(&state, &canvas));
+    expect("a run of no row", COARSE_BAD_RUN, coarse_unset_runs(&state, &canvas, 0, (coarse_span){0, 4}, NULL, 0, &count));
+    expect("its count stays", 7, (uint32_t)count);
+    expect("spans of no row", COARSE_BAD_RUN, coarse_visible_spans(&state, &canvas, 0, (coarse_span){0, 4}, 1, NULL, 0, &count));
+    expect("their count stays", 7, (uint32_t)count);
+    expect("a recording of no words", COARSE_BAD_FORM, coarse_bucket_recording(&state, NULL, 0, one, &tables));
     free(layers), free(paint_attrs), free(layer_attrs), free(opacities), free(filter_paints);
 }
 
@@ -73,6 +66,7 @@ static void null_pointers(void) {
 static void lent_spans(void) {
     coarse_bucketer b;
     coarse_rect viewport = {0, 0, 4096, 4};
+    coarse_canvas short_row;
     coarse_span list[20];
     const coarse_run *runs;
     size_t count = 0, n = 0, i;
@@ -86,8 +80,10 @@ static void lent_spans(void) {
     expect("15 spans for 16 runs", COARSE_NO_ROOM, coarse_bucketer_visible_spans(&b, 0, 10, 1024, 6, list, 15, &count));
     expect("out of order", COARSE_BAD_RUN, coarse_bucketer_visible_spans(&b, 0, 11, 10, 6, list, 20, &count));
     expect("no row 1", COARSE_BAD_RUN, coarse_bucketer_visible_spans(&b, 1, 10, 1024, 6, list, 20, &count));
+    short_row = coarse_bucketer_canvas(&b);
+    short_row.depth_len = 31;
     expect("a short arena before a bad range", COARSE_BAD_ARENA,
-           coarse_visible_spans(b.state, COARSE_STATE, 0, b.depth, 31, 11, 10, 6, list, 20, &count, 1));
+           coarse_visible_spans(&b.state, &short_row, 0, (coarse_span){11, 10}, 6, list, 20, &count));
     expect("refused, the count stays", 9, (uint32_t)count);
     for (i = 0; i < 20; i++)
         expect("refused, the list stays", 500, list[i].first);
@@ -109,40 +105,33 @@ static void lent_spans(void) {
 
 /* A filter fill of 8 by 3 pixels with any flag and handle, of any panel. */
 static uint32_t filter_fill(coarse_bucketer *b, uint32_t has_pixmap, uint32_t pixmap, uint32_t panel) {
-    return coarse_filter_fill(b->state, COARSE_STATE, b->rows, b->sizes[3], b->render, b->sizes[0], b->fills, b->sizes[1], b->paint_attrs,
-                              b->sizes[7], b->filter_paints, b->sizes[9], 0, 0, 8, 3, 4, 0, has_pixmap, pixmap, 2,
-                              panel);
+    coarse_tables tables = coarse_bucketer_lent(b);
+    coarse_filter given = {{0, 0, 8, 3}, 4, 0, has_pixmap, pixmap, 2, panel};
+    return coarse_filter_fill(&b->state, &tables, &given);
 }
 
-/* The first tile, in any setup, with any word for draw or layer, and any length of the result. */
-static uint32_t why(coarse_bucketer *b, const uint32_t *file, size_t words, coarse_setup setup, uint32_t layer, size_t room) {
-    uint32_t result[COARSE_REASON + 1];
-    return coarse_why(b->state, COARSE_STATE, file, words, setup, 0, 0, layer, 0, b->render, b->sizes[0], b->fills, b->sizes[1],
-                      b->depth, b->sizes[2], b->rows, b->sizes[3], b->painting, b->sizes[4], b->layers, b->sizes[5], b->opacities,
-                      b->sizes[6], b->paint_attrs, b->sizes[7], b->layer_attrs, b->sizes[8], b->filter_paints, b->sizes[9], result,
-                      room);
+/* The first tile, in any setup, with any word for draw or layer. */
+static uint32_t why(coarse_bucketer *b, const uint32_t *file, size_t words, coarse_setup setup, uint32_t layer) {
+    coarse_tables tables = coarse_bucketer_lent(b);
+    coarse_question question = {0, 0, layer, 0};
+    coarse_reason result;
+    return coarse_why(&b->state, file, words, setup, &question, &tables, &result);
 }
 
 /* A reset of the screen that it is, in any setup. */
 static uint32_t reset(coarse_bucketer *b, coarse_rect v, coarse_setup setup) {
-    return coarse_reset(b->state, COARSE_STATE, v.x0, v.y0, v.x1, v.y1, setup, b->render, b->sizes[0], b->fills, b->sizes[1], b->depth,
-                        b->sizes[2], b->rows, b->sizes[3], b->painting, b->sizes[4], b->layers, b->sizes[5], b->opacities, b->sizes[6],
-                        b->paint_attrs, b->sizes[7], b->layer_attrs, b->sizes[8], b->filter_paints, b->sizes[9]);
+    coarse_tables tables = coarse_bucketer_lent(b);
+    return coarse_reset(&b->state, v, setup, &tables);
 }
 
-/* A recording into its tables, in any setup, with so many words of its state. */
-static uint32_t record_with(coarse_bucketer *b, size_t state_len, const uint32_t *file, size_t words, coarse_setup setup) {
-    return coarse_bucket_recording(b->state, state_len, file, words, setup, b->render, b->sizes[0], b->fills, b->sizes[1], b->depth,
-                                   b->sizes[2], b->rows, b->sizes[3], b->painting, b->sizes[4], b->layers, b->sizes[5], b->opacities,
-                                   b->sizes[6], b->paint_attrs, b->sizes[7], b->layer_attrs, b->sizes[8], b->filter_paints, b->sizes[9]);
+/* A recording into its tables, in any setup. */
+static uint32_t record_with(coarse_bucketer *b, const uint32_t *file, size_t words, coarse_setup setup) {
+    coarse_tables tables = coarse_bucketer_lent(b);
+    return coarse_bucket_recording(&b->state, file, words, setup, &tables);
 }
 
 static uint32_t record(coarse_bucketer *b, const uint32_t *file, size_t words, coarse_setup setup) {
-    return record_with(b, COARSE_STATE, file, words, setup);
-}
-
-static uint32_t stateless(coarse_bucketer *b, const uint32_t *file, size_t words, coarse_setup setup) {
-    return record_with(b, COARSE_STATE - 1, file, words, setup);
+    return record_with(b, file, words, setup);
 }
 
 /* All words of a bucketer, as one number that a change of any changes. */
@@ -155,7 +144,7 @@ static uint32_t sum(const coarse_bucketer *b) {
     for (i = 0; i < n; i++)
         mixed = (mixed ^ words[i]) * 16777619u;
     for (i = 0; i < COARSE_STATE; i++)
-        mixed = (mixed ^ b->state[i]) * 16777619u;
+        mixed = (mixed ^ ((const uint32_t *)&b->state)[i]) * 16777619u;
     return mixed;
 }
 
@@ -208,7 +197,7 @@ static void snapped_screen(void) {
     expect("shows the draw", COARSE_SHOWN, reason.reason);
     expect("a tile past it", COARSE_BAD_RUN, coarse_bucketer_why(&b, file, 32, 0, 128, 0, 0, &reason));
     expect("exact, it is refused", COARSE_BAD_VIEWPORT, record(&b, file, 32, small));
-    expect("and so is the question", COARSE_BAD_VIEWPORT, why(&b, file, 32, small, 0, COARSE_REASON));
+    expect("and so is the question", COARSE_BAD_VIEWPORT, why(&b, file, 32, small, 0));
     coarse_bucketer_free(&b);
 }
 
@@ -223,8 +212,8 @@ static void unasked(uint32_t answer, coarse_bucketer *b, coarse_rect viewport, c
     expect("no reset", answer, reset(b, viewport, setup));
     expect("no recording", answer, record(b, one_draw, 32, setup));
     expect("a cut recording's form first", COARSE_BAD_FORM, record(b, one_draw, 31, setup));
-    expect("no reason", answer, why(b, one_draw, 32, setup, 0, COARSE_REASON));
-    expect("a cut recording's form first, asked why", COARSE_BAD_FORM, why(b, one_draw, 31, setup, 0, COARSE_REASON));
+    expect("no reason", answer, why(b, one_draw, 32, setup, 0));
+    expect("a cut recording's form first, asked why", COARSE_BAD_FORM, why(b, one_draw, 31, setup, 0));
 }
 
 /* A mode above 1 is refused by 4 with nothing changed, whatever the viewport and C; of a recording after its 3. */
@@ -247,15 +236,12 @@ static void no_mode(void) {
     for (i = 0; i < 10; i++)
         expect("the sizes stay", 7, (uint32_t)sizes[i]);
     /* With a mode, the viewport and the arenas come before a word that is no flag. */
-    b.state[15] = 2;
+    b.state.painting = 2;
     expect("a bad viewport before a bad state", COARSE_BAD_VIEWPORT, reset(&b, bad, small));
     expect("a bad state", COARSE_BAD_RECORD, reset(&b, narrow, small));
     expect("a bad state, snapping", COARSE_BAD_RECORD, reset(&b, narrow, snapping));
     expect("no mode and a bad state", COARSE_BAD_RECORD, reset(&b, bad, (coarse_setup){8, 8, 2, COARSE_128}));
     expect("a cut recording before both", COARSE_BAD_FORM, record(&b, one_draw, 31, (coarse_setup){8, 8, 2, COARSE_128}));
-    expect("no state, a cut recording", COARSE_BAD_RECORD, stateless(&b, one_draw, 31, small));
-    expect("no state, no mode, a cut recording", COARSE_BAD_FORM, stateless(&b, one_draw, 31, (coarse_setup){8, 8, 2, COARSE_128}));
-    expect("no state, no mode", COARSE_BAD_RECORD, stateless(&b, one_draw, 32, (coarse_setup){8, 8, 2, COARSE_128}));
     coarse_bucketer_free(&b);
 }
 
@@ -310,7 +296,7 @@ static void no_width(void) {
     for (i = 0; i < 10; i++)
         expect("the sizes stay", 7, (uint32_t)sizes[i]);
     /* The screen's own word: 2 and 1 come before its 4. */
-    b.state[16] = 3;
+    b.state.width = 3;
     expect("a bad viewport before a bad word", COARSE_BAD_VIEWPORT, reset(&b, (coarse_rect){0, 0, 2, 4}, small));
     expect("a bad word", COARSE_BAD_RECORD, coarse_bucketer_pop_layer(&b, NULL, 0));
     expect("its depth arena first, read as 128", COARSE_BAD_ARENA, coarse_bucketer_begin_painting(&b));
@@ -405,12 +391,9 @@ static void owned_tables(void) {
     expect("a layer's attribute", COARSE_DONE, coarse_bucketer_why(&b, file, 32, 0, 127, 1, 0, &reason));
     expect("is not there", COARSE_UNKNOWN_ATTRIBUTE, reason.reason);
     expect("and has no panel", 0, reason.panel);
-    expect("neither draw nor layer", COARSE_BAD_RECORD, why(&b, file, 32, small, 2, COARSE_REASON));
-    expect("of a cut recording", COARSE_BAD_FORM, why(&b, file, 31, small, 2, COARSE_REASON));
-    expect("one word for a reason", COARSE_BAD_RECORD, why(&b, file, 32, small, 0, 1));
-    expect("one too few", COARSE_BAD_RECORD, why(&b, file, 32, small, 0, COARSE_REASON - 1));
-    expect("one too many", COARSE_BAD_RECORD, why(&b, file, 32, small, 0, COARSE_REASON + 1));
-    expect("as many as there are", COARSE_DONE, why(&b, file, 32, small, 0, COARSE_REASON));
+    expect("neither draw nor layer", COARSE_BAD_RECORD, why(&b, file, 32, small, 2));
+    expect("of a cut recording", COARSE_BAD_FORM, why(&b, file, 31, small, 2));
+    expect("as many as there are", COARSE_DONE, why(&b, file, 32, small, 0));
 
     /* Two such draws: the second hides the first. */
     const uint32_t two[] = {1, 0, 0, 512, 4, 1, 1, 1, 0, 0, 1, 0, 0, 0, 128, 0, 2, 0, 0, 1, 0, 0, 3, 0, 0, 0, 1, 0, 0, 3, 0, 0, 1, 0, 2, 0, 1, 0, 1};

@@ -103,7 +103,7 @@ fn sizes_by_name() {
     for (name, number) in [
         ("STATE", STATE),
         ("PIECE", size_of_val(&Piece::default()) / 4),
-        ("REASON", REASON),
+        ("REASON", 4),
         ("OPEN_LAYER", OPEN_LAYER),
         ("PAINT_ATTR", PAINT_ATTR),
         ("LAYER_ATTR", LAYER_ATTR),
@@ -233,6 +233,12 @@ fn reasons_by_their_words() {
         ([4, 7, 255, 9], hidden, Some(255)),
         ([5, 7, 255, 0], shown, Some(255)),
     ] {
+        let words = sys::ReasonWords {
+            kind: words[0],
+            number: words[1],
+            panel: words[2],
+            hider_panel: words[3],
+        };
         assert_eq!(Reason::of(words), reason);
         assert_eq!(reason.panel(), panel);
     }

@@ -8,7 +8,7 @@ ghost use Rattle.screen.specs.Screens.{frame, frame-of};
 ghost use Rattle.host.specs.State.{rect};
 ghost use Rattle.host.specs.Sizes.{fixed, sizes-of, size_call};
 
-use crate::state::{SetupWords, read_setup};
+use crate::state::{Corners, SetupWords, box_of, read_setup};
 use rect::Rect;
 use screen::{Screen, Setup, fresh, is_good_room};
 use sizes::answers::{Refusal, answer_number};
@@ -70,21 +70,14 @@ fn put_lengths(viewport: Rect, setup: Setup, sizes: &mut [usize]) -> Result<(), 
 /// Words that ask for no setup are refused at once, by 2 or 4; then 2 for the viewport, 1 for C or D, 4 where sizes has not ten places.
 #[unsafe(no_mangle)]
 #[tactic(auto, using(crate::proofs::HostAsked::sizes_unasked))]
-pub extern "C" fn coarse_sizes(
-    x0: u32,
-    y0: u32,
-    x1: u32,
-    y1: u32,
-    setup: SetupWords,
-    sizes: &mut [usize],
-) -> u32
+pub extern "C" fn coarse_sizes(viewport: Corners, setup: SetupWords, sizes: &mut [usize]) -> u32
     ensures { answer result sizes.new
-        ≡ size_call (rect x0 y0 x1 y1) setup sizes.old }
+        ≡ size_call (rect viewport.x0 viewport.y0 viewport.x1 viewport.y1) setup sizes.old }
 {
     let asked = match read_setup(setup) {
         Ok(asked) => asked,
         Err(refusal) => return refusal.number(),
     };
-    let viewport = Rect { x0, y0, x1, y1 };
+    let viewport = box_of(viewport);
     answer_number(put_lengths(viewport, asked, sizes))
 }

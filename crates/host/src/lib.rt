@@ -10,3 +10,5 @@ pub mod reasons;
 pub mod results;
 pub mod spans;
 pub mod state;
+mod sure;
+pub mod tables;

@@ -1,23 +1,34 @@
-//! What a host's call leaves in its result words, whose number is fixed: a refused call leaves them as they were.
+//! What a host's call leaves in its result words: a refused call leaves them as they were.
 ghost use Rattle.std.specs.Prelude.{◌≡◌, [], length};
 ghost use Rattle.rules.specs.Answers.{answer};
 ghost use Rattle.depth.specs.Answers.{parts_of, skip_of, split_of};
 ghost use Rattle.depth.specs.Listing.{out};
 ghost use Rattle.paint.specs.Answers.{painted_of};
+ghost use Rattle.host.specs.Held.{painted_in, one};
 ghost use Rattle.host.specs.Results.{step-result, count_left, skip-left, three_words, split-left};
 
 use depth::Split;
 use paint::Stepped;
 use sizes::answers::Refusal;
 
-/// Whether no step of the row was left, and how many pieces are listed, where the step is not refused. It gives the number of the call, as all here do.
-pub fn put_step(done: Result<Stepped, Refusal>, res: &mut [usize]) -> u32
-    requires { length res.old ≡ 2 }
-    ensures { answer result res.new ≡ step-result res.old (painted_of done) }
+/// What a painting call gives: 1 if no step of the row is left, else 0; how many pieces are listed. Laid out as in C.
+#[repr(C)]
+#[derive(Clone, Copy)]
+pub struct PaintedWords {
+    pub finished: u32,
+    pub pieces: usize,
+}
+
+/// What a painting call gives, where it is not refused. It gives the number of the call, as all here do.
+pub fn put_step(done: Result<Stepped, Refusal>, res: &mut PaintedWords) -> u32
+    ensures { answer result (painted_in res.new) ≡ step-result (painted_in res.old) (painted_of done) }
 {
     match done {
         Ok(step) => {
-            res.copy_from_slice(&[usize::from(step.finished), step.pieces]);
+            *res = PaintedWords {
+                finished: u32::from(step.finished),
+                pieces: step.pieces,
+            };
             0
         }
         Err(refusal) => refusal.number(),
@@ -25,13 +36,12 @@ pub fn put_step(done: Result<Stepped, Refusal>, res: &mut [usize]) -> u32
 }
 
 /// The number of runs, where they are not refused.
-pub fn put_runs(runs: Result<usize, Refusal>, count: &mut [usize]) -> u32
-    requires { length count.old ≡ 1 }
-    ensures { answer result count.new ≡ count_left count.old (out runs []) }
+pub fn put_runs(runs: Result<usize, Refusal>, count: &mut usize) -> u32
+    ensures { answer result (one count.new) ≡ count_left (one count.old) (out runs []) }
 {
     match runs {
         Ok(n) => {
-            count.copy_from_slice(&[n]);
+            *count = n;
             0
         }
         Err(refusal) => refusal.number(),
@@ -39,13 +49,12 @@ pub fn put_runs(runs: Result<usize, Refusal>, count: &mut [usize]) -> u32
 }
 
 /// 1 for yes and 0 for no, where it is not refused.
-pub fn put_skip(skip: Result<bool, Refusal>, yes: &mut [u32]) -> u32
-    requires { length yes.old ≡ 1 }
-    ensures { answer result yes.new ≡ skip-left yes.old (skip_of skip) }
+pub fn put_skip(skip: Result<bool, Refusal>, yes: &mut u32) -> u32
+    ensures { answer result (one yes.new) ≡ skip-left (one yes.old) (skip_of skip) }
 {
     match skip {
         Ok(skips) => {
-            yes.copy_from_slice(&[u32::from(skips)]);
+            *yes = u32::from(skips);
             0
         }
         Err(refusal) => refusal.number(),

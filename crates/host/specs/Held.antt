@@ -1,9 +1,11 @@
 -- What a host holds and hands over by reference, as the words that the calls are defined on.
 use Rattle.std.specs.Prelude.{ℕ, List, [], ◌∷◌}
+use Rattle.rect.specs.declared.Rect.{Rect}
 use Rattle.host.specs.declared.state.StateWords.{StateWords}
-use Rattle.fill.specs.declared.Draw.{Draw}
+use Rattle.host.specs.declared.state.Corners.{Corners}
+use Rattle.inputs.specs.declared.Draw.{Draw}
 use Rattle.host.specs.declared.build.DrawWords.{DrawWords}
-use Rattle.host.specs.Building.{draw, props, clip, picture, placement}
+use Rattle.host.specs.Building.{draw, props, clip, picture, filter-in}
 use Rattle.host.specs.State.{rect}
 use Rattle.layers.specs.Filter.{FilterGiven, given}
 use Rattle.screen.specs.declared.layers.LayerProps.{LayerProps}
@@ -11,6 +13,8 @@ use Rattle.host.specs.declared.build.PropsWords.{PropsWords}
 use Rattle.host.specs.declared.build.FilterWords.{FilterWords}
 use Rattle.host.specs.declared.reasons.ReasonWords.{ReasonWords}
 use Rattle.host.specs.declared.results.PaintedWords.{PaintedWords}
+use Rattle.host.specs.declared.results.PartWords.{PartWords}
+use Rattle.host.specs.declared.results.SplitWords.{SplitWords}
 
 -- the screen's 17 words, in their order
 abbrev pub words_in : StateWords → List ℕ
@@ -34,6 +38,10 @@ words_in s =
     ∷ s.width
     ∷ []
 
+-- a box
+abbrev pub rect_of : Corners → Rect
+rect_of c = rect c.x0 c.y0 c.x1 c.y1
+
 -- a painting call's result: whether finished, how many pieces
 abbrev pub painted_in : PaintedWords → List ℕ
 painted_in p = p.finished ∷ p.pieces ∷ []
@@ -54,8 +62,18 @@ props_of p =
 -- what a filter fill is given
 abbrev pub filter_of : FilterWords → FilterGiven
 filter_of f =
-    given (placement (rect f.dest.x0 f.dest.y0 f.dest.x1 f.dest.y1) f.source_x f.source_y) (picture f.has_pixmap f.pixmap) f.paint_count f.panel
+    given (filter-in (rect_of f.dest) f.source_x f.source_y (picture f.has_pixmap f.pixmap)) f.paint_count f.panel
 
 -- a reason: its case, its number, and the two panels
 abbrev pub reason_in : ReasonWords → List ℕ
 reason_in r = r.kind ∷ r.number ∷ r.panel ∷ r.hider_panel ∷ []
+
+-- a part of a split span, and all three
+abbrev pub part : ℕ → ℕ → ℕ → PartWords
+part kind first end = record { kind = kind; first = first; «end» = end }
+
+abbrev pub part_in : PartWords → List ℕ → List ℕ
+part_in p ws = p.kind ∷ p.first ∷ p.end ∷ ws
+
+abbrev pub parts_in : SplitWords → List ℕ
+parts_in s = part_in s.left (part_in s.middle (part_in s.right []))

@@ -10,3 +10,4 @@ pub mod Lent
 pub mod OneLook
 pub mod Asked
 pub mod Results
+pub mod Called

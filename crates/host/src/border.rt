@@ -1,25 +1,18 @@
 //! What a call answers where the host's own words are refused by 4: a state that is no screen's, the flag of a clip or of a picture.
 //! Each asks the judge that the call itself asks first, so that 3, 2 and 1 come before that 4. Parts of the calls.
-ghost use Rattle.std.specs.Prelude.{◌≡◌, true, length};
+ghost use Rattle.std.specs.Prelude.{◌≡◌, true};
 ghost use Rattle.sizes.specs.Refusals.{answer_number};
 ghost use Rattle.rules.specs.Boxes.{good_viewport};
 ghost use Rattle.rect.specs.Rects.{box_of};
 ghost use Rattle.screen.specs.declared.Screen.{Screen as Numbers};
 ghost use Rattle.screen.specs.Screens.{setup-of, frame, frame-of};
-ghost use Rattle.screen.specs.Judging.{judged};
-ghost use Rattle.paint.specs.Judging.{arenas-long, tables-long, begin_number, step_number, runs_number, skip_number};
+ghost use Rattle.paint.specs.Judging.{begin_number, runs_number, skip_number};
 ghost use Rattle.host.specs.State.{refused_at};
 ghost use Rattle.host.specs.Held.{words_in};
-ghost use Rattle.host.specs.Border.{arenas-in, arenas_number, file_number, unasked_number};
+ghost use Rattle.host.specs.Border.{arenas-in, arenas_number, file_number, unasked_number, rows-judged, step-judged};
 
-<<<<<<< HEAD
-use crate::state::{before_4, screen_at};
-use file::Recording;
-=======
 use crate::state::{StateWords, before_4, screen_at};
-use file::form::read_form;
-use file::judge::box_at;
->>>>>>> 3b8edbe7a46d079150bab4510c11e0b433b48028
+use file::Recording;
 use paint::Stored;
 use paint::canvas::judge::{judge_begin, judge_runs, judge_skip, judge_step};
 use rect::Rect;
@@ -87,7 +80,7 @@ pub fn refuse_setup(file: &[u32], refusal: Refusal) -> u32
 /// The number of a building step: 2 or 1 as it would answer, else 4.
 #[tactic(auto, unfolding(crate::specs::State::refused_at))]
 pub fn refuse_build(state: &StateWords, rows: &Rows<'_>) -> u32
-    ensures { result ≡ refused_at (words_in state.now) (λ (s : Numbers). judged s (length rows.now.state.now) (length rows.now.render.now) (length rows.now.fills.now)) }
+    ensures { result ≡ refused_at (words_in state.now) (rows-judged rows.now) }
 {
     before_4(judge_screen(
         screen_at(state),
@@ -114,7 +107,7 @@ pub fn refuse_step(
     depth: usize,
     painting: usize,
 ) -> u32
-    ensures { result ≡ refused_at (words_in state.now) (λ (s : Numbers). step_number s row (arenas-long s (length stored.now.render.now) (length stored.now.fills.now) depth) (tables-long s (length stored.now.rows.now) painting (length stored.now.paint_attrs.now) (length stored.now.layer_attrs.now))) }
+    ensures { result ≡ refused_at (words_in state.now) (step-judged stored.now row depth painting) }
 {
     before_4(judge_step(screen_at(state), row, stored, depth, painting))
 }

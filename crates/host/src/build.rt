@@ -1,41 +1,32 @@
-//! The calls of reset, of the building steps and of a recording. `state` has the screen's 17 words; tables are lent as `Lent` names them.
+//! The calls of reset, of the building steps and of a recording. A state has a screen's numbers; `screen::Lent` has the ten tables.
 ghost use Rattle.std.specs.Prelude.{◌≡◌};
 ghost use Rattle.rules.specs.Answers.{answer};
 ghost use Rattle.screen.specs.Tables.{Tables};
 ghost use Rattle.screen.specs.Tables.{answer_of};
-ghost use Rattle.host.specs.Held.{words_in, draw_in, props_of, filter_of};
-ghost use Rattle.host.specs.Lent.{tables_in, rows_in, pop_in, SameTables, FillKeeps, PushKeeps, PopKeeps, FilterKeeps};
-ghost use Rattle.host.specs.State.{rect};
-<<<<<<< HEAD
-ghost use Rattle.host.specs.Building.{reset_call, recording_call, draw, fill_call, clip, props, push_call, pop_call, filter-in, picture, filter_call};
-=======
-ghost use Rattle.host.specs.Building.{tables-left, reset_call, recording_call, fill_call, clip, props, push_call, pop_call, picture, filter_call};
->>>>>>> 3b8edbe7a46d079150bab4510c11e0b433b48028
+ghost use Rattle.screen.specs.Lent.{tables_in, SameLent};
+ghost use Rattle.host.specs.Held.{words_in, rect_of, draw_in, props_of};
+ghost use Rattle.host.specs.Lent.{pop_in, FillKeeps, PushKeeps, PopKeeps, FilterKeeps};
+ghost use Rattle.host.specs.Called.{fill_on, fill_out, push_on, push_out, filter_on, filter_out};
+ghost use Rattle.host.specs.Building.{tables-left, reset_call, recording_call, pop_call, picture};
 
 use crate::border::{refuse_build, refuse_recording, refuse_reset, refuse_setup};
 use crate::state::{
     Corners, SetupWords, StateWords, box_of, leave, put_screen, read_setup, screen_of,
 };
-use crate::tables::TableWords;
 use cmd::blend::Blend;
 use fill::fill;
 use inputs::{Draw, Filter};
 use layers::{FilterFill, filter_fill, push_layer};
 use pop::pop_layer;
-use rect::Rect;
 use row::Rows;
-<<<<<<< HEAD
 use screen::layers::{Clip, LayerProps, Layers};
-use screen::{Lent, reset};
-=======
-use screen::layers::{LayerProps, Layers};
 use screen::{Lent, Screen, reset};
 use sizes::answers::Refusal;
->>>>>>> 3b8edbe7a46d079150bab4510c11e0b433b48028
 use walk::bucket_recording;
 use walk::read::{float_of, pattern_of};
 
-/// What is drawn: segments start to end of a list, with the paint at a place of a list. Laid out as in C.
+/// What is drawn: segments start to end of a list, with the paint at a place of a list; the thread is that of their alpha values; mask is a handle, or 0 for
+/// none. Laid out as in C.
 #[repr(C)]
 #[derive(Clone, Copy)]
 pub struct DrawWords {
@@ -50,6 +41,7 @@ pub struct DrawWords {
 }
 
 impl DrawWords {
+    // The same, as a fill takes it.
     fn asked(&self) -> Draw
         ensures { result ≡ draw_in self.now }
     {
@@ -91,33 +83,21 @@ pub extern "C" fn coarse_reset(
     state: &mut StateWords,
     viewport: Corners,
     setup: SetupWords,
-    tables: &mut TableWords<'_>,
+    tables: &mut Lent<'_>,
 ) -> u32
-    ensures same { SameTables tables.old tables.new }
+    ensures same { SameLent tables.old tables.new }
     ensures reset { answer result (words_in state.new, tables_in tables.new)
-        ≡ reset_call (rect viewport.x0 viewport.y0 viewport.x1 viewport.y1) setup (words_in state.old) (tables_in tables.old) }
+        ≡ reset_call (rect_of viewport) setup (words_in state.old) (tables_in tables.old) }
 {
     let asked = match read_setup(setup) {
         Ok(asked) => asked,
         Err(refusal) => return refusal.number(),
     };
     let viewport = box_of(viewport);
-    let mut lent = Lent {
-        render: tables.render,
-        fills: tables.fills,
-        depth: tables.depth,
-        rows: tables.rows,
-        painting: tables.painting,
-        layers: tables.layers,
-        opacities: tables.opacities,
-        paint_attrs: tables.paint_attrs,
-        layer_attrs: tables.layer_attrs,
-        filter_paints: tables.filter_paints,
-    };
     let Some(screen) = screen_of(state, true) else {
-        return refuse_reset(state, viewport, asked, &lent);
+        return refuse_reset(state, viewport, asked, tables);
     };
-    let done = reset(viewport, asked, &mut lent);
+    let done = reset(viewport, asked, tables);
     put_reset(state, screen, done)
 }
 
@@ -128,9 +108,9 @@ pub extern "C" fn coarse_bucket_recording(
     state: &mut StateWords,
     file: &[u32],
     setup: SetupWords,
-    tables: &mut TableWords<'_>,
+    tables: &mut Lent<'_>,
 ) -> u32
-    ensures same { SameTables tables.old tables.new }
+    ensures same { SameLent tables.old tables.new }
     ensures recorded { answer result (words_in state.new, tables_in tables.new)
         ≡ recording_call file.now setup (words_in state.old) (tables_in tables.old) }
 {
@@ -138,39 +118,26 @@ pub extern "C" fn coarse_bucket_recording(
         Ok(asked) => asked,
         Err(refusal) => return refuse_setup(file, refusal),
     };
-    let mut lent = Lent {
-        render: tables.render,
-        fills: tables.fills,
-        depth: tables.depth,
-        rows: tables.rows,
-        painting: tables.painting,
-        layers: tables.layers,
-        opacities: tables.opacities,
-        paint_attrs: tables.paint_attrs,
-        layer_attrs: tables.layer_attrs,
-        filter_paints: tables.filter_paints,
-    };
     let Some(mut screen) = screen_of(state, true) else {
-        return refuse_recording(state, file, asked, &lent);
+        return refuse_recording(state, file, asked, tables);
     };
-    let done = bucket_recording(&mut screen, file, asked, &mut lent);
+    let done = bucket_recording(&mut screen, file, asked, tables);
     leave(state, screen, done)
 }
 
-/// Rules 3 to 7: segments start to end of a list, five words each, painted with the paint at a place of a paint list, four words each. Refused as `fill`.
+/// Rules 3 to 7: segments, five words each, painted with a paint of a paint list, four words each. Refused as `fill`.
 #[unsafe(no_mangle)]
 #[tactic(auto, using(crate::proofs::Unheld::fill_unheld))]
 pub extern "C" fn coarse_fill(
     state: &mut StateWords,
-    tables: &mut TableWords<'_>,
+    tables: &mut Lent<'_>,
     paints: &[u32],
     segments: &[u32],
     draw: &DrawWords,
 ) -> u32
-    ensures same { SameTables tables.old tables.new }
+    ensures same { SameLent tables.old tables.new }
     ensures kept { FillKeeps tables.old tables.new }
-    ensures filled { answer result (words_in state.new, rows_in tables.new, tables.new.paint_attrs.now)
-        ≡ fill_call paints.now segments.now (draw_in draw.now) (words_in state.old) (rows_in tables.old) tables.old.paint_attrs.now }
+    ensures filled { answer result (fill_out state.new tables.new) ≡ fill_on paints.now segments.now draw.now state.old tables.old }
 {
     let mut rows = Rows {
         state: tables.rows,
@@ -192,7 +159,8 @@ pub extern "C" fn coarse_fill(
     leave(state, screen, done)
 }
 
-/// What a push is given: the opacity is the bits of an f32; the clip is there if the flag is 1. Laid out as in C.
+/// What a push is given: the opacity is the bits of an f32; the clip (a box in pixels of the scene, a range of segments, a thread) is there if the flag is 1.
+/// Laid out as in C.
 #[repr(C)]
 #[derive(Clone, Copy)]
 pub struct PropsWords {
@@ -209,28 +177,32 @@ pub struct PropsWords {
 }
 
 impl PropsWords {
+    // The same, as a push takes it: its clip is there if the flag is 1.
     fn given(&self) -> LayerProps
         ensures { result ≡ props_of self.now }
     {
-        props_of(
-            self.mix,
-            self.compose,
-            self.opacity,
-            self.mask,
-            self.flag,
-            self.bounds.x0,
-            self.bounds.y0,
-            self.bounds.x1,
-            self.bounds.y1,
-            self.start,
-            self.end,
-            self.thread,
-            self.panel,
-        )
+        let clip = Clip {
+            bbox: box_of(self.bounds),
+            start: self.start,
+            end: self.end,
+            thread: self.thread,
+        };
+        LayerProps {
+            blend: Blend {
+                mix: self.mix,
+                compose: self.compose,
+            },
+            opacity: float_of(self.opacity),
+            nan: pattern_of(self.opacity),
+            mask: self.mask,
+            clip: if self.flag == 1 { Some(clip) } else { None },
+            panel: self.panel,
+        }
     }
 }
 
-/// What a filter fill is given; the picture's handle is there if has_pixmap is 1. Laid out as in C.
+/// What a filter fill is given: a box in pixels of the scene, the pixel of the picture that comes to its corner, the picture's handle (there if has_pixmap is 1),
+/// the length of the paint list, the layer's panel. Laid out as in C.
 #[repr(C)]
 #[derive(Clone, Copy)]
 pub struct FilterWords {
@@ -243,54 +215,17 @@ pub struct FilterWords {
     pub panel: u32,
 }
 
-// What a push is given; its clip is there if the flag is 1.
-fn props_of(
-    mix: u32,
-    compose: u32,
-    opacity: u32,
-    mask: u32,
-    flag: u32,
-    x0: u32,
-    y0: u32,
-    x1: u32,
-    y1: u32,
-    start: u32,
-    end: u32,
-    thread: u32,
-    panel: u32,
-) -> LayerProps
-    ensures { result ≡ props mix compose opacity mask flag (clip x0 y0 x1 y1 start «end» thread) panel }
-{
-    let bbox = Rect { x0, y0, x1, y1 };
-    let clip = Clip {
-        bbox,
-        start,
-        end,
-        thread,
-    };
-    LayerProps {
-        blend: Blend { mix, compose },
-        opacity: float_of(opacity),
-        nan: pattern_of(opacity),
-        mask,
-        clip: if flag == 1 { Some(clip) } else { None },
-        panel,
-    }
-}
-
-/// Rule 8. The opacity is the bits of an f32; flag 1: the clip has a box, a range of segments and a thread, 0: there is none, any other is 4. Refused as
-/// `push_layer`.
+/// Rule 8. Flag 1: the layer has a clip, 0: it has none, any other is 4. Refused as `push_layer`.
 #[unsafe(no_mangle)]
 #[tactic(auto, using(crate::proofs::Unheld::push_unheld))]
 pub extern "C" fn coarse_push_layer(
     state: &mut StateWords,
-    tables: &mut TableWords<'_>,
+    tables: &mut Lent<'_>,
     props: &PropsWords,
 ) -> u32
-    ensures same { SameTables tables.old tables.new }
+    ensures same { SameLent tables.old tables.new }
     ensures kept { PushKeeps tables.old tables.new }
-    ensures pushed { answer result (words_in state.new, rows_in tables.new, tables.new.layers.now, tables.new.opacities.now)
-        ≡ push_call props.now.flag (props_of props.now) (words_in state.old) (rows_in tables.old) tables.old.layers.now tables.old.opacities.now }
+    ensures pushed { answer result (push_out state.new tables.new) ≡ push_on props.now state.old tables.old }
 {
     let mut rows = Rows {
         state: tables.rows,
@@ -314,10 +249,10 @@ pub extern "C" fn coarse_push_layer(
 #[tactic(auto, using(crate::proofs::Unheld::pop_unheld))]
 pub extern "C" fn coarse_pop_layer(
     state: &mut StateWords,
-    tables: &mut TableWords<'_>,
+    tables: &mut Lent<'_>,
     segments: &[u32],
 ) -> u32
-    ensures same { SameTables tables.old tables.new }
+    ensures same { SameLent tables.old tables.new }
     ensures kept { PopKeeps tables.old tables.new }
     ensures popped { answer result (words_in state.new, pop_in tables.new)
         ≡ pop_call segments.now (words_in state.old) (pop_in tables.old) }
@@ -351,24 +286,18 @@ fn pixmap_of(flag: u32, handle: u32) -> Option<u32>
     (flag == 1).then_some(handle)
 }
 
-/// Rule 11: a picture drawn into a box, from a source origin, in pixels; paint_count is the length of the paint list, panel the layer's. has_pixmap 1: the
-/// picture is the one whose handle is pixmap, 0: there is none, any other is 4. Refused as `filter_fill`.
+/// Rule 11: a picture drawn into a box. has_pixmap 1: the picture is the one whose handle is pixmap, 0: there is none, any other is 4. Refused as
+/// `filter_fill`.
 #[unsafe(no_mangle)]
 #[tactic(auto, using(crate::proofs::Unheld::filter_unheld))]
 pub extern "C" fn coarse_filter_fill(
     state: &mut StateWords,
-    tables: &mut TableWords<'_>,
+    tables: &mut Lent<'_>,
     filter: &FilterWords,
 ) -> u32
-<<<<<<< HEAD
-    ensures { answer result (state.new, words rows.new render.new fills.new, paint_attrs.new, filter_paints.new)
-        ≡ filter_call has_pixmap (given (filter-in (rect x0 y0 x1 y1) source_x source_y (picture has_pixmap pixmap)) paint_count panel) state.old (words rows.old render.old fills.old) paint_attrs.old filter_paints.old }
-=======
-    ensures same { SameTables tables.old tables.new }
+    ensures same { SameLent tables.old tables.new }
     ensures kept { FilterKeeps tables.old tables.new }
-    ensures filtered { answer result (words_in state.new, rows_in tables.new, tables.new.paint_attrs.now, tables.new.filter_paints.now)
-        ≡ filter_call filter.now.has_pixmap (filter_of filter.now) (words_in state.old) (rows_in tables.old) tables.old.paint_attrs.now tables.old.filter_paints.now }
->>>>>>> 3b8edbe7a46d079150bab4510c11e0b433b48028
+    ensures filtered { answer result (filter_out state.new tables.new) ≡ filter_on filter.now state.old tables.old }
 {
     let mut rows = Rows {
         state: tables.rows,
@@ -379,30 +308,14 @@ pub extern "C" fn coarse_filter_fill(
         return refuse_build(state, &rows);
     };
     let layer = FilterFill {
-<<<<<<< HEAD
         filter: Filter {
-            pixmap: pixmap_of(has_pixmap, pixmap),
-            dest: Rect { x0, y0, x1, y1 },
-            source_x,
-            source_y,
-        },
-        paint_count,
-        panel,
-=======
-        placement: Placement {
-            dest: Rect {
-                x0: filter.dest.x0,
-                y0: filter.dest.y0,
-                x1: filter.dest.x1,
-                y1: filter.dest.y1,
-            },
+            pixmap: pixmap_of(filter.has_pixmap, filter.pixmap),
+            dest: box_of(filter.dest),
             source_x: filter.source_x,
             source_y: filter.source_y,
         },
-        pixmap: pixmap_of(filter.has_pixmap, filter.pixmap),
         paint_count: filter.paint_count,
         panel: filter.panel,
->>>>>>> 3b8edbe7a46d079150bab4510c11e0b433b48028
     };
     let done = filter_fill(
         &mut screen,

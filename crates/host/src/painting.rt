@@ -4,16 +4,18 @@ ghost use Rattle.sizes.specs.Widths.{bucket-tiles};
 ghost use Rattle.rules.specs.Answers.{answer};
 ghost use Rattle.rules.specs.Spans.{span};
 ghost use Rattle.paint.specs.Answers.{painted_of};
-ghost use Rattle.paint.specs.Painting.{attrs-at, lent, out};
+ghost use Rattle.paint.specs.Painting.{out};
 ghost use Rattle.paint.specs.Judging.{wide};
-ghost use Rattle.paint.specs.Stepping.{attributes, StepReady};
+ghost use Rattle.paint.specs.Named.{used_attrs};
 ghost use Rattle.paint.specs.Running.{most, row-run};
-ghost use Rattle.host.specs.Held.{words_in, painted_in, one};
+ghost use Rattle.host.specs.Held.{words_in, one, parts_in};
 ghost use Rattle.host.specs.Lent.{SameCanvas};
-ghost use Rattle.host.specs.Painting.{begin_call, step_call, row_call, unset_call, visible_call, write_call, skip_call, split_call};
+ghost use Rattle.host.specs.Called.{CanvasReady, canvas_lent, canvas_out, step_on, row_on, write_out, write_on};
+ghost use Rattle.host.specs.Painting.{begin_call, unset_call, visible_call, skip_call, split_call};
 
 use crate::border::{refuse_begin, refuse_runs, refuse_skip, refuse_step};
-use crate::results::{PaintedWords, put_runs, put_skip, put_split, put_step};
+use crate::canvas::CanvasWords;
+use crate::results::{PaintedWords, SplitWords, put_runs, put_skip, put_split, put_step};
 use crate::state::{StateWords, leave, put_screen, screen_at, screen_of};
 use crate::sure::sure_buckets;
 use depth::split_opaque_span;
@@ -31,40 +33,6 @@ use sizes::answers::Refusal;
 use sizes::width::Width;
 use span::{BucketRange, TileSpan};
 
-/// What painting only reads of a screen's tables. Laid out as in C.
-#[repr(C)]
-#[derive(Clone, Copy)]
-pub struct StoredWords<'a> {
-    pub rows: &'a [u32],
-    pub render: &'a [u32],
-    pub fills: &'a [u32],
-    pub paint_attrs: &'a [u32],
-    pub layer_attrs: &'a [u32],
-}
-
-/// What painting writes: the depth words, and where each row's painting stands. A screen may be painted in several places, each with its own. Laid out as in C.
-#[repr(C)]
-#[derive(Drop)]
-pub struct CanvasWords<'a> {
-    pub depth: &'a mut [u32],
-    pub painting: &'a mut [u32],
-}
-
-impl<'a> StoredWords<'a> {
-    // The same slices.
-    fn as_stored(&self) -> Stored<'a>
-        ensures { (result.rows ≡ self.now.rows) × (result.render ≡ self.now.render) × (result.fills ≡ self.now.fills) × (result.paint_attrs ≡ self.now.paint_attrs) × (result.layer_attrs ≡ self.now.layer_attrs) }
-    {
-        Stored {
-            rows: self.rows,
-            render: self.render,
-            fills: self.fills,
-            paint_attrs: self.paint_attrs,
-            layer_attrs: self.layer_attrs,
-        }
-    }
-}
-
 /// Clears the depth words and sets every row to its first step, at nesting 0.
 #[unsafe(no_mangle)]
 #[tactic(auto, using(crate::proofs::Unheld::begin_unheld))]
@@ -80,22 +48,23 @@ pub extern "C" fn coarse_begin_painting(state: &mut StateWords, canvas: &mut Can
     leave(state, screen, done)
 }
 
-// At most `limit` steps of a row that is there, painting having begun: the row's own parts are handed on.
+// At most `limit` steps of a row that is there, of b buckets, painting having begun: the row's own parts are handed on.
 #[inline(always)]
 fn row_part(
     screen: Screen,
     b: usize,
     row: usize,
-    stored: &StoredWords<'_>,
-    depth: &mut [u32],
-    painting: &mut [u32],
+    stored: &Stored<'_>,
+    canvas: &mut CanvasWords<'_>,
     list: &mut [u32],
     limit: usize,
 ) -> Result<Stepped, Refusal>
+    requires limit { limit ≤ most }
     requires wide { b ≡ wide screen }
-    requires ready { (limit ≤ most) × StepReady (wide screen) screen.c screen.d screen.paint_attrs screen.layer_attrs row (attributes stored.now.paint_attrs.now stored.now.layer_attrs.now) (lent stored.now.rows.now stored.now.render.now stored.now.fills.now depth.old painting.old list.old) }
-    ensures { out (painted_of result) depth.new painting.new list.new
-        ≡ row-run (bucket-tiles screen.width) limit (attrs-at stored.now.paint_attrs.now screen.paint_attrs stored.now.layer_attrs.now screen.layer_attrs) (wide screen) screen.c screen.d row (lent stored.now.rows.now stored.now.render.now stored.now.fills.now depth.old painting.old list.old) }
+    requires ready { CanvasReady screen row stored.now canvas.old list.old }
+    ensures same { SameCanvas canvas.old canvas.new }
+    ensures painted { out (painted_of result) canvas.new.depth.now canvas.new.painting.now list.new
+        ≡ row-run (bucket-tiles screen.width) limit (used_attrs screen stored.now) (wide screen) screen.c screen.d row (canvas_lent stored.now canvas.old list.old) }
 {
     let u = row * b;
     let v = row * 2;
@@ -113,8 +82,8 @@ fn row_part(
     };
     run_row(
         &read,
-        &mut depth[u..u + b],
-        &mut painting[v..v + 2],
+        &mut canvas.depth[u..u + b],
+        &mut canvas.painting[v..v + 2],
         list,
         limit,
     )
@@ -125,43 +94,40 @@ fn row_part(
 #[tactic(auto, using(crate::proofs::Unheld::step_unheld))]
 fn judged_step(
     state: &StateWords,
-    stored: &StoredWords<'_>,
+    stored: &Stored<'_>,
     canvas: &mut CanvasWords<'_>,
     row: usize,
     list: &mut [u32],
-    res: &mut PaintedWords,
+    painted: &mut PaintedWords,
 ) -> u32
     ensures same { SameCanvas canvas.old canvas.new }
-    ensures step { answer result (canvas.new.depth.now, canvas.new.painting.now, list.new, painted_in res.new)
-        ≡ step_call row (attributes stored.now.paint_attrs.now stored.now.layer_attrs.now) (words_in state.now) (lent stored.now.rows.now stored.now.render.now stored.now.fills.now canvas.old.depth.now canvas.old.painting.now list.old) (painted_in res.old) }
+    ensures step { answer result (canvas_out canvas.new list.new painted.new) ≡ step_on row state.now stored.now canvas.old list.old painted.old }
 {
-    let stored = stored.as_stored();
     let Some(screen) = screen_of(state, true) else {
         return refuse_step(
             state,
             row,
-            &stored,
+            stored,
             canvas.depth.len(),
             canvas.painting.len(),
         );
     };
-    let done = paint_step(screen, row, &stored, canvas.depth, canvas.painting, list);
-    put_step(done, res)
+    let done = paint_step(screen, row, stored, canvas.depth, canvas.painting, list);
+    put_step(done, painted)
 }
 
-/// The next step of a row; its pieces in list. res: 1 if none was left, else 0; how many pieces are listed.
+/// The next step of a row; its pieces in list. painted: 1 if none was left, else 0; how many pieces are listed.
 #[unsafe(no_mangle)]
 pub extern "C" fn coarse_paint_step(
     state: &StateWords,
-    stored: &StoredWords<'_>,
+    stored: &Stored<'_>,
     canvas: &mut CanvasWords<'_>,
     row: usize,
     list: &mut [u32],
-    res: &mut PaintedWords,
+    painted: &mut PaintedWords,
 ) -> u32
     ensures same { SameCanvas canvas.old canvas.new }
-    ensures step { answer result (canvas.new.depth.now, canvas.new.painting.now, list.new, painted_in res.new)
-        ≡ step_call row (attributes stored.now.paint_attrs.now stored.now.layer_attrs.now) (words_in state.now) (lent stored.now.rows.now stored.now.render.now stored.now.fills.now canvas.old.depth.now canvas.old.painting.now list.old) (painted_in res.old) }
+    ensures step { answer result (canvas_out canvas.new list.new painted.new) ≡ step_on row state.now stored.now canvas.old list.old painted.old }
 {
     let b = sure_buckets(
         state,
@@ -171,19 +137,10 @@ pub extern "C" fn coarse_paint_step(
         canvas.painting.len(),
     );
     if 64 < b {
-        return judged_step(state, stored, canvas, row, list, res);
+        return judged_step(state, stored, canvas, row, list, painted);
     }
-    let done = row_part(
-        screen_at(state),
-        b,
-        row,
-        stored,
-        canvas.depth,
-        canvas.painting,
-        list,
-        1,
-    );
-    put_step(done, res)
+    let done = row_part(screen_at(state), b, row, stored, canvas, list, 1);
+    put_step(done, painted)
 }
 
 // Where the one look is not sure.
@@ -191,43 +148,41 @@ pub extern "C" fn coarse_paint_step(
 #[tactic(auto, using(crate::proofs::Unheld::row_unheld))]
 fn judged_row(
     state: &StateWords,
-    stored: &StoredWords<'_>,
+    stored: &Stored<'_>,
     canvas: &mut CanvasWords<'_>,
     row: usize,
     list: &mut [u32],
-    res: &mut PaintedWords,
+    painted: &mut PaintedWords,
 ) -> u32
     ensures same { SameCanvas canvas.old canvas.new }
-    ensures row { answer result (canvas.new.depth.now, canvas.new.painting.now, list.new, painted_in res.new)
-        ≡ row_call row (attributes stored.now.paint_attrs.now stored.now.layer_attrs.now) (words_in state.now) (lent stored.now.rows.now stored.now.render.now stored.now.fills.now canvas.old.depth.now canvas.old.painting.now list.old) (painted_in res.old) }
+    ensures row { answer result (canvas_out canvas.new list.new painted.new) ≡ row_on row state.now stored.now canvas.old list.old painted.old }
 {
-    let stored = stored.as_stored();
     let Some(screen) = screen_of(state, true) else {
         return refuse_step(
             state,
             row,
-            &stored,
+            stored,
             canvas.depth.len(),
             canvas.painting.len(),
         );
     };
-    let done = paint_row(screen, row, &stored, canvas.depth, canvas.painting, list);
-    put_step(done, res)
+    let done = paint_row(screen, row, stored, canvas.depth, canvas.painting, list);
+    put_step(done, painted)
 }
 
-/// A row's steps from where it stands to its end, or up to the first that is refused. res: 1 if the row has come to its end, else 0; how many pieces are listed.
+/// A row's steps from where it stands to its end, or up to the first that is refused. painted: 1 if the row has come to its end, else 0; how many
+/// pieces are listed.
 #[unsafe(no_mangle)]
 pub extern "C" fn coarse_paint_row(
     state: &StateWords,
-    stored: &StoredWords<'_>,
+    stored: &Stored<'_>,
     canvas: &mut CanvasWords<'_>,
     row: usize,
     list: &mut [u32],
-    res: &mut PaintedWords,
+    painted: &mut PaintedWords,
 ) -> u32
     ensures same { SameCanvas canvas.old canvas.new }
-    ensures row { answer result (canvas.new.depth.now, canvas.new.painting.now, list.new, painted_in res.new)
-        ≡ row_call row (attributes stored.now.paint_attrs.now stored.now.layer_attrs.now) (words_in state.now) (lent stored.now.rows.now stored.now.render.now stored.now.fills.now canvas.old.depth.now canvas.old.painting.now list.old) (painted_in res.old) }
+    ensures row { answer result (canvas_out canvas.new list.new painted.new) ≡ row_on row state.now stored.now canvas.old list.old painted.old }
 {
     let b = sure_buckets(
         state,
@@ -237,19 +192,10 @@ pub extern "C" fn coarse_paint_row(
         canvas.painting.len(),
     );
     if 64 < b {
-        return judged_row(state, stored, canvas, row, list, res);
+        return judged_row(state, stored, canvas, row, list, painted);
     }
-    let done = row_part(
-        screen_at(state),
-        b,
-        row,
-        stored,
-        canvas.depth,
-        canvas.painting,
-        list,
-        2049,
-    );
-    put_step(done, res)
+    let done = row_part(screen_at(state), b, row, stored, canvas, list, 2049);
+    put_step(done, painted)
 }
 
 /// The runs of the tiles first to end whose buckets hold 0, two words each in list; count: how many.
@@ -309,8 +255,7 @@ pub extern "C" fn coarse_unset_runs_and_write(
 ) -> u32
     ensures same { SameCanvas canvas.old canvas.new }
     ensures kept { canvas.new.painting.now ≡ canvas.old.painting.now }
-    ensures written { answer result (words_in state.new, canvas.new.depth.now, list.new, one count.new)
-        ≡ write_call row (span buckets.first buckets.end) id (words_in state.old) canvas.old.depth.now list.old (one count.old) }
+    ensures written { answer result (write_out state.new canvas.new list.new count.new) ≡ write_on row buckets id state.old canvas.old list.old count.old }
 {
     let Some(mut screen) = screen_of(state, true) else {
         return refuse_runs(state, row, canvas.depth.len());
@@ -329,7 +274,7 @@ pub extern "C" fn coarse_unset_runs_and_write(
 #[tactic(auto, using(crate::proofs::Unheld::skip_unheld))]
 pub extern "C" fn coarse_can_skip(
     state: &StateWords,
-    stored: &StoredWords<'_>,
+    stored: &Stored<'_>,
     row: usize,
     tiles: TileSpan,
     id: u32,
@@ -345,25 +290,19 @@ pub extern "C" fn coarse_can_skip(
     put_skip(skip, yes)
 }
 
-/// Rule 7: the parts of an opaque span, at so many pixels a bucket. parts: nine words, three a part, left to right (1 for tiles or 2 for buckets, first, end),
-/// then zeros. 2 for no width of a bucket, 4 for another length of parts, 12 for no range.
+/// Rule 7: the parts of an opaque span, at so many pixels a bucket. 2 for no width of a bucket, 12 for no range.
 #[unsafe(no_mangle)]
 #[tactic(auto, unfolding(crate::specs::Painting::split_call))]
 pub extern "C" fn coarse_split_opaque_span(
-    first: u32,
-    end: u32,
+    tiles: TileSpan,
     pixels: u32,
-    parts: &mut [u32],
+    parts: &mut SplitWords,
 ) -> u32
-    ensures { answer result parts.new ≡ split_call pixels (span first «end») parts.old }
+    ensures { answer result (parts_in parts.new) ≡ split_call pixels (span tiles.first tiles.end) (parts_in parts.old) }
 {
     let width = match Width::try_from(pixels) {
         Ok(width) => width,
         Err(refusal) => return refusal.number(),
     };
-    if parts.len() != 9 {
-        return Refusal::BadRecord.number();
-    }
-    let span = TileSpan { first, end };
-    put_split(parts, split_opaque_span(span, width))
+    put_split(parts, split_opaque_span(tiles, width))
 }

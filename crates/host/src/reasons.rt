@@ -4,18 +4,18 @@ ghost use Rattle.sizes.specs.Refusals.{answer_number};
 ghost use Rattle.rules.specs.Answers.{answer};
 ghost use Rattle.tile.specs.Reasons.{reason-of};
 ghost use Rattle.tile.specs.Explained.{reason_said};
-ghost use Rattle.host.specs.Held.{words_in, reason_in};
-ghost use Rattle.host.specs.Lent.{tables_in, SameTables};
-ghost use Rattle.host.specs.Reasons.{reason-words, reason-size, result-left, why_call};
+ghost use Rattle.screen.specs.Lent.{SameLent};
+ghost use Rattle.host.specs.Held.{reason_in};
+ghost use Rattle.host.specs.Called.{why_on, why_out};
+ghost use Rattle.host.specs.Reasons.{reason-words, reason-size, result-left};
 
 use crate::border::{refuse_recording, refuse_setup};
 use crate::state::{SetupWords, StateWords, put_screen, read_setup, screen_of};
-use crate::tables::TableWords;
 use screen::Lent;
 use sizes::answers::Refusal;
 use tile::{Asked, Reason, why};
 
-/// Which tile of the recording's screen is asked about, and which attribute: a draw's (layer 0) or a layer's (1). Laid out as in C.
+/// Which row and tile of the recording's screen are asked about, from 0, and which attribute: a draw's (layer 0) or a layer's (1). Laid out as in C.
 #[repr(C)]
 #[derive(Clone, Copy)]
 pub struct QuestionWords {
@@ -25,7 +25,8 @@ pub struct QuestionWords {
     pub attribute: u32,
 }
 
-/// A reason's case, its number, and two panels. Laid out as in C.
+/// A reason's case (0 unknown attribute, 1 no segment, 2 cut away, 3 row untouched, 4 hidden, 5 shown); the attribute that hides or the place in the tile's list,
+/// else 0; the asked attribute's panel, and that of the attribute that hides, else 0. Laid out as in C.
 #[repr(C)]
 #[derive(Clone, Copy)]
 pub struct ReasonWords {
@@ -38,7 +39,7 @@ pub struct ReasonWords {
 // The words of a reason.
 const REASON: usize = 4;
 
-// A reason's case; the attribute that hides or the place in the tile's list, else 0; the asked attribute's panel; that of the one that hides, else 0.
+// A reason in words.
 fn words_of(reason: Reason) -> ReasonWords
     ensures { reason_in result ≡ reason-words (reason-of reason) }
 {
@@ -59,12 +60,12 @@ fn words_of(reason: Reason) -> ReasonWords
 }
 
 // Where the question is answered, the reason's words.
-fn put_reason(told: Result<Reason, Refusal>, res: &mut ReasonWords) -> u32
-    ensures { answer result (reason_in res.new) ≡ result-left (answer_number told) (reason_said told) (reason_in res.old) }
+fn put_reason(told: Result<Reason, Refusal>, reason: &mut ReasonWords) -> u32
+    ensures { answer result (reason_in reason.new) ≡ result-left (answer_number told) (reason_said told) (reason_in reason.old) }
 {
     match told {
-        Ok(reason) => {
-            *res = words_of(reason);
+        Ok(found) => {
+            *reason = words_of(found);
             0
         }
         Err(refusal) => refusal.number(),
@@ -78,9 +79,8 @@ fn is_good_question(layer: u32, n: usize) -> bool
     layer <= 1 && n == REASON
 }
 
-/// A recording is bucketed, and answers for a paint's attribute (layer 0) or a layer's (1) at one tile. res: the reason's case (0 unknown attribute, 1 no
-/// segment, 2 cut away, 3 row untouched, 4 hidden, 5 shown), the attribute that hides or the place in the tile's list, the asked attribute's panel, and that of
-/// the attribute that hides. Refused as the recording call, by 4 also where layer is above 1 or res has not four words; then by 12 off the screen.
+/// A recording is bucketed, and answers for a paint's attribute or a layer's at one tile. Refused as the recording call, by 4 also where layer is above 1; then by
+/// 12 off the screen.
 #[unsafe(no_mangle)]
 #[tactic(auto, using(crate::proofs::HostAsked::why_unasked))]
 pub extern "C" fn coarse_why(
@@ -88,32 +88,19 @@ pub extern "C" fn coarse_why(
     file: &[u32],
     setup: SetupWords,
     question: &QuestionWords,
-    tables: &mut TableWords<'_>,
-    res: &mut ReasonWords,
+    tables: &mut Lent<'_>,
+    reason: &mut ReasonWords,
 ) -> u32
-    ensures same { SameTables tables.old tables.new }
-    ensures explained { answer result (words_in state.new, tables_in tables.new, reason_in res.new)
-        ≡ why_call file.now setup question.now.row question.now.tile question.now.layer question.now.attribute (words_in state.old) (tables_in tables.old) (reason_in res.old) }
+    ensures same { SameLent tables.old tables.new }
+    ensures explained { answer result (why_out state.new tables.new reason.new) ≡ why_on file.now setup question.now state.old tables.old reason.old }
 {
     let wanted = match read_setup(setup) {
         Ok(wanted) => wanted,
         Err(refusal) => return refuse_setup(file, refusal),
     };
-    let mut lent = Lent {
-        render: tables.render,
-        fills: tables.fills,
-        depth: tables.depth,
-        rows: tables.rows,
-        painting: tables.painting,
-        layers: tables.layers,
-        opacities: tables.opacities,
-        paint_attrs: tables.paint_attrs,
-        layer_attrs: tables.layer_attrs,
-        filter_paints: tables.filter_paints,
-    };
     let good = is_good_question(question.layer, REASON);
     let Some(mut screen) = screen_of(state, good) else {
-        return refuse_recording(state, file, wanted, &lent);
+        return refuse_recording(state, file, wanted, tables);
     };
     let asked = Asked {
         layer: question.layer == 1,
@@ -126,8 +113,8 @@ pub extern "C" fn coarse_why(
         question.row,
         question.tile,
         asked,
-        &mut lent,
+        tables,
     );
     put_screen(state, screen);
-    put_reason(told, res)
+    put_reason(told, reason)
 }

@@ -1,15 +1,12 @@
 //! One look at what a painting call is lent, without a branch where there need be none: yes only where the exact judge says 0. Where it says no, that judge is
 //! asked, and says which number. Parts of the calls.
-ghost use Rattle.std.specs.Prelude.{◌≡◌, ◌≤◌, ◌<◌, ◌*◌, ◌-◌, ◌&&◌, Some, true, leb, ltb, eqb, length};
+ghost use Rattle.std.specs.Prelude.{◌≡◌, ◌≤◌, ◌-◌};
 ghost use Rattle.rules.specs.Boxes.{good_viewport, box};
 ghost use Rattle.rect.specs.Rects.{same-box};
-ghost use Rattle.paint.specs.Judging.{wide, arenas-long, tables-long, step_number};
-ghost use Rattle.host.specs.State.{screen-at, screen_of};
-ghost use Rattle.host.specs.Held.{words_in};
-ghost use Rattle.host.specs.OneLook.{corner-box, counts, rooms, long};
+ghost use Rattle.host.specs.OneLook.{corner-box, counts, rooms, long-in, Sure};
 
-use crate::painting::StoredWords;
 use crate::state::{Corners, StateWords, width_at};
+use paint::Stored;
 use sizes::{LAST_ID, LAYER_TABLE, MOST_ATTRS, MOST_FILTERS, PAINT_TABLE, ROW};
 
 // The viewport rules, for a box so wide and high.
@@ -68,12 +65,13 @@ fn is_long(
     n: usize,
     b: usize,
     state: &StateWords,
-    stored: &StoredWords<'_>,
+    stored: &Stored<'_>,
     depth: usize,
     painting: usize,
 ) -> bool
-    requires { (n ≤ 512) × (b ≤ 64) × (state.now.c ≤ 1024) × (state.now.d ≤ 1024) }
-    ensures { result ≡ long n b state.now.c state.now.d (length stored.now.render.now) (length stored.now.fills.now) depth (length stored.now.rows.now) painting (length stored.now.paint_attrs.now) (length stored.now.layer_attrs.now) }
+    requires few { (n ≤ 512) × (b ≤ 64) }
+    requires rooms { (state.now.c ≤ 1024) × (state.now.d ≤ 1024) }
+    ensures { result ≡ long-in n b state.now stored.now depth painting }
 {
     (stored.render.len() == n * (4 * state.c as usize))
         & (stored.fills.len() == n * (2 * state.d as usize))
@@ -89,11 +87,11 @@ fn is_long(
 pub fn sure_buckets(
     state: &StateWords,
     row: usize,
-    stored: &StoredWords<'_>,
+    stored: &Stored<'_>,
     depth: usize,
     painting: usize,
 ) -> usize
-    ensures { result ≤ 64 → (step_number (screen-at (words_in state.now)) row (arenas-long (screen-at (words_in state.now)) (length stored.now.render.now) (length stored.now.fills.now) depth) (tables-long (screen-at (words_in state.now)) (length stored.now.rows.now) painting (length stored.now.paint_attrs.now) (length stored.now.layer_attrs.now)) ≡ 0) × (Some (screen-at (words_in state.now)) ≡ screen_of true (words_in state.now)) × (result ≡ wide (screen-at (words_in state.now))) }
+    ensures { result ≤ 64 → Sure state.now row stored.now depth painting result }
 {
     let w = state.viewport.x1.saturating_sub(state.viewport.x0);
     let h = state.viewport.y1.saturating_sub(state.viewport.y0);

@@ -1,6 +1,7 @@
 //! What painting reads of a screen's lent words.
 
-/// The rows' records, render commands and depth fills, and the tables of attributes, whole.
+/// The rows' records, render commands and depth fills, and the tables of attributes, whole. Laid out as in C.
+#[repr(C)]
 #[derive(Clone, Copy)]
 pub struct Stored<'a> {
     pub rows: &'a [u32],

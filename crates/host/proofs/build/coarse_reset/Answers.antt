@@ -3,7 +3,7 @@
 use Rattle.std.proofs.Common.{◌∙◌, rules, true}
 use Rattle.screen.specs.Screens.{setup-of}
 use Rattle.screen.specs.Tables.{Tables}
-use Rattle.host.specs.Lent.{tables_in}
+use Rattle.screen.specs.Lent.{tables_in}
 use Rattle.host.proofs.HostAsked.{reset_asked}
 use Rattle.host.proofs.Built.{reset_left}
 use Rattle.host.proofs.Unheld.{reset_unheld}

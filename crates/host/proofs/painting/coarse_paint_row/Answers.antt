@@ -11,11 +11,11 @@ use Rattle.host.proofs.painting.coarse_paint_row.Goals as goal
 pub row_part-done-requires : goal.row_part-done-requires
 row_part-done-requires c =
     let q = c.sure_buckets-b.ensures c.if-b-gt64.false in
-    rw c.screen_at.ensures (record { wide = q.2; ready = (omega arith, ready _ _ _ _ q.0) })
+    rw c.screen_at.ensures (record { limit = omega arith; wide = q.2; ready = ready _ _ _ _ q.0 })
 
 pub returns-clause-row : goal.returns-clause-row
 returns-clause-row c =
     let q = c.sure_buckets-b.ensures c.if-b-gt64.false in
-    let d = rw c.screen_at.ensures at c.row_part-done.ensures in
+    let d = rw c.screen_at.ensures at c.row_part-done.ensures.painted in
     let e = row_roomed _ _ _ _ _ _ _ _ _ _ _ _ q.1 (row_done _ _ _ _ _ (sym q.0) d) c.put_step.ensures in
     search (rules, e)

@@ -2,21 +2,21 @@
 use mathlib.Core.Path.{ap, ◌∙◌}
 use native.Mathlib.Omega.{arith}
 use lib.ListN.{length}
-use Rattle.paint.specs.Painting.{lent}
 use Rattle.paint.proofs.WholeParts.{part-of-length, run-back}
+use Rattle.host.specs.Called.{canvas_lent}
 use Rattle.host.proofs.painting.row_part.Goals as goal
 
 pub invariant_of-read-2 : goal.invariant_of-read-2
 invariant_of-read-2 c =
-    let ready = c.requires.ready.1 in
+    let ready = c.requires.ready in
     record {
       state_len = ap length c.part.ensures ∙ part-of-length _ _ _ ready.state;
       render_len = omega (arith, ap length c.part-2.ensures ∙ part-of-length _ _ _ ready.render, ready.few-commands);
       fills_len = omega (arith, ap length c.part-3.ensures ∙ part-of-length _ _ _ ready.fills, ready.few-fills);
     }
 
-pub returns : goal.returns
-returns c =
+pub returns-clause-painted : goal.returns-clause-painted
+returns-clause-painted c =
     let a = c.args in
-    let l = lent a.stored.now.rows.now a.stored.now.render.now a.stored.now.fills.now a.depth.now a.painting.now a.list.now in
+    let l = canvas_lent a.stored.now a.canvas.now a.list.now in
     rw c.requires.wide (run-back _ _ _ _ _ _ _ l _ _ _ _ (rw (c.part.ensures, c.part-2.ensures, c.part-3.ensures, c.requires.wide) at c.run_row.ensures))

@@ -3,7 +3,7 @@
 use Rattle.std.proofs.Common.{rules}
 use Rattle.screen.specs.Screens.{setup-of}
 use Rattle.screen.specs.Tables.{Tables}
-use Rattle.host.specs.Lent.{tables_in}
+use Rattle.screen.specs.Lent.{tables_in}
 use Rattle.host.specs.Held.{words_in, reason_in}
 use Rattle.host.proofs.HostAsked.{why_asked}
 use Rattle.host.proofs.Questions.{why_unheld, why_built}
@@ -14,8 +14,8 @@ returns-in_default-clause-explained c =
     let t : Tables = tables_in c.args.tables.now in
     let q = setup-of c.in-Ok.wanted in
     let a = c.args in
-    let e = why_asked _ q c.in-Ok.ensures a.file.now a.question.now.row a.question.now.tile a.question.now.layer a.question.now.attribute (words_in a.state.now) t (reason_in a.res.now)
-    (why_unheld a.file.now q a.question.now.row a.question.now.tile a.question.now.layer a.question.now.attribute (words_in a.state.now) t (reason_in a.res.now) _ (rw c.is_good_question-good.ensures at c.in_default.ensures) c.refuse_recording.ensures) in
+    let e = why_asked _ q c.in-Ok.ensures a.file.now a.question.now.row a.question.now.tile a.question.now.layer a.question.now.attribute (words_in a.state.now) t (reason_in a.reason.now)
+    (why_unheld a.file.now q a.question.now.row a.question.now.tile a.question.now.layer a.question.now.attribute (words_in a.state.now) t (reason_in a.reason.now) _ (rw c.is_good_question-good.ensures at c.in_default.ensures) c.refuse_recording.ensures) in
     search (rules, e)
 
 pub returns-clause-explained : goal.returns-clause-explained

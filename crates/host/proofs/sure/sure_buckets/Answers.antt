@@ -23,12 +23,14 @@ is_long-requires c =
     let all : (v && ro && co && wh) ≡ true = c.if-not-words.false in
     let a2 = and_left (v && ro) co (and_left (v && ro && co) wh all) in
     let view : good_viewport (corner-box s.viewport) ≡ true = sym c.is_view.ensures ∙ and_left v ro a2 in
-    let t = told s (sym c.is_rooms.ensures ∙ and_right v ro a2) in (
-      rw c.saturating_sub-h.ensures (few_rows (corner-box s.viewport) view),
-      rw (c.above-b.ensures, c.width_at.ensures, c.saturating_sub-w.ensures) (few-buckets (corner-box s.viewport) view (width-at s.width)),
-      leb-true _ _ t.c-most,
-      leb-true _ _ t.d-most,
-    )
+    let t = told s (sym c.is_rooms.ensures ∙ and_right v ro a2) in
+    record {
+      few = (
+        rw c.saturating_sub-h.ensures (few_rows (corner-box s.viewport) view),
+        rw (c.above-b.ensures, c.width_at.ensures, c.saturating_sub-w.ensures) (few-buckets (corner-box s.viewport) view (width-at s.width)),
+      );
+      rooms = (leb-true _ _ t.c-most, leb-true _ _ t.d-most);
+    }
 
 pub returns : goal.returns
 returns c below64 =

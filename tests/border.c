@@ -80,7 +80,7 @@ static void lent_spans(void) {
     expect("15 spans for 16 runs", COARSE_NO_ROOM, coarse_bucketer_visible_spans(&b, 0, 10, 1024, 6, list, 15, &count));
     expect("out of order", COARSE_BAD_RUN, coarse_bucketer_visible_spans(&b, 0, 11, 10, 6, list, 20, &count));
     expect("no row 1", COARSE_BAD_RUN, coarse_bucketer_visible_spans(&b, 1, 10, 1024, 6, list, 20, &count));
-    short_row = coarse_bucketer_canvas(&b);
+    short_row = b.canvas;
     short_row.depth_len = 31;
     expect("a short arena before a bad range", COARSE_BAD_ARENA,
            coarse_visible_spans(&b.state, &short_row, 0, (coarse_span){11, 10}, 6, list, 20, &count));
@@ -105,45 +105,37 @@ static void lent_spans(void) {
 
 /* A filter fill of 8 by 3 pixels with any flag and handle, of any panel. */
 static uint32_t filter_fill(coarse_bucketer *b, uint32_t has_pixmap, uint32_t pixmap, uint32_t panel) {
-    coarse_tables tables = coarse_bucketer_lent(b);
     coarse_filter given = {{0, 0, 8, 3}, 4, 0, has_pixmap, pixmap, 2, panel};
-    return coarse_filter_fill(&b->state, &tables, &given);
+    return coarse_filter_fill(&b->state, &b->tables, &given);
 }
 
 /* The first tile, in any setup, with any word for draw or layer. */
 static uint32_t why(coarse_bucketer *b, const uint32_t *file, size_t words, coarse_setup setup, uint32_t layer) {
-    coarse_tables tables = coarse_bucketer_lent(b);
     coarse_question question = {0, 0, layer, 0};
     coarse_reason result;
-    return coarse_why(&b->state, file, words, setup, &question, &tables, &result);
+    return coarse_why(&b->state, file, words, setup, &question, &b->tables, &result);
 }
 
 /* A reset of the screen that it is, in any setup. */
 static uint32_t reset(coarse_bucketer *b, coarse_rect v, coarse_setup setup) {
-    coarse_tables tables = coarse_bucketer_lent(b);
-    return coarse_reset(&b->state, v, setup, &tables);
+    return coarse_reset(&b->state, v, setup, &b->tables);
 }
 
 /* A recording into its tables, in any setup. */
-static uint32_t record_with(coarse_bucketer *b, const uint32_t *file, size_t words, coarse_setup setup) {
-    coarse_tables tables = coarse_bucketer_lent(b);
-    return coarse_bucket_recording(&b->state, file, words, setup, &tables);
-}
-
 static uint32_t record(coarse_bucketer *b, const uint32_t *file, size_t words, coarse_setup setup) {
-    return record_with(b, file, words, setup);
+    return coarse_bucket_recording(&b->state, file, words, setup, &b->tables);
 }
 
 /* All words of a bucketer, as one number that a change of any changes. */
 static uint32_t sum(const coarse_bucketer *b) {
     const uint32_t *words = (const uint32_t *)b->block;
-    size_t n = 0, i;
+    const coarse_lengths *lens = &b->sizes;
+    size_t i, n = lens->render + lens->fills + lens->depth + lens->rows + lens->painting + lens->layers + lens->opacities +
+                  lens->paint_attrs + lens->layer_attrs + lens->filter_paints;
     uint32_t mixed = 2166136261u;
-    for (i = 0; i < 10; i++)
-        n += b->sizes[i];
     for (i = 0; i < n; i++)
         mixed = (mixed ^ words[i]) * 16777619u;
-    for (i = 0; i < COARSE_STATE; i++)
+    for (i = 0; i < sizeof b->state / sizeof(uint32_t); i++)
         mixed = (mixed ^ ((const uint32_t *)&b->state)[i]) * 16777619u;
     return mixed;
 }
@@ -156,12 +148,13 @@ static void snapped_screen(void) {
     const coarse_segment last[] = {{0, 191, 0, 342, 0}};
     const coarse_draw draw = {.start = 0, .end = 1, .paint = 0, .blend = COARSE_DEFAULT_BLEND};
     const coarse_piece *pieces;
-    size_t count = 0, sizes[10] = {0};
+    coarse_lengths sizes = {0, 0, 0, 0, 0, 0, 0, 0, 0, 0};
+    size_t count = 0;
     expect("exact, it is refused", COARSE_BAD_VIEWPORT, coarse_bucketer_new(&b, odd, small));
-    expect("exact, it has no sizes", COARSE_BAD_VIEWPORT, coarse_bucketer_sizes(odd, small, sizes));
-    expect("snapping, it has", COARSE_DONE, coarse_bucketer_sizes(odd, snapping, sizes));
-    expect("192 rows of 8 commands", 192 * 32, (uint32_t)sizes[0]);
-    expect("192 rows of 11 buckets", 192 * 11, (uint32_t)sizes[2]);
+    expect("exact, it has no sizes", COARSE_BAD_VIEWPORT, coarse_sizes(odd, small, &sizes));
+    expect("snapping, it has", COARSE_DONE, coarse_sizes(odd, snapping, &sizes));
+    expect("192 rows of 8 commands", 192 * 32, (uint32_t)sizes.render);
+    expect("192 rows of 11 buckets", 192 * 11, (uint32_t)sizes.depth);
     expect("snapping, it is a screen", COARSE_DONE, coarse_bucketer_new(&b, odd, snapping));
     held = coarse_bucketer_viewport(&b);
     expect("to the next tile edge", 1368, held.x1);
@@ -204,11 +197,14 @@ static void snapped_screen(void) {
 /* One draw over tiles 0 to 64 of a screen of 256 x 8. */
 static const uint32_t one_draw[] = {1, 0, 0, 256, 8, 1, 1, 1, 0, 0, 1, 0, 0, 0, 64, 0, 1, 0, 0, 1, 0, 0, 3, 0, 0, 1, 0, 1, 0, 1, 0, 1};
 
+/* What a refused call for sizes is to leave. */
+static const coarse_lengths sevens = {7, 7, 7, 7, 7, 7, 7, 7, 7, 7};
+
 /* Words that ask for no setup: every call that takes them gives this answer, a recording and a question after their 3. */
-static void unasked(uint32_t answer, coarse_bucketer *b, coarse_rect viewport, coarse_setup setup, size_t *sizes) {
+static void unasked(uint32_t answer, coarse_bucketer *b, coarse_rect viewport, coarse_setup setup, coarse_lengths *sizes) {
     coarse_bucketer other;
     expect("no screen of it", answer, coarse_bucketer_new(&other, viewport, setup));
-    expect("no sizes", answer, coarse_bucketer_sizes(viewport, setup, sizes));
+    expect("no sizes", answer, coarse_sizes(viewport, setup, sizes));
     expect("no reset", answer, reset(b, viewport, setup));
     expect("no recording", answer, record(b, one_draw, 32, setup));
     expect("a cut recording's form first", COARSE_BAD_FORM, record(b, one_draw, 31, setup));
@@ -220,7 +216,7 @@ static void unasked(uint32_t answer, coarse_bucketer *b, coarse_rect viewport, c
 static void no_mode(void) {
     coarse_bucketer b;
     coarse_rect narrow = {0, 0, 256, 8}, bad = {0, 0, 2, 4};
-    size_t sizes[10] = {7, 7, 7, 7, 7, 7, 7, 7, 7, 7};
+    coarse_lengths sizes = sevens;
     uint32_t modes[] = {2, 3, 0xffffffffu}, before;
     size_t i;
     expect("a screen", COARSE_DONE, coarse_bucketer_new(&b, narrow, small));
@@ -228,13 +224,12 @@ static void no_mode(void) {
     before = sum(&b);
     for (i = 0; i < 3; i++) {
         coarse_setup setup = {8, 8, modes[i], COARSE_128}, empty = {0, 8, modes[i], COARSE_128};
-        unasked(COARSE_BAD_RECORD, &b, narrow, setup, sizes);
-        expect("no sizes of a bad viewport", COARSE_BAD_RECORD, coarse_bucketer_sizes(bad, empty, sizes));
+        unasked(COARSE_BAD_RECORD, &b, narrow, setup, &sizes);
+        expect("no sizes of a bad viewport", COARSE_BAD_RECORD, coarse_sizes(bad, empty, &sizes));
         expect("no reset to a bad viewport", COARSE_BAD_RECORD, reset(&b, bad, empty));
     }
     expect("nothing has changed", before, sum(&b));
-    for (i = 0; i < 10; i++)
-        expect("the sizes stay", 7, (uint32_t)sizes[i]);
+    expect("the sizes stay", 0, memcmp(&sizes, &sevens, sizeof sizes) != 0);
     /* With a mode, the viewport and the arenas come before a word that is no flag. */
     b.state.painting = 2;
     expect("a bad viewport before a bad state", COARSE_BAD_VIEWPORT, reset(&b, bad, small));
@@ -253,23 +248,23 @@ static void widths(void) {
     static const coarse_draw draw = {.start = 0, .end = 1, .paint = 0, .blend = COARSE_DEFAULT_BLEND};
     const coarse_piece *pieces = NULL;
     size_t i, count = 0;
-    uint32_t parts[9];
+    coarse_parts parts;
     for (i = 0; i < 3; i++) {
         coarse_bucketer b;
         coarse_setup setup = {8, 8, COARSE_EXACT, each[i].width};
         expect("a screen", COARSE_DONE, coarse_bucketer_new(&b, (coarse_rect){0, 0, 512, 4}, setup));
         expect("of that width", each[i].width, coarse_bucketer_bucket_width(&b));
         expect("its buckets", each[i].buckets, (uint32_t)coarse_bucketer_buckets(&b));
-        expect("and its depth words", each[i].buckets, (uint32_t)b.sizes[2]);
+        expect("and its depth words", each[i].buckets, (uint32_t)b.sizes.depth);
         expect("a fill", COARSE_DONE, coarse_bucketer_generate_fill(&b, paints, 2, over, 1, &draw));
-        expect("its depth fills", each[i].fills, b.rows[1]);
+        expect("its depth fills", each[i].fills, b.tables.rows[1]);
         expect("painting", COARSE_DONE, coarse_bucketer_begin_painting(&b));
         expect("the row", COARSE_DONE, coarse_bucketer_paint_row(&b, 0, &pieces, &count));
         expect("its pieces", (uint32_t)each[i].pieces, (uint32_t)count);
         expect("the first", each[i].first, count ? pieces[0].first : 0);
         expect("to its end", each[i].end, count ? pieces[0].end : 0);
-        expect("the same split", COARSE_DONE, coarse_split_opaque_span(16, 80, each[i].width, parts, 9));
-        expect("in as many parts", (uint32_t)each[i].pieces, parts[6] ? 3u : parts[3] ? 2u : 1u);
+        expect("the same split", COARSE_DONE, coarse_split_opaque_span((coarse_span){16, 80}, each[i].width, &parts));
+        expect("in as many parts", (uint32_t)each[i].pieces, parts.right.kind ? 3u : parts.middle.kind ? 2u : 1u);
         coarse_bucketer_free(&b);
     }
 }
@@ -278,23 +273,24 @@ static void widths(void) {
 static void no_width(void) {
     coarse_bucketer b;
     coarse_rect narrow = {0, 0, 256, 8};
-    size_t sizes[10] = {7, 7, 7, 7, 7, 7, 7, 7, 7, 7};
-    uint32_t none[] = {0, 1, 16, 32, 63, 65, 96, 127, 129, 255, 257, 512, 0xffffffffu}, parts[9] = {7}, before;
+    coarse_lengths sizes = sevens;
+    uint32_t none[] = {0, 1, 16, 32, 63, 65, 96, 127, 129, 255, 257, 512, 0xffffffffu}, before;
+    const coarse_parts seven = {{7, 7, 7}, {7, 7, 7}, {7, 7, 7}};
+    coarse_parts parts = seven;
     size_t i;
     expect("a screen", COARSE_DONE, coarse_bucketer_new(&b, narrow, (coarse_setup){8, 8, COARSE_EXACT, COARSE_64}));
     expect("with a fill", COARSE_DONE, coarse_bucketer_generate_fill(&b, paints, 2, segments, 2, &both));
     before = sum(&b);
     for (i = 0; i < sizeof none / sizeof none[0]; i++) {
         coarse_setup setup = {8, 8, COARSE_EXACT, none[i]}, empty = {0, 8, 2, none[i]};
-        unasked(COARSE_BAD_VIEWPORT, &b, narrow, setup, sizes);
-        unasked(COARSE_BAD_VIEWPORT, &b, narrow, empty, sizes);
-        expect("no split", COARSE_BAD_VIEWPORT, coarse_split_opaque_span(0, 64, none[i], parts, 9));
-        expect("nor of nine words less one", COARSE_BAD_VIEWPORT, coarse_split_opaque_span(64, 0, none[i], parts, 8));
+        unasked(COARSE_BAD_VIEWPORT, &b, narrow, setup, &sizes);
+        unasked(COARSE_BAD_VIEWPORT, &b, narrow, empty, &sizes);
+        expect("no split", COARSE_BAD_VIEWPORT, coarse_split_opaque_span((coarse_span){0, 64}, none[i], &parts));
+        expect("nor of a bad range", COARSE_BAD_VIEWPORT, coarse_split_opaque_span((coarse_span){64, 0}, none[i], &parts));
     }
     expect("nothing has changed", before, sum(&b));
-    expect("the parts stay", 7, parts[0]);
-    for (i = 0; i < 10; i++)
-        expect("the sizes stay", 7, (uint32_t)sizes[i]);
+    expect("the parts stay", 0, memcmp(&parts, &seven, sizeof parts) != 0);
+    expect("the sizes stay", 0, memcmp(&sizes, &sevens, sizeof sizes) != 0);
     /* The screen's own word: 2 and 1 come before its 4. */
     b.state.width = 3;
     expect("a bad viewport before a bad word", COARSE_BAD_VIEWPORT, reset(&b, (coarse_rect){0, 0, 2, 4}, small));
@@ -339,7 +335,7 @@ static void owned_tables(void) {
     expect("a flag of 2", COARSE_BAD_RECORD, filter_fill(&b, 2, 9, 0));
     expect("no picture, any handle", COARSE_DONE, filter_fill(&b, 0, too_large, 0));
     expect("the first picture", COARSE_DONE, coarse_bucketer_generate_filter_layer_fill(&b, &first, &placement, 2, 0));
-    expect("is number 0", 0, (uint32_t)b.filter_paints[1]);
+    expect("is number 0", 0, (uint32_t)b.tables.filter_paints[1]);
     expect("a step too early", COARSE_OPEN, coarse_bucketer_paint_step(&b, 0, &finished, &pieces, &count));
     expect("painting", COARSE_DONE, coarse_bucketer_begin_painting(&b));
     expect("a step", COARSE_DONE, coarse_bucketer_paint_step(&b, 0, &finished, &pieces, &count));
@@ -464,7 +460,7 @@ static void kept_rows(void) {
         expect("memory ran out on the way", 1, answer == COARSE_DONE && had > 1);
 
         row_of_20(&b, steps);
-        panel = b.paint_attrs + 19 * COARSE_PAINT_ATTR + 8;
+        panel = b.tables.paint_attrs + 19 * COARSE_PAINT_ATTR + 8;
         *panel = 256;
         before = sum(&b);
         pieces = &none, count = 99;
@@ -532,8 +528,8 @@ static void coordinates(void) {
     expect("the same fill in it", COARSE_DONE, coarse_bucketer_generate_fill(&b, paints, 2, list, 3, &draw));
     expect("closed", COARSE_DONE, coarse_bucketer_pop_layer(&b, list, 3));
     expect("a picture", COARSE_DONE, coarse_bucketer_generate_filter_layer_fill(&b, &picture, &placement, 2, 0));
-    expect("its shift", (uint32_t)-20, (uint32_t)b.filter_paints[2]);
-    expect("down too", (uint32_t)-8, (uint32_t)b.filter_paints[3]);
+    expect("its shift", (uint32_t)-20, (uint32_t)b.tables.filter_paints[2]);
+    expect("down too", (uint32_t)-8, (uint32_t)b.tables.filter_paints[3]);
     expect("a fill's origin", 20, coarse_bucketer_paint_attrs(&b, 0).origin_x);
     expect("and down", 8, coarse_bucketer_paint_attrs(&b, 0).origin_y);
     expect("painting", COARSE_DONE, coarse_bucketer_begin_painting(&b));
@@ -567,15 +563,14 @@ static void coordinates(void) {
 
 /* The tables have the lengths that the header names. */
 static void named_sizes(void) {
-    size_t sizes[10] = {0};
-    expect("sizes", COARSE_DONE, coarse_bucketer_sizes((coarse_rect){0, 0, 256, 8}, small, sizes));
-    expect("open layers", COARSE_LAYERS, (uint32_t)sizes[5]);
-    expect("opacities", COARSE_OPACITIES, (uint32_t)sizes[6]);
-    expect("paint attributes", COARSE_PAINT_ATTRS, (uint32_t)sizes[7]);
-    expect("layer attributes", COARSE_LAYER_ATTRS, (uint32_t)sizes[8]);
-    expect("filter paints", COARSE_FILTER_PAINTS, (uint32_t)sizes[9]);
+    coarse_lengths sizes = {0, 0, 0, 0, 0, 0, 0, 0, 0, 0};
+    expect("sizes", COARSE_DONE, coarse_sizes((coarse_rect){0, 0, 256, 8}, small, &sizes));
+    expect("open layers", COARSE_LAYERS, (uint32_t)sizes.layers);
+    expect("opacities", COARSE_OPACITIES, (uint32_t)sizes.opacities);
+    expect("paint attributes", COARSE_PAINT_ATTRS, (uint32_t)sizes.paint_attrs);
+    expect("layer attributes", COARSE_LAYER_ATTRS, (uint32_t)sizes.layer_attrs);
+    expect("filter paints", COARSE_FILTER_PAINTS, (uint32_t)sizes.filter_paints);
     expect("a piece is its words", COARSE_PIECE, (uint32_t)(sizeof(coarse_piece) / sizeof(uint32_t)));
-    expect("a reason is its words", COARSE_REASON, (uint32_t)(sizeof(coarse_reason) / sizeof(uint32_t)));
 }
 
 static const coarse_segment eight[] = {{1, 0, 0, 8, 0}};
@@ -623,7 +618,7 @@ static void panels(void) {
     }
     expect("nothing has changed", before, sum(&b));
 
-    inner = b.layers + COARSE_OPEN_LAYER + 16;
+    inner = b.tables.layers + COARSE_OPEN_LAYER + 16;
     expect("the open layer's panel", 255, *inner);
     *inner = 256;
     expect("none, it is not closed", COARSE_BAD_RECORD, coarse_bucketer_pop_layer(&b, NULL, 0));
@@ -639,8 +634,8 @@ static void panels(void) {
     expect("the outer layer's own", 7, coarse_bucketer_layer_attrs(&b, 1).panel);
 
     /* Words of an attribute with such a panel are refused where a step reads them. */
-    fill = b.paint_attrs + 8;
-    layer = b.layer_attrs + 6;
+    fill = b.tables.paint_attrs + 8;
+    layer = b.tables.layer_attrs + 6;
     *fill = 256;
     expect("none, a fill's", COARSE_BAD_RECORD, steps(&b));
     *fill = 255;

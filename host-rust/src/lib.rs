@@ -442,21 +442,20 @@ impl Reason {
 
 /// Rule 7: the parts of an opaque span, the tiles first to end of a row of the screen, over buckets of a width, left to right.
 pub fn split_opaque_span(first: u32, end: u32, width: Width) -> Result<Vec<DepthSegment>, Answer> {
-    let mut parts = [0; 9];
+    let mut parts = sys::SplitWords::default();
     Answer::check(unsafe {
-        sys::coarse_split_opaque_span(first, end, width as u32, parts.as_mut_ptr(), parts.len())
+        sys::coarse_split_opaque_span(Run { first, end }, width as u32, &mut parts)
     })?;
-    Ok(parts
-        .chunks_exact(3)
-        .filter_map(|part| match part[0] {
-            1 => Some(DepthSegment::Regular(Run {
-                first: part[1],
-                end: part[2],
-            })),
-            2 => Some(DepthSegment::Opaque(Run {
-                first: part[1],
-                end: part[2],
-            })),
+    let sys::SplitWords {
+        left,
+        middle,
+        right,
+    } = parts;
+    Ok([left, middle, right]
+        .into_iter()
+        .filter_map(|sys::PartWords { kind, first, end }| match kind {
+            1 => Some(DepthSegment::Regular(Run { first, end })),
+            2 => Some(DepthSegment::Opaque(Run { first, end })),
             _ => None,
         })
         .collect())
@@ -484,16 +483,9 @@ fn segment_words(segments: &[Segment]) -> (*const u32, usize) {
     (segments.as_ptr().cast(), size_of_val(segments) / 4)
 }
 
-fn sizes(viewport: Rect, setup: Setup) -> Result<[usize; 10], Answer> {
-    let mut sizes = [0; 10];
-    Answer::check(unsafe {
-        sys::coarse_sizes(
-            viewport.into(),
-            setup.into(),
-            sizes.as_mut_ptr(),
-            sizes.len(),
-        )
-    })?;
+fn sizes(viewport: Rect, setup: Setup) -> Result<sys::Lengths, Answer> {
+    let mut sizes = sys::Lengths::default();
+    Answer::check(unsafe { sys::coarse_sizes(viewport.into(), setup.into(), &mut sizes) })?;
     Ok(sizes)
 }
 
@@ -540,44 +532,36 @@ impl Tables {
         (lent, stored, canvas)
     }
 
-    fn new(sizes: [usize; 10]) -> Self {
+    fn new(sizes: sys::Lengths) -> Self {
         Self {
-            render: vec![0; sizes[0]],
-            fills: vec![0; sizes[1]],
-            depth: vec![0; sizes[2]],
-            rows: vec![0; sizes[3]],
-            painting: vec![0; sizes[4]],
-            layers: vec![0; sizes[5]],
-            opacities: vec![0.0; sizes[6]],
-            paint_attrs: vec![0; sizes[7]],
-            layer_attrs: vec![0; sizes[8]],
-            filter_paints: vec![0; sizes[9]],
+            render: vec![0; sizes.render],
+            fills: vec![0; sizes.fills],
+            depth: vec![0; sizes.depth],
+            rows: vec![0; sizes.rows],
+            painting: vec![0; sizes.painting],
+            layers: vec![0; sizes.layers],
+            opacities: vec![0.0; sizes.opacities],
+            paint_attrs: vec![0; sizes.paint_attrs],
+            layer_attrs: vec![0; sizes.layer_attrs],
+            filter_paints: vec![0; sizes.filter_paints],
         }
     }
 
-    fn lens(&self) -> [usize; 10] {
-        [
-            self.render.len(),
-            self.fills.len(),
-            self.depth.len(),
-            self.rows.len(),
-            self.painting.len(),
-            self.layers.len(),
-            self.opacities.len(),
-            self.paint_attrs.len(),
-            self.layer_attrs.len(),
-            self.filter_paints.len(),
-        ]
+    fn lens(&self) -> sys::Lengths {
+        sys::Lengths {
+            render: self.render.len(),
+            fills: self.fills.len(),
+            depth: self.depth.len(),
+            rows: self.rows.len(),
+            painting: self.painting.len(),
+            layers: self.layers.len(),
+            opacities: self.opacities.len(),
+            paint_attrs: self.paint_attrs.len(),
+            layer_attrs: self.layer_attrs.len(),
+            filter_paints: self.filter_paints.len(),
+        }
     }
 }
-
-/// The words of the state, and places in them.
-const STATE: usize = 17;
-const NEXT_DRAW_ID: usize = 10;
-const PAINT_ATTRS: usize = 11;
-const LAYER_ATTRS: usize = 12;
-const FILTER_PAINTS: usize = 13;
-const LAYERS: usize = 14;
 
 /// The words of a row's record; the second is how many depth fills it has.
 const ROW: usize = 54;
@@ -594,7 +578,7 @@ const MOST_LAYERS: usize = 16;
 #[derive(Debug)]
 pub struct CommandBucketer {
     setup: Setup,
-    state: [u32; STATE],
+    state: sys::StateWords,
     tables: Tables,
     lent: sys::TableWords,
     stored: sys::StoredWords,
@@ -627,7 +611,7 @@ impl CommandBucketer {
         let (lent, stored, canvas) = tables.lent();
         let mut bucketer = Self {
             setup,
-            state: [0; STATE],
+            state: sys::StateWords::default(),
             tables,
             lent,
             stored,
@@ -653,7 +637,7 @@ impl CommandBucketer {
         }
         Answer::check(unsafe {
             sys::coarse_reset(
-                self.state.as_mut_ptr().cast(),
+                &mut self.state,
                 viewport.into(),
                 self.setup.into(),
                 &mut self.lent,
@@ -700,7 +684,7 @@ impl CommandBucketer {
     fn on_own_screen<T>(
         &mut self,
         file: &[u32],
-        call: impl FnOnce(&mut [u32; STATE], Setup, &mut Tables) -> Result<T, Answer>,
+        call: impl FnOnce(&mut sys::StateWords, Setup, &mut Tables) -> Result<T, Answer>,
     ) -> Result<T, Answer> {
         let viewport = match file {
             [_, x0, y0, x1, y1, ..] => Rect::new(*x0, *y0, *x1, *y1),
@@ -745,7 +729,7 @@ impl CommandBucketer {
         };
         Answer::check(unsafe {
             sys::coarse_fill(
-                self.state.as_mut_ptr().cast(),
+                &mut self.state,
                 &mut self.lent,
                 paints,
                 paints_len,
@@ -777,21 +761,14 @@ impl CommandBucketer {
             thread: clip.thread_idx,
             panel: props.panel,
         };
-        Answer::check(unsafe {
-            sys::coarse_push_layer(self.state.as_mut_ptr().cast(), &mut self.lent, &props)
-        })
+        Answer::check(unsafe { sys::coarse_push_layer(&mut self.state, &mut self.lent, &props) })
     }
 
     /// Rules 9 and 10. The list has the segments of the layer's clip, in tiles of the scene.
     pub fn pop_layer(&mut self, segments: &[Segment]) -> Result<(), Answer> {
         let (segments, segments_len) = segment_words(segments);
         Answer::check(unsafe {
-            sys::coarse_pop_layer(
-                self.state.as_mut_ptr().cast(),
-                &mut self.lent,
-                segments,
-                segments_len,
-            )
+            sys::coarse_pop_layer(&mut self.state, &mut self.lent, segments, segments_len)
         })
     }
 
@@ -813,16 +790,12 @@ impl CommandBucketer {
             paint_count,
             panel,
         };
-        Answer::check(unsafe {
-            sys::coarse_filter_fill(self.state.as_mut_ptr().cast(), &mut self.lent, &filter)
-        })
+        Answer::check(unsafe { sys::coarse_filter_fill(&mut self.state, &mut self.lent, &filter) })
     }
 
     /// Clears the depth words and sets every row to its first step.
     pub fn begin_painting(&mut self) -> Result<(), Answer> {
-        Answer::check(unsafe {
-            sys::coarse_begin_painting(self.state.as_mut_ptr().cast(), &mut self.canvas)
-        })
+        Answer::check(unsafe { sys::coarse_begin_painting(&mut self.state, &mut self.canvas) })
     }
 
     /// The pieces of the next stored command of a row of the screen, in tiles of that row, or `None` where none is left.
@@ -842,20 +815,20 @@ impl CommandBucketer {
         row: usize,
         at: usize,
     ) -> Result<(bool, usize), Answer> {
-        let mut result = sys::PaintedWords::default();
+        let mut painted = sys::PaintedWords::default();
         let (list, list_len) = words_mut(self.pieces.get_mut(at..).unwrap_or_default());
         Answer::check(unsafe {
             call(
-                self.state.as_ptr().cast(),
+                &self.state,
                 &self.stored,
                 &mut self.canvas,
                 row,
                 list,
                 list_len,
-                &mut result,
+                &mut painted,
             )
         })?;
-        Ok((result.finished == 1, result.pieces))
+        Ok((painted.finished == 1, painted.pieces))
     }
 
     /// All pieces of a row of the screen, in tiles of that row, from where it stands to its end.
@@ -882,7 +855,7 @@ impl CommandBucketer {
         let (list, list_len) = words_mut(&mut self.runs);
         Answer::check(unsafe {
             sys::coarse_unset_runs(
-                self.state.as_ptr().cast(),
+                &self.state,
                 &self.canvas,
                 row,
                 Run { first, end },
@@ -906,7 +879,7 @@ impl CommandBucketer {
         let (list, list_len) = words_mut(&mut self.runs);
         Answer::check(unsafe {
             sys::coarse_visible_runs(
-                self.state.as_ptr().cast(),
+                &self.state,
                 &self.canvas,
                 row,
                 Run { first, end },
@@ -931,7 +904,7 @@ impl CommandBucketer {
         let mut count = 0;
         Answer::check(unsafe {
             sys::coarse_visible_spans(
-                self.state.as_ptr().cast(),
+                &self.state,
                 &self.canvas,
                 row,
                 Run { first, end },
@@ -957,7 +930,7 @@ impl CommandBucketer {
         let (list, list_len) = words_mut(&mut self.runs);
         Answer::check(unsafe {
             sys::coarse_unset_runs_and_write(
-                self.state.as_mut_ptr().cast(),
+                &mut self.state,
                 &mut self.canvas,
                 row,
                 Run { first, end },
@@ -975,7 +948,7 @@ impl CommandBucketer {
         let mut yes = 0;
         Answer::check(unsafe {
             sys::coarse_can_skip(
-                self.state.as_ptr().cast(),
+                &self.state,
                 &self.stored,
                 row,
                 Run { first, end },
@@ -988,18 +961,25 @@ impl CommandBucketer {
 
     /// The viewport that the screen holds, in pixels of the scene, as the mode has read it.
     pub fn viewport(&self) -> Rect {
-        let [x0, y0, x1, y1, ..] = self.state;
-        Rect { x0, y0, x1, y1 }
+        self.state.viewport.into()
     }
 
     /// How many rows of tiles the screen has.
     pub fn rows(&self) -> usize {
-        (self.state[3].saturating_sub(self.state[1]) / 4) as usize
+        (self
+            .state
+            .viewport
+            .y1
+            .saturating_sub(self.state.viewport.y0)
+            / 4) as usize
     }
 
     /// The viewport's width in pixels.
     pub fn width(&self) -> u32 {
-        self.state[2].saturating_sub(self.state[0])
+        self.state
+            .viewport
+            .x1
+            .saturating_sub(self.state.viewport.x0)
     }
 
     /// How many depth buckets a row has.
@@ -1009,7 +989,7 @@ impl CommandBucketer {
 
     /// How wide a bucket of the screen is.
     pub fn bucket_width(&self) -> Width {
-        match self.state[16] {
+        match self.state.width {
             1 => Width::W64,
             2 => Width::W256,
             _ => Width::W128,
@@ -1031,16 +1011,16 @@ impl CommandBucketer {
     }
 
     pub fn next_draw_id(&self) -> u32 {
-        self.state[NEXT_DRAW_ID]
+        self.state.next_draw_id
     }
 
     pub fn open_layers(&self) -> u32 {
-        self.state[LAYERS]
+        self.state.layers
     }
 
     /// The attributes of all fills, in the order of their indices.
     pub fn paint_attrs(&self) -> impl Iterator<Item = PaintFillAttrs> + '_ {
-        let n = self.state[PAINT_ATTRS] as usize;
+        let n = self.state.paint_attrs as usize;
         self.tables
             .paint_attrs
             .chunks_exact(PAINT_ATTR)
@@ -1061,7 +1041,7 @@ impl CommandBucketer {
 
     /// The attributes of all popped layers. A NaN opacity has the pattern that was pushed.
     pub fn layer_attrs(&self) -> impl Iterator<Item = LayerFillAttrs> + '_ {
-        let n = self.state[LAYER_ATTRS] as usize;
+        let n = self.state.layer_attrs as usize;
         let opacities = self.tables.opacities.iter().skip(MOST_LAYERS);
         let words = self.tables.layer_attrs.chunks_exact(LAYER_ATTR);
         words
@@ -1085,7 +1065,7 @@ impl CommandBucketer {
     }
 
     pub fn filter_paints(&self) -> impl Iterator<Item = FilterPaint> + '_ {
-        let n = self.state[FILTER_PAINTS] as usize;
+        let n = self.state.filter_paints as usize;
         self.tables
             .filter_paints
             .chunks_exact(FILTER_PAINT)
@@ -1099,14 +1079,14 @@ impl CommandBucketer {
 }
 
 fn record(
-    state: &mut [u32; STATE],
+    state: &mut sys::StateWords,
     file: &[u32],
     setup: Setup,
     t: &mut Tables,
 ) -> Result<(), Answer> {
     Answer::check(unsafe {
         sys::coarse_bucket_recording(
-            state.as_mut_ptr().cast(),
+            state,
             file.as_ptr(),
             file.len(),
             setup.into(),
@@ -1116,7 +1096,7 @@ fn record(
 }
 
 fn explain(
-    state: &mut [u32; STATE],
+    state: &mut sys::StateWords,
     file: &[u32],
     setup: Setup,
     row: u32,
@@ -1134,19 +1114,19 @@ fn explain(
         layer,
         attribute,
     };
-    let mut result = sys::ReasonWords::default();
+    let mut reason = sys::ReasonWords::default();
     Answer::check(unsafe {
         sys::coarse_why(
-            state.as_mut_ptr().cast(),
+            state,
             file.as_ptr(),
             file.len(),
             setup.into(),
             &question,
             &mut t.lent().0,
-            &mut result,
+            &mut reason,
         )
     })?;
-    Ok(Reason::of(result))
+    Ok(Reason::of(reason))
 }
 
 #[cfg(test)]

@@ -1,4 +1,4 @@
-//! The calls of `include/coarse.h`. A slice crosses as a pointer and a length.
+//! The calls of `include/coarse.h` and the structs that cross. A slice crosses as a pointer and a length.
 
 use crate::{Rect, Run, Setup};
 
@@ -23,9 +23,10 @@ impl From<Setup> for SetupWords {
     }
 }
 
-/// A screen's own numbers.
+/// A screen's own numbers: viewport in pixels of the scene, clip box in pixels from the viewport's corner, room, next draw id, counts, 1 if
+/// painting has begun, and a bucket's width: 0 for 128 pixels, 1 for 64, 2 for 256.
 #[repr(C)]
-#[derive(Clone, Copy, Debug)]
+#[derive(Clone, Copy, Debug, Default, PartialEq, Eq)]
 pub struct StateWords {
     pub viewport: Corners,
     pub clip: Corners,
@@ -40,7 +41,7 @@ pub struct StateWords {
     pub width: u32,
 }
 
-/// A slice that a call writes, inside a struct.
+/// A slice that a call writes, inside a struct. The pointer is never null.
 #[repr(C)]
 #[derive(Debug)]
 pub struct Lent<T> {
@@ -48,7 +49,7 @@ pub struct Lent<T> {
     pub len: usize,
 }
 
-/// A slice that a call only reads, inside a struct.
+/// A slice that a call only reads, inside a struct. The pointer is never null.
 #[repr(C)]
 #[derive(Debug)]
 pub struct Read<T> {
@@ -83,6 +84,22 @@ impl<T> Lent<T> {
             len: self.len,
         }
     }
+}
+
+/// How many elements each of the ten tables has.
+#[repr(C)]
+#[derive(Clone, Copy, Debug, Default, PartialEq, Eq)]
+pub struct Lengths {
+    pub render: usize,
+    pub fills: usize,
+    pub depth: usize,
+    pub rows: usize,
+    pub painting: usize,
+    pub layers: usize,
+    pub opacities: usize,
+    pub paint_attrs: usize,
+    pub layer_attrs: usize,
+    pub filter_paints: usize,
 }
 
 /// The ten tables, as they cross: a pointer and a length each.
@@ -191,14 +208,39 @@ pub struct ReasonWords {
     pub hider_panel: u32,
 }
 
+/// A part of an opaque span: 1 for tiles or 2 for buckets, first, end; all 0 for none.
+#[repr(C)]
+#[derive(Clone, Copy, Debug, Default)]
+pub struct PartWords {
+    pub kind: u32,
+    pub first: u32,
+    pub end: u32,
+}
+
+/// The parts of an opaque span, left to right.
+#[repr(C)]
+#[derive(Clone, Copy, Debug, Default)]
+pub struct SplitWords {
+    pub left: PartWords,
+    pub middle: PartWords,
+    pub right: PartWords,
+}
+
 /// A box, by value.
 #[repr(C)]
-#[derive(Clone, Copy, Debug)]
+#[derive(Clone, Copy, Debug, Default, PartialEq, Eq)]
 pub struct Corners {
     pub x0: u32,
     pub y0: u32,
     pub x1: u32,
     pub y1: u32,
+}
+
+impl From<Corners> for Rect {
+    fn from(corners: Corners) -> Self {
+        let Corners { x0, y0, x1, y1 } = corners;
+        Self { x0, y0, x1, y1 }
+    }
 }
 
 impl From<Rect> for Corners {
@@ -220,12 +262,7 @@ pub type Paint = unsafe extern "C" fn(
 ) -> u32;
 
 extern "C" {
-    pub fn coarse_sizes(
-        viewport: Corners,
-        setup: SetupWords,
-        sizes: *mut usize,
-        sizes_len: usize,
-    ) -> u32;
+    pub fn coarse_sizes(viewport: Corners, setup: SetupWords, sizes: *mut Lengths) -> u32;
 
     pub fn coarse_reset(
         state: *mut StateWords,
@@ -249,7 +286,7 @@ extern "C" {
         setup: SetupWords,
         question: *const QuestionWords,
         tables: *mut TableWords,
-        result: *mut ReasonWords,
+        reason: *mut ReasonWords,
     ) -> u32;
 
     pub fn coarse_fill(
@@ -281,10 +318,7 @@ extern "C" {
         filter: *const FilterWords,
     ) -> u32;
 
-    pub fn coarse_begin_painting(
-        state: *mut StateWords,
-        canvas: *mut CanvasWords,
-    ) -> u32;
+    pub fn coarse_begin_painting(state: *mut StateWords, canvas: *mut CanvasWords) -> u32;
 
     pub fn coarse_paint_step(
         state: *const StateWords,
@@ -293,7 +327,7 @@ extern "C" {
         row: usize,
         list: *mut u32,
         list_len: usize,
-        result: *mut PaintedWords,
+        painted: *mut PaintedWords,
     ) -> u32;
 
     pub fn coarse_paint_row(
@@ -303,7 +337,7 @@ extern "C" {
         row: usize,
         list: *mut u32,
         list_len: usize,
-        result: *mut PaintedWords,
+        painted: *mut PaintedWords,
     ) -> u32;
 
     pub fn coarse_unset_runs(
@@ -358,11 +392,5 @@ extern "C" {
         yes: *mut u32,
     ) -> u32;
 
-    pub fn coarse_split_opaque_span(
-        first: u32,
-        end: u32,
-        pixels: u32,
-        parts: *mut u32,
-        parts_len: usize,
-    ) -> u32;
+    pub fn coarse_split_opaque_span(tiles: Run, pixels: u32, parts: *mut SplitWords) -> u32;
 }

@@ -1,11 +1,9 @@
 //! Each call that a host links.
 ghost use Rattle.std.specs.Prelude.{◌≡◌};
-ghost use Rattle.screen.specs.Lent.{tables_in};
-ghost use Rattle.host.specs.Held.{words_in, parts_in};
-ghost use Rattle.host.specs.Lent.{pop_in};
-ghost use Rattle.host.specs.Called.{push_out, filter_out};
+ghost use Rattle.host.specs.Held.{one, parts_in};
+ghost use Rattle.host.specs.Called.{fill_out, push_out, filter_out, why_out};
 ghost use Rattle.host.specs.Sizes.{length-words};
-ghost use Rattle.theorem_once.specs.Border.{fill-words, why-words, paint-words, runs-words, spans-words, skip-words};
+ghost use Rattle.theorem_once.specs.Border.{screen-words, recording-words, pop-words, pop-left, begin-words, fill-words, why-words, paint-words, paint-left, runs-words, runs-left, write-left, spans-words, spans-left, skip-words};
 
 use crate::Twice;
 use host::build::{
@@ -35,8 +33,8 @@ pub fn reset_twice(
     viewport: Corners,
     setup: SetupWords,
 ) -> Twice<u32>
-    ensures { (words_in a_state.old ≡ words_in b_state.old) × (tables_in a_tables.old ≡ tables_in b_tables.old)
-        → (result.0 ≡ result.1) × (words_in a_state.new ≡ words_in b_state.new) × (tables_in a_tables.new ≡ tables_in b_tables.new) }
+    ensures { screen-words a_state.old a_tables.old ≡ screen-words b_state.old b_tables.old
+        → (result.0 ≡ result.1) × (screen-words a_state.new a_tables.new ≡ screen-words b_state.new b_tables.new) }
 {
     (
         coarse_reset(a_state, viewport, setup, a_tables),
@@ -54,8 +52,8 @@ pub fn recording_twice(
     b_tables: &mut Lent<'_>,
     setup: SetupWords,
 ) -> Twice<u32>
-    ensures { (words_in a_state.old ≡ words_in b_state.old) × (a_file.now ≡ b_file.now) × (tables_in a_tables.old ≡ tables_in b_tables.old)
-        → (result.0 ≡ result.1) × (words_in a_state.new ≡ words_in b_state.new) × (tables_in a_tables.new ≡ tables_in b_tables.new) }
+    ensures { recording-words a_file.now a_state.old a_tables.old ≡ recording-words b_file.now b_state.old b_tables.old
+        → (result.0 ≡ result.1) × (screen-words a_state.new a_tables.new ≡ screen-words b_state.new b_tables.new) }
 {
     (
         coarse_bucket_recording(a_state, a_file, setup, a_tables),
@@ -80,7 +78,7 @@ pub fn why_twice(
     question: QuestionWords,
 ) -> Twice<u32>
     ensures { why-words a.old ≡ why-words b.old
-        → (result.0 ≡ result.1) × (why-words a.new ≡ why-words b.new) }
+        → (result.0 ≡ result.1) × (why_out a.new.state a.new.tables a.new.reason ≡ why_out b.new.state b.new.tables b.new.reason) }
 {
     (
         coarse_why(
@@ -114,7 +112,7 @@ pub struct FillHost<'a> {
 /// Two calls of `coarse_fill`.
 pub fn fill_twice(a: &mut FillHost<'_>, b: &mut FillHost<'_>, draw: DrawWords) -> Twice<u32>
     ensures { fill-words a.old ≡ fill-words b.old
-        → (result.0 ≡ result.1) × (fill-words a.new ≡ fill-words b.new) }
+        → (result.0 ≡ result.1) × (fill_out a.new.state a.new.tables ≡ fill_out b.new.state b.new.tables) }
 {
     (
         coarse_fill(&mut a.state, &mut a.tables, a.paints, a.segments, &draw),
@@ -148,8 +146,8 @@ pub fn pop_twice(
     b_tables: &mut Lent<'_>,
     b_segments: &[u32],
 ) -> Twice<u32>
-    ensures { (words_in a_state.old ≡ words_in b_state.old) × (pop_in a_tables.old ≡ pop_in b_tables.old) × (a_segments.now ≡ b_segments.now)
-        → (result.0 ≡ result.1) × (words_in a_state.new ≡ words_in b_state.new) × (pop_in a_tables.new ≡ pop_in b_tables.new) }
+    ensures { pop-words a_segments.now a_state.old a_tables.old ≡ pop-words b_segments.now b_state.old b_tables.old
+        → (result.0 ≡ result.1) × (pop-left a_state.new a_tables.new ≡ pop-left b_state.new b_tables.new) }
 {
     (
         coarse_pop_layer(a_state, a_tables, a_segments),
@@ -181,8 +179,8 @@ pub fn begin_twice(
     b_state: &mut StateWords,
     b_canvas: &mut CanvasWords<'_>,
 ) -> Twice<u32>
-    ensures { (words_in a_state.old ≡ words_in b_state.old) × (a_canvas.old.depth.now ≡ b_canvas.old.depth.now) × (a_canvas.old.painting.now ≡ b_canvas.old.painting.now)
-        → (result.0 ≡ result.1) × (words_in a_state.new ≡ words_in b_state.new) × (a_canvas.new.depth.now ≡ b_canvas.new.depth.now) × (a_canvas.new.painting.now ≡ b_canvas.new.painting.now) }
+    ensures { begin-words a_state.old a_canvas.old ≡ begin-words b_state.old b_canvas.old
+        → (result.0 ≡ result.1) × (begin-words a_state.new a_canvas.new ≡ begin-words b_state.new b_canvas.new) }
 {
     (
         coarse_begin_painting(a_state, a_canvas),
@@ -203,7 +201,7 @@ pub struct PaintHost<'a> {
 /// Two calls of `coarse_paint_step`.
 pub fn step_twice(a: &mut PaintHost<'_>, b: &mut PaintHost<'_>, row: usize) -> Twice<u32>
     ensures { paint-words a.old ≡ paint-words b.old
-        → (result.0 ≡ result.1) × (paint-words a.new ≡ paint-words b.new) }
+        → (result.0 ≡ result.1) × (paint-left a.new ≡ paint-left b.new) }
 {
     (
         coarse_paint_step(
@@ -228,7 +226,7 @@ pub fn step_twice(a: &mut PaintHost<'_>, b: &mut PaintHost<'_>, row: usize) -> T
 /// Two calls of `coarse_paint_row`.
 pub fn row_twice(a: &mut PaintHost<'_>, b: &mut PaintHost<'_>, row: usize) -> Twice<u32>
     ensures { paint-words a.old ≡ paint-words b.old
-        → (result.0 ≡ result.1) × (paint-words a.new ≡ paint-words b.new) }
+        → (result.0 ≡ result.1) × (paint-left a.new ≡ paint-left b.new) }
 {
     (
         coarse_paint_row(
@@ -267,7 +265,7 @@ pub fn unset_twice(
     tiles: TileSpan,
 ) -> Twice<u32>
     ensures { runs-words a.old ≡ runs-words b.old
-        → (result.0 ≡ result.1) × (runs-words a.new ≡ runs-words b.new) }
+        → (result.0 ≡ result.1) × (runs-left a.new ≡ runs-left b.new) }
 {
     (
         coarse_unset_runs(&a.state, &a.canvas, row, tiles, a.list, &mut a.count),
@@ -284,7 +282,7 @@ pub fn visible_twice(
     id: u32,
 ) -> Twice<u32>
     ensures { runs-words a.old ≡ runs-words b.old
-        → (result.0 ≡ result.1) × (runs-words a.new ≡ runs-words b.new) }
+        → (result.0 ≡ result.1) × (runs-left a.new ≡ runs-left b.new) }
 {
     (
         coarse_visible_runs(
@@ -326,7 +324,7 @@ pub fn spans_twice(
     id: u32,
 ) -> Twice<u32>
     ensures { spans-words a.old ≡ spans-words b.old
-        → (result.0 ≡ result.1) × (spans-words a.new ≡ spans-words b.new) }
+        → (result.0 ≡ result.1) × (spans-left a.new ≡ spans-left b.new) }
 {
     (
         coarse_visible_spans(
@@ -359,7 +357,7 @@ pub fn write_twice(
     id: u32,
 ) -> Twice<u32>
     ensures { runs-words a.old ≡ runs-words b.old
-        → (result.0 ≡ result.1) × (runs-words a.new ≡ runs-words b.new) }
+        → (result.0 ≡ result.1) × (write-left a.new ≡ write-left b.new) }
 {
     (
         coarse_unset_runs_and_write(
@@ -400,7 +398,7 @@ pub fn skip_twice(
     id: u32,
 ) -> Twice<u32>
     ensures { skip-words a.old ≡ skip-words b.old
-        → (result.0 ≡ result.1) × (skip-words a.new ≡ skip-words b.new) }
+        → (result.0 ≡ result.1) × (one a.new.yes ≡ one b.new.yes) }
 {
     (
         coarse_can_skip(&a.state, &a.stored, row, tiles, id, &mut a.yes),

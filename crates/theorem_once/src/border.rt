@@ -285,24 +285,8 @@ pub fn visible_twice(
         → (result.0 ≡ result.1) × (runs-left a.new ≡ runs-left b.new) }
 {
     (
-        coarse_visible_runs(
-            &a.state,
-            &a.canvas,
-            row,
-            tiles,
-            id,
-            a.list,
-            &mut a.count,
-        ),
-        coarse_visible_runs(
-            &b.state,
-            &b.canvas,
-            row,
-            tiles,
-            id,
-            b.list,
-            &mut b.count,
-        ),
+        coarse_visible_runs(&a.state, &a.canvas, row, tiles, id, a.list, &mut a.count),
+        coarse_visible_runs(&b.state, &b.canvas, row, tiles, id, b.list, &mut b.count),
     )
 }
 
@@ -327,24 +311,8 @@ pub fn spans_twice(
         → (result.0 ≡ result.1) × (spans-left a.new ≡ spans-left b.new) }
 {
     (
-        coarse_visible_spans(
-            &a.state,
-            &a.canvas,
-            row,
-            tiles,
-            id,
-            a.list,
-            &mut a.count,
-        ),
-        coarse_visible_spans(
-            &b.state,
-            &b.canvas,
-            row,
-            tiles,
-            id,
-            b.list,
-            &mut b.count,
-        ),
+        coarse_visible_spans(&a.state, &a.canvas, row, tiles, id, a.list, &mut a.count),
+        coarse_visible_spans(&b.state, &b.canvas, row, tiles, id, b.list, &mut b.count),
     )
 }
 

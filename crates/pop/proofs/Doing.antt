@@ -12,7 +12,7 @@ use Rattle.row.specs.Words.{Words, word-ops}
 use Rattle.row.specs.Cmds.{Short}
 use Rattle.row.specs.Arena.{lay}
 use Rattle.rect.specs.declared.Rect.{Rect}
-use Rattle.rect.specs.Rects.{box_of, Small}
+use Rattle.rect.specs.Rects.{box_of}
 use Rattle.rect.proofs.Boxes as boxes
 use Rattle.rect.proofs.Boxes.{small-viewport}
 use Rattle.span.specs.declared.TileSpan.{TileSpan}
@@ -34,7 +34,7 @@ use Rattle.pop.proofs.Numbers.{layers-length, open-first, plan-is, plain-closeab
 use Rattle.screen.proofs.ScreenLaws.{bounds}
 use Rattle.screen.proofs.Passed.{passed}
 use Rattle.layers.proofs.Passing.{PassedOn, passed-whole}
-use Rattle.pop.proofs.Opening.{OwnBox, own-facts, Ranged, layer-facts, last_row, own-span, own-small}
+use Rattle.pop.proofs.Opening.{OwnBox, own-facts, Ranged, layer-facts, last_row, own-span}
 
 -- the rows can be closed and popped, and an id and an attribute are left
 pub record Set (s : code.Screen) (t ws : List ℕ) (w : Words) : Type 0 where
@@ -81,11 +81,6 @@ module _ {s : code.Screen} {t ws : List ℕ} {w : Words} (j : Judged s t ws w) w
 
   pub short-span : Short (span_of (layer-at t (s.layers - 1)).bounds)
   short-span = own-span own-box (boxes.view view seen.view).wide
-
-  pub small-boxes : Small (box_of s.viewport) × Small (clip-box (box_of s.viewport) (layers-in t (s.layers - 1)))
-  small-boxes =
-      let f = boxes.view view seen.view in
-      (small-viewport view seen.view, own-small (own-facts view parent tests.2) f.wide f.high)
 
   -- without a clip
   module _ (c : (layer-at t (s.layers - 1)).props.clip ≡ None) where

@@ -228,9 +228,6 @@ room-rest g k r =
     record { state = g.state ∙ r.state; render = omega (arith, g.render); fills = omega (arith, g.fills); levels = k; commands = omega (arith, g.render); depths = omega (arith, g.fills) }
 
 module _ {w : Words} where
-  pub cmd_room : (c : Command) → Room w (put_command c w) → 4 * word 0 w + 4 ≤ length w.render
-  cmd_room c r = omega (arith, cmd-renders w r.state c)
-
   pub buf_room : word 5 w < 16 → Room w (put_buf w) → 4 * word 0 w + 4 ≤ length w.render
   buf_room k r = omega (arith, buf-renders w r.state (omega arith))
 

@@ -200,8 +200,8 @@ pub const PROGRAM_RECORDS: usize = PROGRAM_ROWS * ROW;
 /// .. of what painting keeps of them: steps done and nesting.
 pub const PROGRAM_PAINTING: usize = PROGRAM_ROWS * 2;
 
-/// Each constant is the number that contracts call by the same name. It does nothing: what it promises is a theorem.
-pub fn constants_hold()
+// Each constant is the number that contracts call by the same name. It does nothing: what it promises is a theorem.
+fn constants_hold()
     ensures tiles { (TILE_END ≡ tile-end) × (TILE_WIDTH ≡ tile-width) × (TILE_HEIGHT ≡ tile-height) × (TILE_ALPHAS ≡ tile-alphas) × (SCENE_END ≡ scene-end) }
     ensures buckets { (NARROWEST ≡ narrowest) × (BUCKET_END ≡ bucket-end) × (MOST_RUNS ≡ most-runs) }
     ensures screens { (MOST_WIDTH ≡ most-width) × (MOST_HEIGHT ≡ most-height) × (MOST_ROWS ≡ most-rows) × (MOST_ROOM ≡ most-room) }

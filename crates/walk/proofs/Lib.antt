@@ -1,4 +1,3 @@
-pub mod Boxed
 pub mod Opacity
 pub mod Given
 pub mod Calls

@@ -2,7 +2,7 @@
 # make install PREFIX=DIR           headers, archive, shared library, licences, coarse.pc and a CMake package; DESTDIR=DIR puts all of it below another root
 # make uninstall PREFIX=DIR
 # make check                        the linking test (.ci/link)
-# ARCHIVE names another archive than the one that is proved here.
+# ARCHIVE=FILE names another archive, which is installed as it is: where there is no kit to prove one with.
 .POSIX:
 .PHONY: help archive check install uninstall
 
@@ -21,11 +21,11 @@ DOCS = NOTICE LICENSE-APACHE LICENSE-MIT CHANGELOG.md
 help:
 	@sed -n '/^#/!q;s/^# //p' Makefile
 
+# Where nothing has changed since, tools/archive makes nothing.
 archive:
-	tools/archive
+	@tools/archive
 
-out/libcoarse.a:
-	tools/archive
+out/libcoarse.a: archive
 
 check:
 	bash .ci/link

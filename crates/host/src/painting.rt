@@ -12,8 +12,8 @@ use crate::results::{put_runs, put_skip, put_split, put_step};
 use crate::state::{leave, put_screen, screen_of};
 use depth::split_opaque_span;
 use paint::{
-    Stored, begin_painting, can_skip, paint_row, paint_step, unset_runs, unset_runs_and_write,
-    visible_runs,
+    Canvas, Stored, begin_painting, can_skip, paint_row, paint_step, unset_runs,
+    unset_runs_and_write, visible_runs,
 };
 use sizes::answers::Refusal;
 use sizes::width::Width;
@@ -33,7 +33,8 @@ pub extern "C" fn coarse_begin_painting(
     let Some(mut screen) = screen_of(state, true) else {
         return refuse_begin(state, depth.len(), painting.len());
     };
-    let done = begin_painting(&mut screen, depth, painting);
+    let mut canvas = Canvas { depth, painting };
+    let done = begin_painting(&mut screen, &mut canvas);
     leave(state, screen, done)
 }
 
@@ -66,7 +67,8 @@ pub extern "C" fn coarse_paint_step(
     let Some(screen) = screen_of(state, res.len() == 2) else {
         return refuse_step(state, row, &stored, depth.len(), painting.len());
     };
-    let done = paint_step(screen, row, &stored, depth, painting, list);
+    let mut canvas = Canvas { depth, painting };
+    let done = paint_step(screen, row, &stored, &mut canvas, list);
     put_step(done, res)
 }
 
@@ -99,7 +101,8 @@ pub extern "C" fn coarse_paint_row(
     let Some(screen) = screen_of(state, res.len() == 2) else {
         return refuse_step(state, row, &stored, depth.len(), painting.len());
     };
-    let done = paint_row(screen, row, &stored, depth, painting, list);
+    let mut canvas = Canvas { depth, painting };
+    let done = paint_row(screen, row, &stored, &mut canvas, list);
     put_step(done, res)
 }
 

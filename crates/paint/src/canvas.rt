@@ -8,4 +8,4 @@ pub mod stored;
 pub use crate::pieces::Stepped;
 pub use begin::begin_painting;
 pub use rows::{can_skip, unset_runs, unset_runs_and_write, visible_runs};
-pub use stored::Stored;
+pub use stored::{Canvas, Stored};

@@ -9,7 +9,7 @@ pub mod shown;
 pub mod whole;
 
 pub use crate::canvas::{
-    Stored, begin_painting, can_skip, unset_runs, unset_runs_and_write, visible_runs,
+    Canvas, Stored, begin_painting, can_skip, unset_runs, unset_runs_and_write, visible_runs,
 };
 pub use crate::pieces::Stepped;
 pub use crate::whole::{paint_row, paint_step};

@@ -6,13 +6,13 @@ ghost use Rattle.paint.specs.Answers.{painted_of};
 ghost use Rattle.paint.specs.Painting.{out};
 ghost use Rattle.paint.specs.Judging.{wide};
 ghost use Rattle.paint.specs.Stepping.{stepped};
-ghost use Rattle.paint.specs.Named.{RowReady, row_lent, row_attrs, used_attrs};
+ghost use Rattle.paint.specs.Named.{SameCanvas, step_out, RowReady, words_lent, row_lent, row_attrs, used_attrs};
 ghost use Rattle.paint.specs.Running.{most, row-run, row-painted};
 
 use crate::canvas::judge::judge_step;
-use crate::canvas::{Stepped, Stored};
+use crate::canvas::{Canvas, Stepped, Stored};
 use crate::command::{Attributes, Row};
-use crate::whole::run::run_row;
+use crate::whole::run::run_parts;
 use row::part;
 use screen::Screen;
 use sizes::answers::Refusal;
@@ -40,7 +40,8 @@ fn row_part(
     requires limit { limit ≤ most }
     requires ready { RowReady screen row stored.now depth.old painting.old list.old }
     ensures { out (painted_of result) depth.new painting.new list.new
-        ≡ row-run (bucket-tiles screen.width) limit (used_attrs screen stored.now) (wide screen) screen.c screen.d row (row_lent stored.now depth.old painting.old list.old) }
+        ≡ row-run (bucket-tiles screen.width) limit (used_attrs screen stored.now) (wide screen) screen.c screen.d row
+        (words_lent stored.now depth.old painting.old list.old) }
 {
     let b = screen.buckets();
     let u = row * b;
@@ -57,7 +58,7 @@ fn row_part(
         },
         width: screen.width,
     };
-    run_row(
+    run_parts(
         &read,
         &mut depth[u..u + b],
         &mut painting[v..v + 2],
@@ -72,15 +73,21 @@ pub fn paint_step(
     screen: Screen,
     row: usize,
     stored: &Stored<'_>,
-    depth: &mut [u32],
-    painting: &mut [u32],
+    canvas: &mut Canvas<'_>,
     list: &mut [u32],
 ) -> Result<Stepped, Refusal>
-    ensures { out (painted_of result) depth.new painting.new list.new
-        ≡ stepped screen row (row_attrs stored.now) (row_lent stored.now depth.old painting.old list.old) }
+    ensures same { SameCanvas canvas.old canvas.new }
+    ensures step { step_out (painted_of result) canvas.new list.new
+        ≡ stepped screen row (row_attrs stored.now) (row_lent stored.now canvas.old list.old) }
 {
-    judge_step(screen, row, stored, depth.len(), painting.len())?;
-    row_part(screen, row, stored, depth, painting, list, 1)
+    judge_step(
+        screen,
+        row,
+        stored,
+        canvas.depth.len(),
+        canvas.painting.len(),
+    )?;
+    row_part(screen, row, stored, canvas.depth, canvas.painting, list, 1)
 }
 
 /// The row's next steps, one after the other, until one is refused or the row is finished; refused where the first step is. The pieces stand one after the other
@@ -89,13 +96,27 @@ pub fn paint_row(
     screen: Screen,
     row: usize,
     stored: &Stored<'_>,
-    depth: &mut [u32],
-    painting: &mut [u32],
+    canvas: &mut Canvas<'_>,
     list: &mut [u32],
 ) -> Result<Stepped, Refusal>
-    ensures { out (painted_of result) depth.new painting.new list.new
-        ≡ row-painted screen row (row_attrs stored.now) (row_lent stored.now depth.old painting.old list.old) }
+    ensures same { SameCanvas canvas.old canvas.new }
+    ensures painted { step_out (painted_of result) canvas.new list.new
+        ≡ row-painted screen row (row_attrs stored.now) (row_lent stored.now canvas.old list.old) }
 {
-    judge_step(screen, row, stored, depth.len(), painting.len())?;
-    row_part(screen, row, stored, depth, painting, list, MOST_STEPS)
+    judge_step(
+        screen,
+        row,
+        stored,
+        canvas.depth.len(),
+        canvas.painting.len(),
+    )?;
+    row_part(
+        screen,
+        row,
+        stored,
+        canvas.depth,
+        canvas.painting,
+        list,
+        MOST_STEPS,
+    )
 }

@@ -5,6 +5,7 @@ use Rattle.screen.specs.declared.Screen.{Screen}
 use Rattle.screen.specs.Tables as screen
 use Rattle.paint.specs.Painting.{RowLent, lent}
 use Rattle.paint.specs.Beginning.{canvas, beginning}
+use Rattle.paint.specs.declared.canvas.stored.Canvas.{Canvas}
 use Rattle.paint.specs.Stepping.{Attributes, attributes}
 use Rattle.text.specs.Listed.{row_room}
 use Rattle.text.specs.Pieces.{piece-list}
@@ -34,6 +35,9 @@ pub record Part : Type 0 where
 
 abbrev pub part : ℕ → List ℕ → List ℕ → List ℕ → List ℕ → Part
 part n d p l bs = record { count = n; depth = d; painting = p; list = l; bytes = bs }
+
+abbrev pub part_in : ℕ → Canvas → List ℕ → List ℕ → Part
+part_in n c l bs = part n c.depth.now c.painting.now l bs
 
 -- its text: n bytes are written, and bs are the bytes
 pub record PartWritten (n : ℕ) (bs : List ℕ) (q : Part) : Type 0 where

@@ -5,12 +5,14 @@ ghost use Rattle.rules.specs.Attributes.{Attrs};
 ghost use Rattle.rules.specs.Spans.{span};
 ghost use Rattle.rules.specs.Depth.{Summary, can_skip};
 ghost use Rattle.sizes.specs.Widths.{bucket-tiles};
-ghost use Rattle.paint.specs.Painting.{word, out, listed};
+ghost use Rattle.paint.specs.Painting.{word, listed};
+ghost use Rattle.paint.specs.Named.{SameCanvas, step_out};
 ghost use Rattle.paint.specs.Reading.{attrs_of};
 ghost use Rattle.paint.specs.Running.{most};
 ghost use Rattle.paint.specs.Rows.{steps_of, CalmRow, Ran, mark_in, FillSays, Says, SaysAt};
 ghost use Rattle.paint.specs.Kinds.{summary-by, good-index, Onward};
 
+use crate::canvas::Canvas;
 use crate::command::{Mark, Row};
 use crate::pieces::{PieceWords, Pieces};
 use crate::whole::ends::{hidden_end, seen_end};
@@ -217,7 +219,7 @@ fn run_sure(
 // its look stopped, if the list has room for any result.
 fn run_commands(
     row: &Row<'_>,
-    depth: &[u32],
+    canvas: &Canvas<'_>,
     pieces: &mut Pieces<'_>,
     start: usize,
     stop: usize,
@@ -226,13 +228,13 @@ fn run_commands(
     requires calm { CalmRow row.now }
     requires start_le_stop { (start ≤ stop) × (stop ≤ word row.now.state.now 0) × (nesting ≤ most-layers) }
     ensures same { pieces.new.list.ghost_name ≡ pieces.old.list.ghost_name }
-    ensures reaches { Ran row.now depth.now start nesting pieces.old result pieces.new }
+    ensures reaches { Ran row.now canvas.now.depth.now start nesting pieces.old result pieces.new }
     ensures at_le_stop { result.at ≤ stop }
 {
     let mut at = start;
     let mut level = nesting;
     loop {
-        let reached = run_sure(row, depth, pieces, at, stop, level);
+        let reached = run_sure(row, canvas.depth, pieces, at, stop, level);
         let Some(part) = reached.part else {
             return reached;
         };
@@ -248,7 +250,7 @@ fn run_commands(
             mark: part.mark,
             width: row.width,
         };
-        put_fill(depth, cut, part.seen, part.stop, pieces);
+        put_fill(canvas.depth, cut, part.seen, part.stop, pieces);
         at = next + 1;
     }
 }
@@ -271,20 +273,20 @@ fn none_done(pieces: usize) -> Gone
 /// are no row's. It refuses nothing: what it leaves is judged step by step.
 pub fn run_plain(
     row: &Row<'_>,
-    depth: &[u32],
-    painting: &mut [u32],
+    canvas: &mut Canvas<'_>,
     list: &mut [u32],
     pieces: usize,
     limit: usize,
 ) -> Gone
-    requires lens { (length depth.now ≤ 65535) × (length painting.old ≡ 2) }
+    requires lens { (length canvas.old.depth.now ≤ 65535) × (length canvas.old.painting.now ≡ 2) }
     requires pieces_in_bounds { (piece-size * pieces ≤ length list.old) × (limit ≤ most) }
-    ensures onward { Onward (steps_of row.now) result.steps (out (listed pieces) depth.now painting.old list.old) (out (listed result.pieces) depth.now painting.new list.new) }
+    ensures same { SameCanvas canvas.old canvas.new }
+    ensures onward { Onward (steps_of row.now) result.steps (step_out (listed pieces) canvas.old list.old) (step_out (listed result.pieces) canvas.new list.new) }
     ensures still { result.steps ≡ 0 → result.pieces ≡ pieces }
     ensures steps_le_limit { (result.steps ≤ limit) × (piece-size * result.pieces ≤ length list.old) }
 {
     let depths = row.state[DEPTHS];
-    let done = painting[0];
+    let done = canvas.painting[0];
     if done < depths {
         return none_done(pieces);
     }
@@ -296,17 +298,17 @@ pub fn run_plain(
     {
         return none_done(pieces);
     }
-    let nesting = painting[1];
+    let nesting = canvas.painting[1];
     if MOST_LAYERS < nesting || !is_good_summary(row.state) {
         return none_done(pieces);
     }
     let start = next as usize;
     let some = limit.min(renders as usize - start);
     let mut out = Pieces::new(list, pieces);
-    let reached = run_commands(row, depth, &mut out, start, start + some, nesting);
+    let reached = run_commands(row, canvas, &mut out, start, start + some, nesting);
     let steps = reached.at - start;
-    painting[0] = done + steps as u32;
-    painting[1] = reached.nesting;
+    canvas.painting[0] = done + steps as u32;
+    canvas.painting[1] = reached.nesting;
     Gone {
         steps,
         pieces: out.count,

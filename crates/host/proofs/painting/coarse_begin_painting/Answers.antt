@@ -1,6 +1,9 @@
 -- The call's own equation, carried over to the words.
+use Rattle.std.proofs.Common.{rules}
 use Rattle.host.proofs.Built.{begin_built}
 use Rattle.host.proofs.painting.coarse_begin_painting.Goals as goal
 
 pub returns : goal.returns
-returns c = begin_built _ _ _ _ _ _ c.in-Some.ensures c.leave.ensures.0 c.leave.ensures.1 _ _ _ _ c.begin_painting-done.ensures
+returns c =
+    let e = begin_built _ _ _ _ _ _ c.in-Some.ensures c.leave.ensures.0 c.leave.ensures.1 _ _ _ _ c.begin_painting-done.ensures.begun in
+    search (rules, e)

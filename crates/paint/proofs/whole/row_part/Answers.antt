@@ -17,4 +17,4 @@ pub returns : goal.returns
 returns c =
     let a = c.args in
     let l = lent a.stored.now.rows.now a.stored.now.render.now a.stored.now.fills.now a.depth.now a.painting.now a.list.now in
-    rw c.buckets-b.ensures (run-back _ _ _ _ _ _ _ l _ _ _ _ (rw (c.part.ensures, c.part-2.ensures, c.part-3.ensures, c.buckets-b.ensures) at c.run_row.ensures))
+    rw c.buckets-b.ensures (run-back _ _ _ _ _ _ _ l _ _ _ _ (rw (c.part.ensures, c.part-2.ensures, c.part-3.ensures, c.buckets-b.ensures) at c.run_parts.ensures))

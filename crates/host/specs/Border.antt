@@ -9,7 +9,7 @@ use Rattle.rules.specs.Plans.{Frame}
 use Rattle.rules.specs.Setups.{Setup, frame}
 use Rattle.rules.specs.Recording.{shape, sections, recording}
 use Rattle.rules.specs.Walk.{Arenas, good-arenas}
-use Rattle.screen.specs.declared.Lent.{Lent}
+use Rattle.screen.specs.declared.lent.Lent.{Lent}
 use Rattle.screen.specs.Judging.{arenas}
 use Rattle.screen.specs.Lent.{tables_in}
 use Rattle.screen.specs.Tables.{lengths}

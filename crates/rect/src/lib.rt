@@ -115,7 +115,8 @@ impl Rect {
 
     // The tile edges around it. Its ends are no further than a viewport's, so no number overflows.
     fn snap_to_tile_coordinates(self) -> Rect
-        requires { (self.x1 ≤ 32768) × (self.y1 ≤ 32768) }
+        requires right { self.x1 ≤ 32768 }
+        requires bottom { self.y1 ≤ 32768 }
         ensures { box_of result ≡ snapped (box_of self) }
     {
         Rect {

@@ -14,7 +14,7 @@ use Rattle.row.specs.Arena.{lay}
 use Rattle.refine_row.proofs.Screens.{blank-row, reset-words}
 use Rattle.rules.specs.Plans.{Frame}
 use Rattle.screen.specs.Screens.{fresh-screen}
-use Rattle.screen.specs.declared.Lengths.{Lengths}
+use Rattle.screen.specs.declared.lent.Lengths.{Lengths}
 use Rattle.screen.specs.Judging.{good-tables, arenas, judged_reset}
 use Rattle.screen.specs.Tables.{zeros, lengths, ScreenLent, float-0, reset_to}
 use Rattle.screen.proofs.Passed.{reset-says}

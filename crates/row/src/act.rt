@@ -30,7 +30,8 @@ pub trait RowAct: Copy {
 
 // An act on one row's words.
 fn on_words<A: RowAct>(state: &mut [u32], render: &mut [u32], fills: &mut [u32], act: A)
-    requires { A.Asks act (words state.old render.old fills.old) × Room (words state.old render.old fills.old) (A.made act (words state.old render.old fills.old)) }
+    requires asked { A.Asks act (words state.old render.old fills.old) }
+    requires room { Room (words state.old render.old fills.old) (A.made act (words state.old render.old fills.old)) }
     ensures row { words state.new render.new fills.new ≡ A.made act (words state.old render.old fills.old) }
     ensures grown { Grown (words state.old render.old fills.old) (words state.new render.new fills.new) }
 {

@@ -7,9 +7,9 @@ use Rattle.text_programs.specs.Streams.{Item, word_at, stream_printed}
 use Rattle.text_programs.specs.Usages.{usage_text}
 use Rattle.text_why.specs.declared.Question.TheVariants.{Every}
 use Rattle.text_why.specs.Questions.{question-of}
-use Rattle.run_why.specs.declared.Query.{Query}
-use Rattle.run_why.specs.declared.Request.{Request}
-use Rattle.run_why.specs.declared.Request.TheVariants.{Stream, File}
+use Rattle.run_why.specs.declared.arguments.Query.{Query}
+use Rattle.run_why.specs.declared.arguments.Request.{Request}
+use Rattle.run_why.specs.declared.arguments.Request.TheVariants.{Stream, File}
 use Rattle.run_why.specs.Requests.{request_of}
 
 -- .. where it is asked how it is called

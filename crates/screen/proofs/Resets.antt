@@ -12,7 +12,7 @@ use Rattle.screen.proofs.Judged.{reset-bad-viewport}
 use Rattle.rules.specs.Plans.{Frame}
 use Rattle.screen.specs.declared.Screen.{Screen}
 use Rattle.screen.specs.declared.Setup.{Setup}
-use Rattle.screen.specs.declared.Lengths.{Lengths}
+use Rattle.screen.specs.declared.lent.Lengths.{Lengths}
 use Rattle.screen.specs.Screens.{frame, frame-of, fresh-screen}
 use Rattle.screen.specs.Judging.{judged_reset}
 use Rattle.screen.specs.Tables.{Tables, lengths, zeroed, ScreenLent, lent, reset_to}

@@ -7,7 +7,7 @@ use Rattle.rules.specs.Plans.{Frame}
 use Rattle.rules.specs.Walk.{Arenas, good-room, good-arenas}
 use Rattle.rect.specs.Rects.{box_of}
 use Rattle.screen.specs.declared.Screen.{Screen}
-use Rattle.screen.specs.declared.Lengths.{Lengths}
+use Rattle.screen.specs.declared.lent.Lengths.{Lengths}
 use Rattle.screen.specs.Screens.{good_screen}
 
 -- C and D in range, and the render and depth fill arenas of n rows lent exactly

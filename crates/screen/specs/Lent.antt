@@ -1,8 +1,8 @@
 -- What a host lends, as its tables.
-use Rattle.std.specs.Prelude.{◌≡◌, length}
-use Rattle.screen.specs.declared.Lent.{Lent}
+use Rattle.std.specs.Prelude.{◌≡◌}
+use Rattle.screen.specs.declared.lent.Lent.{Lent}
 use Rattle.screen.specs.declared.Screen.{Screen}
-use Rattle.screen.specs.Tables.{Tables, tables, ScreenLent, lent}
+use Rattle.screen.specs.Tables.{Tables, tables, lengths, ScreenLent, lent}
 
 -- what all the slices hold
 abbrev pub tables_in : Lent → Tables
@@ -26,13 +26,4 @@ pub record SameLent (a b : Lent) : Type 0 where
   pub paint_attrs : b.paint_attrs.ghost_name ≡ a.paint_attrs.ghost_name
   pub layer_attrs : b.layer_attrs.ghost_name ≡ a.layer_attrs.ghost_name
   pub filter_paints : b.filter_paints.ghost_name ≡ a.filter_paints.ghost_name
-  pub render-long : length b.render.now ≡ length a.render.now
-  pub fills-long : length b.fills.now ≡ length a.fills.now
-  pub depth-long : length b.depth.now ≡ length a.depth.now
-  pub rows-long : length b.rows.now ≡ length a.rows.now
-  pub painting-long : length b.painting.now ≡ length a.painting.now
-  pub layers-long : length b.layers.now ≡ length a.layers.now
-  pub opacities-long : length b.opacities.now ≡ length a.opacities.now
-  pub paint_attrs-long : length b.paint_attrs.now ≡ length a.paint_attrs.now
-  pub layer_attrs-long : length b.layer_attrs.now ≡ length a.layer_attrs.now
-  pub filter_paints-long : length b.filter_paints.now ≡ length a.filter_paints.now
+  pub long : lengths (tables_in b) ≡ lengths (tables_in a)

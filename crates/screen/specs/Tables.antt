@@ -8,7 +8,7 @@ use Rattle.sizes.specs.Refusals.{answer_number}
 use Rattle.rules.specs.Answers.{Answer, answer, settle}
 use Rattle.rules.specs.Plans.{Frame}
 use Rattle.screen.specs.declared.Screen.{Screen}
-use Rattle.screen.specs.declared.Lengths.{Lengths}
+use Rattle.screen.specs.declared.lent.Lengths.{Lengths}
 use Rattle.screen.specs.Screens.{fresh-screen}
 use Rattle.screen.specs.Judging.{judged_reset}
 

@@ -50,7 +50,8 @@ pub fn segment_at(list: &[u32], i: usize) -> Segment
 }
 
 impl Segment {
-    /// Whether every field is in its bounds (answer 4): row below 8,192, at least one tile, up to tile 8,192, an alpha index that can be moved over all of them.
+    /// Whether every field is in its bounds (answer 4): row below 8,192, at least one tile, up to tile 8,192, an alpha index that can be moved over all
+    /// of them.
     pub fn is_good(self) -> bool
         ensures { result ≡ good-segment (segment-of self) }
     {
@@ -98,7 +99,8 @@ fn judge_rest(list: &[u32], start: usize, end: usize) -> Refusal
 
 /// Of the segments from start to end of a list: BadRecord, 4, if one of them is bad, then BadOrder, 5, if their order is broken.
 pub fn judge_segments(list: &[u32], start: usize, end: usize) -> Result<(), Refusal>
-    requires { (start ≤ «end») × (5 * «end» ≤ length list.now) }
+    requires order { start ≤ «end» }
+    requires within { 5 * «end» ≤ length list.now }
     ensures { answer_number result ≡ judge-segments false (segs list.now start («end» - start)) }
 {
     if end <= start {

@@ -6,6 +6,8 @@
 #[cfg(test)]
 mod fakes;
 #[cfg(test)]
+mod programs;
+#[cfg(test)]
 mod runs;
 #[cfg(test)]
 mod tests;

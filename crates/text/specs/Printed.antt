@@ -1,6 +1,6 @@
 -- The words that a row and a screen are printed from.
 use Rattle.row.specs.Words.{Words, words}
-use Rattle.text.specs.declared.listing.RowText.{RowText}
+use Rattle.text.specs.declared.rows.RowText.{RowText}
 use Rattle.text.specs.declared.listing.ScreenText.{ScreenText}
 
 abbrev pub row_words : RowText → Words

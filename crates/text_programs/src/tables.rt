@@ -50,7 +50,8 @@ impl Tables {
 
     /// As many words of each as a screen of so many rows, of so many buckets each, asks for.
     pub fn lend(&mut self, rows: usize, buckets: usize) -> Lent<'_>
-        requires { (rows ≤ program-rows) × (buckets ≤ program-buckets) }
+        requires high { rows ≤ program-rows }
+        requires wide { buckets ≤ program-buckets }
         ensures { Exact (size rows buckets) (tables_in result) }
     {
         Lent {

@@ -72,7 +72,8 @@ pub fn asks_help(args: &[String]) -> bool
 
 // The options that every program has, and the line before the refusals.
 const COMMON: &str =
-    "  --snap     read the viewport in snapping mode\n  --width N  N pixels a depth bucket: 64, 128 or 256; without it 128\n  --help     print this; so does -h; no other argument may stand beside it\nwhat `refused N` stands for:\n";
+    "  --snap     read the viewport in snapping mode\n  --width N  N pixels a depth bucket: 64, 128 or 256; without it 128\n  \
+    --help     print this; so does -h; no other argument may stand beside it\nwhat `refused N` stands for:\n";
 
 /// A program's usage: its name, how it is called, up to its options, and a line for each option that not every program has.
 #[derive(Clone, Copy)]

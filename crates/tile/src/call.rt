@@ -1,4 +1,5 @@
-//! Why a tile of a recording shows what it shows. `why` is a public call; the others are parts of it, and two of them of a program that asks of many attributes.
+//! Why a tile of a recording shows what it shows. `why` is a public call; the others are parts of it, and two of them of a program that asks of many
+//! attributes.
 ghost use Rattle.std.specs.Prelude.{◌≡◌, true, false, length};
 ghost use Rattle.sizes.specs.Sizes.{line-table};
 ghost use Rattle.sizes.specs.Widths.{bucket-tiles};
@@ -37,8 +38,8 @@ pub fn is_off_screen(viewport: Rect, row: u32, tile: u32) -> bool
     viewport.height() / 4 <= row || viewport.width() / 4 <= tile
 }
 
-/// The story of a tile of the screen, from the root of a recording that was judged, told into the lines; it gives what was counted. Deep, Ids or FullAttrs, as a
-/// step of the walk; the story has no rows, so that none is full.
+/// The story of a tile of the screen, from the root of a recording that was judged, told into the lines; it gives what was counted. Deep, Ids or FullAttrs, as
+/// a step of the walk; the story has no rows, so that none is full.
 pub fn tell_tile(
     file: &Recording<'_>,
     viewport: Rect,

@@ -156,7 +156,8 @@ fn reason_by(search: Search) -> Reason
 
 /// The reason that the first n lines give of an attribute.
 pub fn reason_of(lines: &[u32], n: usize, asked: Asked) -> Reason
-    requires { (n ≤ most-attrs + most-attrs) × (line-size * n ≤ length lines.now) }
+    requires few { n ≤ most-attrs + most-attrs }
+    requires long { line-size * n ≤ length lines.now }
     ensures { reason-of result ≡ reason-read (asked_of asked) lines.now n }
 {
     let mut search = Search {

@@ -1,6 +1,6 @@
--- A line where words stand for a depth fill, else nothing.
+-- A line where words stand for a command, else nothing.
 use Rattle.text.proofs.Runs.{no_lines, one_line}
-use Rattle.text.proofs.listing.print_depth.Goals as goal
+use Rattle.text.proofs.rows.print_command.Goals as goal
 
 pub returns-in-Some : goal.returns-in-Some
 returns-in-Some c = rw (← c.in-Some.ensures) (one_line _ c.print.ensures)

@@ -403,8 +403,14 @@ pub enum Reason {
 }
 
 impl Reason {
-    fn of([case, number, panel, hider_panel]: [u32; REASON]) -> Self {
-        match case {
+    fn of(words: sys::ReasonWords) -> Self {
+        let sys::ReasonWords {
+            kind,
+            number,
+            panel,
+            hider_panel,
+        } = words;
+        match kind {
             0 => Self::UnknownAttribute,
             1 => Self::NoSegment { panel },
             2 => Self::CutAway { panel },
@@ -436,21 +442,20 @@ impl Reason {
 
 /// Rule 7: the parts of an opaque span, the tiles first to end of a row of the screen, over buckets of a width, left to right.
 pub fn split_opaque_span(first: u32, end: u32, width: Width) -> Result<Vec<DepthSegment>, Answer> {
-    let mut parts = [0; 9];
+    let mut parts = sys::SplitWords::default();
     Answer::check(unsafe {
-        sys::coarse_split_opaque_span(first, end, width as u32, parts.as_mut_ptr(), parts.len())
+        sys::coarse_split_opaque_span(Run { first, end }, width as u32, &mut parts)
     })?;
-    Ok(parts
-        .chunks_exact(3)
-        .filter_map(|part| match part[0] {
-            1 => Some(DepthSegment::Regular(Run {
-                first: part[1],
-                end: part[2],
-            })),
-            2 => Some(DepthSegment::Opaque(Run {
-                first: part[1],
-                end: part[2],
-            })),
+    let sys::SplitWords {
+        left,
+        middle,
+        right,
+    } = parts;
+    Ok([left, middle, right]
+        .into_iter()
+        .filter_map(|sys::PartWords { kind, first, end }| match kind {
+            1 => Some(DepthSegment::Regular(Run { first, end })),
+            2 => Some(DepthSegment::Opaque(Run { first, end })),
             _ => None,
         })
         .collect())
@@ -478,20 +483,9 @@ fn segment_words(segments: &[Segment]) -> (*const u32, usize) {
     (segments.as_ptr().cast(), size_of_val(segments) / 4)
 }
 
-fn sizes(viewport: Rect, setup: Setup) -> Result<[usize; 10], Answer> {
-    let mut sizes = [0; 10];
-    let Rect { x0, y0, x1, y1 } = viewport;
-    Answer::check(unsafe {
-        sys::coarse_sizes(
-            x0,
-            y0,
-            x1,
-            y1,
-            setup.into(),
-            sizes.as_mut_ptr(),
-            sizes.len(),
-        )
-    })?;
+fn sizes(viewport: Rect, setup: Setup) -> Result<sys::Lengths, Answer> {
+    let mut sizes = sys::Lengths::default();
+    Answer::check(unsafe { sys::coarse_sizes(viewport.into(), setup.into(), &mut sizes) })?;
     Ok(sizes)
 }
 
@@ -510,75 +504,118 @@ struct Tables {
 }
 
 impl Tables {
-    fn new(sizes: [usize; 10]) -> Self {
+    /// The same tables, as they cross.
+    fn lent(&mut self) -> (sys::TableWords, sys::StoredWords, sys::CanvasWords) {
+        let lent = sys::TableWords {
+            render: sys::Lent::of(&mut self.render),
+            fills: sys::Lent::of(&mut self.fills),
+            depth: sys::Lent::of(&mut self.depth),
+            rows: sys::Lent::of(&mut self.rows),
+            painting: sys::Lent::of(&mut self.painting),
+            layers: sys::Lent::of(&mut self.layers),
+            opacities: sys::Lent::of(&mut self.opacities),
+            paint_attrs: sys::Lent::of(&mut self.paint_attrs),
+            layer_attrs: sys::Lent::of(&mut self.layer_attrs),
+            filter_paints: sys::Lent::of(&mut self.filter_paints),
+        };
+        let stored = sys::StoredWords {
+            rows: lent.rows.read(),
+            render: lent.render.read(),
+            fills: lent.fills.read(),
+            paint_attrs: lent.paint_attrs.read(),
+            layer_attrs: lent.layer_attrs.read(),
+        };
+        let canvas = sys::CanvasWords {
+            depth: lent.depth,
+            painting: lent.painting,
+        };
+        (lent, stored, canvas)
+    }
+
+    fn new(sizes: sys::Lengths) -> Self {
         Self {
-            render: vec![0; sizes[0]],
-            fills: vec![0; sizes[1]],
-            depth: vec![0; sizes[2]],
-            rows: vec![0; sizes[3]],
-            painting: vec![0; sizes[4]],
-            layers: vec![0; sizes[5]],
-            opacities: vec![0.0; sizes[6]],
-            paint_attrs: vec![0; sizes[7]],
-            layer_attrs: vec![0; sizes[8]],
-            filter_paints: vec![0; sizes[9]],
+            render: vec![0; sizes.render],
+            fills: vec![0; sizes.fills],
+            depth: vec![0; sizes.depth],
+            rows: vec![0; sizes.rows],
+            painting: vec![0; sizes.painting],
+            layers: vec![0; sizes.layers],
+            opacities: vec![0.0; sizes.opacities],
+            paint_attrs: vec![0; sizes.paint_attrs],
+            layer_attrs: vec![0; sizes.layer_attrs],
+            filter_paints: vec![0; sizes.filter_paints],
         }
     }
 
-    fn lens(&self) -> [usize; 10] {
-        [
-            self.render.len(),
-            self.fills.len(),
-            self.depth.len(),
-            self.rows.len(),
-            self.painting.len(),
-            self.layers.len(),
-            self.opacities.len(),
-            self.paint_attrs.len(),
-            self.layer_attrs.len(),
-            self.filter_paints.len(),
-        ]
+    fn lens(&self) -> sys::Lengths {
+        sys::Lengths {
+            render: self.render.len(),
+            fills: self.fills.len(),
+            depth: self.depth.len(),
+            rows: self.rows.len(),
+            painting: self.painting.len(),
+            layers: self.layers.len(),
+            opacities: self.opacities.len(),
+            paint_attrs: self.paint_attrs.len(),
+            layer_attrs: self.layer_attrs.len(),
+            filter_paints: self.filter_paints.len(),
+        }
     }
 }
-
-/// The words of the state, and places in them.
-const STATE: usize = 17;
-const NEXT_DRAW_ID: usize = 10;
-const PAINT_ATTRS: usize = 11;
-const LAYER_ATTRS: usize = 12;
-const FILTER_PAINTS: usize = 13;
-const LAYERS: usize = 14;
 
 /// The words of a row's record; the second is how many depth fills it has.
 const ROW: usize = 54;
 
-/// The words of one record of a table, and of a reason, as `include/coarse.h` has them.
+/// The words of one record of a table, as `include/coarse.h` has them.
 const PAINT_ATTR: usize = 9;
 const LAYER_ATTR: usize = 7;
 const FILTER_PAINT: usize = 4;
-const REASON: usize = 4;
 
 /// The opacities of the open layers stand before those of the layer attributes.
 const MOST_LAYERS: usize = 16;
 
 /// A screen with all its tables.
-#[derive(Debug, Clone)]
+#[derive(Debug)]
 pub struct CommandBucketer {
     setup: Setup,
-    state: [u32; STATE],
+    state: sys::StateWords,
     tables: Tables,
+    lent: sys::TableWords,
+    stored: sys::StoredWords,
+    canvas: sys::CanvasWords,
     pieces: Vec<Piece>,
     runs: Vec<Run>,
+}
+
+impl Clone for CommandBucketer {
+    fn clone(&self) -> Self {
+        let mut tables = self.tables.clone();
+        let (lent, stored, canvas) = tables.lent();
+        Self {
+            setup: self.setup,
+            state: self.state,
+            tables,
+            lent,
+            stored,
+            canvas,
+            pieces: self.pieces.clone(),
+            runs: self.runs.clone(),
+        }
+    }
 }
 
 impl CommandBucketer {
     /// A fresh screen of a viewport, in pixels of the scene. Its mode reads every viewport, of a reset and of a recording.
     pub fn new(viewport: Rect, setup: Setup) -> Result<Self, Answer> {
-        let tables = Tables::new(sizes(viewport, setup)?);
+        let mut tables = Tables::new(sizes(viewport, setup)?);
+        let (lent, stored, canvas) = tables.lent();
         let mut bucketer = Self {
             setup,
-            state: [0; STATE],
+            state: sys::StateWords::default(),
             tables,
+            lent,
+            stored,
+            canvas,
             pieces: Vec::new(),
             runs: Vec::new(),
         };
@@ -596,38 +633,14 @@ impl CommandBucketer {
         let sizes = sizes(viewport, self.setup)?;
         if self.tables.lens() != sizes {
             self.tables = Tables::new(sizes);
+            (self.lent, self.stored, self.canvas) = self.tables.lent();
         }
-        let Rect { x0, y0, x1, y1 } = viewport;
-        let t = &mut self.tables;
         Answer::check(unsafe {
             sys::coarse_reset(
-                self.state.as_mut_ptr(),
-                STATE,
-                x0,
-                y0,
-                x1,
-                y1,
+                &mut self.state,
+                viewport.into(),
                 self.setup.into(),
-                t.render.as_mut_ptr(),
-                t.render.len(),
-                t.fills.as_mut_ptr(),
-                t.fills.len(),
-                t.depth.as_mut_ptr(),
-                t.depth.len(),
-                t.rows.as_mut_ptr(),
-                t.rows.len(),
-                t.painting.as_mut_ptr(),
-                t.painting.len(),
-                t.layers.as_mut_ptr(),
-                t.layers.len(),
-                t.opacities.as_mut_ptr(),
-                t.opacities.len(),
-                t.paint_attrs.as_mut_ptr(),
-                t.paint_attrs.len(),
-                t.layer_attrs.as_mut_ptr(),
-                t.layer_attrs.len(),
-                t.filter_paints.as_mut_ptr(),
-                t.filter_paints.len(),
+                &mut self.lent,
             )
         })?;
         self.make_lists();
@@ -671,7 +684,7 @@ impl CommandBucketer {
     fn on_own_screen<T>(
         &mut self,
         file: &[u32],
-        call: impl FnOnce(&mut [u32; STATE], Setup, &mut Tables) -> Result<T, Answer>,
+        call: impl FnOnce(&mut sys::StateWords, Setup, &mut Tables) -> Result<T, Answer>,
     ) -> Result<T, Answer> {
         let viewport = match file {
             [_, x0, y0, x1, y1, ..] => Rect::new(*x0, *y0, *x1, *y1),
@@ -686,6 +699,7 @@ impl CommandBucketer {
                     Err(Answer::BadArena | Answer::BadViewport | Answer::BadForm)
                 ) {
                     self.tables = tables;
+                    (self.lent, self.stored, self.canvas) = self.tables.lent();
                     self.make_lists();
                 }
                 done
@@ -701,40 +715,33 @@ impl CommandBucketer {
         segments: &[Segment],
         fill: &RecordedFill,
     ) -> Result<(), Answer> {
-        let t = &mut self.tables;
         let (paints, paints_len) = paint_words(paints);
         let (segments, segments_len) = segment_words(segments);
+        let draw = sys::DrawWords {
+            thread: fill.thread_idx,
+            paint: fill.paint,
+            start: fill.start,
+            end: fill.end,
+            mix: fill.blend_mode.mix,
+            compose: fill.blend_mode.compose,
+            mask: fill.mask,
+            panel: fill.panel,
+        };
         Answer::check(unsafe {
             sys::coarse_fill(
-                self.state.as_mut_ptr(),
-                STATE,
-                t.rows.as_mut_ptr(),
-                t.rows.len(),
-                t.render.as_mut_ptr(),
-                t.render.len(),
-                t.fills.as_mut_ptr(),
-                t.fills.len(),
-                t.paint_attrs.as_mut_ptr(),
-                t.paint_attrs.len(),
+                &mut self.state,
+                &mut self.lent,
                 paints,
                 paints_len,
                 segments,
                 segments_len,
-                fill.thread_idx,
-                fill.start,
-                fill.end,
-                fill.paint,
-                fill.blend_mode.mix,
-                fill.blend_mode.compose,
-                fill.mask,
-                fill.panel,
+                &draw,
             )
         })
     }
 
     /// Rule 8. The clip's box is in pixels of the scene.
     pub fn push_layer(&mut self, props: &LayerProps) -> Result<(), Answer> {
-        let t = &mut self.tables;
         let none = LayerClip {
             bbox: Rect::default(),
             start: 0,
@@ -742,60 +749,26 @@ impl CommandBucketer {
             thread_idx: 0,
         };
         let clip = props.clip.unwrap_or(none);
-        Answer::check(unsafe {
-            sys::coarse_push_layer(
-                self.state.as_mut_ptr(),
-                STATE,
-                t.rows.as_mut_ptr(),
-                t.rows.len(),
-                t.render.as_mut_ptr(),
-                t.render.len(),
-                t.fills.as_mut_ptr(),
-                t.fills.len(),
-                t.layers.as_mut_ptr(),
-                t.layers.len(),
-                t.opacities.as_mut_ptr(),
-                t.opacities.len(),
-                props.blend_mode.mix,
-                props.blend_mode.compose,
-                props.opacity.to_bits(),
-                props.mask,
-                u32::from(props.clip.is_some()),
-                clip.bbox.x0,
-                clip.bbox.y0,
-                clip.bbox.x1,
-                clip.bbox.y1,
-                clip.start,
-                clip.end,
-                clip.thread_idx,
-                props.panel,
-            )
-        })
+        let props = sys::PropsWords {
+            mix: props.blend_mode.mix,
+            compose: props.blend_mode.compose,
+            opacity: props.opacity.to_bits(),
+            mask: props.mask,
+            flag: u32::from(props.clip.is_some()),
+            bounds: clip.bbox.into(),
+            start: clip.start,
+            end: clip.end,
+            thread: clip.thread_idx,
+            panel: props.panel,
+        };
+        Answer::check(unsafe { sys::coarse_push_layer(&mut self.state, &mut self.lent, &props) })
     }
 
     /// Rules 9 and 10. The list has the segments of the layer's clip, in tiles of the scene.
     pub fn pop_layer(&mut self, segments: &[Segment]) -> Result<(), Answer> {
-        let t = &mut self.tables;
         let (segments, segments_len) = segment_words(segments);
         Answer::check(unsafe {
-            sys::coarse_pop_layer(
-                self.state.as_mut_ptr(),
-                STATE,
-                t.rows.as_mut_ptr(),
-                t.rows.len(),
-                t.render.as_mut_ptr(),
-                t.render.len(),
-                t.fills.as_mut_ptr(),
-                t.fills.len(),
-                t.layers.as_mut_ptr(),
-                t.layers.len(),
-                t.opacities.as_mut_ptr(),
-                t.opacities.len(),
-                t.layer_attrs.as_mut_ptr(),
-                t.layer_attrs.len(),
-                segments,
-                segments_len,
-            )
+            sys::coarse_pop_layer(&mut self.state, &mut self.lent, segments, segments_len)
         })
     }
 
@@ -808,49 +781,21 @@ impl CommandBucketer {
         paint_count: u32,
         panel: u32,
     ) -> Result<(), Answer> {
-        let t = &mut self.tables;
-        let Rect { x0, y0, x1, y1 } = placement.dest;
-        Answer::check(unsafe {
-            sys::coarse_filter_fill(
-                self.state.as_mut_ptr(),
-                STATE,
-                t.rows.as_mut_ptr(),
-                t.rows.len(),
-                t.render.as_mut_ptr(),
-                t.render.len(),
-                t.fills.as_mut_ptr(),
-                t.fills.len(),
-                t.paint_attrs.as_mut_ptr(),
-                t.paint_attrs.len(),
-                t.filter_paints.as_mut_ptr(),
-                t.filter_paints.len(),
-                x0,
-                y0,
-                x1,
-                y1,
-                placement.source_x,
-                placement.source_y,
-                u32::from(pixmap.is_some()),
-                pixmap.unwrap_or(0),
-                paint_count,
-                panel,
-            )
-        })
+        let filter = sys::FilterWords {
+            dest: placement.dest.into(),
+            source_x: placement.source_x,
+            source_y: placement.source_y,
+            has_pixmap: u32::from(pixmap.is_some()),
+            pixmap: pixmap.unwrap_or(0),
+            paint_count,
+            panel,
+        };
+        Answer::check(unsafe { sys::coarse_filter_fill(&mut self.state, &mut self.lent, &filter) })
     }
 
     /// Clears the depth words and sets every row to its first step.
     pub fn begin_painting(&mut self) -> Result<(), Answer> {
-        let t = &mut self.tables;
-        Answer::check(unsafe {
-            sys::coarse_begin_painting(
-                self.state.as_mut_ptr(),
-                STATE,
-                t.depth.as_mut_ptr(),
-                t.depth.len(),
-                t.painting.as_mut_ptr(),
-                t.painting.len(),
-            )
-        })
+        Answer::check(unsafe { sys::coarse_begin_painting(&mut self.state, &mut self.canvas) })
     }
 
     /// The pieces of the next stored command of a row of the screen, in tiles of that row, or `None` where none is left.
@@ -870,35 +815,20 @@ impl CommandBucketer {
         row: usize,
         at: usize,
     ) -> Result<(bool, usize), Answer> {
-        let t = &mut self.tables;
-        let mut result = [0; 2];
+        let mut painted = sys::PaintedWords::default();
         let (list, list_len) = words_mut(self.pieces.get_mut(at..).unwrap_or_default());
         Answer::check(unsafe {
             call(
-                self.state.as_ptr(),
-                STATE,
+                &self.state,
+                &self.stored,
+                &mut self.canvas,
                 row,
-                t.rows.as_ptr(),
-                t.rows.len(),
-                t.render.as_ptr(),
-                t.render.len(),
-                t.fills.as_ptr(),
-                t.fills.len(),
-                t.depth.as_mut_ptr(),
-                t.depth.len(),
-                t.painting.as_mut_ptr(),
-                t.painting.len(),
-                t.paint_attrs.as_ptr(),
-                t.paint_attrs.len(),
-                t.layer_attrs.as_ptr(),
-                t.layer_attrs.len(),
                 list,
                 list_len,
-                result.as_mut_ptr(),
-                result.len(),
+                &mut painted,
             )
         })?;
-        Ok((result[0] == 1, result[1]))
+        Ok((painted.finished == 1, painted.pieces))
     }
 
     /// All pieces of a row of the screen, in tiles of that row, from where it stands to its end.
@@ -921,25 +851,20 @@ impl CommandBucketer {
 
     /// The tiles first to end of a row of the screen whose buckets hold 0, as runs of tiles.
     pub fn unset_runs(&mut self, row: usize, first: u32, end: u32) -> Result<&[Run], Answer> {
-        let t = &self.tables;
-        let mut count = [0];
+        let mut count = 0;
         let (list, list_len) = words_mut(&mut self.runs);
         Answer::check(unsafe {
             sys::coarse_unset_runs(
-                self.state.as_ptr(),
-                STATE,
+                &self.state,
+                &self.canvas,
                 row,
-                t.depth.as_ptr(),
-                t.depth.len(),
-                first,
-                end,
+                Run { first, end },
                 list,
                 list_len,
-                count.as_mut_ptr(),
-                count.len(),
+                &mut count,
             )
         })?;
-        Ok(self.runs.get(..count[0]).unwrap_or_default())
+        Ok(self.runs.get(..count).unwrap_or_default())
     }
 
     /// The tiles first to end of a row of the screen whose buckets hold at most the id, as runs of tiles.
@@ -950,26 +875,21 @@ impl CommandBucketer {
         end: u32,
         draw_id: u32,
     ) -> Result<&[Run], Answer> {
-        let t = &self.tables;
-        let mut count = [0];
+        let mut count = 0;
         let (list, list_len) = words_mut(&mut self.runs);
         Answer::check(unsafe {
             sys::coarse_visible_runs(
-                self.state.as_ptr(),
-                STATE,
+                &self.state,
+                &self.canvas,
                 row,
-                t.depth.as_ptr(),
-                t.depth.len(),
-                first,
-                end,
+                Run { first, end },
                 draw_id,
                 list,
                 list_len,
-                count.as_mut_ptr(),
-                count.len(),
+                &mut count,
             )
         })?;
-        Ok(self.runs.get(..count[0]).unwrap_or_default())
+        Ok(self.runs.get(..count).unwrap_or_default())
     }
 
     /// The runs of `visible_runs`, in tiles, at the start of a list of the caller's own, and how many there are; the others stay.
@@ -981,25 +901,20 @@ impl CommandBucketer {
         draw_id: u32,
         list: &mut [Run],
     ) -> Result<usize, Answer> {
-        let depth = &self.tables.depth;
-        let mut count = [0];
+        let mut count = 0;
         Answer::check(unsafe {
             sys::coarse_visible_spans(
-                self.state.as_ptr(),
-                STATE,
+                &self.state,
+                &self.canvas,
                 row,
-                depth.as_ptr(),
-                depth.len(),
-                first,
-                end,
+                Run { first, end },
                 draw_id,
                 list.as_mut_ptr(),
                 list.len(),
-                count.as_mut_ptr(),
-                count.len(),
+                &mut count,
             )
         })?;
-        Ok(count[0])
+        Ok(count)
     }
 
     /// The unset runs of the buckets first to end of a row of the screen, as runs of buckets; the id is stored there, and painting
@@ -1011,63 +926,60 @@ impl CommandBucketer {
         end: u32,
         draw_id: u32,
     ) -> Result<&[Run], Answer> {
-        let t = &mut self.tables;
-        let mut count = [0];
+        let mut count = 0;
         let (list, list_len) = words_mut(&mut self.runs);
         Answer::check(unsafe {
             sys::coarse_unset_runs_and_write(
-                self.state.as_mut_ptr(),
-                STATE,
+                &mut self.state,
+                &mut self.canvas,
                 row,
-                t.depth.as_mut_ptr(),
-                t.depth.len(),
-                first,
-                end,
+                Run { first, end },
                 draw_id,
                 list,
                 list_len,
-                count.as_mut_ptr(),
-                count.len(),
+                &mut count,
             )
         })?;
-        Ok(self.runs.get(..count[0]).unwrap_or_default())
+        Ok(self.runs.get(..count).unwrap_or_default())
     }
 
     /// Whether a draw over the tiles first to end of a row of the screen need not look at the row's depth words.
     pub fn can_skip(&self, row: usize, first: u32, end: u32, draw_id: u32) -> Result<bool, Answer> {
-        let mut yes = [0];
-        let rows = &self.tables.rows;
+        let mut yes = 0;
         Answer::check(unsafe {
             sys::coarse_can_skip(
-                self.state.as_ptr(),
-                STATE,
+                &self.state,
+                &self.stored,
                 row,
-                rows.as_ptr(),
-                rows.len(),
-                first,
-                end,
+                Run { first, end },
                 draw_id,
-                yes.as_mut_ptr(),
-                yes.len(),
+                &mut yes,
             )
         })?;
-        Ok(yes[0] == 1)
+        Ok(yes == 1)
     }
 
     /// The viewport that the screen holds, in pixels of the scene, as the mode has read it.
     pub fn viewport(&self) -> Rect {
-        let [x0, y0, x1, y1, ..] = self.state;
-        Rect { x0, y0, x1, y1 }
+        self.state.viewport.into()
     }
 
     /// How many rows of tiles the screen has.
     pub fn rows(&self) -> usize {
-        (self.state[3].saturating_sub(self.state[1]) / 4) as usize
+        (self
+            .state
+            .viewport
+            .y1
+            .saturating_sub(self.state.viewport.y0)
+            / 4) as usize
     }
 
     /// The viewport's width in pixels.
     pub fn width(&self) -> u32 {
-        self.state[2].saturating_sub(self.state[0])
+        self.state
+            .viewport
+            .x1
+            .saturating_sub(self.state.viewport.x0)
     }
 
     /// How many depth buckets a row has.
@@ -1077,7 +989,7 @@ impl CommandBucketer {
 
     /// How wide a bucket of the screen is.
     pub fn bucket_width(&self) -> Width {
-        match self.state[16] {
+        match self.state.width {
             1 => Width::W64,
             2 => Width::W256,
             _ => Width::W128,
@@ -1099,16 +1011,16 @@ impl CommandBucketer {
     }
 
     pub fn next_draw_id(&self) -> u32 {
-        self.state[NEXT_DRAW_ID]
+        self.state.next_draw_id
     }
 
     pub fn open_layers(&self) -> u32 {
-        self.state[LAYERS]
+        self.state.layers
     }
 
     /// The attributes of all fills, in the order of their indices.
     pub fn paint_attrs(&self) -> impl Iterator<Item = PaintFillAttrs> + '_ {
-        let n = self.state[PAINT_ATTRS] as usize;
+        let n = self.state.paint_attrs as usize;
         self.tables
             .paint_attrs
             .chunks_exact(PAINT_ATTR)
@@ -1129,7 +1041,7 @@ impl CommandBucketer {
 
     /// The attributes of all popped layers. A NaN opacity has the pattern that was pushed.
     pub fn layer_attrs(&self) -> impl Iterator<Item = LayerFillAttrs> + '_ {
-        let n = self.state[LAYER_ATTRS] as usize;
+        let n = self.state.layer_attrs as usize;
         let opacities = self.tables.opacities.iter().skip(MOST_LAYERS);
         let words = self.tables.layer_attrs.chunks_exact(LAYER_ATTR);
         words
@@ -1153,7 +1065,7 @@ impl CommandBucketer {
     }
 
     pub fn filter_paints(&self) -> impl Iterator<Item = FilterPaint> + '_ {
-        let n = self.state[FILTER_PAINTS] as usize;
+        let n = self.state.filter_paints as usize;
         self.tables
             .filter_paints
             .chunks_exact(FILTER_PAINT)
@@ -1167,44 +1079,24 @@ impl CommandBucketer {
 }
 
 fn record(
-    state: &mut [u32; STATE],
+    state: &mut sys::StateWords,
     file: &[u32],
     setup: Setup,
     t: &mut Tables,
 ) -> Result<(), Answer> {
     Answer::check(unsafe {
         sys::coarse_bucket_recording(
-            state.as_mut_ptr(),
-            STATE,
+            state,
             file.as_ptr(),
             file.len(),
             setup.into(),
-            t.render.as_mut_ptr(),
-            t.render.len(),
-            t.fills.as_mut_ptr(),
-            t.fills.len(),
-            t.depth.as_mut_ptr(),
-            t.depth.len(),
-            t.rows.as_mut_ptr(),
-            t.rows.len(),
-            t.painting.as_mut_ptr(),
-            t.painting.len(),
-            t.layers.as_mut_ptr(),
-            t.layers.len(),
-            t.opacities.as_mut_ptr(),
-            t.opacities.len(),
-            t.paint_attrs.as_mut_ptr(),
-            t.paint_attrs.len(),
-            t.layer_attrs.as_mut_ptr(),
-            t.layer_attrs.len(),
-            t.filter_paints.as_mut_ptr(),
-            t.filter_paints.len(),
+            &mut t.lent().0,
         )
     })
 }
 
 fn explain(
-    state: &mut [u32; STATE],
+    state: &mut sys::StateWords,
     file: &[u32],
     setup: Setup,
     row: u32,
@@ -1216,43 +1108,25 @@ fn explain(
         Attribute::Draw(attribute) => (0, attribute),
         Attribute::Layer(attribute) => (1, attribute),
     };
-    let mut result = [0; REASON];
+    let question = sys::QuestionWords {
+        row,
+        tile,
+        layer,
+        attribute,
+    };
+    let mut reason = sys::ReasonWords::default();
     Answer::check(unsafe {
         sys::coarse_why(
-            state.as_mut_ptr(),
-            STATE,
+            state,
             file.as_ptr(),
             file.len(),
             setup.into(),
-            row,
-            tile,
-            layer,
-            attribute,
-            t.render.as_mut_ptr(),
-            t.render.len(),
-            t.fills.as_mut_ptr(),
-            t.fills.len(),
-            t.depth.as_mut_ptr(),
-            t.depth.len(),
-            t.rows.as_mut_ptr(),
-            t.rows.len(),
-            t.painting.as_mut_ptr(),
-            t.painting.len(),
-            t.layers.as_mut_ptr(),
-            t.layers.len(),
-            t.opacities.as_mut_ptr(),
-            t.opacities.len(),
-            t.paint_attrs.as_mut_ptr(),
-            t.paint_attrs.len(),
-            t.layer_attrs.as_mut_ptr(),
-            t.layer_attrs.len(),
-            t.filter_paints.as_mut_ptr(),
-            t.filter_paints.len(),
-            result.as_mut_ptr(),
-            result.len(),
+            &question,
+            &mut t.lent().0,
+            &mut reason,
         )
     })?;
-    Ok(Reason::of(result))
+    Ok(Reason::of(reason))
 }
 
 #[cfg(test)]

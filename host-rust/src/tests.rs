@@ -101,9 +101,7 @@ fn answers_in_words() {
 fn sizes_by_name() {
     let header = include_str!("../../include/coarse.h");
     for (name, number) in [
-        ("STATE", STATE),
         ("PIECE", size_of_val(&Piece::default()) / 4),
-        ("REASON", REASON),
         ("OPEN_LAYER", OPEN_LAYER),
         ("PAINT_ATTR", PAINT_ATTR),
         ("LAYER_ATTR", LAYER_ATTR),
@@ -119,13 +117,12 @@ fn sizes_by_name() {
             "{name}"
         );
     }
-    let [.., layers, opacities, paint_attrs, layer_attrs, filter_paints] =
-        sizes(Rect::new(0, 0, 256, 8), Setup::new(8, 8)).unwrap();
-    assert_eq!(layers, MOST_LAYERS * OPEN_LAYER);
-    assert_eq!(opacities, MOST_LAYERS + 1024);
-    assert_eq!(paint_attrs, 1024 * PAINT_ATTR);
-    assert_eq!(layer_attrs, 1024 * LAYER_ATTR);
-    assert_eq!(filter_paints, 256 * FILTER_PAINT);
+    let sizes = sizes(Rect::new(0, 0, 256, 8), Setup::new(8, 8)).unwrap();
+    assert_eq!(sizes.layers, MOST_LAYERS * OPEN_LAYER);
+    assert_eq!(sizes.opacities, MOST_LAYERS + 1024);
+    assert_eq!(sizes.paint_attrs, 1024 * PAINT_ATTR);
+    assert_eq!(sizes.layer_attrs, 1024 * LAYER_ATTR);
+    assert_eq!(sizes.filter_paints, 256 * FILTER_PAINT);
 }
 
 fn words(bytes: &[u8]) -> Vec<u32> {
@@ -233,6 +230,12 @@ fn reasons_by_their_words() {
         ([4, 7, 255, 9], hidden, Some(255)),
         ([5, 7, 255, 0], shown, Some(255)),
     ] {
+        let words = sys::ReasonWords {
+            kind: words[0],
+            number: words[1],
+            panel: words[2],
+            hider_panel: words[3],
+        };
         assert_eq!(Reason::of(words), reason);
         assert_eq!(reason.panel(), panel);
     }
@@ -740,7 +743,7 @@ fn refusals_change_nothing() {
 #[test]
 fn words_that_are_no_screen() {
     let mut bucketer = CommandBucketer::from_wh(256, 8, Setup::new(8, 8)).unwrap();
-    bucketer.state[15] = 2;
+    bucketer.state.painting = 2;
     let before = bucketer.clone();
     assert_eq!(
         bucketer.push_layer(&LayerProps::default()),
@@ -752,12 +755,12 @@ fn words_that_are_no_screen() {
     );
     assert_eq!(bucketer.state, before.state);
     // The viewport, then C and D, are judged before the word that is no flag.
-    bucketer.state[8] = 0;
+    bucketer.state.c = 0;
     assert_eq!(
         bucketer.push_layer(&LayerProps::default()),
         Err(Answer::BadArena)
     );
-    bucketer.state[0] = 2;
+    bucketer.state.viewport.x0 = 2;
     assert_eq!(
         bucketer.push_layer(&LayerProps::default()),
         Err(Answer::BadViewport)

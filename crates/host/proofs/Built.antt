@@ -1,13 +1,13 @@
 -- What a call gives at the screen that a host's words stand for is what it gives at the words.
 use Rattle.std.proofs.Common.{◌≡◌, ap, ◌∙◌, true, List, Option, Some, ℕ, ℤ, leb}
 use lib.Ieee.{Float}
-use Rattle.rules.specs.Answers.{answer}
+use Rattle.rules.specs.Answers.{Answer, answer}
 use Rattle.rules.specs.Setups.{Setup, frame}
 use Rattle.rect.specs.declared.Rect.{Rect}
 use Rattle.rect.specs.Rects.{box_of}
 use Rattle.row.specs.Words.{Words}
 use Rattle.screen.specs.declared.Screen.{Screen}
-use Rattle.screen.specs.Tables.{Tables, lent, reset_to}
+use Rattle.screen.specs.Tables.{Tables, ScreenLent, lent, reset_to}
 use Rattle.walk.specs.Recorded.{recorded}
 use Rattle.inputs.specs.declared.Draw.{Draw}
 use Rattle.fill.specs.Fills as fills
@@ -24,13 +24,15 @@ use Rattle.host.specs.State.{screen-words, screen_of, at_held}
 use Rattle.host.specs.Building.{tables-left, reset_in, recording_in, fill-left, fill_call, push-left, push_call, pop-left, pop_call, filter-left, filter_call}
 use Rattle.host.specs.Painting.{begin-left, begin_call}
 
+-- a reset's answer, as words
+pub reset_left : (st : List ℕ) (s : Screen) → Some s ≡ screen_of true st → (v : Rect) (q : Setup) (t : Tables) (a : Answer ScreenLent)
+    → a ≡ reset_to (frame q (box_of v)) (lent s t) → tables-left a ≡ reset_in v q st t
+unfolding reset_in
+reset_left st s h v q t a e =
+    ap tables-left e ∙ ap (λ (x : Option Screen). at_held x st (st, t) (λ (s : Screen). tables-left (reset_to (frame q (box_of v)) (lent s t)))) h
+
 -- st stands for s; afterwards the call has the screen s', and the words st' are its
 module _ (st st' : List ℕ) (s s' : Screen) (r n : ℕ) (h : Some s ≡ screen_of true st) (rn : r ≡ n) (sw : st' ≡ screen-words s') where
-  pub reset_built : (v : Rect) (q : Setup) (t t' : Tables) → answer n (lent s' t') ≡ reset_to (frame q (box_of v)) (lent s t) → answer r (st', t') ≡ reset_in v q st t
-  unfolding reset_in
-  reset_built v q t t' e =
-      rw (rn, sw) (ap tables-left e ∙ ap (λ (x : Option Screen). at_held x st (st, t) (λ (s : Screen). tables-left (reset_to (frame q (box_of v)) (lent s t)))) h)
-
   pub recording_built : (file : List ℕ) (q : Setup) (t t' : Tables) → answer n (lent s' t') ≡ recorded file q (lent s t) → answer r (st', t') ≡ recording_in file q st t
   unfolding recording_in
   recording_built file q t t' e =

@@ -13,3 +13,4 @@ pub mod HostAsked
 pub mod Lists
 pub mod Words
 pub mod ScreenAsked
+pub mod OneLook

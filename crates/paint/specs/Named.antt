@@ -39,12 +39,9 @@ begun_of s c = begin.canvas s c.depth.now c.painting.now
 abbrev pub step_out : Painted → Canvas → List ℕ → StepOut
 step_out a c l = out a c.depth.now c.painting.now l
 
--- the stored words, with the depth words, painting's words and the list; with a canvas' words
-abbrev pub words_lent : Stored → List ℕ → List ℕ → List ℕ → RowLent
-words_lent s d p l = lent s.rows.now s.render.now s.fills.now d p l
-
+-- the stored words, with the canvas' words and the list
 abbrev pub row_lent : Stored → Canvas → List ℕ → RowLent
-row_lent s c l = words_lent s c.depth.now c.painting.now l
+row_lent s c l = lent s.rows.now s.render.now s.fills.now c.depth.now c.painting.now l
 
 -- the tables of attributes; those of them that are in use
 abbrev pub row_attrs : Stored → Attributes
@@ -54,8 +51,8 @@ abbrev pub used_attrs : Screen → Stored → Attrs
 used_attrs c s = attrs-at s.paint_attrs.now c.paint_attrs s.layer_attrs.now c.layer_attrs
 
 -- the parts of row r lie within the words that are lent, and the tables are whole
-abbrev pub RowReady : Screen → ℕ → Stored → List ℕ → List ℕ → List ℕ → Type 0
-RowReady c r s d p l = StepReady (wide c) c.c c.d c.paint_attrs c.layer_attrs r (row_attrs s) (words_lent s d p l)
+abbrev pub RowReady : Screen → ℕ → Stored → Canvas → List ℕ → Type 0
+RowReady s r t c l = StepReady (wide s) s.c s.d s.paint_attrs s.layer_attrs r (row_attrs t) (row_lent t c l)
 
 -- the runs of tiles that a row shows for an id
 abbrev pub shown_in : Row → Canvas → ℕ → Span → List Span

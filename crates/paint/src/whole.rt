@@ -6,7 +6,7 @@ ghost use Rattle.paint.specs.Answers.{painted_of};
 ghost use Rattle.paint.specs.Painting.{out};
 ghost use Rattle.paint.specs.Judging.{wide};
 ghost use Rattle.paint.specs.Stepping.{stepped};
-ghost use Rattle.paint.specs.Named.{SameCanvas, step_out, RowReady, words_lent, row_lent, row_attrs, used_attrs};
+ghost use Rattle.paint.specs.Named.{SameCanvas, step_out, RowReady, row_lent, row_attrs, used_attrs};
 ghost use Rattle.paint.specs.Running.{most, row-run, row-painted};
 
 use crate::canvas::judge::judge_step;
@@ -25,25 +25,26 @@ pub mod reading;
 pub mod run;
 
 /// No row has more steps: C, D and the one that finds nothing left.
-const MOST_STEPS: usize = 2 * MOST_ROOM as usize + 1;
+pub const MOST_STEPS: usize = 2 * MOST_ROOM as usize + 1;
 
-// At most `limit` steps of a row that is there, painting having begun: the row's own parts are handed on.
-fn row_part(
+/// At most `limit` steps of a row that is there, of `b` buckets, painting having begun: the row's own parts are handed on. A part of the calls, and of a host's.
+#[inline(always)]
+pub fn row_part(
     screen: Screen,
+    b: usize,
     row: usize,
     stored: &Stored<'_>,
-    depth: &mut [u32],
-    painting: &mut [u32],
+    canvas: &mut Canvas<'_>,
     list: &mut [u32],
     limit: usize,
 ) -> Result<Stepped, Refusal>
     requires limit { limit ≤ most }
-    requires ready { RowReady screen row stored.now depth.old painting.old list.old }
-    ensures { out (painted_of result) depth.new painting.new list.new
-        ≡ row-run (bucket-tiles screen.width) limit (used_attrs screen stored.now) (wide screen) screen.c screen.d row
-        (words_lent stored.now depth.old painting.old list.old) }
+    requires wide { b ≡ wide screen }
+    requires ready { RowReady screen row stored.now canvas.old list.old }
+    ensures same { SameCanvas canvas.old canvas.new }
+    ensures painted { step_out (painted_of result) canvas.new list.new
+        ≡ row-run (bucket-tiles screen.width) limit (used_attrs screen stored.now) (wide screen) screen.c screen.d row (row_lent stored.now canvas.old list.old) }
 {
-    let b = screen.buckets();
     let u = row * b;
     let v = row * 2;
     let read = Row {
@@ -60,8 +61,8 @@ fn row_part(
     };
     run_parts(
         &read,
-        &mut depth[u..u + b],
-        &mut painting[v..v + 2],
+        &mut canvas.depth[u..u + b],
+        &mut canvas.painting[v..v + 2],
         list,
         limit,
     )
@@ -87,7 +88,8 @@ pub fn paint_step(
         canvas.depth.len(),
         canvas.painting.len(),
     )?;
-    row_part(screen, row, stored, canvas.depth, canvas.painting, list, 1)
+    let b = screen.buckets();
+    row_part(screen, b, row, stored, canvas, list, 1)
 }
 
 /// The row's next steps, one after the other, until one is refused or the row is finished; refused where the first step is. The pieces stand one after the other
@@ -110,13 +112,6 @@ pub fn paint_row(
         canvas.depth.len(),
         canvas.painting.len(),
     )?;
-    row_part(
-        screen,
-        row,
-        stored,
-        canvas.depth,
-        canvas.painting,
-        list,
-        MOST_STEPS,
-    )
+    let b = screen.buckets();
+    row_part(screen, b, row, stored, canvas, list, MOST_STEPS)
 }

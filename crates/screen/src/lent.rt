@@ -13,7 +13,9 @@ use sizes::answers::Refusal;
 use sizes::{FILTER_TABLE, LAYER_TABLE, OPACITIES, OPEN_TABLE, PAINT_TABLE, ROW};
 
 /// All that a host lends with a screen: the rows' render commands (4 x C words a row), depth fills (2 x D), depth words (one a bucket) and records (ROW), what
-/// painting keeps of each row (two words: steps done, nesting), the open layers and the opacities, and the tables of attributes and filter paints.
+/// painting keeps of each row (two words: steps done, nesting), the open layers and the opacities, and the tables of attributes and filter paints. Laid out as in
+/// C.
+#[repr(C)]
 #[derive(Drop)]
 pub struct Lent<'a> {
     pub render: &'a mut [u32],
@@ -28,7 +30,8 @@ pub struct Lent<'a> {
     pub filter_paints: &'a mut [i32],
 }
 
-/// How many words of each are lent.
+/// How many words of each are lent, or are to be. Laid out as in C.
+#[repr(C)]
 #[derive(Clone, Copy)]
 pub struct Lengths {
     pub render: usize,

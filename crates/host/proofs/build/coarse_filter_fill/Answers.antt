@@ -3,8 +3,8 @@ use Rattle.std.proofs.Common.{rules}
 use Rattle.host.proofs.Built.{filter_built}
 use Rattle.host.proofs.build.coarse_filter_fill.Goals as goal
 
-pub returns : goal.returns
-returns c =
+pub returns-clause-filtered : goal.returns-clause-filtered
+returns-clause-filtered c =
     let e = filter_built _ _ _ _ _ _ _ c.in-Some.ensures c.leave.ensures.0 c.leave.ensures.1 _ _ _ _ _ _ _ c.filter_fill-done.ensures.filtered in
     let p = c.pixmap_of.ensures in
     search (rules, e, p)

@@ -3,7 +3,5 @@ use Rattle.std.proofs.Common.{rules}
 use Rattle.host.proofs.Built.{begin_built}
 use Rattle.host.proofs.painting.coarse_begin_painting.Goals as goal
 
-pub returns : goal.returns
-returns c =
-    let e = begin_built _ _ _ _ _ _ c.in-Some.ensures c.leave.ensures.0 c.leave.ensures.1 _ _ _ _ c.begin_painting-done.ensures.begun in
-    search (rules, e)
+pub returns-clause-begun : goal.returns-clause-begun
+returns-clause-begun c = begin_built _ _ _ _ _ _ c.in-Some.ensures c.leave.ensures.0 c.leave.ensures.1 _ _ _ _ c.begin_painting-done.ensures

@@ -17,4 +17,4 @@ pub row_part-requires-clause-ready : goal.row_part-requires-clause-ready
 row_part-requires-clause-ready c = ready _ _ _ _ (sym c.in_ok-judge_step.ensures)
 
 pub returns-clause-painted : goal.returns-clause-painted
-returns-clause-painted c = row_done _ _ _ _ _ c.in_ok-judge_step.ensures c.row_part.ensures
+returns-clause-painted c = row_done _ _ _ _ _ c.in_ok-judge_step.ensures c.row_part.ensures.painted

@@ -17,4 +17,4 @@ pub row_part-requires-clause-ready : goal.row_part-requires-clause-ready
 row_part-requires-clause-ready c = ready _ _ _ _ (sym c.in_ok-judge_step.ensures)
 
 pub returns-clause-step : goal.returns-clause-step
-returns-clause-step c = step_done _ _ _ _ _ c.in_ok-judge_step.ensures (c.row_part.ensures ∙ step-is-run _ _ _ _)
+returns-clause-step c = step_done _ _ _ _ _ c.in_ok-judge_step.ensures (c.row_part.ensures.painted ∙ step-is-run _ _ _ _)

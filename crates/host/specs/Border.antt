@@ -43,9 +43,9 @@ unasked_number ws = unasked (sections shape ws)
 
 -- what the judges of a building step and of a painting step say of a screen, by the lengths that are lent
 abbrev pub rows-judged : Rows → Screen → ℕ
-rows-judged w s = judged s (length w.state.now) (length w.render.now) (length w.fills.now)
+rows-judged w s = judged s (length w.state.now) (length w.render_cmds.now) (length w.depth_cmds.now)
 
 abbrev pub step-judged : Stored → ℕ → ℕ → ℕ → Screen → ℕ
 step-judged t row depth painting s =
-    step_number s row (arenas-long s (length t.render.now) (length t.fills.now) depth)
+    step_number s row (arenas-long s (length t.render_cmds.now) (length t.depth_cmds.now) depth)
     (tables-long s (length t.rows.now) painting (length t.paint_attrs.now) (length t.layer_attrs.now))

@@ -2,15 +2,15 @@
 use Rattle.std.specs.Prelude.{◌≡◌, length}
 use Rattle.row.specs.Words.{Words, words}
 use Rattle.screen.specs.declared.lent.Lent.{Lent}
-use Rattle.pop.specs.Pop.{PopLent, lent}
+use Rattle.pop.specs.Pop.{PopLent, pop_lent}
 
 -- what the tables of the rows hold
 abbrev pub rows_in : Lent → Words
-rows_in l = words l.rows.now l.render.now l.fills.now
+rows_in l = words l.rows.now l.render_cmds.now l.depth_cmds.now
 
 -- .. and those that a pop is lent
 abbrev pub pop_in : Lent → PopLent
-pop_in l = lent (rows_in l) l.layers.now l.opacities.now l.layer_attrs.now
+pop_in l = pop_lent (rows_in l) l.layers.now l.opacities.now l.layer_attrs.now
 
 -- what a fill leaves as it was
 pub record FillKeeps (a b : Lent) : Type 0 where

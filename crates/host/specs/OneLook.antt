@@ -38,7 +38,7 @@ long n b c d render fills depth rows painting paint-attrs layer-attrs =
 -- .. of what is lent
 abbrev pub long-in : ℕ → ℕ → StateWords → Stored → ℕ → ℕ → Bool
 long-in n b w t depth painting =
-    long n b w.c w.d (length t.render.now) (length t.fills.now) depth (length t.rows.now) painting (length t.paint_attrs.now)
+    long n b w.c w.d (length t.render_cmds.now) (length t.depth_cmds.now) depth (length t.rows.now) painting (length t.paint_attrs.now)
     (length t.layer_attrs.now)
 
 -- a painting step is not refused by its judge, the words stand for a screen, and a row of it has b buckets

@@ -30,8 +30,8 @@ size-words f =
 -- as many words of each table as are lent, in that order
 abbrev pub length-words : Lengths → List ℕ
 length-words l =
-    l.render
-    ∷ l.fills
+    l.render_cmds
+    ∷ l.depth_cmds
     ∷ l.depth
     ∷ l.rows
     ∷ l.painting

@@ -27,8 +27,13 @@ fn judge_lent(screen: Screen, lent: &Lent<'_>) -> Result<(), Refusal>
     ensures { answer_number result ≡ arenas_number (frame-of screen) (arenas-in lent.now) }
 {
     let n = screen.rows();
-    if !is_good_rooms(n, screen.c, screen.d, lent.render.len(), lent.fills.len())
-        || lent.depth.len() != n * screen.buckets()
+    if !is_good_rooms(
+        n,
+        screen.c,
+        screen.d,
+        lent.render_cmds.len(),
+        lent.depth_cmds.len(),
+    ) || lent.depth.len() != n * screen.buckets()
     {
         return Err(Refusal::BadArena);
     }
@@ -85,8 +90,8 @@ pub fn refuse_build(state: &StateWords, rows: &Rows<'_>) -> u32
     before_4(judge_screen(
         screen_at(state),
         rows.state.len(),
-        rows.render.len(),
-        rows.fills.len(),
+        rows.render_cmds.len(),
+        rows.depth_cmds.len(),
     ))
 }
 

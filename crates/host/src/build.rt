@@ -28,7 +28,7 @@ use walk::read::{float_of, pattern_of};
 /// What is drawn: segments start to end of a list, with the paint at a place of a list; the thread is that of their alpha values; mask is a handle, or 0 for
 /// none. Laid out as in C.
 #[repr(C)]
-#[derive(Clone, Copy)]
+#[derive(Clone, Copy, Debug, PartialEq, Eq)]
 pub struct DrawWords {
     pub thread: u32,
     pub paint: u32,
@@ -141,8 +141,8 @@ pub extern "C" fn coarse_fill(
 {
     let mut rows = Rows {
         state: tables.rows,
-        render: tables.render,
-        fills: tables.fills,
+        render_cmds: tables.render_cmds,
+        depth_cmds: tables.depth_cmds,
     };
     let Some(mut screen) = screen_of(state, true) else {
         return refuse_build(state, &rows);
@@ -204,7 +204,7 @@ impl PropsWords {
 /// What a filter fill is given: a box in pixels of the scene, the pixel of the picture that comes to its corner, the picture's handle (there if has_pixmap is 1),
 /// the length of the paint list, the layer's panel. Laid out as in C.
 #[repr(C)]
-#[derive(Clone, Copy)]
+#[derive(Clone, Copy, Debug, PartialEq, Eq)]
 pub struct FilterWords {
     pub dest: Corners,
     pub source_x: u32,
@@ -229,8 +229,8 @@ pub extern "C" fn coarse_push_layer(
 {
     let mut rows = Rows {
         state: tables.rows,
-        render: tables.render,
-        fills: tables.fills,
+        render_cmds: tables.render_cmds,
+        depth_cmds: tables.depth_cmds,
     };
     let Some(mut screen) = screen_of(state, props.flag <= 1) else {
         return refuse_build(state, &rows);
@@ -259,8 +259,8 @@ pub extern "C" fn coarse_pop_layer(
 {
     let mut rows = Rows {
         state: tables.rows,
-        render: tables.render,
-        fills: tables.fills,
+        render_cmds: tables.render_cmds,
+        depth_cmds: tables.depth_cmds,
     };
     let Some(mut screen) = screen_of(state, true) else {
         return refuse_build(state, &rows);
@@ -301,8 +301,8 @@ pub extern "C" fn coarse_filter_fill(
 {
     let mut rows = Rows {
         state: tables.rows,
-        render: tables.render,
-        fills: tables.fills,
+        render_cmds: tables.render_cmds,
+        depth_cmds: tables.depth_cmds,
     };
     let Some(mut screen) = screen_of(state, filter.has_pixmap <= 1) else {
         return refuse_build(state, &rows);

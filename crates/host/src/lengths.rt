@@ -17,17 +17,17 @@ use sizes::{FILTER_TABLE, LAYER_TABLE, OPACITIES, OPEN_TABLE, PAINT_TABLE, ROW};
 // The lengths of ten tables: five that the screen decides, five that are always the same.
 fn put_sizes(
     sizes: &mut Lengths,
-    render: usize,
-    fills: usize,
+    render_cmds: usize,
+    depth_cmds: usize,
     depth: usize,
     rows: usize,
     painting: usize,
 )
-    ensures { length-words sizes.new ≡ render ∷ fills ∷ depth ∷ rows ∷ painting ∷ fixed }
+    ensures { length-words sizes.new ≡ render_cmds ∷ depth_cmds ∷ depth ∷ rows ∷ painting ∷ fixed }
 {
     *sizes = Lengths {
-        render,
-        fills,
+        render_cmds,
+        depth_cmds,
         depth,
         rows,
         painting,
@@ -48,9 +48,16 @@ fn put_lengths_of(screen: Screen, sizes: &mut Lengths) -> Result<(), Refusal>
         return Err(Refusal::BadArena);
     }
     let n = screen.rows();
-    let render = n * (4 * screen.c as usize);
-    let fills = n * (2 * screen.d as usize);
-    put_sizes(sizes, render, fills, n * screen.buckets(), n * ROW, n * 2);
+    let render_cmds = n * (4 * screen.c as usize);
+    let depth_cmds = n * (2 * screen.d as usize);
+    put_sizes(
+        sizes,
+        render_cmds,
+        depth_cmds,
+        n * screen.buckets(),
+        n * ROW,
+        n * 2,
+    );
     Ok(())
 }
 

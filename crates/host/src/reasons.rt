@@ -17,7 +17,7 @@ use tile::{Asked, Reason, why};
 
 /// Which row and tile of the recording's screen are asked about, from 0, and which attribute: a draw's (layer 0) or a layer's (1). Laid out as in C.
 #[repr(C)]
-#[derive(Clone, Copy)]
+#[derive(Clone, Copy, Debug, PartialEq, Eq)]
 pub struct QuestionWords {
     pub row: u32,
     pub tile: u32,
@@ -28,7 +28,7 @@ pub struct QuestionWords {
 /// A reason's case (0 unknown attribute, 1 no segment, 2 cut away, 3 row untouched, 4 hidden, 5 shown); the attribute that hides or the place in the tile's list,
 /// else 0; the asked attribute's panel, and that of the attribute that hides, else 0. Laid out as in C.
 #[repr(C)]
-#[derive(Clone, Copy)]
+#[derive(Clone, Copy, Debug, PartialEq, Eq)]
 pub struct ReasonWords {
     pub kind: u32,
     pub number: u32,

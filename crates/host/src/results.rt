@@ -14,7 +14,7 @@ use span::{BucketRange, TileSpan};
 
 /// What a painting call gives: 1 if no step of the row is left, else 0; how many pieces are listed. Laid out as in C.
 #[repr(C)]
-#[derive(Clone, Copy)]
+#[derive(Clone, Copy, Debug, PartialEq, Eq)]
 pub struct PaintedWords {
     pub finished: u32,
     pub pieces: usize,
@@ -64,7 +64,7 @@ pub fn put_skip(skip: Result<bool, Refusal>, yes: &mut u32) -> u32
 
 /// A part of a split span: 1 for a regular piece or 2 for a depth fill, and where it begins and ends, in tiles or in buckets; all 0 for none. Laid out as in C.
 #[repr(C)]
-#[derive(Clone, Copy)]
+#[derive(Clone, Copy, Debug, PartialEq, Eq)]
 pub struct PartWords {
     pub kind: u32,
     pub first: u32,
@@ -73,7 +73,7 @@ pub struct PartWords {
 
 /// The parts of a split span, left to right. Laid out as in C.
 #[repr(C)]
-#[derive(Clone, Copy)]
+#[derive(Clone, Copy, Debug, PartialEq, Eq)]
 pub struct SplitWords {
     pub left: PartWords,
     pub middle: PartWords,

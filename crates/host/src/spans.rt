@@ -7,7 +7,6 @@ ghost use Rattle.rules.specs.Spans.{span};
 ghost use Rattle.host.specs.Held.{words_in, one};
 ghost use Rattle.host.specs.Spans.{found_call, spans_call};
 
-
 use crate::painting::coarse_visible_runs;
 use crate::state::StateWords;
 use depth::forms::write_runs;

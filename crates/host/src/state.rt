@@ -13,7 +13,7 @@ use sizes::width::Width;
 
 /// A box, in pixels.
 #[repr(C)]
-#[derive(Clone, Copy)]
+#[derive(Clone, Copy, Debug, PartialEq, Eq)]
 pub struct Corners {
     pub x0: u32,
     pub y0: u32,
@@ -24,7 +24,7 @@ pub struct Corners {
 /// A screen's own numbers: the viewport, the clip box, C, D, the next id, the counts of paint attributes, layer attributes, filter paints and open layers, 1 if
 /// painting has begun, else 0, and a bucket's width: 0 for 128 pixels, 1 for 64, 2 for 256. So numbers that are all 0 are a screen's.
 #[repr(C)]
-#[derive(Clone, Copy)]
+#[derive(Clone, Copy, Debug, PartialEq, Eq)]
 pub struct StateWords {
     pub viewport: Corners,
     pub clip: Corners,
@@ -42,7 +42,7 @@ pub struct StateWords {
 /// What a screen is asked to be, as a host gives it: room for C render commands and D depth fills in each row; the mode is 0 exact, 1 snapping; the width of a
 /// bucket is 64, 128 or 256 pixels. Laid out as in C.
 #[repr(C)]
-#[derive(Clone, Copy)]
+#[derive(Clone, Copy, Debug, PartialEq, Eq)]
 pub struct SetupWords {
     pub c: u32,
     pub d: u32,

@@ -1,13 +1,17 @@
 //! One look at what a painting call is lent, without a branch where there need be none: yes only where the exact judge says 0. Where it says no, that judge is
 //! asked, and says which number. Parts of the calls.
 ghost use Rattle.std.specs.Prelude.{◌≡◌, ◌≤◌, ◌-◌};
+ghost use Rattle.sizes.specs.Sizes.{most-room};
 ghost use Rattle.rules.specs.Boxes.{good_viewport, box};
 ghost use Rattle.rect.specs.Rects.{same-box};
 ghost use Rattle.host.specs.OneLook.{corner-box, counts, rooms, long-in, Sure};
 
 use crate::state::{Corners, StateWords, width_at};
 use paint::Stored;
-use sizes::{LAST_ID, LAYER_TABLE, MOST_ATTRS, MOST_FILTERS, PAINT_TABLE, ROW};
+use sizes::{
+    LAST_ID, LAYER_TABLE, MOST_ATTRS, MOST_FILTERS, MOST_HEIGHT, MOST_ROOM, MOST_WIDTH,
+    PAINT_TABLE, ROW, SCENE_END, TILE_HEIGHT, TILE_WIDTH,
+};
 
 // The viewport rules, for a box so wide and high.
 #[tactic(auto, unfolding(rules::specs::Boxes::good_viewport))]
@@ -16,13 +20,13 @@ fn is_view(v: Corners, w: u32, h: u32) -> bool
     requires { (w ≡ v.x1 - v.x0) × (h ≡ v.y1 - v.y0) }
     ensures { result ≡ good_viewport (corner-box v) }
 {
-    (v.x0 % 4 == 0)
-        & (v.x1 % 4 == 0)
-        & (v.y0 % 4 == 0)
-        & (v.y1 % 4 == 0)
-        & ((v.x0 <= v.x1) & (v.y0 <= v.y1) & (v.x1 <= 32768) & (v.y1 <= 32768))
-        & (w <= 4096)
-        & (h <= 2048)
+    (v.x0 % TILE_WIDTH == 0)
+        & (v.x1 % TILE_WIDTH == 0)
+        & (v.y0 % TILE_HEIGHT == 0)
+        & (v.y1 % TILE_HEIGHT == 0)
+        & ((v.x0 <= v.x1) & (v.y0 <= v.y1) & (v.x1 <= SCENE_END) & (v.y1 <= SCENE_END))
+        & (w <= MOST_WIDTH)
+        & (h <= MOST_HEIGHT)
 }
 
 // A box that has its corner at 0, 0.
@@ -51,9 +55,9 @@ fn is_rooms(state: &StateWords) -> bool
     ensures { result ≡ rooms state.now }
 {
     (1 <= state.c)
-        & (state.c <= 1024)
+        & (state.c <= MOST_ROOM)
         & (1 <= state.d)
-        & (state.d <= 1024)
+        & (state.d <= MOST_ROOM)
         & (state.layers == 0)
         & (state.painting == 1)
         & (state.width <= 2)
@@ -70,11 +74,11 @@ fn is_long(
     painting: usize,
 ) -> bool
     requires few { (n ≤ 512) × (b ≤ 64) }
-    requires rooms { (state.now.c ≤ 1024) × (state.now.d ≤ 1024) }
+    requires rooms { (state.now.c ≤ most-room) × (state.now.d ≤ most-room) }
     ensures { result ≡ long-in n b state.now stored.now depth painting }
 {
-    (stored.render.len() == n * (4 * state.c as usize))
-        & (stored.fills.len() == n * (2 * state.d as usize))
+    (stored.render_cmds.len() == n * (4 * state.c as usize))
+        & (stored.depth_cmds.len() == n * (2 * state.d as usize))
         & (depth == n * b)
         & ((stored.rows.len() == n * ROW)
             & (painting == n * 2)
@@ -102,8 +106,8 @@ pub fn sure_buckets(
     if !words {
         return 65;
     }
-    let n = (h / 4) as usize;
-    let b = width_at(state.width).above(w / 4) as usize;
+    let n = (h / TILE_HEIGHT) as usize;
+    let b = width_at(state.width).above(w / TILE_WIDTH) as usize;
     let long = (row < n) & is_long(n, b, state, stored, depth, painting);
     if !long {
         return 65;

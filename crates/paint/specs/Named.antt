@@ -13,11 +13,11 @@ use Rattle.paint.specs.declared.canvas.stored.Stored.{Stored}
 use Rattle.paint.specs.declared.canvas.stored.Canvas.{Canvas}
 use Rattle.paint.specs.Answers.{Painted}
 use Rattle.paint.specs.Beginning as begin
-use Rattle.paint.specs.declared.command.reading.Row.{Row}
+use Rattle.paint.specs.declared.command.reading.StoredRow.{StoredRow}
 use Rattle.paint.specs.declared.command.marks.Mark.{Mark}
 use Rattle.rules.specs.Spans.{Span}
 use Rattle.paint.specs.Summaries.{summary-at, shown_runs}
-use Rattle.paint.specs.Painting.{word, attrs-at, painter-at, fill-shown, RowLent, lent, StepOut, out}
+use Rattle.paint.specs.Painting.{word, attrs-at, painter-at, fill-shown, RowLent, words_lent, StepOut, out}
 use Rattle.paint.specs.Stepping.{Attributes, attributes, StepReady}
 use Rattle.paint.specs.Judging.{wide}
 
@@ -41,7 +41,7 @@ step_out a c l = out a c.depth.now c.painting.now l
 
 -- the stored words, with the canvas' words and the list
 abbrev pub row_lent : Stored → Canvas → List ℕ → RowLent
-row_lent s c l = lent s.rows.now s.render.now s.fills.now c.depth.now c.painting.now l
+row_lent s c l = words_lent s.rows.now s.render_cmds.now s.depth_cmds.now c.depth.now c.painting.now l
 
 -- the tables of attributes; those of them that are in use
 abbrev pub row_attrs : Stored → Attributes
@@ -55,7 +55,7 @@ abbrev pub RowReady : Screen → ℕ → Stored → Canvas → List ℕ → Type
 RowReady s r t c l = StepReady (wide s) s.c s.d s.paint_attrs s.layer_attrs r (row_attrs t) (row_lent t c l)
 
 -- the runs of tiles that a row shows for an id
-abbrev pub shown_in : Row → Canvas → ℕ → Span → List Span
+abbrev pub shown_in : StoredRow → Canvas → ℕ → Span → List Span
 shown_in r c id s = shown_runs (bucket-tiles r.width) (summary-at r.state.now) c.depth.now id s
 
 -- what a depth fill gives, and what a paint's or a layer's fill does, in a row
@@ -65,6 +65,6 @@ depth_painted v f m c =
     let p = c.painting.now in
     gives (map (depth-piece v no-attrs f.attrs_idx m.panel) (write-runs d (buckets f.buckets))) (written d m.id (buckets f.buckets)) (word p 0 + 1) (word p 1)
 
-abbrev pub fill_painted : Row → Bool → Fill → Mark → Canvas → rules.Painted
+abbrev pub fill_painted : StoredRow → Bool → Fill → Mark → Canvas → rules.Painted
 fill_painted r l f m c =
     fill-shown (bucket-tiles r.width) no-attrs (summary-at r.state.now) l m.id f.attrs_idx m.panel (tiles f.span) f.alpha (painter-at c.depth.now c.painting.now)

@@ -11,7 +11,7 @@ ghost use Rattle.paint.specs.Running.{most, row-run, row-painted};
 
 use crate::canvas::judge::judge_step;
 use crate::canvas::{Canvas, Stepped, Stored};
-use crate::command::{Attributes, Row};
+use crate::command::{Attributes, StoredRow};
 use crate::whole::run::run_parts;
 use row::part;
 use screen::Screen;
@@ -47,10 +47,10 @@ pub fn row_part(
 {
     let u = row * b;
     let v = row * 2;
-    let read = Row {
+    let read = StoredRow {
         state: part(stored.rows, ROW, row),
-        render: part(stored.render, 4 * screen.c as usize, row),
-        fills: part(stored.fills, 2 * screen.d as usize, row),
+        render_cmds: part(stored.render_cmds, 4 * screen.c as usize, row),
+        depth_cmds: part(stored.depth_cmds, 2 * screen.d as usize, row),
         attrs: Attributes {
             paint_attrs: stored.paint_attrs,
             paints: screen.paint_attrs,

@@ -54,8 +54,8 @@ two-tables z m n xs e =
 
 -- how many words are lent
 pub record Lengthy (l : Lengths) (n c d : ℕ) : Type 0 where
-  pub render : l.render ≡ n * (4 * c)
-  pub fills : l.fills ≡ n * (2 * d)
+  pub render : l.render_cmds ≡ n * (4 * c)
+  pub fills : l.depth_cmds ≡ n * (2 * d)
   pub rows : l.rows ≡ n * 54
   pub layers : l.layers ≡ open-layer-table
   pub opacities : l.opacities ≡ opacity-count

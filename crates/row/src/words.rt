@@ -23,8 +23,8 @@ use span::TileSpan;
 #[derive(Drop)]
 pub struct Row<'a> {
     pub state: &'a mut [u32],
-    pub render: &'a mut [u32],
-    pub fills: &'a mut [u32],
+    pub render_cmds: &'a mut [u32],
+    pub depth_cmds: &'a mut [u32],
 }
 
 // The span word of a union that grows; the tag 6 says that there is one already.
@@ -86,7 +86,7 @@ impl Row<'_> {
     {
         let n = self.state[RENDERS];
         include_fill(self.state, cmd);
-        cmd.words().put(self.render, n as usize);
+        cmd.words().put(self.render_cmds, n as usize);
         self.state[RENDERS] = n + 1;
     }
 
@@ -114,7 +114,7 @@ impl Row<'_> {
         let k = self.state[LEVELS] + 1;
         RenderCmd::PushBuf(None)
             .words()
-            .put(self.render, n as usize);
+            .put(self.render_cmds, n as usize);
         let at = LEVEL_BASE + LEVEL * k as usize;
         self.state[at] = n;
         self.state[at + 1] = 5;
@@ -135,9 +135,9 @@ impl Row<'_> {
         let k = self.state[LEVELS];
         let at = LEVEL_BASE + LEVEL * k as usize;
         let p = 4 * self.state[at] as usize;
-        self.render[p] = self.state[at + 1];
-        self.render[p + 1] = self.state[at + 2];
-        RenderCmd::PopBuf.words().put(self.render, n as usize);
+        self.render_cmds[p] = self.state[at + 1];
+        self.render_cmds[p + 1] = self.state[at + 2];
+        RenderCmd::PopBuf.words().put(self.render_cmds, n as usize);
         self.state[at] = 0;
         self.state[at + 1] = 0;
         self.state[at + 2] = 0;
@@ -169,7 +169,7 @@ impl Row<'_> {
         self.state[LARGEST] = largest;
         self.state[DEPTHS] = n + 1;
         let at = 2 * n as usize;
-        self.fills[at] = two.span.0;
-        self.fills[at + 1] = two.attrs_idx;
+        self.depth_cmds[at] = two.span.0;
+        self.depth_cmds[at + 1] = two.attrs_idx;
     }
 }

@@ -10,7 +10,7 @@ use text_why::Question;
 use tile::Asked;
 
 /// A question at a tile.
-#[derive(Clone, Copy)]
+#[derive(Clone, Copy, Debug, PartialEq, Eq)]
 pub struct Query {
     pub row: u32,
     pub tile: u32,
@@ -18,7 +18,7 @@ pub struct Query {
 }
 
 /// What is asked: of each file of a stream, or of one file.
-#[derive(Clone, Copy)]
+#[derive(Clone, Copy, Debug, PartialEq, Eq)]
 pub enum Request {
     Stream,
     File(Query),

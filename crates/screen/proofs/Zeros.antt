@@ -5,7 +5,7 @@ use Rattle.screen.specs.Tables.{Tables, tables, lengths, float-0, zeroed}
 
 zeroed-by : Lengths → Tables
 zeroed-by n =
-    tables (replicate n.render 0) (replicate n.fills 0) (replicate n.depth 0) (replicate n.rows 0) (replicate n.painting 0) (replicate n.layers 0)
+    tables (replicate n.render_cmds 0) (replicate n.depth_cmds 0) (replicate n.depth 0) (replicate n.rows 0) (replicate n.painting 0) (replicate n.layers 0)
     (replicate n.opacities float-0)
     (replicate n.paint_attrs 0)
     (replicate n.layer_attrs 0)

@@ -12,7 +12,7 @@ ghost use Rattle.screen.specs.Layers.{clip-of, good-pattern, good-given, layer-o
 use cmd::blend::Blend;
 pub use inputs::Clip;
 use rect::{NOWHERE, Rect};
-use sizes::{HANDLE_END, OPEN_LAYER, PANEL_END, THREAD_END};
+use sizes::{HANDLE_END, OPEN_LAYER, PANEL_END, SCENE_END, THREAD_END, TILE_HEIGHT, TILE_WIDTH};
 
 /// What a push is given (vello_common, LayerProps). A clip's segments are those of the list that the pop is lent. `nan` is the pattern of a NaN opacity, else
 /// 0; `mask` a handle, or 0 for none.
@@ -27,7 +27,7 @@ pub struct LayerProps {
 }
 
 /// What a pop reads of an open layer: flag 1 with a clip, 0 without; the clip's range and thread; its own box, in pixels, local to the viewport.
-#[derive(Clone, Copy)]
+#[derive(Clone, Copy, Debug, PartialEq, Eq)]
 pub struct OpenLayer {
     pub blend: Blend,
     pub mask: u32,
@@ -147,12 +147,12 @@ pub fn layer_box(viewport: Rect, parent: Rect, clip: Option<Clip>) -> Rect
 pub fn is_good_own_box(viewport: Rect, bbox: Rect) -> bool
     ensures { result ≡ good_own_box (box_of viewport) (box_of bbox) }
 {
-    bbox.x0 % 4 == 0
-        && bbox.y0 % 4 == 0
-        && bbox.x1 % 4 == 0
-        && bbox.y1 % 4 == 0
-        && bbox.x0 <= 32768
-        && bbox.y0 <= 32768
+    bbox.x0 % TILE_WIDTH == 0
+        && bbox.y0 % TILE_HEIGHT == 0
+        && bbox.x1 % TILE_WIDTH == 0
+        && bbox.y1 % TILE_HEIGHT == 0
+        && bbox.x0 <= SCENE_END
+        && bbox.y0 <= SCENE_END
         && bbox.x1 <= viewport.width()
         && bbox.y1 <= viewport.height()
 }

@@ -18,8 +18,8 @@ use sizes::{FILTER_TABLE, LAYER_TABLE, OPACITIES, OPEN_TABLE, PAINT_TABLE, ROW};
 #[repr(C)]
 #[derive(Drop)]
 pub struct Lent<'a> {
-    pub render: &'a mut [u32],
-    pub fills: &'a mut [u32],
+    pub render_cmds: &'a mut [u32],
+    pub depth_cmds: &'a mut [u32],
     pub depth: &'a mut [u32],
     pub rows: &'a mut [u32],
     pub painting: &'a mut [u32],
@@ -32,10 +32,10 @@ pub struct Lent<'a> {
 
 /// How many words of each are lent, or are to be. Laid out as in C.
 #[repr(C)]
-#[derive(Clone, Copy)]
+#[derive(Clone, Copy, Debug, PartialEq, Eq)]
 pub struct Lengths {
-    pub render: usize,
-    pub fills: usize,
+    pub render_cmds: usize,
+    pub depth_cmds: usize,
     pub depth: usize,
     pub rows: usize,
     pub painting: usize,
@@ -66,7 +66,7 @@ pub fn judge_reset(screen: Screen, lent: Lengths) -> Result<(), Refusal>
     ensures { answer_number result ≡ judged_reset (frame-of screen) lent }
 {
     let n = screen.rows();
-    if !is_good_rooms(n, screen.c, screen.d, lent.render, lent.fills)
+    if !is_good_rooms(n, screen.c, screen.d, lent.render_cmds, lent.depth_cmds)
         || lent.depth != n * screen.buckets()
     {
         return Err(Refusal::BadArena);
@@ -83,8 +83,8 @@ impl Lent<'_> {
         ensures { result ≡ lengths (tables_in self.now) }
     {
         Lengths {
-            render: self.render.len(),
-            fills: self.fills.len(),
+            render_cmds: self.render_cmds.len(),
+            depth_cmds: self.depth_cmds.len(),
             depth: self.depth.len(),
             rows: self.rows.len(),
             painting: self.painting.len(),
@@ -101,8 +101,8 @@ impl Lent<'_> {
         ensures same { SameLent self.old self.new }
         ensures zeroed { tables_in self.new ≡ zeroed (tables_in self.old) }
     {
-        self.render.fill(0);
-        self.fills.fill(0);
+        self.render_cmds.fill(0);
+        self.depth_cmds.fill(0);
         self.depth.fill(0);
         self.rows.fill(0);
         self.painting.fill(0);

@@ -20,7 +20,10 @@ use crate::lent::judge_reset;
 use rect::{Mode, Rect};
 use sizes::answers::Refusal;
 use sizes::width::Width;
-use sizes::{LAST_ID, MOST_ATTRS, MOST_FILTERS, MOST_LAYERS, MOST_ROOM, ROW};
+use sizes::{
+    LAST_ID, MOST_ATTRS, MOST_FILTERS, MOST_LAYERS, MOST_ROOM, ROW, SCENE_END, TILE_HEIGHT,
+    TILE_WIDTH,
+};
 
 pub mod layers;
 pub mod lent;
@@ -28,7 +31,7 @@ pub mod lent;
 pub use crate::lent::{Lengths, Lent};
 
 /// A screen's numbers, without the words that are lent with it. Any numbers are a `Screen`; `is_good` judges them.
-#[derive(Clone, Copy)]
+#[derive(Clone, Copy, Debug, PartialEq, Eq)]
 pub struct Screen {
     // In pixels of the scene, at the edges of tiles.
     pub viewport: Rect,
@@ -53,7 +56,7 @@ pub struct Screen {
 
 /// What a screen is asked to be, besides its viewport: room for C render commands and D depth fills in each row, how the viewport is read, and how wide a depth
 /// bucket is.
-#[derive(Clone, Copy)]
+#[derive(Clone, Copy, Debug, PartialEq, Eq)]
 pub struct Setup {
     pub c: u32,
     pub d: u32,
@@ -72,7 +75,10 @@ pub fn is_good_room(n: u32) -> bool
 fn is_in_tiles(b: Rect) -> bool
     ensures { result ≡ in-tiles (box_of b) }
 {
-    b.x0 % 4 == 0 && b.y0 % 4 == 0 && b.x1 % 4 == 0 && b.y1 % 4 == 0
+    b.x0 % TILE_WIDTH == 0
+        && b.y0 % TILE_HEIGHT == 0
+        && b.x1 % TILE_WIDTH == 0
+        && b.y1 % TILE_HEIGHT == 0
 }
 
 // The clip box in force: the whole viewport with no layer open, else in whole tiles and within the viewport at its ends.
@@ -84,8 +90,8 @@ fn is_good_clip(viewport: Rect, clip: Rect, layers: u32) -> bool
         return clip == viewport.whole();
     }
     is_in_tiles(clip)
-        && clip.x0 <= 32768
-        && clip.y0 <= 32768
+        && clip.x0 <= SCENE_END
+        && clip.y0 <= SCENE_END
         && clip.x1 <= viewport.width()
         && clip.y1 <= viewport.height()
 }
@@ -95,14 +101,14 @@ impl Screen {
     pub fn rows(self) -> usize
         ensures { result ≡ rows_of (box_of self.viewport) }
     {
-        (self.viewport.height() / 4) as usize
+        (self.viewport.height() / TILE_HEIGHT) as usize
     }
 
     /// Depth buckets in a row, rounded up.
     pub fn buckets(self) -> usize
         ensures { result ≡ buckets-of (bucket-tiles self.width) (box_of self.viewport) }
     {
-        self.width.above(self.viewport.width() / 4) as usize
+        self.width.above(self.viewport.width() / TILE_WIDTH) as usize
     }
 
     /// The screen's own numbers (answer 4), but for viewport, C and D, which are judged before.
@@ -168,26 +174,31 @@ impl Screen {
 }
 
 /// C and D are in range, and the arenas of render commands and depth fills are lent exactly for n rows (answer 1).
-pub fn is_good_rooms(n: usize, c: u32, d: u32, render: usize, fills: usize) -> bool
+pub fn is_good_rooms(n: usize, c: u32, d: u32, render_cmds: usize, depth_cmds: usize) -> bool
     requires { n ≤ most-rows }
-    ensures { result ≡ good-rooms n c d render fills }
+    ensures { result ≡ good-rooms n c d render_cmds depth_cmds }
 {
     is_good_room(c)
         && is_good_room(d)
-        && render == n * (4 * c as usize)
-        && fills == n * (2 * d as usize)
+        && render_cmds == n * (4 * c as usize)
+        && depth_cmds == n * (2 * d as usize)
 }
 
 /// 2, then 1, then 4: the screen's numbers, and how many words of records, render commands and depth fills are lent.
 #[tactic(auto, unfolding(crate::specs::Judging::judged))]
-pub fn judge_screen(screen: Screen, rows: usize, render: usize, fills: usize) -> Result<(), Refusal>
-    ensures { answer_number result ≡ judged screen rows render fills }
+pub fn judge_screen(
+    screen: Screen,
+    rows: usize,
+    render_cmds: usize,
+    depth_cmds: usize,
+) -> Result<(), Refusal>
+    ensures { answer_number result ≡ judged screen rows render_cmds depth_cmds }
 {
     if !screen.viewport.is_good_viewport() {
         return Err(Refusal::BadViewport);
     }
     let n = screen.rows();
-    if !is_good_rooms(n, screen.c, screen.d, render, fills) {
+    if !is_good_rooms(n, screen.c, screen.d, render_cmds, depth_cmds) {
         return Err(Refusal::BadArena);
     }
     if rows != n * ROW || !screen.is_good() {

@@ -72,8 +72,8 @@ impl Tables {
         let n = Shape::of_screen(screen).lengths(short);
         let stored = Stored {
             rows: first(&mut self.rows, n.rows),
-            render: first(&mut self.render, n.render),
-            fills: first(&mut self.fills, n.fills),
+            render_cmds: first(&mut self.render_cmds, n.render_cmds),
+            depth_cmds: first(&mut self.depth_cmds, n.depth_cmds),
             paint_attrs: first(&mut self.paint_attrs, n.paint_attrs),
             layer_attrs: first(&mut self.layer_attrs, n.layer_attrs),
         };

@@ -21,7 +21,7 @@ use Rattle.screen.specs.declared.lent.Lengths.{Lengths}
 use Rattle.screen.specs.Lent.{tables_in, SameLent}
 use Rattle.screen.specs.Screens.{fresh-screen}
 use Rattle.screen.specs.Judging.{judged_reset}
-use Rattle.screen.specs.Tables.{Tables, lengths, float-0, zeroed, ScreenLent, lent, reset_to}
+use Rattle.screen.specs.Tables.{Tables, lengths, float-0, zeroed, ScreenLent, screen_lent, reset_to}
 use Rattle.screen.proofs.ScreenLaws.{few-buckets}
 use Rattle.screen.proofs.Zeros.{same-zeros}
 use Rattle.file.specs.Held.{recording_of}
@@ -47,8 +47,8 @@ module _ (s : Screen) (w : Words) (bs : List ℕ) {r : Listing} {cs : List ℕ} 
   show-done h = rw (← e, eq-eqb r.number 0 h)
 
 module _ (ws : List ℕ) (q : Setup) (t : Tables) (bs : List ℕ) {o : Screen} (p : o ≡ nothing) {s : Screen} {u : Tables} {n : ℕ}
-    (e : answer n (lent s u) ≡ recorded ws q (lent o t)) where
-  same : answer n (lent s u) ≡ recorded ws q (lent nothing t)
+    (e : answer n (screen_lent s u) ≡ recorded ws q (screen_lent o t)) where
+  same : answer n (screen_lent s u) ≡ recorded ws q (screen_lent nothing t)
   same = rw p at e
 
   module _ {x : Showed} where
@@ -94,20 +94,20 @@ module _ (ws : List ℕ) (q : Setup) where
 module _ (ws : List ℕ) (q : Setup) (t u : Tables) (e : lengths t ≡ lengths u) (bs : List ℕ) where
   -- after a reset that answers n
   started : ℕ → Tables → ScreenLent → (ScreenLent → Answer ScreenLent) → Answer ScreenLent
-  started n x fresh g = let a = settle n (lent nothing x) fresh in go_on (eqb a.number 0) a g
+  started n x fresh g = let a = settle n (screen_lent nothing x) fresh in go_on (eqb a.number 0) a g
 
   done-start : (n : ℕ) → eqb n 0 ≡ true → (v : Tables) (x : ScreenLent) (g : ScreenLent → Answer ScreenLent) → started n v x g ≡ g x
   unfolding started
   done-start n i v x g =
-      let a : settle n (lent nothing v) x ≡ answer 0 x = rw i in
+      let a : settle n (screen_lent nothing v) x ≡ answer 0 x = rw i in
       ap (λ (y : Answer ScreenLent). go_on (eqb y.number 0) y g) a
 
   refused-start : (n : ℕ) → eqb n 0 ≡ false → (v : Tables) (x : ScreenLent) (g : ScreenLent → Answer ScreenLent) → (answered (started n v x g) bs).showed ≡ refusing n nothing bs
   unfolding started
   refused-start n i v x g =
-      let a : settle n (lent nothing v) x ≡ answer n (lent nothing v) = rw i in
-      let b : go_on (eqb n 0) (answer n (lent nothing v)) g ≡ answer n (lent nothing v) = rw i in
-      let c : (answered (answer n (lent nothing v)) bs).showed ≡ refusing n nothing bs = rw i in
+      let a : settle n (screen_lent nothing v) x ≡ answer n (screen_lent nothing v) = rw i in
+      let b : go_on (eqb n 0) (answer n (screen_lent nothing v)) g ≡ answer n (screen_lent nothing v) = rw i in
+      let c : (answered (answer n (screen_lent nothing v)) bs).showed ≡ refusing n nothing bs = rw i in
       ap (λ (y : Answer ScreenLent). (answered (go_on (eqb y.number 0) y g) bs).showed) a ∙ ap (λ (y : Answer ScreenLent). (answered y bs).showed) b ∙ c
 
   same-start : (n : ℕ) (x y : ScreenLent) (g : ScreenLent → Answer ScreenLent) → x ≡ y → (answered (started n t x g) bs).showed ≡ (answered (started n u y g) bs).showed
@@ -121,12 +121,12 @@ module _ (ws : List ℕ) (q : Setup) (t u : Tables) (e : lengths t ≡ lengths u
   unfolding recording-text recorded recorded-in ◌then◌ reset_to started
   same_text = go (sections shape ws)
     where
-      go : (o : Option (List (List (List ℕ)))) → (answered (of-sections o q (lent nothing t)) bs).showed ≡ (answered (of-sections o q (lent nothing u)) bs).showed
+      go : (o : Option (List (List (List ℕ)))) → (answered (of-sections o q (screen_lent nothing t)) bs).showed ≡ (answered (of-sections o q (screen_lent nothing u)) bs).showed
       go None = refl
       go (Some ss) =
           let r = recording ss in
           let f = frame q r.viewport in
-          rw e (same-start (judged_reset f (lengths u)) (lent (fresh-screen f) (zeroed t)) (lent (fresh-screen f) (zeroed u)) (played r) (ap (lent (fresh-screen f)) (same-zeros t u e)))
+          rw e (same-start (judged_reset f (lengths u)) (screen_lent (fresh-screen f) (zeroed t)) (screen_lent (fresh-screen f) (zeroed u)) (played r) (ap (screen_lent (fresh-screen f)) (same-zeros t u e)))
 
 -- .. as tables of one size are
 pub exact-same : {z : Size} (t u : Tables) → Exact z t → Exact z u → (ws : List ℕ) (q : Setup) (bs : List ℕ) → (recording-text ws q t bs).showed ≡ (recording-text ws q u bs).showed
@@ -187,8 +187,8 @@ module _ (fs : List ℕ) (q : Setup) (bs : List ℕ) where
 pub exact_kept : {z : Size} (a b : Lent) → SameLent a b → Exact z (tables_in a) → Exact z (tables_in b)
 exact_kept a b s h =
     record {
-      render = ap (λ (n : Lengths). n.render) s.long ∙ h.render;
-      fills = ap (λ (n : Lengths). n.fills) s.long ∙ h.fills;
+      render = ap (λ (n : Lengths). n.render_cmds) s.long ∙ h.render;
+      fills = ap (λ (n : Lengths). n.depth_cmds) s.long ∙ h.fills;
       depth = ap (λ (n : Lengths). n.depth) s.long ∙ h.depth;
       rows = ap (λ (n : Lengths). n.rows) s.long ∙ h.rows;
       painting = ap (λ (n : Lengths). n.painting) s.long ∙ h.painting;

@@ -3,7 +3,7 @@ use Rattle.std.specs.Prelude.{ℕ, ◌+◌, ◌*◌, Bool, ◌&&◌, cond, List,
 use Rattle.sizes.specs.Sizes.{most-attrs, most-filters, opacity-count, paint-attr-table, layer-attr-table, filter-paint-table}
 use Rattle.rules.specs.Answers.{Done, BadRecord, NoRoom}
 use Rattle.screen.specs.declared.Screen.{Screen}
-use Rattle.paint.specs.Painting.{RowLent, lent, StepOut}
+use Rattle.paint.specs.Painting.{RowLent, words_lent, StepOut}
 use Rattle.paint.specs.Stepping.{Attributes, stepped}
 use Rattle.paint.specs.Running.{row-painted}
 use Rattle.paint.specs.declared.canvas.stored.Canvas.{Canvas}
@@ -50,7 +50,7 @@ stopped s r a l = let o = stepped s r a l in stopped-out (listing o.answer.numbe
 -- a row's painting ended by a refusal, and ended whole
 abbrev pub row-stopped : Screen → ℕ → Attributes → RowLent → StepOut → List ℕ → RowOut
 row-stopped s r a l e bs =
-    let o = stopped s r a (lent l.state l.render l.fills e.depth e.painting []) in
+    let o = stopped s r a (words_lent l.state l.render l.fills e.depth e.painting []) in
     row_out o.answer o.depth o.painting e.list bs
 
 abbrev pub with-text : StepOut → list.TextOut → RowOut

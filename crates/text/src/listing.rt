@@ -25,8 +25,8 @@ const LINE: usize = 64;
 struct ScreenText<'a> {
     screen: Screen,
     state: &'a [u32],
-    render: &'a [u32],
-    fills: &'a [u32],
+    render_cmds: &'a [u32],
+    depth_cmds: &'a [u32],
 }
 
 impl ScreenText<'_> {
@@ -45,8 +45,8 @@ impl ScreenText<'_> {
             row: r as u32,
             buckets,
             state: part(self.state, ROW, r),
-            render: part(self.render, 4 * screen.c as usize, r),
-            fills: part(self.fills, 2 * screen.d as usize, r),
+            render_cmds: part(self.render_cmds, 4 * screen.c as usize, r),
+            depth_cmds: part(self.depth_cmds, 2 * screen.d as usize, r),
         }
     }
 
@@ -76,8 +76,8 @@ impl ScreenText<'_> {
         judge_screen(
             screen,
             self.state.len(),
-            self.render.len(),
-            self.fills.len(),
+            self.render_cmds.len(),
+            self.depth_cmds.len(),
         )?;
         if !self.are_good_rows(screen.rows(), screen.buckets() as u32) {
             return Err(Refusal::BadRecord);
@@ -163,8 +163,8 @@ pub fn list_screen(screen: Screen, rows: &Rows<'_>, out: &mut [u8]) -> Result<us
     let text = ScreenText {
         screen,
         state: rows.state,
-        render: rows.render,
-        fills: rows.fills,
+        render_cmds: rows.render_cmds,
+        depth_cmds: rows.depth_cmds,
     };
     text.judge()?;
     try_print_first(&text, screen_room(screen.rows(), screen.c, screen.d), out)

@@ -7,7 +7,7 @@ ghost use Rattle.rules.specs.Boxes.{rows_of};
 ghost use Rattle.rect.specs.Rects.{box_of};
 ghost use Rattle.screen.specs.Screens.{setup-of};
 ghost use Rattle.screen.specs.Lent.{tables_in};
-ghost use Rattle.paint.specs.Painting.{lent};
+ghost use Rattle.paint.specs.Painting.{words_lent};
 ghost use Rattle.paint.specs.Stepping.{attributes};
 ghost use Rattle.text.specs.Files.{Usual};
 ghost use Rattle.text.specs.Pieces.{piece-list};
@@ -192,8 +192,8 @@ fn screen_text(
     let k = heads_text(screen, panels, &lent, out).unwrap_or(0);
     let Lent {
         rows,
-        render,
-        fills,
+        render_cmds,
+        depth_cmds,
         depth,
         painting,
         paint_attrs,
@@ -202,8 +202,8 @@ fn screen_text(
     } = lent;
     let stored = Stored {
         rows,
-        render,
-        fills,
+        render_cmds,
+        depth_cmds,
         paint_attrs,
         layer_attrs,
     };

@@ -9,7 +9,7 @@ use Rattle.span.specs.declared.TileSpan.{TileSpan}
 use Rattle.rect.specs.declared.Rect.{Rect}
 use Rattle.rect.specs.Rects.{box_of}
 use Rattle.row.specs.Words.{Words}
-use Rattle.screen.specs.Tables.{Tables, lent, reset_to}
+use Rattle.screen.specs.Tables.{Tables, screen_lent, reset_to}
 use Rattle.screen.specs.declared.layers.LayerProps.{LayerProps}
 use Rattle.inputs.specs.declared.Draw.{Draw}
 use Rattle.fill.specs.Fills as fills
@@ -43,27 +43,27 @@ Keeps st own n = length st ≡ state-size → before_4 own ≡ before_4 n
 abbrev pub ResetKeeps : Type 0
 ResetKeeps =
     (v : Rect) (w : SetupWords) (q : Setup) (st : List ℕ) (t : Tables) → Asks w q
-    → Keeps st (reset_to (frame q (box_of v)) (lent (screen-at st) t)).number (reset_call v w st t).number
+    → Keeps st (reset_to (frame q (box_of v)) (screen_lent (screen-at st) t)).number (reset_call v w st t).number
 
 abbrev pub RecordingKeeps : Type 0
 RecordingKeeps =
     (file : List ℕ) (w : SetupWords) (q : Setup) (st : List ℕ) (t : Tables) → Asks w q
-    → Keeps st (recorded file q (lent (screen-at st) t)).number (recording_call file w st t).number
+    → Keeps st (recorded file q (screen_lent (screen-at st) t)).number (recording_call file w st t).number
 
 abbrev pub WhyKeeps : Type 0
 WhyKeeps =
     (file : List ℕ) (w : SetupWords) (q : Setup) (row tile layer attribute : ℕ) (st : List ℕ) (t : Tables) (res : List ℕ) → Asks w q
-    → Keeps st (explained file q row tile (asked layer attribute) (lent (screen-at st) t)).number (why_call file w row tile layer attribute st t res).number
+    → Keeps st (explained file q row tile (asked layer attribute) (screen_lent (screen-at st) t)).number (why_call file w row tile layer attribute st t res).number
 
 abbrev pub FillKeeps : Type 0
 FillKeeps =
     (ps ss : List ℕ) (d : Draw) (st : List ℕ) (w : Words) (pas : List ℕ)
-    → Keeps st (filled (fills.lent (screen-at st) w pas) ps ss d).number (fill_call ps ss d st w pas).number
+    → Keeps st (filled (fills.fill_lent (screen-at st) w pas) ps ss d).number (fill_call ps ss d st w pas).number
 
 abbrev pub PushKeeps : Type 0
 PushKeeps =
     (flag : ℕ) (p : LayerProps) (st : List ℕ) (w : Words) (ls : List ℕ) (os : List Float)
-    → Keeps st (pushed p (push.lent (screen-at st) w ls os)).number (push_call flag p st w ls os).number
+    → Keeps st (pushed p (push.push_lent (screen-at st) w ls os)).number (push_call flag p st w ls os).number
 
 abbrev pub PopKeeps : Type 0
 PopKeeps = (ss st : List ℕ) (l : pop.PopLent) → Keeps st (popped (screen-at st) l ss).number (pop_call ss st l).number
@@ -71,7 +71,7 @@ PopKeeps = (ss st : List ℕ) (l : pop.PopLent) → Keeps st (popped (screen-at 
 abbrev pub FilterKeeps : Type 0
 FilterKeeps =
     (flag : ℕ) (g : FilterGiven) (st : List ℕ) (w : Words) (pas : List ℕ) (fps : List ℤ)
-    → Keeps st (filtered g (filter.lent (screen-at st) w pas fps)).number (filter_call flag g st w pas fps).number
+    → Keeps st (filtered g (filter.filter_lent (screen-at st) w pas fps)).number (filter_call flag g st w pas fps).number
 
 abbrev pub BeginKeeps : Type 0
 BeginKeeps = (st d p : List ℕ) → Keeps st (beginning (canvas (screen-at st) d p)).number (begin_call st d p).number

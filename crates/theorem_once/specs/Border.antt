@@ -45,8 +45,8 @@ paint-words h =
     let s = h.stored in (
       words_in h.state,
       s.rows.now,
-      s.render.now,
-      s.fills.now,
+      s.render_cmds.now,
+      s.depth_cmds.now,
       s.paint_attrs.now,
       s.layer_attrs.now,
       h.canvas.depth.now,

@@ -10,7 +10,7 @@ use Rattle.rules.specs.Walk.{◌then◌, walk-all, walk-nodes, walk-layer}
 use Rattle.rect.specs.declared.Rect.{Rect}
 use Rattle.rect.specs.Rects.{box_of}
 use Rattle.screen.specs.Judging.{judged_reset}
-use Rattle.screen.specs.Tables.{Tables, lengths, zeroed, ScreenLent, lent, reset_to}
+use Rattle.screen.specs.Tables.{Tables, lengths, zeroed, ScreenLent, screen_lent, reset_to}
 use Rattle.screen.proofs.Zeros.{same-zeros}
 use Rattle.file.specs.Held.{recording_of}
 use Rattle.file.specs.Judging.{judged}
@@ -91,7 +91,7 @@ module _ (r : Recording) (ws : List ℕ) (g : recording_of (sections shape ws) �
     all_done y = all-played r a m s f y ∙ sym then-played
 
     pub left_fresh : (m ≡ 0 → ⊥) → (t : Tables) → lengths s.tables ≡ lengths a.tables → lengths a.tables ≡ lengths old.tables → t ≡ zeroed s.tables
-        → answer m (lent a.screen t) ≡ recorded ws q old
+        → answer m (screen_lent a.screen t) ≡ recorded ws q old
     left_fresh x t p o k =
         let cleared : t ≡ a.tables =
         k ∙ same-zeros s.tables a.tables p ∙ same-zeros a.tables old.tables o ∙ sym (emptied (frame q (box_of v)) old n a e z) in

@@ -17,11 +17,11 @@ fn is_depth(screen: Screen, depth: usize) -> bool
 
 // All three arenas are.
 fn is_arenas(screen: Screen, stored: &Stored<'_>, depth: usize) -> bool
-    ensures { result ≡ arenas-long screen (length stored.now.render.now) (length stored.now.fills.now) depth }
+    ensures { result ≡ arenas-long screen (length stored.now.render_cmds.now) (length stored.now.depth_cmds.now) depth }
 {
     let n = screen.rows();
-    stored.render.len() == n * (4 * screen.c as usize)
-        && stored.fills.len() == n * (2 * screen.d as usize)
+    stored.render_cmds.len() == n * (4 * screen.c as usize)
+        && stored.depth_cmds.len() == n * (2 * screen.d as usize)
         && is_depth(screen, depth)
 }
 
@@ -92,7 +92,7 @@ pub fn judge_step(
     depth: usize,
     painting: usize,
 ) -> Result<(), Refusal>
-    ensures { answer_number result ≡ step_number screen row (arenas-long screen (length stored.now.render.now) (length stored.now.fills.now) depth) (tables-long screen (length stored.now.rows.now) painting (length stored.now.paint_attrs.now) (length stored.now.layer_attrs.now)) }
+    ensures { answer_number result ≡ step_number screen row (arenas-long screen (length stored.now.render_cmds.now) (length stored.now.depth_cmds.now) depth) (tables-long screen (length stored.now.rows.now) painting (length stored.now.paint_attrs.now) (length stored.now.layer_attrs.now)) }
 {
     let arenas = is_arenas(screen, stored, depth);
     let tables = is_tables(screen, stored, painting);

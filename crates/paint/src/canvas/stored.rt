@@ -5,8 +5,8 @@
 #[derive(Clone, Copy)]
 pub struct Stored<'a> {
     pub rows: &'a [u32],
-    pub render: &'a [u32],
-    pub fills: &'a [u32],
+    pub render_cmds: &'a [u32],
+    pub depth_cmds: &'a [u32],
     pub paint_attrs: &'a [u32],
     pub layer_attrs: &'a [u32],
 }

@@ -11,7 +11,7 @@ ghost use Rattle.paint.specs.Named.{CanStep, SameCanvas, shown_in, step_out, dep
 
 use crate::canvas::stored::Canvas;
 use crate::command::marks::Mark;
-use crate::command::reading::Row;
+use crate::command::reading::StoredRow;
 use crate::pieces::{Brush, Stepped, advance, spread};
 use crate::shown::{shown_runs, summary_of};
 use cmd::command::Fill;
@@ -54,7 +54,7 @@ pub fn paint_depth(
 // The runs of a fill's tiles that the row shows for an id; how many. NoRoom, 14.
 #[inline(always)]
 fn fill_runs(
-    row: &Row<'_>,
+    row: &StoredRow<'_>,
     canvas: &Canvas<'_>,
     span: TileSpan,
     id: u32,
@@ -77,7 +77,7 @@ fn fill_runs(
 /// A paint's or a layer's fill gives the runs of its tiles that are shown for its attribute's id. NoRoom, 14, where the list has no room: nothing changes.
 #[inline(always)]
 pub fn paint_fill(
-    row: &Row<'_>,
+    row: &StoredRow<'_>,
     canvas: &mut Canvas<'_>,
     layer: bool,
     fill: Fill,

@@ -18,7 +18,7 @@ use sizes::TILE_ALPHAS;
 use sizes::width::Width;
 
 /// A fill that becomes pieces, a run each: its words, the nesting, what its attribute says, and how wide a bucket is.
-#[derive(Clone, Copy)]
+#[derive(Clone, Copy, Debug, PartialEq, Eq)]
 pub struct Cut {
     pub words: CmdWords,
     pub nesting: u32,

@@ -13,7 +13,7 @@ ghost use Rattle.paint.specs.Rows.{steps_of, CalmRow, Ran, mark_in, FillSays, Sa
 ghost use Rattle.paint.specs.Kinds.{summary-by, good-index, Onward};
 
 use crate::canvas::Canvas;
-use crate::command::{Mark, Row};
+use crate::command::{Mark, StoredRow};
 use crate::pieces::{PieceWords, Pieces};
 use crate::whole::ends::{hidden_end, seen_end};
 use crate::whole::pieces::{Cut, most_runs, put_fill};
@@ -24,7 +24,7 @@ use sizes::width::Width;
 use sizes::{DEPTHS, END, FIRST, LARGEST, MOST_LAYERS, PIECE, RENDERS, TILE_ALPHAS, TILE_END};
 
 // What a fill's attribute says, a paint's or a layer's by the tag, if it is there and good.
-fn mark_of(row: &Row<'_>, tag: u32, i: u32) -> Option<Mark>
+fn mark_of(row: &StoredRow<'_>, tag: u32, i: u32) -> Option<Mark>
     ensures { result ≡ mark_in (attrs_of row.now.attrs) tag i }
 {
     if tag <= 2 {
@@ -120,7 +120,7 @@ fn sure_buffer(words: CmdWords, nesting: u32) -> Look
 }
 
 // What one look shows of a command's words.
-fn look_at(row: &Row<'_>, depth: &[u32], words: CmdWords, nesting: u32, hull: Hull) -> Look
+fn look_at(row: &StoredRow<'_>, depth: &[u32], words: CmdWords, nesting: u32, hull: Hull) -> Look
     ensures { Says (bucket-tiles row.now.width) (attrs_of row.now.attrs) (summary-by hull.from hull.to hull.largest) depth.now nesting words result }
 {
     if 4 < words.tag {
@@ -150,7 +150,7 @@ struct Reached {
 
 // The commands from `start` on, up to `stop` or the first that is not shown or hidden whole.
 fn run_sure(
-    row: &Row<'_>,
+    row: &StoredRow<'_>,
     depth: &[u32],
     pieces: &mut Pieces<'_>,
     start: usize,
@@ -172,7 +172,7 @@ fn run_sure(
     let mut at = start;
     let mut level = nesting;
     while at < stop {
-        let words = CmdWords::at(row.render, at);
+        let words = CmdWords::at(row.render_cmds, at);
         match look_at(row, depth, words, level, hull) {
             Look::Whole(panel) => {
                 if pieces.left() < PIECE {
@@ -218,7 +218,7 @@ fn run_sure(
 // The commands from `start` on, up to `stop` or the first that the looks do not settle. A fill that is shown in part is finished from where
 // its look stopped, if the list has room for any result.
 fn run_commands(
-    row: &Row<'_>,
+    row: &StoredRow<'_>,
     canvas: &Canvas<'_>,
     pieces: &mut Pieces<'_>,
     start: usize,
@@ -239,7 +239,7 @@ fn run_commands(
             return reached;
         };
         let next = reached.at;
-        let words = CmdWords::at(row.render, next);
+        let words = CmdWords::at(row.render_cmds, next);
         if pieces.left() < PIECE * most_runs(words.span, row.width) {
             return reached;
         }
@@ -272,7 +272,7 @@ fn none_done(pieces: usize) -> Gone
 /// The row's next commands, at most `limit`, as far as one look settles each, after `pieces` pieces of the list; none where depth fills are left or the words
 /// are no row's. It refuses nothing: what it leaves is judged step by step.
 pub fn run_plain(
-    row: &Row<'_>,
+    row: &StoredRow<'_>,
     canvas: &mut Canvas<'_>,
     list: &mut [u32],
     pieces: usize,
@@ -293,8 +293,8 @@ pub fn run_plain(
     let renders = row.state[RENDERS];
     let next = done - depths;
     if renders <= next
-        || row.render.len() < 4 * renders as usize
-        || row.fills.len() < 2 * depths as usize
+        || row.render_cmds.len() < 4 * renders as usize
+        || row.depth_cmds.len() < 2 * depths as usize
     {
         return none_done(pieces);
     }

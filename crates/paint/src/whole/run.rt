@@ -8,7 +8,7 @@ ghost use Rattle.paint.specs.Running.{most, onto, one_more};
 ghost use Rattle.paint.specs.Rows.{steps_of, run_of};
 
 use crate::canvas::Canvas;
-use crate::command::{Row, step_row};
+use crate::command::{StoredRow, step_row};
 use crate::pieces::Stepped;
 use crate::whole::plain::run_plain;
 use sizes::PIECE;
@@ -16,7 +16,7 @@ use sizes::answers::Refusal;
 
 // One step more: its pieces go after those so far, whose number is given.
 fn step_on(
-    row: &Row<'_>,
+    row: &StoredRow<'_>,
     canvas: &mut Canvas<'_>,
     list: &mut [u32],
     pieces: usize,
@@ -39,7 +39,7 @@ fn step_on(
 /// 4 or 14, only where the first step is.
 #[inline(never)]
 pub fn run_row(
-    row: &Row<'_>,
+    row: &StoredRow<'_>,
     canvas: &mut Canvas<'_>,
     list: &mut [u32],
     limit: usize,
@@ -87,7 +87,7 @@ pub fn run_row(
 /// The same, the two parts of the row's canvas lent one by one.
 #[inline(always)]
 pub fn run_parts(
-    row: &Row<'_>,
+    row: &StoredRow<'_>,
     depth: &mut [u32],
     painting: &mut [u32],
     list: &mut [u32],

@@ -8,6 +8,6 @@ use Rattle.text.proofs.rows.are_depths.Goals as goal
 
 pub returns : goal.returns
 returns c =
-    let test : ℕ → Bool = λ i. is_some (depth-fill-at c.args.buckets c.args.fills.now i) in
+    let test : ℕ → Bool = λ i. is_some (depth-fill-at c.args.buckets c.args.depth_cmds.now i) in
     all_from_yields_List test _ _ _ c.all.ensures.ran (YieldsList-from_range 0 c.args.n c.args.n refl (omega arith)) (λ x b q k. search rules)
     ∙ all_below test c.args.n

@@ -1,4 +1,4 @@
-use Rattle.paint.specs.Painting.{lent}
+use Rattle.paint.specs.Painting.{words_lent}
 use Rattle.paint.specs.Stepping.{attributes}
 use Rattle.host.specs.Painting.{row_call}
 use Rattle.theorem_once.proofs.Once.{once}
@@ -7,4 +7,4 @@ use Rattle.theorem_once.proofs.border.row_twice.Goals as goal
 pub returns : goal.returns
 returns c =
     let a = c.args in
-    λ same. once same (λ w. row_call a.row (attributes w.4 w.5) w.0 (lent w.1 w.2 w.3 w.6 w.7 w.8) w.9) c.coarse_paint_row.ensures.row c.coarse_paint_row-2.ensures.row
+    λ same. once same (λ w. row_call a.row (attributes w.4 w.5) w.0 (words_lent w.1 w.2 w.3 w.6 w.7 w.8) w.9) c.coarse_paint_row.ensures.row c.coarse_paint_row-2.ensures.row

@@ -13,7 +13,7 @@ returns-then-is_forged-clause-step c = row_forged _ (attrs_of c.args.row.now.att
 
 pub step_depth-requires-clause-k_in_bounds : goal.step_depth-requires-clause-k_in_bounds
 step_depth-requires-clause-k_in_bounds c =
-    let k = counts c.args.row.now.state.now c.args.row.now.render.now c.args.row.now.fills.now c.args.canvas.now.painting.now (sym c.is_forged.ensures ∙ c.if-is_forged.false) in
+    let k = counts c.args.row.now.state.now c.args.row.now.render_cmds.now c.args.row.now.depth_cmds.now c.args.canvas.now.painting.now (sym c.is_forged.ensures ∙ c.if-is_forged.false) in
     omega (arith, k.depths, c.if-steps-depths.true)
 
 pub returns-then-steps-depths-clause-step : goal.returns-then-steps-depths-clause-step
@@ -28,11 +28,11 @@ returns-in_err-cmd-clause-step c =
 
 pub step_command-requires-clause-good : goal.step_command-requires-clause-good
 step_command-requires-clause-good c =
-    command_good c.args.row.now.render.now (word c.args.canvas.now.painting.now 0 - word c.args.row.now.state.now 1) _ _ (rw c.at-words.ensures at c.read.ensures) (ok_some _ _ _ c.in_ok-cmd.ensures.value)
+    command_good c.args.row.now.render_cmds.now (word c.args.canvas.now.painting.now 0 - word c.args.row.now.state.now 1) _ _ (rw c.at-words.ensures at c.read.ensures) (ok_some _ _ _ c.in_ok-cmd.ensures.value)
 
 pub step_command-requires-clause-painting : goal.step_command-requires-clause-painting
 step_command-requires-clause-painting c =
-    let k = counts c.args.row.now.state.now c.args.row.now.render.now c.args.row.now.fills.now c.args.canvas.now.painting.now (sym c.is_forged.ensures ∙ c.if-is_forged.false) in
+    let k = counts c.args.row.now.state.now c.args.row.now.render_cmds.now c.args.row.now.depth_cmds.now c.args.canvas.now.painting.now (sym c.is_forged.ensures ∙ c.if-is_forged.false) in
     (c.requires.painting_len, omega (arith, k.renders, k.depths, k.steps))
 
 pub returns-then-k-renders-clause-step : goal.returns-then-k-renders-clause-step

@@ -9,6 +9,7 @@ ghost use Rattle.host.specs.Spans.{found_call, spans_call};
 
 use crate::painting::coarse_visible_runs;
 use crate::state::StateWords;
+use paint::Canvas;
 use depth::forms::write_runs;
 use sizes::BUCKET_END;
 use span::TileSpan;

@@ -72,7 +72,7 @@ pub fn row_twice(
 /// What a call over a row's runs reads and writes.
 #[derive(Drop)]
 pub struct RunsLent<'a> {
-    pub depth: &'a [u32],
+    pub depth: &'a mut [u32],
     pub list: &'a mut [u32],
 }
 

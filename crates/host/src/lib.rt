@@ -7,6 +7,7 @@ mod border;
 pub mod build;
 pub mod lengths;
 pub mod painting;
+pub mod reading;
 pub mod reasons;
 pub mod results;
 pub mod spans;

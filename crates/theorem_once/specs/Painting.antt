@@ -5,7 +5,6 @@ use Rattle.paint.specs.declared.canvas.stored.Canvas.{Canvas}
 use Rattle.theorem_once.specs.Words.{stored-words}
 use Rattle.theorem_once.specs.declared.painting.BeginLent.{BeginLent}
 use Rattle.theorem_once.specs.declared.painting.PaintLent.{PaintLent}
-use Rattle.theorem_once.specs.declared.painting.RunsLent.{RunsLent}
 use Rattle.theorem_once.specs.declared.painting.WriteLent.{WriteLent}
 use Rattle.theorem_once.specs.declared.texts.RowTextLent.{RowTextLent}
 
@@ -17,9 +16,6 @@ begin-words l = (l.screen, canvas-words l.canvas)
 
 abbrev pub paint-words : PaintLent → List (List ℕ) × ((List ℕ × List ℕ) × List ℕ)
 paint-words l = (stored-words l.stored, canvas-words l.canvas, l.list.now)
-
-abbrev pub runs-words : RunsLent → List ℕ × List ℕ
-runs-words l = (l.depth.now, l.list.now)
 
 abbrev pub write-words : WriteLent → Screen × (List ℕ × List ℕ)
 write-words l = (l.screen, l.depth.now, l.list.now)

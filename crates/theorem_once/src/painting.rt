@@ -1,6 +1,6 @@
 //! Each painting call, and the direct runs.
 ghost use Rattle.std.specs.Prelude.{◌≡◌};
-ghost use Rattle.theorem_once.specs.Painting.{begin-words, paint-words, runs-words, write-words};
+ghost use Rattle.theorem_once.specs.Painting.{begin-words, paint-words, write-words};
 
 use crate::Twice;
 use paint::{
@@ -69,45 +69,46 @@ pub fn row_twice(
     )
 }
 
-/// What a call over a row's runs reads and writes.
-#[derive(Drop)]
-pub struct RunsLent<'a> {
-    pub depth: &'a mut [u32],
-    pub list: &'a mut [u32],
+/// Which runs are asked for: those of a span of tiles, in a row of a screen.
+#[derive(Clone, Copy)]
+pub struct RunsAsked {
+    pub screen: Screen,
+    pub row: usize,
+    pub span: TileSpan,
 }
 
 /// Two calls of `unset_runs`.
 pub fn unset_twice(
-    a: &mut RunsLent<'_>,
-    b: &mut RunsLent<'_>,
-    screen: Screen,
-    row: usize,
-    span: TileSpan,
+    a_depth: &[u32],
+    a_list: &mut [u32],
+    b_depth: &[u32],
+    b_list: &mut [u32],
+    asked: RunsAsked,
 ) -> Twice<Result<usize, Refusal>>
-    ensures { runs-words a.old ≡ runs-words b.old
-        → (result.0 ≡ result.1) × (runs-words a.new ≡ runs-words b.new) }
+    ensures { (a_depth.now, a_list.old) ≡ (b_depth.now, b_list.old) → (result.0 ≡ result.1) × (a_list.new ≡ b_list.new) }
 {
+    let RunsAsked { screen, row, span } = asked;
     (
-        unset_runs(screen, row, a.depth, span, a.list),
-        unset_runs(screen, row, b.depth, span, b.list),
+        unset_runs(screen, row, a_depth, span, a_list),
+        unset_runs(screen, row, b_depth, span, b_list),
     )
 }
 
 /// Two calls of `visible_runs`.
 pub fn visible_twice(
-    a: &mut RunsLent<'_>,
-    b: &mut RunsLent<'_>,
-    screen: Screen,
-    row: usize,
-    span: TileSpan,
+    a_depth: &[u32],
+    a_list: &mut [u32],
+    b_depth: &[u32],
+    b_list: &mut [u32],
+    asked: RunsAsked,
     draw_id: u32,
 ) -> Twice<Result<usize, Refusal>>
-    ensures { runs-words a.old ≡ runs-words b.old
-        → (result.0 ≡ result.1) × (runs-words a.new ≡ runs-words b.new) }
+    ensures { (a_depth.now, a_list.old) ≡ (b_depth.now, b_list.old) → (result.0 ≡ result.1) × (a_list.new ≡ b_list.new) }
 {
+    let RunsAsked { screen, row, span } = asked;
     (
-        visible_runs(screen, row, a.depth, span, draw_id, a.list),
-        visible_runs(screen, row, b.depth, span, draw_id, b.list),
+        visible_runs(screen, row, a_depth, span, draw_id, a_list),
+        visible_runs(screen, row, b_depth, span, draw_id, b_list),
     )
 }
 

@@ -118,3 +118,16 @@ pub fn judge_skip(screen: Screen, row: usize, rows: usize) -> Result<(), Refusal
 {
     judge_row(screen, row, true, rows == screen.rows() * ROW)
 }
+
+/// Before a row's stored commands are read: 2, 1, 4, 12 for no such row.
+pub fn judge_stored(screen: Screen, row: usize, stored: &Stored<'_>) -> Result<(), Refusal> {
+    let n = screen.rows();
+    let arenas = stored.render_cmds.len() == n * (4 * screen.c as usize)
+        && stored.depth_cmds.len() == n * (2 * screen.d as usize);
+    judge_row(screen, row, arenas, stored.rows.len() == n * ROW)
+}
+
+/// Before the painting table is read: the same.
+pub fn judge_painting(screen: Screen, row: usize, painting: usize) -> Result<(), Refusal> {
+    judge_row(screen, row, true, painting == screen.rows() * 2)
+}

@@ -3,7 +3,7 @@
 use crate::state::{StateWords, before_4, screen_at, screen_of};
 use cmd::command::{Fill, RenderCmd};
 use cmd::depth_fill::DepthFill;
-use paint::{Canvas, Progress, RowLengths, Stored, depth_cmd, progress, render_cmd, row_lengths};
+use paint::{Canvas, Progress, RowLengths, Stored, depth_cmd, render_cmd, row_lengths, row_progress};
 use sizes::answers::Refusal;
 
 /// How many render commands and depth fills a row has. Laid out as in C.
@@ -162,9 +162,9 @@ pub extern "C" fn coarse_progress(
     told: &mut ProgressWords,
 ) -> u32 {
     let Some(screen) = screen_of(state, true) else {
-        return before_4(progress(screen_at(state), row, canvas.painting).map(|_| ()));
+        return before_4(row_progress(screen_at(state), row, canvas.painting).map(|_| ()));
     };
-    match progress(screen, row, canvas.painting) {
+    match row_progress(screen, row, canvas.painting) {
         Ok(Progress { steps, nesting }) => {
             *told = ProgressWords { steps, nesting };
             0

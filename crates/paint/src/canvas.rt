@@ -8,6 +8,6 @@ pub mod stored;
 
 pub use crate::pieces::Stepped;
 pub use begin::begin_painting;
-pub use reading::{Progress, RowLengths, depth_cmd, progress, render_cmd, row_lengths};
+pub use reading::{Progress, RowLengths, depth_cmd, render_cmd, row_lengths, row_progress};
 pub use rows::{can_skip, unset_runs, unset_runs_and_write, visible_runs};
 pub use stored::{Canvas, Stored};

@@ -9,8 +9,8 @@ pub mod shown;
 pub mod whole;
 
 pub use crate::canvas::{
-    Canvas, Progress, RowLengths, Stored, begin_painting, can_skip, depth_cmd, progress,
-    render_cmd, row_lengths, unset_runs, unset_runs_and_write, visible_runs,
+    Canvas, Progress, RowLengths, Stored, begin_painting, can_skip, depth_cmd, render_cmd,
+    row_lengths, row_progress, unset_runs, unset_runs_and_write, visible_runs,
 };
 pub use crate::pieces::Stepped;
 pub use crate::whole::{paint_row, paint_step};

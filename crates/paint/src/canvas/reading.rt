@@ -73,7 +73,7 @@ pub fn depth_cmd(
 }
 
 /// How far a row is painted, by the painting table. BadViewport, BadArena for no room in a row, BadRecord, BadRun for no such row.
-pub fn progress(screen: Screen, row: usize, painting: &[u32]) -> Result<Progress, Refusal> {
+pub fn row_progress(screen: Screen, row: usize, painting: &[u32]) -> Result<Progress, Refusal> {
     judge_painting(screen, row, painting.len())?;
     let words = part(painting, 2, row);
     Ok(Progress {

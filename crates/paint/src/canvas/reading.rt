@@ -1,5 +1,8 @@
 //! What is read of a row without painting it: how many render commands and depth fills are stored, each by its number, and how far the row is painted. All are
 //! public calls: they have no `requires`, and write nothing.
+ghost use Rattle.std.specs.Prelude.{◌≡◌, ◌≤◌, ◌<◌, IfOk};
+ghost use Rattle.paint.specs.StoredCmds.{lengths-of-row, command-of-row, depth-of-row, progress-of-row, lengths_of, command_read, depth_read, progress_of};
+
 use crate::canvas::judge::{judge_painting, judge_stored};
 use crate::canvas::stored::Stored;
 use cmd::command::{CmdWords, RenderCmd};
@@ -24,7 +27,9 @@ pub struct Progress {
 }
 
 /// How many commands and depth fills a row has. BadViewport, BadArena, BadRecord, BadRun for no such row.
-pub fn row_lengths(screen: Screen, row: usize, stored: &Stored<'_>) -> Result<RowLengths, Refusal> {
+pub fn row_lengths(screen: Screen, row: usize, stored: &Stored<'_>) -> Result<RowLengths, Refusal>
+    ensures { lengths_of result ≡ lengths-of-row screen row stored.now }
+{
     judge_stored(screen, row, stored)?;
     let state = part(stored.rows, ROW, row);
     let lengths = RowLengths {
@@ -44,15 +49,15 @@ pub fn render_cmd(
     row: usize,
     stored: &Stored<'_>,
     number: usize,
-) -> Result<RenderCmd, Refusal> {
+) -> Result<RenderCmd, Refusal>
+    ensures { command_read result ≡ command-of-row screen row stored.now number }
+{
     let lengths = row_lengths(screen, row, stored)?;
     if lengths.render_cmds as usize <= number {
         return Err(Refusal::BadRun);
     }
     let cmds = part(stored.render_cmds, 4 * screen.c as usize, row);
-    CmdWords::at(cmds, number)
-        .read()
-        .ok_or(Refusal::BadRecord)
+    CmdWords::at(cmds, number).read().ok_or(Refusal::BadRecord)
 }
 
 /// A row's depth fill of that number, from 0 on; they are painted from the last to the first, before the commands. Refused as a command is.
@@ -61,7 +66,9 @@ pub fn depth_cmd(
     row: usize,
     stored: &Stored<'_>,
     number: usize,
-) -> Result<DepthFill, Refusal> {
+) -> Result<DepthFill, Refusal>
+    ensures { depth_read result ≡ depth-of-row screen row stored.now number }
+{
     let lengths = row_lengths(screen, row, stored)?;
     if lengths.depth_cmds as usize <= number {
         return Err(Refusal::BadRun);
@@ -73,7 +80,9 @@ pub fn depth_cmd(
 }
 
 /// How far a row is painted, by the painting table. BadViewport, BadArena for no room in a row, BadRecord, BadRun for no such row.
-pub fn row_progress(screen: Screen, row: usize, painting: &[u32]) -> Result<Progress, Refusal> {
+pub fn row_progress(screen: Screen, row: usize, painting: &[u32]) -> Result<Progress, Refusal>
+    ensures { progress_of result ≡ progress-of-row screen row painting.now }
+{
     judge_painting(screen, row, painting.len())?;
     let words = part(painting, 2, row);
     Ok(Progress {

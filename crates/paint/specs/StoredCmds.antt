@@ -1,5 +1,5 @@
 -- What is read of row r of a screen without painting it: how many commands and depth fills it has, each by its number, and how far it is painted.
-use Rattle.std.specs.Prelude.{Result, Ok, Err, Option, None, Some, ℕ, ◌*◌, ◌&&◌, Bool, true, cond, List, length, leb, ltb, eqb, option_map}
+use Rattle.std.specs.Prelude.{Result, Option, None, Some, ℕ, ◌*◌, ◌&&◌, Bool, true, cond, List, length, leb, ltb, eqb}
 use Rattle.sizes.specs.Sizes.{row-size}
 use Rattle.sizes.specs.declared.answers.Refusal.{Refusal}
 use Rattle.rules.specs.Answers.{Answer, answer, Done, BadRecord, BadRun}

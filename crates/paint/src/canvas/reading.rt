@@ -1,6 +1,6 @@
 //! What is read of a row without painting it: how many render commands and depth fills are stored, each by its number, and how far the row is painted. All are
 //! public calls: they have no `requires`, and write nothing.
-ghost use Rattle.std.specs.Prelude.{◌≡◌, ◌≤◌, ◌<◌, IfOk};
+ghost use Rattle.std.specs.Prelude.{◌≡◌, ◌&&◌, leb};
 ghost use Rattle.paint.specs.StoredCmds.{lengths-of-row, command-of-row, depth-of-row, progress-of-row, lengths_of, command_read, depth_read, progress_of};
 
 use crate::canvas::judge::{judge_painting, judge_stored};
@@ -26,6 +26,13 @@ pub struct Progress {
     pub nesting: u32,
 }
 
+// No more than a row of the screen has room for.
+fn has_room(screen: Screen, lengths: RowLengths) -> bool
+    ensures { result ≡ (leb lengths.render_cmds screen.c && leb lengths.depth_cmds screen.d) }
+{
+    lengths.render_cmds <= screen.c && lengths.depth_cmds <= screen.d
+}
+
 /// How many commands and depth fills a row has. BadViewport, BadArena, BadRecord, BadRun for no such row.
 pub fn row_lengths(screen: Screen, row: usize, stored: &Stored<'_>) -> Result<RowLengths, Refusal>
     ensures { lengths_of result ≡ lengths-of-row screen row stored.now }
@@ -36,7 +43,7 @@ pub fn row_lengths(screen: Screen, row: usize, stored: &Stored<'_>) -> Result<Ro
         render_cmds: state[RENDERS],
         depth_cmds: state[DEPTHS],
     };
-    if screen.c < lengths.render_cmds || screen.d < lengths.depth_cmds {
+    if !has_room(screen, lengths) {
         return Err(Refusal::BadRecord);
     }
     Ok(lengths)

@@ -9,7 +9,7 @@ returns-then-levels-open c = pop-other c.args.c c.args.d c.args.open _ c.if-leve
 pub bounds-render_cmds-state : goal.bounds-render_cmds-state
 bounds-render_cmds-state c =
     place-within _ c.args.d _ (words c.args.state.now c.args.render_cmds.now c.args.depth_cmds.now) (sym c.is_good_row.ensures ∙ c.if-is_good_row.true)
-    c.if-levels-open.false refl refl c.requires.some c.requires.render
+    c.if-levels-open.false refl refl c.requires.some c.requires.render_cmds
 
 pub returns-then-is_good_row : goal.returns-then-is_good_row
 returns-then-is_good_row c = tag_at _ _ _ _ (sym c.is_good_row.ensures ∙ c.if-is_good_row.true) c.if-levels-open.false refl refl

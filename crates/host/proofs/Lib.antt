@@ -1,3 +1,4 @@
+pub mod RowReads
 pub mod Ways
 pub mod Built
 pub mod HostResults

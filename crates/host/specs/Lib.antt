@@ -11,3 +11,4 @@ pub mod OneLook
 pub mod Asked
 pub mod Results
 pub mod Called
+pub mod Reading

@@ -9,8 +9,8 @@ ghost use Rattle.host.specs.Spans.{found_call, spans_call};
 
 use crate::painting::coarse_visible_runs;
 use crate::state::StateWords;
-use paint::Canvas;
 use depth::forms::write_runs;
+use paint::Canvas;
 use sizes::BUCKET_END;
 use span::TileSpan;
 

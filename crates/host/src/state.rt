@@ -143,7 +143,7 @@ pub fn screen_of(state: &StateWords, good: bool) -> Option<Screen>
 
 /// The number of a call whose words are refused by 4 at the border, by what the call's own judge says: 1, 2 and 3 come first.
 #[tactic(auto, unfolding(crate::specs::State::before_4))]
-pub fn before_4(judged: Result<(), Refusal>) -> u32
+pub fn before_4<T: Copy>(judged: Result<T, Refusal>) -> u32
     ensures { result ≡ before_4 (answer_number judged) }
 {
     match judged {

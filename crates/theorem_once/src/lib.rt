@@ -6,6 +6,7 @@
 pub mod border;
 pub mod building;
 pub mod painting;
+pub mod reading;
 pub mod recordings;
 pub mod runs;
 pub mod texts;

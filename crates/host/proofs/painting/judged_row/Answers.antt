@@ -5,5 +5,5 @@ use Rattle.host.proofs.painting.judged_row.Goals as goal
 
 pub returns : goal.returns
 returns c =
-    let e = row_roomed _ _ _ _ _ _ _ _ _ _ _ _ c.in-Some.ensures c.paint_row-done.ensures c.put_step.ensures in
+    let e = row_roomed _ _ _ _ _ _ _ _ _ _ _ _ c.in-Some.ensures c.paint_row-done.ensures.painted c.put_step.ensures in
     search (rules, e)

@@ -5,5 +5,5 @@ use Rattle.host.proofs.painting.judged_step.Goals as goal
 
 pub returns : goal.returns
 returns c =
-    let e = step_roomed _ _ _ _ _ _ _ _ _ _ _ _ c.in-Some.ensures c.paint_step-done.ensures c.put_step.ensures in
+    let e = step_roomed _ _ _ _ _ _ _ _ _ _ _ _ c.in-Some.ensures c.paint_step-done.ensures.step c.put_step.ensures in
     search (rules, e)

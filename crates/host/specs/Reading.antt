@@ -3,7 +3,7 @@ use Rattle.std.specs.Prelude.{Option, None, Some, ℕ, ◌+◌, true, List, [], 
 use Rattle.rules.specs.Answers.{Answer, answer}
 use Rattle.rules.specs.Spans.{Span}
 use Rattle.rules.specs.Commands.{Command, paint-fill, layer-fill, push-buf, pop-buf, DepthFill}
-use Rattle.paint.specs.declared.canvas.stored.Stored.{Stored}
+use Rattle.row.specs.Words.{Words}
 use Rattle.paint.specs.StoredCmds.{Lengths, lengths-of-row, Gone, command-of-row, depth-of-row, progress-of-row}
 use Rattle.host.specs.declared.reading.RowLengthsWords.{RowLengthsWords}
 use Rattle.host.specs.declared.reading.RenderCmdWords.{RenderCmdWords}
@@ -55,13 +55,13 @@ of-some f (Some x) = f x
 abbrev pub read-left : {A : Type 0} → (A → List ℕ) → List ℕ → Answer A → Answer (List ℕ)
 read-left f old a = answer a.number (result a.number (f a.value) old)
 
-abbrev pub lengths_call : ℕ → Stored → List ℕ → List ℕ → Answer (List ℕ)
+abbrev pub lengths_call : ℕ → Words → List ℕ → List ℕ → Answer (List ℕ)
 lengths_call r t st old = on true st old (λ s. read-left lengths-parts old (lengths-of-row s r t))
 
-abbrev pub cmd_call : ℕ → Stored → ℕ → List ℕ → List ℕ → Answer (List ℕ)
+abbrev pub cmd_call : ℕ → Words → ℕ → List ℕ → List ℕ → Answer (List ℕ)
 cmd_call r t i st old = on true st old (λ s. read-left (of-some cmd-parts) old (command-of-row s r t i))
 
-abbrev pub depth_call : ℕ → Stored → ℕ → List ℕ → List ℕ → Answer (List ℕ)
+abbrev pub depth_call : ℕ → Words → ℕ → List ℕ → List ℕ → Answer (List ℕ)
 depth_call r t i st old = on true st old (λ s. read-left (of-some depth-parts) old (depth-of-row s r t i))
 
 abbrev pub progress_call : ℕ → List ℕ → List ℕ → List ℕ → Answer (List ℕ)

@@ -4,7 +4,7 @@ ghost use Rattle.std.specs.Prelude.{◌≡◌, ◌≤◌, [], ◌∷◌};
 ghost use Rattle.rules.specs.Answers.{answer};
 ghost use Rattle.span.specs.Spans.{tiles};
 ghost use Rattle.cmd.specs.Commands.{command};
-ghost use Rattle.paint.specs.StoredCmds.{lengths_of, command_read, depth_read, progress_of};
+ghost use Rattle.paint.specs.StoredCmds.{stored_words, lengths_of, command_read, depth_read, progress_of};
 ghost use Rattle.host.specs.Held.{words_in};
 ghost use Rattle.host.specs.Reading.{lengths_in, cmd_in, depth_in, progress_in, fill-parts, cmd-parts, depth-parts, lengths-parts, gone-parts, of-some, read-left, lengths_call, cmd_call, depth_call, progress_call};
 
@@ -167,7 +167,7 @@ pub extern "C" fn coarse_row_lengths(
     row: usize,
     lengths: &mut RowLengthsWords,
 ) -> u32
-    ensures { answer result (lengths_in lengths.new) ≡ lengths_call row stored.now (words_in state.now) (lengths_in lengths.old) }
+    ensures { answer result (lengths_in lengths.new) ≡ lengths_call row (stored_words stored.now) (words_in state.now) (lengths_in lengths.old) }
 {
     let Some(screen) = screen_of(state, true) else {
         return before_4(row_lengths(screen_at(state), row, stored));
@@ -184,7 +184,7 @@ pub extern "C" fn coarse_render_cmd(
     number: usize,
     cmd: &mut RenderCmdWords,
 ) -> u32
-    ensures { answer result (cmd_in cmd.new) ≡ cmd_call row stored.now number (words_in state.now) (cmd_in cmd.old) }
+    ensures { answer result (cmd_in cmd.new) ≡ cmd_call row (stored_words stored.now) number (words_in state.now) (cmd_in cmd.old) }
 {
     let Some(screen) = screen_of(state, true) else {
         return before_4(render_cmd(screen_at(state), row, stored, number));
@@ -201,7 +201,7 @@ pub extern "C" fn coarse_depth_cmd(
     number: usize,
     fill: &mut DepthCmdWords,
 ) -> u32
-    ensures { answer result (depth_in fill.new) ≡ depth_call row stored.now number (words_in state.now) (depth_in fill.old) }
+    ensures { answer result (depth_in fill.new) ≡ depth_call row (stored_words stored.now) number (words_in state.now) (depth_in fill.old) }
 {
     let Some(screen) = screen_of(state, true) else {
         return before_4(depth_cmd(screen_at(state), row, stored, number));

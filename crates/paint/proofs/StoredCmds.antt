@@ -13,7 +13,7 @@ use Rattle.cmd.specs.Commands.{command}
 use Rattle.cmd.specs.DepthFills.{depth-fill}
 use Rattle.rules.proofs.All.{and_left, and_right}
 use Rattle.screen.specs.declared.Screen.{Screen}
-use Rattle.paint.specs.declared.canvas.stored.Stored.{Stored}
+use Rattle.row.specs.Words.{Words}
 use Rattle.paint.specs.Answers.{word}
 use Rattle.paint.specs.Painting.{command-at, depth-fill-at}
 use Rattle.paint.specs.Judging.{count, wide, rows_long, painting-long}
@@ -22,29 +22,29 @@ use Rattle.paint.specs.StoredCmds.{stored-long, stored_number, progress_number, 
 use Rattle.paint.proofs.Judged.{There, there-by}
 use Rattle.paint.proofs.ScreenParts.{lies}
 
-module _ (s : Screen) (r : ℕ) (t : Stored) where
-  stored-there : stored_number s r t ≡ 0 → There s r (stored-long s (length t.render_cmds.now) (length t.depth_cmds.now)) (rows_long s (length t.rows.now))
+module _ (s : Screen) (r : ℕ) (t : Words) where
+  stored-there : stored_number s r t ≡ 0 → There s r (stored-long s (length t.render) (length t.fills)) (rows_long s (length t.state))
   unfolding stored_number
   stored-there h = there-by s r _ _ h
 
   -- row r's parts lie within the words
   pub record Parts : Type 0 where
-    pub state : Within 54 r t.rows.now
-    pub render : Within (4 * s.c) r t.render_cmds.now
-    pub fills : Within (2 * s.d) r t.depth_cmds.now
+    pub state : Within 54 r t.state
+    pub render : Within (4 * s.c) r t.render
+    pub fills : Within (2 * s.d) r t.fills
     pub c-few : s.c ≤ 1024
     pub d-few : s.d ≤ 1024
 
   pub parts : 0 ≡ stored_number s r t → Parts
   parts h =
       let o = stored-there (sym h) in
-      let re = eqb (length t.render_cmds.now) (count s * (4 * s.c)) in
-      let fi = eqb (length t.depth_cmds.now) (count s * (2 * s.d)) in
+      let re = eqb (length t.render) (count s * (4 * s.c)) in
+      let fi = eqb (length t.fills) (count s * (2 * s.d)) in
       let p = o.passed in
       record {
-        state = lies (count s) r 54 t.rows.now o.there p.few (omega arith) p.tables;
-        render = lies (count s) r (4 * s.c) t.render_cmds.now o.there p.few (omega (arith, p.c-room.few)) (and_left re fi p.arenas);
-        fills = lies (count s) r (2 * s.d) t.depth_cmds.now o.there p.few (omega (arith, p.d-room.few)) (and_right re fi p.arenas);
+        state = lies (count s) r 54 t.state o.there p.few (omega arith) p.tables;
+        render = lies (count s) r (4 * s.c) t.render o.there p.few (omega (arith, p.c-room.few)) (and_left re fi p.arenas);
+        fills = lies (count s) r (2 * s.d) t.fills o.there p.few (omega (arith, p.d-room.few)) (and_right re fi p.arenas);
         c-few = p.c-room.few;
         d-few = p.d-room.few;
       }
@@ -53,7 +53,7 @@ module _ (s : Screen) (r : ℕ) (t : Stored) where
   unfolding lengths-of-row
   lengths_refused k e = rw (← e, ne_eqb (number_of k) 0 (not_done k))
 
-  pub lengths_done : 0 ≡ stored_number s r t → (a : Answer Lengths) → a ≡ record-lengths s (part 54 r t.rows.now) → a ≡ lengths-of-row s r t
+  pub lengths_done : 0 ≡ stored_number s r t → (a : Answer Lengths) → a ≡ record-lengths s (part 54 r t.state) → a ≡ lengths-of-row s r t
   unfolding lengths-of-row
   lengths_done h a e = rw (← h) e
 
@@ -71,7 +71,7 @@ module _ (s : Screen) (r : ℕ) (t : Stored) where
       n = stored_number s r t
 
       w : List ℕ
-      w = part 54 r t.rows.now
+      w = part 54 r t.state
 
       fit : (x : Bool) → (leb (word w 0) s.c && leb (word w 1) s.d) ≡ x → 0 ≡ n
           → answer 0 l ≡ cond x (answer 0 (lengths (word w 0) (word w 1))) (answer 4 (lengths 0 0)) → Counted l
@@ -107,7 +107,7 @@ module _ (s : Screen) (r : ℕ) (t : Stored) where
 
     -- .. and there
     pub command_done : i < l.commands → (o : Option RenderCmd)
-        → option_map command o ≡ command-at (part (4 * s.c) r t.render_cmds.now) i → command_read (ok_or o refusal.BadRecord) ≡ command-of-row s r t i
+        → option_map command o ≡ command-at (part (4 * s.c) r t.render) i → command_read (ok_or o refusal.BadRecord) ≡ command-of-row s r t i
     unfolding command-of-row
     command_done h o q = rw (← e, lt-ltb i l.commands h, ← q) (go o)
       where
@@ -116,7 +116,7 @@ module _ (s : Screen) (r : ℕ) (t : Stored) where
         go (Some x) = refl
 
     pub depth_done : i < l.depths → (o : Option code.DepthFill)
-        → option_map depth-fill o ≡ depth-fill-at (wide s) (part (2 * s.d) r t.depth_cmds.now) i → depth_read (ok_or o refusal.BadRecord) ≡ depth-of-row s r t i
+        → option_map depth-fill o ≡ depth-fill-at (wide s) (part (2 * s.d) r t.fills) i → depth_read (ok_or o refusal.BadRecord) ≡ depth-of-row s r t i
     unfolding depth-of-row
     depth_done h o q = rw (← e, lt-ltb i l.depths h, ← q) (go o)
       where

@@ -9,6 +9,7 @@ use Rattle.cmd.specs.declared.depth_fill.DepthFill as code
 use Rattle.cmd.specs.Commands.{command}
 use Rattle.cmd.specs.DepthFills.{depth-fill}
 use Rattle.depth.specs.Answers.{answered}
+use Rattle.row.specs.Words.{Words, words}
 use Rattle.screen.specs.declared.Screen.{Screen}
 use Rattle.paint.specs.declared.canvas.stored.Stored.{Stored}
 use Rattle.paint.specs.declared.canvas.reading.RowLengths.{RowLengths}
@@ -18,14 +19,18 @@ use Rattle.paint.specs.Painting.{command-at, depth-fill-at}
 use Rattle.paint.specs.Judging.{count, wide, judged, of_row, rows_long, painting-long}
 use Rattle.paint.specs.Stepping.{part}
 
+-- the words of the rows among what is stored
+abbrev pub stored_words : Stored → Words
+stored_words t = words t.rows.now t.render_cmds.now t.depth_cmds.now
+
 -- the arenas that are read have their lengths
 abbrev pub stored-long : Screen → ℕ → ℕ → Bool
 stored-long s render fills = eqb render (count s * (4 * s.c)) && eqb fills (count s * (2 * s.d))
 
 -- 2, 1, 4, 12 for no such row
-unfoldable pub stored_number : Screen → ℕ → Stored → ℕ
-stored_number s r t =
-    of_row (judged s (stored-long s (length t.render_cmds.now) (length t.depth_cmds.now)) (rows_long s (length t.rows.now))) s r
+unfoldable pub stored_number : Screen → ℕ → Words → ℕ
+stored_number s r w =
+    of_row (judged s (stored-long s (length w.render) (length w.fills)) (rows_long s (length w.state))) s r
 
 unfoldable pub progress_number : Screen → ℕ → ℕ → ℕ
 progress_number s r painting = of_row (judged s true (painting-long s painting)) s r
@@ -51,12 +56,12 @@ and-then a none f = cond (eqb a.number Done) (f a.value) (answer a.number none)
 
 -- by the row's record: no more than there is room for, else 4
 abbrev pub record-lengths : Screen → List ℕ → Answer Lengths
-record-lengths s w =
-    cond (leb (word w 0) s.c && leb (word w 1) s.d) (answer Done (lengths (word w 0) (word w 1))) (answer BadRecord (lengths 0 0))
+record-lengths s k =
+    cond (leb (word k 0) s.c && leb (word k 1) s.d) (answer Done (lengths (word k 0) (word k 1))) (answer BadRecord (lengths 0 0))
 
-unfoldable pub lengths-of-row : Screen → ℕ → Stored → Answer Lengths
-lengths-of-row s r t =
-    let n = stored_number s r t in cond (eqb n Done) (record-lengths s (part row-size r t.rows.now)) (answer n (lengths 0 0))
+unfoldable pub lengths-of-row : Screen → ℕ → Words → Answer Lengths
+lengths-of-row s r w =
+    let n = stored_number s r w in cond (eqb n Done) (record-lengths s (part row-size r w.state)) (answer n (lengths 0 0))
 
 -- what words stand for; 4 for nothing
 abbrev pub or-bad : {A : Type 0} → Option A → Answer (Option A)
@@ -64,15 +69,15 @@ or-bad (Some x) = answer Done (Some x)
 or-bad None = answer BadRecord None
 
 -- the command, and the depth fill, of number i; 12 where there is none
-unfoldable pub command-of-row : Screen → ℕ → Stored → ℕ → Answer (Option Command)
-command-of-row s r t i =
-    and-then (lengths-of-row s r t) None
-    (λ l. cond (ltb i l.commands) (or-bad (command-at (part (4 * s.c) r t.render_cmds.now) i)) (answer BadRun None))
+unfoldable pub command-of-row : Screen → ℕ → Words → ℕ → Answer (Option Command)
+command-of-row s r w i =
+    and-then (lengths-of-row s r w) None
+    (λ l. cond (ltb i l.commands) (or-bad (command-at (part (4 * s.c) r w.render) i)) (answer BadRun None))
 
-unfoldable pub depth-of-row : Screen → ℕ → Stored → ℕ → Answer (Option DepthFill)
-depth-of-row s r t i =
-    and-then (lengths-of-row s r t) None
-    (λ l. cond (ltb i l.depths) (or-bad (depth-fill-at (wide s) (part (2 * s.d) r t.depth_cmds.now) i)) (answer BadRun None))
+unfoldable pub depth-of-row : Screen → ℕ → Words → ℕ → Answer (Option DepthFill)
+depth-of-row s r w i =
+    and-then (lengths-of-row s r w) None
+    (λ l. cond (ltb i l.depths) (or-bad (depth-fill-at (wide s) (part (2 * s.d) r w.fills) i)) (answer BadRun None))
 
 unfoldable pub progress-of-row : Screen → ℕ → List ℕ → Answer Gone
 progress-of-row s r painting =

@@ -14,8 +14,8 @@ use crate::rows::RowText;
 use crate::{Out, Print};
 use row::{Rows, part};
 use screen::{Screen, judge_screen};
-use sizes::answers::Refusal;
 use sizes::ROW;
+use sizes::answers::Refusal;
 
 // A line's bytes at most.
 const LINE: usize = 64;

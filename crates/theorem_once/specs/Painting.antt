@@ -14,11 +14,11 @@ canvas-words c = (c.depth.now, c.painting.now)
 abbrev pub begin-words : BeginLent → Screen × (List ℕ × List ℕ)
 begin-words l = (l.screen, canvas-words l.canvas)
 
-abbrev pub paint-words : PaintLent → List (List ℕ) × ((List ℕ × List ℕ) × List ℕ)
+abbrev pub paint-words : PaintLent → List (List ℕ) × (List ℕ × List ℕ) × List ℕ
 paint-words l = (stored-words l.stored, canvas-words l.canvas, l.list.now)
 
-abbrev pub write-words : WriteLent → Screen × (List ℕ × List ℕ)
+abbrev pub write-words : WriteLent → Screen × List ℕ × List ℕ
 write-words l = (l.screen, l.depth.now, l.list.now)
 
-abbrev pub row-text-words : RowTextLent → List (List ℕ) × ((List ℕ × List ℕ) × (List ℕ × List ℕ))
+abbrev pub row-text-words : RowTextLent → List (List ℕ) × (List ℕ × List ℕ) × List ℕ × List ℕ
 row-text-words l = (stored-words l.stored, canvas-words l.canvas, l.list.now, l.bytes.now)

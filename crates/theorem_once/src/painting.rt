@@ -85,7 +85,7 @@ pub fn unset_twice(
     b_list: &mut [u32],
     asked: RunsAsked,
 ) -> Twice<Result<usize, Refusal>>
-    ensures { (a_depth.now, a_list.old) ≡ (b_depth.now, b_list.old) → (result.0 ≡ result.1) × (a_list.new ≡ b_list.new) }
+    ensures { (a_depth.now ≡ b_depth.now) × (a_list.old ≡ b_list.old) → (result.0 ≡ result.1) × (a_list.new ≡ b_list.new) }
 {
     let RunsAsked { screen, row, span } = asked;
     (
@@ -103,7 +103,7 @@ pub fn visible_twice(
     asked: RunsAsked,
     draw_id: u32,
 ) -> Twice<Result<usize, Refusal>>
-    ensures { (a_depth.now, a_list.old) ≡ (b_depth.now, b_list.old) → (result.0 ≡ result.1) × (a_list.new ≡ b_list.new) }
+    ensures { (a_depth.now ≡ b_depth.now) × (a_list.old ≡ b_list.old) → (result.0 ≡ result.1) × (a_list.new ≡ b_list.new) }
 {
     let RunsAsked { screen, row, span } = asked;
     (

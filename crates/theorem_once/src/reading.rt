@@ -1,8 +1,7 @@
 //! Each call that reads a row without painting it: paint's, and the host's.
 ghost use Rattle.std.specs.Prelude.{◌≡◌};
-ghost use Rattle.paint.specs.StoredCmds.{lengths_of, command_read, depth_read, progress_of};
+ghost use Rattle.paint.specs.StoredCmds.{stored_words, lengths_of, command_read, depth_read, progress_of};
 ghost use Rattle.host.specs.Reading.{lengths_in, cmd_in, depth_in, progress_in};
-ghost use Rattle.theorem_once.specs.Words.{stored-words};
 ghost use Rattle.theorem_once.specs.Reading.{lengths-words, cmd-words, depth-words, progress-words};
 
 use crate::Twice;
@@ -26,7 +25,7 @@ pub fn lengths_twice(
     screen: Screen,
     row: usize,
 ) -> Twice<Result<RowLengths, Refusal>>
-    ensures { stored-words a.now ≡ stored-words b.now → lengths_of result.0 ≡ lengths_of result.1 }
+    ensures { stored_words a.now ≡ stored_words b.now → lengths_of result.0 ≡ lengths_of result.1 }
 {
     (row_lengths(screen, row, a), row_lengths(screen, row, b))
 }
@@ -39,7 +38,7 @@ pub fn cmd_twice(
     row: usize,
     number: usize,
 ) -> Twice<Result<RenderCmd, Refusal>>
-    ensures { stored-words a.now ≡ stored-words b.now → command_read result.0 ≡ command_read result.1 }
+    ensures { stored_words a.now ≡ stored_words b.now → command_read result.0 ≡ command_read result.1 }
 {
     (
         render_cmd(screen, row, a, number),
@@ -55,7 +54,7 @@ pub fn depth_twice(
     row: usize,
     number: usize,
 ) -> Twice<Result<DepthFill, Refusal>>
-    ensures { stored-words a.now ≡ stored-words b.now → depth_read result.0 ≡ depth_read result.1 }
+    ensures { stored_words a.now ≡ stored_words b.now → depth_read result.0 ≡ depth_read result.1 }
 {
     (
         depth_cmd(screen, row, a, number),

@@ -2,7 +2,7 @@
 ghost use Rattle.std.specs.Prelude.{◌≡◌, true, length};
 ghost use Rattle.sizes.specs.Refusals.{answer_number};
 ghost use Rattle.paint.specs.Judging.{depth-long, arenas-long, tables-long, judged, of_row, begin_number, step_number, runs_number, skip_number};
-ghost use Rattle.paint.specs.StoredCmds.{stored_number, progress_number};
+ghost use Rattle.paint.specs.StoredCmds.{stored_words, stored_number, progress_number};
 
 use crate::canvas::stored::Stored;
 use screen::{Screen, is_good_room};
@@ -123,7 +123,7 @@ pub fn judge_skip(screen: Screen, row: usize, rows: usize) -> Result<(), Refusal
 /// Before a row's stored commands are read: 2, 1, 4, 12 for no such row.
 #[tactic(auto, unfolding(crate::specs::StoredCmds::stored_number))]
 pub fn judge_stored(screen: Screen, row: usize, stored: &Stored<'_>) -> Result<(), Refusal>
-    ensures { answer_number result ≡ stored_number screen row stored.now }
+    ensures { answer_number result ≡ stored_number screen row (stored_words stored.now) }
 {
     let n = screen.rows();
     let arenas = stored.render_cmds.len() == n * (4 * screen.c as usize)

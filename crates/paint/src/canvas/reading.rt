@@ -1,7 +1,7 @@
 //! What is read of a row without painting it: how many render commands and depth fills are stored, each by its number, and how far the row is painted. All are
 //! public calls: they have no `requires`, and write nothing.
 ghost use Rattle.std.specs.Prelude.{◌≡◌, ◌&&◌, leb};
-ghost use Rattle.paint.specs.StoredCmds.{lengths-of-row, command-of-row, depth-of-row, progress-of-row, lengths_of, command_read, depth_read, progress_of};
+ghost use Rattle.paint.specs.StoredCmds.{stored_words, lengths-of-row, command-of-row, depth-of-row, progress-of-row, lengths_of, command_read, depth_read, progress_of};
 
 use crate::canvas::judge::{judge_painting, judge_stored};
 use crate::canvas::stored::Stored;
@@ -35,7 +35,7 @@ fn has_room(screen: Screen, lengths: RowLengths) -> bool
 
 /// How many commands and depth fills a row has. BadViewport, BadArena, BadRecord, BadRun for no such row.
 pub fn row_lengths(screen: Screen, row: usize, stored: &Stored<'_>) -> Result<RowLengths, Refusal>
-    ensures { lengths_of result ≡ lengths-of-row screen row stored.now }
+    ensures { lengths_of result ≡ lengths-of-row screen row (stored_words stored.now) }
 {
     judge_stored(screen, row, stored)?;
     let state = part(stored.rows, ROW, row);
@@ -57,7 +57,7 @@ pub fn render_cmd(
     stored: &Stored<'_>,
     number: usize,
 ) -> Result<RenderCmd, Refusal>
-    ensures { command_read result ≡ command-of-row screen row stored.now number }
+    ensures { command_read result ≡ command-of-row screen row (stored_words stored.now) number }
 {
     let lengths = row_lengths(screen, row, stored)?;
     if lengths.render_cmds as usize <= number {
@@ -74,7 +74,7 @@ pub fn depth_cmd(
     stored: &Stored<'_>,
     number: usize,
 ) -> Result<DepthFill, Refusal>
-    ensures { depth_read result ≡ depth-of-row screen row stored.now number }
+    ensures { depth_read result ≡ depth-of-row screen row (stored_words stored.now) number }
 {
     let lengths = row_lengths(screen, row, stored)?;
     if lengths.depth_cmds as usize <= number {

@@ -29,7 +29,11 @@ fn show_row(answers: &mut Answers<'_>, i: u32, shape: Shape, lent: &Lent<'_>) {
     let renders = word_at(lent.rows, row) as usize;
     let depths = word_at(lent.rows, row + 1) as usize;
     answers.put_part(lent.rows, row, 6);
-    answers.put_part(lent.render_cmds, i * shape.render_cmds as usize, 4 * renders);
+    answers.put_part(
+        lent.render_cmds,
+        i * shape.render_cmds as usize,
+        4 * renders,
+    );
     answers.put_part(lent.depth_cmds, i * shape.depth_cmds as usize, 2 * depths);
     let buckets = shape.depth as usize;
     answers.put_part(lent.depth, i * buckets, buckets);

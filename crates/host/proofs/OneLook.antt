@@ -1,15 +1,15 @@
 -- Where the one look says yes, the exact judge says 0. Assumes nothing.
-use mathlib.Core.Path.{◌≡◌, refl}
-use mathlib.Core.Bool.{Bool, true, false, ◌&&◌}
-use Prim.Native.Nat.{ℕ, ◌≤◌, ◌<◌, ◌*◌, ◌-◌}
+use mathlib.Core.Path.{◌≡◌}
+use mathlib.Core.Bool.{true, false, ◌&&◌}
+use Prim.Native.Nat.{ℕ, ◌*◌, ◌-◌}
 use lib.Dec.{leb, eqb}
-use borrow.Author.Tests.{eqb-true, leb-true}
-use Rattle.rules.specs.Boxes.{Box, box, good_viewport}
+use borrow.Author.Tests.{eqb-true}
+use Rattle.rules.specs.Boxes.{box, good_viewport}
 use Rattle.rules.proofs.All.{and_left, and_right}
-use Rattle.rect.specs.Rects.{box_of, same-box}
+use Rattle.rect.specs.Rects.{same-box}
 use Rattle.screen.specs.declared.Screen.{Screen}
 use Rattle.screen.specs.Screens.{good_screen, good_clip}
-use Rattle.paint.specs.Judging.{count, wide, arenas-long, tables-long, paints-on, judged, step_number}
+use Rattle.paint.specs.Judging.{count, wide, arenas-long, tables-long, judged, step_number}
 use Rattle.host.specs.declared.state.StateWords.{StateWords}
 use Rattle.std.specs.Prelude.{Some}
 use Rattle.host.specs.State.{screen-at, screen_of}

@@ -1,5 +1,5 @@
 -- Where the host's words stand for no screen, a call that reads a row gives what it would say of the words' numbers, at the border.
-use Rattle.std.proofs.Common.{◌≡◌, refl, ap, sym, ◌∙◌, true, List, None, ℕ, Result, Ok, Err}
+use Rattle.std.proofs.Common.{◌≡◌, refl, ap, ◌∙◌, true, List, None, ℕ, Result, Ok, Err}
 use Rattle.sizes.specs.declared.answers.Refusal.{Refusal}
 use Rattle.sizes.specs.Refusals.{answer_number}
 use Rattle.rules.specs.Answers.{Answer, answer}

@@ -4,19 +4,17 @@ use Rattle.rules.specs.Answers.{Answer}
 use Rattle.row.specs.Words.{Words}
 use Rattle.span.specs.declared.TileSpan.{TileSpan}
 use Rattle.rules.specs.Spans.{span}
-use Rattle.screen.specs.declared.Screen.{Screen}
 use Rattle.screen.specs.declared.lent.Lent.{Lent}
 use Rattle.screen.specs.Lent.{tables_in}
 use Rattle.screen.specs.Tables.{Tables}
 use Rattle.paint.specs.declared.canvas.stored.Stored.{Stored}
-use Rattle.paint.specs.Painting.{RowLent}
 use Rattle.paint.specs.Named.{row_lent, row_attrs}
 use Rattle.host.specs.declared.state.StateWords.{StateWords}
 use Rattle.host.specs.declared.state.SetupWords.{SetupWords}
 use Rattle.paint.specs.declared.canvas.stored.Canvas.{Canvas}
 use Rattle.host.specs.declared.build.DrawWords.{DrawWords}
-use Rattle.host.specs.declared.build.PropsWords.{PropsWords}
-use Rattle.host.specs.declared.build.FilterWords.{FilterWords}
+use Rattle.host.specs.declared.layers.PropsWords.{PropsWords}
+use Rattle.host.specs.declared.layers.FilterWords.{FilterWords}
 use Rattle.host.specs.declared.reasons.QuestionWords.{QuestionWords}
 use Rattle.host.specs.declared.reasons.ReasonWords.{ReasonWords}
 use Rattle.host.specs.declared.results.PaintedWords.{PaintedWords}

@@ -1,5 +1,5 @@
 -- Structs with slices in them, that a host lends: what they hold, that a call leaves the slices themselves, and which of them hold what they held.
-use Rattle.std.specs.Prelude.{◌≡◌, length}
+use Rattle.std.specs.Prelude.{◌≡◌}
 use Rattle.row.specs.Words.{Words, words}
 use Rattle.screen.specs.declared.lent.Lent.{Lent}
 use Rattle.pop.specs.Pop.{PopLent, pop_lent}

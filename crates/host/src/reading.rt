@@ -1,5 +1,5 @@
-//! What a host reads of a row without painting it: how many render commands and depth fills it has, each by its number, and how far it is painted. Each refuses as
-//! the call of its name in `paint`. And the version of the library.
+//! What a host reads of a row without painting it: how many render commands and depth fills it has, each by its number, and how far it is painted. Each
+//! refuses as the call of its name in `paint`. And the version of the library.
 ghost use Rattle.std.specs.Prelude.{◌≡◌, ◌≤◌, [], ◌∷◌};
 ghost use Rattle.rules.specs.Answers.{answer};
 ghost use Rattle.span.specs.Spans.{tiles};
@@ -24,8 +24,8 @@ pub struct RowLengthsWords {
     pub depth_cmds: u32,
 }
 
-/// A render command: its tag (1 and 2 PaintFill without and with alpha, 3 and 4 LayerFill, 5 and 6 PushBuf without and with a span, 7 PopBuf), the first tile and
-/// the end of its span, its alpha index and its attribute; 0 for what the tag has none of. Laid out as in C.
+/// A render command: its tag (1 and 2 PaintFill without and with alpha, 3 and 4 LayerFill, 5 and 6 PushBuf without and with a span, 7 PopBuf), the first tile
+/// and the end of its span, its alpha index and its attribute; 0 for what the tag has none of. Laid out as in C.
 #[repr(C)]
 #[derive(Clone, Copy, Debug, PartialEq, Eq)]
 pub struct RenderCmdWords {

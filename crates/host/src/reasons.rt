@@ -25,8 +25,8 @@ pub struct QuestionWords {
     pub attribute: u32,
 }
 
-/// A reason's case (0 unknown attribute, 1 no segment, 2 cut away, 3 row untouched, 4 hidden, 5 shown); the attribute that hides or the place in the tile's list,
-/// else 0; the asked attribute's panel, and that of the attribute that hides, else 0. Laid out as in C.
+/// A reason's case (0 unknown attribute, 1 no segment, 2 cut away, 3 row untouched, 4 hidden, 5 shown); the attribute that hides or the place in the tile's
+/// list, else 0; the asked attribute's panel, and that of the attribute that hides, else 0. Laid out as in C.
 #[repr(C)]
 #[derive(Clone, Copy, Debug, PartialEq, Eq)]
 pub struct ReasonWords {
@@ -79,8 +79,8 @@ fn is_good_question(layer: u32, n: usize) -> bool
     layer <= 1 && n == REASON
 }
 
-/// A recording is bucketed, and answers for a paint's attribute or a layer's at one tile. Refused as the recording call, by 4 also where layer is above 1; then by
-/// 12 off the screen.
+/// A recording is bucketed, and answers for a paint's attribute or a layer's at one tile. Refused as the recording call, by 4 also where layer is above 1;
+/// then by 12 off the screen.
 #[unsafe(no_mangle)]
 #[tactic(auto, using(crate::proofs::HostAsked::why_unasked))]
 pub extern "C" fn coarse_why(

@@ -19,6 +19,7 @@ use sizes::answers::Refusal;
 use sizes::{MOST_ROOM, ROW};
 
 pub mod ends;
+pub mod looks;
 pub mod pieces;
 pub mod plain;
 pub mod reading;
@@ -27,7 +28,8 @@ pub mod run;
 /// No row has more steps: C, D and the one that finds nothing left.
 pub const MOST_STEPS: usize = 2 * MOST_ROOM as usize + 1;
 
-/// At most `limit` steps of a row that is there, of `b` buckets, painting having begun: the row's own parts are handed on. A part of the calls, and of a host's.
+/// At most `limit` steps of a row that is there, of `b` buckets, painting having begun: the row's own parts are handed on. A part of the calls, and of those
+/// of a host.
 #[inline(always)]
 pub fn row_part(
     screen: Screen,
@@ -43,7 +45,8 @@ pub fn row_part(
     requires ready { RowReady screen row stored.now canvas.old list.old }
     ensures same { SameCanvas canvas.old canvas.new }
     ensures painted { step_out (painted_of result) canvas.new list.new
-        ≡ row-run (bucket-tiles screen.width) limit (used_attrs screen stored.now) (wide screen) screen.c screen.d row (row_lent stored.now canvas.old list.old) }
+        ≡ row-run (bucket-tiles screen.width) limit (used_attrs screen stored.now) (wide screen) screen.c screen.d row
+        (row_lent stored.now canvas.old list.old) }
 {
     let u = row * b;
     let v = row * 2;
@@ -92,8 +95,8 @@ pub fn paint_step(
     row_part(screen, b, row, stored, canvas, list, 1)
 }
 
-/// The row's next steps, one after the other, until one is refused or the row is finished; refused where the first step is. The pieces stand one after the other
-/// in the list. finished: no step is left. At most MOST_STEPS, which no row passes.
+/// The row's next steps, one after the other, until one is refused or the row is finished; refused where the first step is. The pieces stand one after the
+/// other in the list. finished: no step is left. At most MOST_STEPS, which no row passes.
 pub fn paint_row(
     screen: Screen,
     row: usize,

@@ -6,9 +6,9 @@ ghost use Rattle.host.specs.Sizes.{length-words};
 ghost use Rattle.theorem_once.specs.Border.{screen-words, recording-words, pop-words, pop-left, begin-words, fill-words, why-words, paint-words, paint-left, runs-words, runs-left, write-left, spans-words, spans-left, skip-words};
 
 use crate::Twice;
-use host::build::{
-    DrawWords, FilterWords, PropsWords, coarse_bucket_recording, coarse_fill, coarse_filter_fill,
-    coarse_pop_layer, coarse_push_layer, coarse_reset,
+use host::build::{DrawWords, coarse_bucket_recording, coarse_fill, coarse_reset};
+use host::layers::{
+    FilterWords, PropsWords, coarse_filter_fill, coarse_pop_layer, coarse_push_layer,
 };
 use host::lengths::coarse_sizes;
 use host::painting::{

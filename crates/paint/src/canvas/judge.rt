@@ -93,7 +93,9 @@ pub fn judge_step(
     depth: usize,
     painting: usize,
 ) -> Result<(), Refusal>
-    ensures { answer_number result ≡ step_number screen row (arenas-long screen (length stored.now.render_cmds.now) (length stored.now.depth_cmds.now) depth) (tables-long screen (length stored.now.rows.now) painting (length stored.now.paint_attrs.now) (length stored.now.layer_attrs.now)) }
+    ensures { answer_number result ≡ step_number screen row
+        (arenas-long screen (length stored.now.render_cmds.now) (length stored.now.depth_cmds.now) depth)
+        (tables-long screen (length stored.now.rows.now) painting (length stored.now.paint_attrs.now) (length stored.now.layer_attrs.now)) }
 {
     let arenas = is_arenas(screen, stored, depth);
     let tables = is_tables(screen, stored, painting);

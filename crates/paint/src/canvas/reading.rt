@@ -49,8 +49,8 @@ pub fn row_lengths(screen: Screen, row: usize, stored: &Stored<'_>) -> Result<Ro
     Ok(lengths)
 }
 
-/// A row's render command of that number, from 0 on, in the order in which they are painted. BadViewport, BadArena, BadRecord, also where the words are no command;
-/// BadRun for no such row or no such command.
+/// A row's render command of that number, from 0 on, in the order in which they are painted. BadViewport, BadArena, BadRecord, also where the words are no
+/// command; BadRun for no such row or no such command.
 pub fn render_cmd(
     screen: Screen,
     row: usize,

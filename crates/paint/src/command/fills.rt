@@ -30,7 +30,8 @@ pub fn paint_depth(
     list: &mut [u32],
     width: Width,
 ) -> Result<Stepped, Refusal>
-    requires first_bound { (fill.buckets.first ≤ fill.buckets.«end») × (fill.buckets.«end» ≤ length canvas.old.depth.now) × (fill.buckets.«end» ≤ 65535) × (0 < mark.id) }
+    requires first_bound { (fill.buckets.first ≤ fill.buckets.«end») × (fill.buckets.«end» ≤ length canvas.old.depth.now)
+        × (fill.buckets.«end» ≤ 65535) × (0 < mark.id) }
     requires painting { CanStep canvas.old.painting.now }
     ensures same { SameCanvas canvas.old canvas.new }
     ensures painted { step_out (painted_of result) canvas.new list.new
@@ -84,7 +85,8 @@ pub fn paint_fill(
     mark: Mark,
     list: &mut [u32],
 ) -> Result<Stepped, Refusal>
-    requires first_bound { (fill.span.first ≤ fill.span.«end») × (fill.span.«end» ≤ tile-end) × Moves fill.alpha (fill.span.«end» - fill.span.first) × (length canvas.old.depth.now ≤ 65535) }
+    requires first_bound { (fill.span.first ≤ fill.span.«end») × (fill.span.«end» ≤ tile-end)
+        × Moves fill.alpha (fill.span.«end» - fill.span.first) × (length canvas.old.depth.now ≤ 65535) }
     requires painting { CanStep canvas.old.painting.now }
     ensures same { SameCanvas canvas.old canvas.new }
     ensures painted { step_out (painted_of result) canvas.new list.new

@@ -93,7 +93,8 @@ fn step_command(
     }
 }
 
-/// One step of a row: its depth fills last to first, then its commands in order, then finished, as often as asked. The canvas has the row's own words. BadRecord, 4, for words that are no row's; NoRoom, 14.
+/// One step of a row: its depth fills last to first, then its commands in order, then finished, as often as asked. The canvas has the row's own words.
+/// BadRecord, 4, for words that are no row's; NoRoom, 14.
 pub fn step_row(
     row: &StoredRow<'_>,
     canvas: &mut Canvas<'_>,

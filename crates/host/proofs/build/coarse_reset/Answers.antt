@@ -1,6 +1,6 @@
 -- Words that ask for no setup are refused. Where the state's words stand for no screen the border answers; else the call's own equation, carried over to
 -- the words.
-use Rattle.std.proofs.Common.{◌∙◌, rules, true}
+use Rattle.std.proofs.Common.{◌∙◌, rules}
 use Rattle.screen.specs.Screens.{setup-of}
 use Rattle.screen.specs.Tables.{Tables}
 use Rattle.screen.specs.Lent.{tables_in}

@@ -1,5 +1,4 @@
 -- The call's own equation, carried over to the words.
-use Rattle.std.proofs.Common.{rules}
 use Rattle.host.proofs.Built.{begin_built}
 use Rattle.host.proofs.painting.coarse_begin_painting.Goals as goal
 

@@ -1,7 +1,6 @@
 -- Where the one look is sure, the row's own steps are the call's.
 use mathlib.Core.Path.{sym, ◌∙◌}
 use native.Mathlib.Omega.{arith}
-use borrow.Author.Tests.{ltb-false}
 use Rattle.std.proofs.Common.{rules}
 use Rattle.paint.proofs.ScreenParts.{ready, step_done}
 use Rattle.paint.proofs.WholeParts.{step-is-run}

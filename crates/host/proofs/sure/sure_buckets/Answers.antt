@@ -1,14 +1,13 @@
 -- What the one look sees, part by part, is what the exact judge asks.
 use mathlib.Core.Path.{◌≡◌, sym, ◌∙◌}
 use mathlib.Core.Bool.{true, ◌&&◌}
-use native.Mathlib.Omega.{arith}
 use lib.Dec.{ltb}
 use Prim.Native.Nat.{◌/◌}
 use borrow.Author.Tests.{ltb-true, lt-leb, leb-true}
 use Rattle.rules.specs.Boxes.{good_viewport}
 use Rattle.rules.proofs.All.{and_left, and_right}
 use Rattle.screen.proofs.ScreenLaws.{few_rows, few-buckets}
-use Rattle.host.specs.OneLook.{corner-box, rooms}
+use Rattle.host.specs.OneLook.{corner-box}
 use Rattle.host.specs.State.{width-at}
 use Rattle.host.proofs.OneLook.{told, sure, stands}
 use Rattle.host.proofs.sure.sure_buckets.Goals as goal

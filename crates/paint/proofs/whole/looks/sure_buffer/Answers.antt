@@ -1,6 +1,6 @@
 use Rattle.std.proofs.Common.{sym, ◌∙◌}
 use Rattle.paint.proofs.Saying.{push-bare, push-tiles, pop-bare}
-use Rattle.paint.proofs.whole.plain.sure_buffer.Goals as goal
+use Rattle.paint.proofs.whole.looks.sure_buffer.Goals as goal
 
 pub returns-then-nesting-lt-MOST_LAYERS : goal.returns-then-nesting-lt-MOST_LAYERS
 returns-then-nesting-lt-MOST_LAYERS c =

@@ -6,8 +6,8 @@ use Rattle.rules.specs.Depth.{can_skip}
 use Rattle.cmd.specs.Reading.{word-span}
 use Rattle.paint.specs.Kinds.{low-met, summary-by}
 use Rattle.paint.proofs.Looks.{Meets, seen_all, hidden-all, one_seen, one-hidden, clear_shown, all_seen, all-hidden, some-seen, some-hidden}
-use Rattle.paint.proofs.whole.plain.sure_fill.Goals as goal
-use Rattle.paint.proofs.whole.plain.sure_fill.Goals.{After-is_apart, After-below-a}
+use Rattle.paint.proofs.whole.looks.sure_fill.Goals as goal
+use Rattle.paint.proofs.whole.looks.sure_fill.Goals.{After-is_apart, After-below-a}
 
 -- the fill is in order, and its buckets are there
 there : (c : After-is_apart) → Meets c.args.width c.args.depth.now c.args.words c.above-e.result

@@ -1,7 +1,7 @@
 use Rattle.std.proofs.Common.{sym, ◌∙◌, arith}
 use Rattle.paint.specs.Reading.{attrs_of}
 use Rattle.paint.proofs.Saying.{fill_step, gives-whole, gives-none, gives_part}
-use Rattle.paint.proofs.whole.plain.look_at.Goals as goal
+use Rattle.paint.proofs.whole.looks.look_at.Goals as goal
 
 pub returns-then-words-gt4 : goal.returns-then-words-gt4
 returns-then-words-gt4 c = c.sure_buffer.ensures _ _ _ _

@@ -37,7 +37,7 @@ fn step_on(
 
 /// The row's steps, at most `limit`, until one is refused or the row is finished: commands that one look settles together, every other step by itself. Refused,
 /// 4 or 14, only where the first step is.
-#[inline(never)]
+#[inline(always)]
 pub fn run_row(
     row: &StoredRow<'_>,
     canvas: &mut Canvas<'_>,
@@ -85,7 +85,7 @@ pub fn run_row(
 }
 
 /// The same, the two parts of the row's canvas lent one by one.
-#[inline(always)]
+#[inline(never)]
 pub fn run_parts(
     row: &StoredRow<'_>,
     depth: &mut [u32],

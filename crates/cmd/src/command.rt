@@ -227,6 +227,7 @@ impl CmdWords {
     /// The command that the words stand for, or none: an unknown tag, a span past tile 8,192, an alpha index that cannot be moved over it, or an unused word
     /// that is not 0.
     #[tactic(auto, unfolding(crate::specs::Reading::command_of))]
+    #[inline(always)]
     pub fn read(self) -> Option<RenderCmd>
         ensures { option_map command result ≡ read-words self }
     {

@@ -172,7 +172,7 @@ impl Brush {
 
     /// A row's step or steps into the list from piece `at` on: whether the row has come to its end, and how many pieces.
     #[inline]
-    fn paint_on(
+    pub(crate) fn paint_on(
         &mut self,
         call: sys::Paint,
         state: &sys::StateWords,

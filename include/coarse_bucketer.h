@@ -1,6 +1,7 @@
 /* A screen that owns its tables, over the calls of coarse.h: one allocation holds them all, so that no two overlap and every length
  * is right. Calls have the original's names. Each returns an answer of coarse.h, or COARSE_NO_MEMORY where memory ran out, and then
- * nothing has changed. A call that is not done leaves what its pointers are to receive. One thread at a time may use a bucketer.
+ * nothing has changed. A call that is not done leaves what its pointers are to receive. One thread at a time may use a bucketer,
+ * but for calls whose bucketer is const: several may read it at once, and paint it, each on a canvas of its own.
  *
  * As coarse.h says it, what is drawn is of the scene: boxes in pixels, segments in tiles, counted from the scene's corner. What is
  * painted or asked about is of the screen: rows, tiles and depth buckets, counted from the viewport's corner. No box, range or run has
@@ -13,38 +14,38 @@
 #include <string.h>
 
 /* opaque: 1 or 0. The handle is the host's own. */
-typedef struct { uint32_t opaque, handle; int32_t shift_x, shift_y; } coarse_paint;
+typedef struct coarse_paint { uint32_t opaque, handle; int32_t shift_x, shift_y; } coarse_paint;
 
 /* Neighbouring tiles of a row of the scene. kind 0: solid, alpha 0; kind 1: alpha is the index of the first tile, which has 16. */
-typedef struct { uint32_t kind, row, first, end, alpha; } coarse_segment;
+typedef struct coarse_segment { uint32_t kind, row, first, end, alpha; } coarse_segment;
 
 /* A clip's segments are start to end of the list that is lent to the pop. */
-typedef struct { coarse_rect box; uint32_t start, end, thread; } coarse_clip;
+typedef struct coarse_clip { coarse_rect box; uint32_t start, end, thread; } coarse_clip;
 
 /* A layer's properties. clip: null for none. panel: whose layer it is; left out, 0. */
-typedef struct { coarse_blend blend; float opacity; uint32_t mask; const coarse_clip *clip; uint32_t panel; } coarse_layer_props;
+typedef struct coarse_layer_props { coarse_blend blend; float opacity; uint32_t mask; const coarse_clip *clip; uint32_t panel; } coarse_layer_props;
 
 /* Where a filter layer's picture is drawn, and from where in it, in its pixels. */
-typedef struct { coarse_rect dest; uint32_t source_x, source_y; } coarse_placement;
+typedef struct coarse_placement { coarse_rect dest; uint32_t source_x, source_y; } coarse_placement;
 
 /* tag: COARSE_PAINT_FILL to COARSE_LAYER_FILL_ALPHA. first, end: tiles of the screen. alpha: the index of the first tile's alphas, or 0.
  * nesting: how many buffers are open there. panel: its attribute's. */
-typedef struct { uint32_t tag, attribute, first, end, alpha, nesting, panel; } coarse_piece;
+typedef struct coarse_piece { uint32_t tag, attribute, first, end, alpha, nesting, panel; } coarse_piece;
 
 /* Tiles of the screen, or buckets from coarse_bucketer_unset_runs_and_write. */
 typedef coarse_span coarse_run;
 
 /* origin_x, origin_y: the viewport's x0 and y0, in pixels of the scene. */
-typedef struct { uint32_t paint; coarse_blend blend; uint32_t mask, draw_id, thread, origin_x, origin_y, panel; } coarse_paint_attrs;
-typedef struct { coarse_blend blend; float opacity; uint32_t mask, draw_id, thread, panel; } coarse_layer_attrs;
+typedef struct coarse_paint_attrs { uint32_t paint; coarse_blend blend; uint32_t mask, draw_id, thread, origin_x, origin_y, panel; } coarse_paint_attrs;
+typedef struct coarse_layer_attrs { coarse_blend blend; float opacity; uint32_t mask, draw_id, thread, panel; } coarse_layer_attrs;
 
 /* The paint of a filter fill: the picture's handle, and its shift, in pixels: source_x less the box's x0, source_y less its y0. It stands
  * after the paint list: with paint_count n, filter paint i is the one that a paint attribute names by n + i. */
-typedef struct { uint32_t pixmap; int32_t shift_x, shift_y; } coarse_filter_paint;
+typedef struct coarse_filter_paint { uint32_t pixmap; int32_t shift_x, shift_y; } coarse_filter_paint;
 
 /* An open layer. box: its own, in pixels from the viewport's corner: its clip's, met with the box around it. clip: as it was pushed, in
  * pixels of the scene, if has_clip is 1, else zeros. */
-typedef struct {
+typedef struct coarse_open_layer {
     coarse_blend blend;
     float opacity;
     uint32_t mask, has_clip;
@@ -54,7 +55,7 @@ typedef struct {
 } coarse_open_layer;
 
 /* A screen. The tables point into `block`, and so do what is stored and the canvas; everything here is the calls' own. */
-typedef struct {
+typedef struct coarse_bucketer {
     coarse_setup setup;
     coarse_state state;
     coarse_lengths sizes;
@@ -321,6 +322,30 @@ static inline uint32_t coarse_bucketer_depth_cmd(const coarse_bucketer *b, size_
 /* How far a row of the screen is painted: steps done, and how many buffers are open after them. */
 static inline uint32_t coarse_bucketer_progress(const coarse_bucketer *b, size_t row, coarse_row_progress *told) {
     return coarse_progress(&b->state, &b->canvas, row, told);
+}
+
+/* What the calls of coarse.h read of the screen: a thread that paints it on a canvas of its own hands these to coarse_paint_step,
+ * coarse_paint_row, coarse_progress and the calls for runs. They stand until the screen has other tables. */
+static inline const coarse_state *coarse_bucketer_state(const coarse_bucketer *b) { return &b->state; }
+static inline const coarse_stored *coarse_bucketer_stored(const coarse_bucketer *b) { return &b->stored; }
+
+/* A canvas beside the screen's own, at the first step of every row. COARSE_OPEN where painting has not begun: then, and without memory,
+ * there is nothing to free. Several threads may paint one screen so, each with a canvas, while none changes the screen. */
+static inline uint32_t coarse_bucketer_canvas(const coarse_bucketer *b, coarse_canvas *canvas) {
+    uint32_t *words;
+    if (!coarse_bucketer_is_painting(b))
+        return COARSE_OPEN;
+    words = (uint32_t *)calloc(b->sizes.depth + b->sizes.painting + 1, sizeof *words);
+    if (!words)
+        return COARSE_NO_MEMORY;
+    canvas->depth = words, canvas->depth_len = b->sizes.depth;
+    canvas->painting = words + b->sizes.depth, canvas->painting_len = b->sizes.painting;
+    return COARSE_DONE;
+}
+
+static inline void coarse_bucketer_canvas_free(coarse_canvas *canvas) {
+    free(canvas->depth);
+    memset(canvas, 0, sizeof *canvas);
 }
 
 /* The depth words of a row of the screen, one for each bucket: the id of the newest depth fill that is painted there, or 0. They stand

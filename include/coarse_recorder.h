@@ -20,11 +20,11 @@
 #define COARSE_NODE_RECORD 3
 
 /* Records of one kind, so many words each, one after the other. */
-typedef struct { uint32_t *words; size_t count, room; } coarse_records;
+typedef struct coarse_records { uint32_t *words; size_t count, room; } coarse_records;
 
 /* What is recorded so far. All of it is the calls' own. Nodes stand in `nodes` once their layer is closed; before that, and for good where
  * they are in no layer, in `pending`: those of the outermost layer first, and level k's from from[k] on. */
-typedef struct {
+typedef struct coarse_recorder {
     coarse_rect viewport;
     coarse_records paints, segments, draws, layers, nodes, pending, file;
     size_t open, from[COARSE_MOST_LAYERS + 1], layer[COARSE_MOST_LAYERS + 1];

@@ -704,6 +704,9 @@ static void stored_commands(void) {
     coarse_command cmd;
     coarse_depth_fill fill;
     coarse_row_progress told;
+    coarse_canvas other = {NULL, 0, NULL, 0};
+    coarse_painted painted = {0, 0};
+    uint32_t list_words[700] = {0};
     const coarse_piece *pieces;
     const uint32_t *words = NULL;
     size_t i, count = 0;
@@ -762,6 +765,8 @@ static void stored_commands(void) {
     expect("not painted yet", COARSE_DONE, coarse_bucketer_progress(&b, 0, &told));
     expect("no steps", 0, told.steps + told.nesting);
     expect("no painting", 0, (uint32_t)coarse_bucketer_is_painting(&b));
+    expect("no other canvas", COARSE_OPEN, coarse_bucketer_canvas(&b, &other));
+    expect("it is none", 1, other.depth == NULL && other.painting_len == 0);
     expect("reading changes nothing", before, sum(&b));
     expect("painting", COARSE_DONE, coarse_bucketer_begin_painting(&b));
     expect("has begun", 1, (uint32_t)coarse_bucketer_is_painting(&b));
@@ -772,6 +777,17 @@ static void stored_commands(void) {
         expect("a step", COARSE_DONE, coarse_bucketer_paint_step(&b, 0, &finished, &pieces, &count));
         expect("none is left", i + 1 == STEPS, (uint32_t)finished);
     }
+    blocks = 0;
+    expect("no memory for a canvas", COARSE_NO_MEMORY, coarse_bucketer_canvas(&b, &other));
+    blocks = SIZE_MAX;
+    expect("a canvas", COARSE_DONE, coarse_bucketer_canvas(&b, &other));
+    expect("on which no step is done", COARSE_DONE, coarse_progress(coarse_bucketer_state(&b), &other, 0, &told));
+    expect("not one", 0, told.steps + told.nesting);
+    expect("a row on it", COARSE_DONE, coarse_paint_row(coarse_bucketer_state(&b), coarse_bucketer_stored(&b), &other, 0, list_words, 700, &painted));
+    expect("to its end", 1, painted.finished);
+    expect("steps there", COARSE_DONE, coarse_progress(coarse_bucketer_state(&b), &other, 0, &told));
+    expect("are as many", STEPS - 1, told.steps);
+    coarse_bucketer_canvas_free(&other);
     expect("depth words", COARSE_DONE, coarse_bucketer_depth_words(&b, 0, &words, &count));
     expect("of 3 buckets", 3, (uint32_t)count);
     expect("hold the fill's id", 1, count == 3 ? words[0] : 0);

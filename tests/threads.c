@@ -41,7 +41,8 @@ static uint32_t drawn(coarse_bucketer *screen) {
 /* What a thread works with, and the pieces that it got, one row after the other. */
 typedef struct {
     const coarse_bucketer *screen;
-    uint32_t *depth, *painting, *pieces;
+    coarse_canvas canvas;
+    uint32_t *pieces;
     size_t words;
     int done;
 } job;
@@ -49,18 +50,17 @@ typedef struct {
 static void *paint(void *given) {
     job *j = (job *)given;
     const coarse_bucketer *b = j->screen;
-    coarse_canvas canvas = {NULL, 0, NULL, 0};
+    const coarse_state *state = coarse_bucketer_state(b);
+    const coarse_stored *stored = coarse_bucketer_stored(b);
     coarse_row_progress told = {0, 0};
     size_t row;
-    canvas.depth = j->depth, canvas.depth_len = b->sizes.depth;
-    canvas.painting = j->painting, canvas.painting_len = b->sizes.painting;
     for (row = 0; row < ROWS; row++) {
         coarse_painted painted = {0, 0};
-        coarse_row_counts stored = {0, 0};
-        if (coarse_paint_row(&b->state, &b->stored, &canvas, row, j->pieces + j->words, ROOM - j->words, &painted) != COARSE_DONE || painted.finished != 1)
+        coarse_row_counts lengths = {0, 0};
+        if (coarse_paint_row(state, stored, &j->canvas, row, j->pieces + j->words, ROOM - j->words, &painted) != COARSE_DONE || painted.finished != 1)
             return NULL;
-        if (coarse_progress(&b->state, &canvas, row, &told) != COARSE_DONE || coarse_bucketer_row_lengths(b, row, &stored) != COARSE_DONE ||
-            told.steps != stored.render_cmds + stored.depth_cmds)
+        if (coarse_progress(state, &j->canvas, row, &told) != COARSE_DONE || coarse_bucketer_row_lengths(b, row, &lengths) != COARSE_DONE ||
+            told.steps != lengths.render_cmds + lengths.depth_cmds)
             return NULL;
         j->words += painted.pieces * COARSE_PIECE;
     }
@@ -86,17 +86,15 @@ static void *draw_and_paint(void *given) {
 }
 
 static job job_on(const coarse_bucketer *screen) {
-    job made = {screen, NULL, NULL, NULL, 0, 0};
-    made.depth = (uint32_t *)calloc(screen->sizes.depth + 1, sizeof(uint32_t));
-    made.painting = (uint32_t *)calloc(screen->sizes.painting + 1, sizeof(uint32_t));
+    job made = {screen, {NULL, 0, NULL, 0}, NULL, 0, 0};
     made.pieces = (uint32_t *)calloc(ROOM, sizeof(uint32_t));
-    if (!made.depth || !made.painting || !made.pieces)
+    if (coarse_bucketer_canvas(screen, &made.canvas) != COARSE_DONE || !made.pieces)
         exit(2);
     return made;
 }
 
 static void let_go(job *j) {
-    free(j->depth), free(j->painting), free(j->pieces);
+    coarse_bucketer_canvas_free(&j->canvas), free(j->pieces);
 }
 
 /* Four threads of the kind, and what each got beside what one thread gets. */

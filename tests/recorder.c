@@ -1,11 +1,12 @@
 /* The recorder: scenes that are drawn by direct calls and recorded, whose recordings leave the same screen word for word; records with any numbers in
- * them, which the recorder refuses exactly where and as the file's judge refuses the file that has them; what is refused changes nothing.
+ * them, which the recorder refuses exactly where and as the file's judge refuses the file that has them; what is refused changes nothing. And of these screens:
+ * a buffer is cleared over all that its own level fills and composites.
  *     recorder [SCENES [SEED]]        400 scenes, seed 1
  * Prints each thing that does not hold; the status is 1 if anything does not. Wants coarse_recorder.h on the include path. */
 #include "coarse_recorder.h"
 #include <stdio.h>
 
-static unsigned long wrong, scenes, steps, judged, refused;
+static unsigned long wrong, scenes, steps, judged, refused, buffered;
 
 static void hold(int holds, const char *what, uint32_t number) {
     if (!holds && wrong++ < 20)
@@ -160,6 +161,34 @@ static void same_screens(const char *what) {
     hold(words_of(&direct) == words_of(&recorded) && memcmp(direct.block, recorded.block, 4 * words_of(&direct)) == 0, what, recorded.state.next_draw_id);
 }
 
+/* Each row's buffers: what is filled or composited at a buffer's own level lies in the span that it is cleared over, and without a span there is nothing; each
+ * that opens ends. */
+static void buffers_hold(const coarse_bucketer *b) {
+    coarse_command open[COARSE_MOST_LAYERS + 1];
+    coarse_row_counts stored = {0, 0};
+    coarse_command cmd = {0, 0, 0, 0, 0};
+    size_t row, i, nesting;
+    for (row = 0; row < coarse_bucketer_rows(b); row++) {
+        expect("a row's commands", COARSE_DONE, coarse_bucketer_row_lengths(b, row, &stored));
+        for (i = 0, nesting = 0; i < stored.render_cmds; i++) {
+            expect("a command", COARSE_DONE, coarse_bucketer_render_cmd(b, row, i, &cmd));
+            if (cmd.tag == COARSE_PUSH_BUF || cmd.tag == COARSE_PUSH_BUF_SPAN) {
+                hold(nesting < COARSE_MOST_LAYERS, "more buffers than layers", cmd.tag);
+                open[nesting < COARSE_MOST_LAYERS ? ++nesting : nesting] = cmd;
+            } else if (cmd.tag == COARSE_POP_BUF) {
+                hold(nesting > 0, "an end of no buffer", cmd.tag);
+                nesting -= nesting > 0;
+            } else {
+                int is_layer = cmd.tag == COARSE_LAYER_FILL || cmd.tag == COARSE_LAYER_FILL_ALPHA;
+                hold(!is_layer || nesting > 0, "a layer's fill without a buffer", cmd.tag);
+                hold(nesting == 0 || (open[nesting].tag == COARSE_PUSH_BUF_SPAN && open[nesting].first <= cmd.first && cmd.end <= open[nesting].end), "a fill past its buffer's span", cmd.tag);
+                buffered += nesting > 0;
+            }
+        }
+        hold(nesting == 0, "a buffer that does not end", (uint32_t)nesting);
+    }
+}
+
 static void scene(void) {
     uint32_t n = below(40), k;
     const uint32_t *file;
@@ -183,6 +212,7 @@ static void scene(void) {
         pop_step();
     expect("the recording", COARSE_DONE, coarse_recorder_bucket(&recorder, &recorded));
     same_screens("another screen than by direct calls");
+    buffers_hold(&recorded);
     /* Asked why, the screen is the recording's too. */
     expect("why", COARSE_DONE, coarse_recorder_why(&recorder, &recorded, below(ROWS), below(TILES), (int)below(2), below(9), &reason));
     hold(reason.reason <= COARSE_SHOWN, "a reason", reason.reason);
@@ -417,6 +447,7 @@ int main(int argc, char **argv) {
     full_sections();
     no_panels();
     empty();
+    hold(buffered > count, "fills in buffers", (uint32_t)buffered);
     hold(refused > judged / 10 && refused < judged - judged / 10, "records refused", (uint32_t)refused);
     printf("%lu scenes of %lu steps, %lu records judged, %lu of them refused; %lu things do not hold\n", count, steps, judged, refused, wrong);
     coarse_recorder_free(&recorder);

@@ -87,7 +87,7 @@ static inline const char *coarse_answer_text(uint32_t answer) {
     case COARSE_BAD_RUN: return "BadRun: no such row, tile or command, or a range out of order or past its limit, or id 0 where an id is written";
     case COARSE_OPEN: return "Open: a layer is still open, or painting has not begun";
     case COARSE_NO_ROOM: return "NoRoom: the result list is shorter than the result";
-    case COARSE_NO_MEMORY: return "NoMemory: memory could not be had, and nothing has changed";
+    case COARSE_NO_MEMORY: return "NoMemory: out of memory, and nothing has changed";
     default: return "an answer that no call of this library gives";
     }
 }

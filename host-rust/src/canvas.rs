@@ -251,11 +251,7 @@ impl Brush {
         Err(Answer::NoRoom)
     }
 
-    pub(crate) fn progress(
-        &self,
-        state: &sys::StateWords,
-        row: usize,
-    ) -> Result<Progress, Answer> {
+    pub(crate) fn progress(&self, state: &sys::StateWords, row: usize) -> Result<Progress, Answer> {
         let mut told = sys::ProgressWords::default();
         Answer::check(unsafe { sys::coarse_progress(state, &self.words, row, &mut told) })?;
         let sys::ProgressWords { steps, nesting } = told;
@@ -436,7 +432,7 @@ impl Canvas {
 
     /// Whether it belongs to the painting of this screen, as it stands.
     fn belongs(&self, screen: &CommandBucketer) -> Result<(), Answer> {
-        if self.begun == screen.begun() {
+        if self.begun == screen.begun() && screen.is_painting() {
             Ok(())
         } else {
             Err(Answer::Open)
@@ -468,7 +464,7 @@ impl Canvas {
     /// As [`CommandBucketer::progress`], on this canvas.
     ///
     /// # Errors
-    /// [`Answer::Open`] where the canvas is another screen's or of an earlier painting, [`Answer::BadRun`] for no such row.
+    /// As [`paint_step`](Self::paint_step).
     pub fn progress(&self, screen: &CommandBucketer, row: usize) -> Result<Progress, Answer> {
         self.belongs(screen)?;
         self.brush.progress(screen.state(), row)

@@ -159,7 +159,10 @@ impl<'a> Rows<'a> {
 
     /// How many rows of tiles are left.
     #[must_use]
-    #[expect(clippy::len_without_is_empty, reason = "an iterator, as its own length has it")]
+    #[expect(
+        clippy::len_without_is_empty,
+        reason = "an iterator, as its own length has it"
+    )]
     pub fn len(&self) -> usize {
         self.left.len()
     }

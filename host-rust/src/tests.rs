@@ -245,7 +245,11 @@ fn the_worked_example() {
     let mut bucketer = CommandBucketer::from_wh(4, 4, Setup::new(64, 64)).unwrap();
     bucketer.bucket_commands(&file).unwrap();
     assert_eq!(
-        (bucketer.rows().len(), bucketer.buckets(), bucketer.next_draw_id()),
+        (
+            bucketer.rows().len(),
+            bucketer.buckets(),
+            bucketer.next_draw_id()
+        ),
         (2, 2, 4)
     );
     bucketer.begin_painting().unwrap();
@@ -525,7 +529,10 @@ fn no_panels() {
     assert_eq!(*bucketer.state(), *before.state());
     let words = |b: &CommandBucketer| {
         let t = b.clone().parts().1.clone();
-        ([t.render_cmds, t.rows, t.layers, t.paint_attrs], t.filter_paints)
+        (
+            [t.render_cmds, t.rows, t.layers, t.paint_attrs],
+            t.filter_paints,
+        )
     };
     assert_eq!(words(&bucketer), words(&before));
     // So are words of a table with such a panel, where they are read: the inner layer's, then the first fill's.
@@ -743,7 +750,10 @@ fn refusals_change_nothing() {
         Err(Answer::Deep)
     );
     assert_eq!(bucketer.begin_painting(), Err(Answer::Open));
-    assert_eq!((bucketer.open_layers().len(), bucketer.next_draw_id()), (16, 1));
+    assert_eq!(
+        (bucketer.open_layers().len(), bucketer.next_draw_id()),
+        (16, 1)
+    );
 }
 
 #[test]

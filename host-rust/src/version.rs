@@ -34,8 +34,8 @@ const fn number(digits: &str) -> u32 {
 }
 
 /// The first two numbers, as `coarse_version` has them but for the third.
-const CALLS: u32 = number(env!("CARGO_PKG_VERSION_MAJOR")) << 8
-    | number(env!("CARGO_PKG_VERSION_MINOR"));
+const CALLS: u32 =
+    number(env!("CARGO_PKG_VERSION_MAJOR")) << 8 | number(env!("CARGO_PKG_VERSION_MINOR"));
 
 /// Whether the calls of an archive of this version are those that this crate was written for.
 fn is_same(version: u32) -> bool {

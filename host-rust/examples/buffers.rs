@@ -105,13 +105,16 @@ fn paint(screen: &mut CommandBucketer, row: usize) -> Result<(String, Vec<Piece>
         }
         buffers.truncate(open + 1);
         for piece in &pieces {
-            for tile in piece.first as usize..piece.end as usize {
-                if piece.is_layer() {
-                    buffers[open - 1][tile] = buffers[open][tile].or(buffers[open - 1][tile]);
-                } else {
-                    let paint = paints[piece.attrs_idx as usize];
-                    buffers[open][tile] = Some(LETTERS[paint as usize]);
+            let tiles = piece.first as usize..piece.end as usize;
+            if piece.is_layer() {
+                let shown = buffers[open][tiles.clone()].to_vec();
+                let below = &mut buffers[open - 1][tiles];
+                for (tile, shown) in below.iter_mut().zip(shown) {
+                    *tile = shown.or(*tile);
                 }
+            } else {
+                let paint = paints[piece.attrs_idx as usize];
+                buffers[open][tiles].fill(Some(LETTERS[paint as usize]));
             }
         }
         all.extend(pieces);

@@ -131,11 +131,16 @@ fn is_good_blend(blend: BlendMode) -> bool {
 /// Edges in order and in the scene, the left and the right one in whole tiles.
 fn is_good_dest(bounds: Rect) -> bool {
     let Rect { x0, y0, x1, y1 } = bounds;
-    x0 % 4 == 0 && x1 % 4 == 0 && x0 <= x1 && y0 <= y1 && x1 <= SCENE_END && y1 <= SCENE_END
+    x0.is_multiple_of(4)
+        && x1.is_multiple_of(4)
+        && x0 <= x1
+        && y0 <= y1
+        && x1 <= SCENE_END
+        && y1 <= SCENE_END
 }
 
 fn is_good_box(bounds: Rect) -> bool {
-    bounds.y0 % 4 == 0 && bounds.y1 % 4 == 0 && is_good_dest(bounds)
+    bounds.y0.is_multiple_of(4) && bounds.y1.is_multiple_of(4) && is_good_dest(bounds)
 }
 
 fn words_of(bounds: Rect) -> [u32; 4] {

@@ -337,6 +337,9 @@ fn refused<T: std::fmt::Debug + PartialEq>(
     assert_eq!(judged(&patched), answer, "{changed:?}");
 }
 
+/// The fields of a record that are other words than those of `small`.
+type Changed = &'static [(usize, u32)];
+
 /// Where the records stand among the words of `small`.
 const PAINT: usize = 6 + 4;
 const SEGMENT: usize = 15;
@@ -356,7 +359,7 @@ fn refused_paints_and_segments() {
     };
     refused(bad, PAINT, &[(0, 2)], |r| r.paint(paint(2, 2)));
     refused(bad, PAINT, &[(1, 1 << 31)], |r| r.paint(paint(0, 1 << 31)));
-    let segments: [(&[(usize, u32)], Segment); 7] = [
+    let segments: [(Changed, Segment); 7] = [
         (
             &[(0, 2)],
             Segment {
@@ -393,7 +396,7 @@ fn refused_paints_and_segments() {
 
 #[test]
 fn refused_draws() {
-    let fills: [(Answer, &[(usize, u32)], RecordedFill); 9] = [
+    let fills: [(Answer, Changed, RecordedFill); 9] = [
         (
             Answer::BadRecord,
             &[(0, 256)],
@@ -471,7 +474,7 @@ fn refused_draws() {
 #[test]
 fn refused_layers() {
     let clip = props().clip.unwrap();
-    let clips: [(Answer, &[(usize, u32)], LayerClip); 8] = [
+    let clips: [(Answer, Changed, LayerClip); 8] = [
         (
             Answer::BadRecord,
             &[(10, 18)],
@@ -551,7 +554,7 @@ fn refused_layers() {
         source_x: 0,
         source_y: 0,
     };
-    let placements: [(&[(usize, u32)], Option<u32>, FilterLayerPlacement); 5] = [
+    let placements: [(Changed, Option<u32>, FilterLayerPlacement); 5] = [
         (&[(0, 1), (15, (1 << 31) + 1)], Some(1 << 31), placement),
         (
             &[(0, 1), (18, 6)],

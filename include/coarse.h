@@ -100,7 +100,7 @@ static inline const char *coarse_answer_text(uint32_t answer) {
 /* Words of one record. An alpha index is the first tile's; a tile has 16. */
 #define COARSE_PAINT 4        /* a paint: 1 if opaque else 0, handle, shift x, shift y */
 #define COARSE_SEGMENT 5      /* a segment: 0 solid or 1 alpha; row, first tile, end tile of the scene; alpha index or 0 */
-#define COARSE_PIECE 7        /* a piece: 1 paint solid, 2 paint alpha, 3 layer solid, 4 layer alpha; attribute; first tile, end tile of the screen; alpha index or 0; nesting; panel */
+#define COARSE_PIECE 7        /* a piece: a fill's coarse_tag; attribute; first tile, end tile of the screen; alpha index or 0; nesting; panel */
 #define COARSE_RUN 2          /* a run: first, end, in tiles or buckets of the screen's row, as the call says */
 #define COARSE_OPEN_LAYER 17  /* an open layer's own; the last is its panel */
 #define COARSE_PAINT_ATTR 9   /* a paint attribute: paint, mix, compose, mask, draw id, thread, viewport's x0 and y0 (pixels of the scene), panel */

@@ -406,6 +406,12 @@ static inline uint32_t coarse_bucketer_visible_spans(const coarse_bucketer *b, s
     return coarse_visible_spans(&b->state, &b->canvas, row, span, id, list, room, count);
 }
 
+/* The runs of coarse_bucketer_unset_runs in such a list: those of the tiles that are visible for id 0. */
+static inline uint32_t coarse_bucketer_unset_spans(const coarse_bucketer *b, size_t row, uint32_t first, uint32_t end, coarse_span *list,
+                                                   size_t room, size_t *count) {
+    return coarse_bucketer_visible_spans(b, row, first, end, 0, list, room, count);
+}
+
 /* The unset runs of the buckets first to end of a row of the screen, as runs of buckets; the id is stored there, and painting ends. */
 static inline uint32_t coarse_bucketer_unset_runs_and_write(coarse_bucketer *b, size_t row, uint32_t first, uint32_t end, uint32_t id,
                                                             const coarse_run **runs, size_t *count) {

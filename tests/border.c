@@ -98,6 +98,10 @@ static void lent_spans(void) {
     expect("the first is cut", 10, list[0].first);
     expect("the last", 960, list[15].first);
     expect("the spans after them stay", 500, list[16].first);
+    expect("unset, 16 for 16", COARSE_DONE, coarse_bucketer_unset_spans(&b, 0, 10, 1024, list, 16, &count));
+    expect("unset runs", COARSE_DONE, coarse_bucketer_unset_runs(&b, 0, 10, 1024, &runs, &n));
+    expect("as many again", (uint32_t)n, (uint32_t)count);
+    expect("the same last one", runs[15].first, list[15].first);
     expect("no tiles, no list", COARSE_DONE, coarse_bucketer_visible_spans(&b, 0, 5, 5, 7, NULL, 0, &count));
     expect("no runs", 0, (uint32_t)count);
     coarse_bucketer_free(&b);

@@ -60,8 +60,8 @@ impl BucketRange {
 pub enum RenderCmd {
     /// Tiles of a draw, or of a filter layer's picture.
     PaintFill(PaintFill),
-    /// A layer's buffer opens, over the tiles that are touched within it. `None` where nothing of it is composited: it need not be cleared. An open
-    /// layer has its span only when it closes.
+    /// A layer's buffer opens, cleared over the tiles that its own level fills or composites. `None` where nothing of it is composited: it need not be
+    /// cleared. An open layer has its span only when it closes.
     PushBuf(Option<TileSpan>),
     /// The innermost buffer ends.
     PopBuf,

@@ -75,6 +75,9 @@ fn words_mut<T: Words>(records: &mut [T]) -> (*mut u32, usize) {
     (records.as_mut_ptr().cast(), size_of_val(records) / 4)
 }
 
+/// The words of a row's painting: steps done, and nesting.
+const PAINTING: usize = 2;
+
 /// The most runs that a row has: each second of 64 buckets.
 const MOST_RUNS: usize = 32;
 
@@ -418,7 +421,7 @@ impl Canvas {
         }
         let rows = screen.rows().len();
         self.depth.resize(rows * screen.buckets(), 0);
-        self.painting.resize(rows * 2, 0);
+        self.painting.resize(rows * PAINTING, 0);
         self.brush.words = sys::CanvasWords {
             depth: sys::Lent::of(&mut self.depth),
             painting: sys::Lent::of(&mut self.painting),

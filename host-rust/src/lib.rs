@@ -72,7 +72,6 @@ mod input;
 mod reason;
 mod recorder;
 mod stored;
-#[allow(missing_docs, reason = "the header has the words of each")]
 mod sys;
 mod version;
 

@@ -15,7 +15,7 @@ ARCHIVE = out/libcoarse.a
 CC = cc
 PKG = $(LIBDIR)/pkgconfig
 CMAKE = $(LIBDIR)/cmake/Coarse
-HEADERS = include/coarse.h include/coarse_bucketer.h include/coarse_version.h
+HEADERS = include/coarse.h include/coarse_bucketer.h include/coarse_recorder.h include/coarse_version.h
 DOCS = NOTICE LICENSE-APACHE LICENSE-MIT CHANGELOG.md
 
 help:

@@ -1,6 +1,7 @@
 /* A screen that owns its tables, over the calls of coarse.h: one allocation holds them all, so that no two overlap and every length
  * is right. Calls have the original's names. Each returns an answer of coarse.h, or COARSE_NO_MEMORY where memory ran out, and then
- * nothing has changed. A call that is not done leaves what its pointers are to receive. One thread at a time may use a bucketer.
+ * nothing has changed. A call that is not done leaves what its pointers are to receive. One thread at a time may use a bucketer,
+ * but for calls whose bucketer is const: several may read it at once, and paint it, each on a canvas of its own.
  *
  * As coarse.h says it, what is drawn is of the scene: boxes in pixels, segments in tiles, counted from the scene's corner. What is
  * painted or asked about is of the screen: rows, tiles and depth buckets, counted from the viewport's corner. No box, range or run has
@@ -12,38 +13,49 @@
 #include <stdlib.h>
 #include <string.h>
 
-/* No answer of the library: memory could not be had. */
-#define COARSE_NO_MEMORY 256u
-
 /* opaque: 1 or 0. The handle is the host's own. */
-typedef struct { uint32_t opaque, handle; int32_t shift_x, shift_y; } coarse_paint;
+typedef struct coarse_paint { uint32_t opaque, handle; int32_t shift_x, shift_y; } coarse_paint;
 
 /* Neighbouring tiles of a row of the scene. kind 0: solid, alpha 0; kind 1: alpha is the index of the first tile, which has 16. */
-typedef struct { uint32_t kind, row, first, end, alpha; } coarse_segment;
-
-#define COARSE_DEFAULT_BLEND {0, 3}
+typedef struct coarse_segment { uint32_t kind, row, first, end, alpha; } coarse_segment;
 
 /* A clip's segments are start to end of the list that is lent to the pop. */
-typedef struct { coarse_rect box; uint32_t start, end, thread; } coarse_clip;
+typedef struct coarse_clip { coarse_rect box; uint32_t start, end, thread; } coarse_clip;
 
 /* A layer's properties. clip: null for none. panel: whose layer it is; left out, 0. */
-typedef struct { coarse_blend blend; float opacity; uint32_t mask; const coarse_clip *clip; uint32_t panel; } coarse_layer_props;
+typedef struct coarse_layer_props { coarse_blend blend; float opacity; uint32_t mask; const coarse_clip *clip; uint32_t panel; } coarse_layer_props;
 
 /* Where a filter layer's picture is drawn, and from where in it, in its pixels. */
-typedef struct { coarse_rect dest; uint32_t source_x, source_y; } coarse_placement;
+typedef struct coarse_placement { coarse_rect dest; uint32_t source_x, source_y; } coarse_placement;
 
-/* tag: 1 paint solid, 2 paint alpha, 3 layer solid, 4 layer alpha. first, end: tiles of the screen. panel: its attribute's. */
-typedef struct { uint32_t tag, attribute, first, end, alpha, nesting, panel; } coarse_piece;
+/* tag: COARSE_PAINT_FILL to COARSE_LAYER_FILL_ALPHA. first, end: tiles of the screen. alpha: the index of the first tile's alphas, or 0.
+ * nesting: how many buffers are open there. panel: its attribute's. */
+typedef struct coarse_piece { uint32_t tag, attribute, first, end, alpha, nesting, panel; } coarse_piece;
 
 /* Tiles of the screen, or buckets from coarse_bucketer_unset_runs_and_write. */
 typedef coarse_span coarse_run;
 
 /* origin_x, origin_y: the viewport's x0 and y0, in pixels of the scene. */
-typedef struct { uint32_t paint; coarse_blend blend; uint32_t mask, draw_id, thread, origin_x, origin_y, panel; } coarse_paint_attrs;
-typedef struct { coarse_blend blend; float opacity; uint32_t mask, draw_id, thread, panel; } coarse_layer_attrs;
+typedef struct coarse_paint_attrs { uint32_t paint; coarse_blend blend; uint32_t mask, draw_id, thread, origin_x, origin_y, panel; } coarse_paint_attrs;
+typedef struct coarse_layer_attrs { coarse_blend blend; float opacity; uint32_t mask, draw_id, thread, panel; } coarse_layer_attrs;
+
+/* The paint of a filter fill: the picture's handle, and its shift, in pixels: source_x less the box's x0, source_y less its y0. It stands
+ * after the paint list: with paint_count n, filter paint i is the one that a paint attribute names by n + i. */
+typedef struct coarse_filter_paint { uint32_t pixmap; int32_t shift_x, shift_y; } coarse_filter_paint;
+
+/* An open layer. box: its own, in pixels from the viewport's corner: its clip's, met with the box around it. clip: as it was pushed, in
+ * pixels of the scene, if has_clip is 1, else zeros. */
+typedef struct coarse_open_layer {
+    coarse_blend blend;
+    float opacity;
+    uint32_t mask, has_clip;
+    coarse_clip clip;
+    coarse_rect box;
+    uint32_t panel;
+} coarse_open_layer;
 
 /* A screen. The tables point into `block`, and so do what is stored and the canvas; everything here is the calls' own. */
-typedef struct {
+typedef struct coarse_bucketer {
     coarse_setup setup;
     coarse_state state;
     coarse_lengths sizes;
@@ -60,15 +72,15 @@ typedef struct {
 /* Tables of these lengths in one new block. The other parts of `b` stay. */
 static inline uint32_t coarse_bucketer_tables(coarse_bucketer *b, const coarse_lengths *n) {
     coarse_tables *t = &b->tables;
-    uint32_t *at = (uint32_t *)calloc(n->render + n->fills + n->depth + n->rows + n->painting + n->layers + n->opacities + n->paint_attrs +
-                                          n->layer_attrs + n->filter_paints,
+    uint32_t *at = (uint32_t *)calloc(n->render_cmds + n->depth_cmds + n->depth + n->rows + n->painting + n->layers + n->opacities +
+                                          n->paint_attrs + n->layer_attrs + n->filter_paints,
                                       sizeof *at);
     if (!at)
         return COARSE_NO_MEMORY;
     b->block = at;
     b->sizes = *n;
-    t->render = at, t->render_len = n->render, at += n->render;
-    t->fills = at, t->fills_len = n->fills, at += n->fills;
+    t->render_cmds = at, t->render_cmds_len = n->render_cmds, at += n->render_cmds;
+    t->depth_cmds = at, t->depth_cmds_len = n->depth_cmds, at += n->depth_cmds;
     t->depth = at, t->depth_len = n->depth, at += n->depth;
     t->rows = at, t->rows_len = n->rows, at += n->rows;
     t->painting = at, t->painting_len = n->painting, at += n->painting;
@@ -78,8 +90,8 @@ static inline uint32_t coarse_bucketer_tables(coarse_bucketer *b, const coarse_l
     t->layer_attrs = at, t->layer_attrs_len = n->layer_attrs, at += n->layer_attrs;
     t->filter_paints = (int32_t *)at, t->filter_paints_len = n->filter_paints;
     b->stored.rows = t->rows, b->stored.rows_len = n->rows;
-    b->stored.render = t->render, b->stored.render_len = n->render;
-    b->stored.fills = t->fills, b->stored.fills_len = n->fills;
+    b->stored.render_cmds = t->render_cmds, b->stored.render_cmds_len = n->render_cmds;
+    b->stored.depth_cmds = t->depth_cmds, b->stored.depth_cmds_len = n->depth_cmds;
     b->stored.paint_attrs = t->paint_attrs, b->stored.paint_attrs_len = n->paint_attrs;
     b->stored.layer_attrs = t->layer_attrs, b->stored.layer_attrs_len = n->layer_attrs;
     b->canvas.depth = t->depth, b->canvas.depth_len = n->depth;
@@ -211,6 +223,18 @@ static inline coarse_rect coarse_bucketer_viewport(const coarse_bucketer *b) {
 /* How many rows of tiles the screen has. */
 static inline size_t coarse_bucketer_rows(const coarse_bucketer *b) { return (b->state.viewport.y1 - b->state.viewport.y0) / 4; }
 
+/* The clip box of the innermost open layer, or the whole screen's, in pixels from the viewport's corner. */
+static inline coarse_rect coarse_bucketer_clip_box(const coarse_bucketer *b) { return b->state.clip; }
+
+/* The id that the next draw, closing layer or filter fill takes. */
+static inline uint32_t coarse_bucketer_next_draw_id(const coarse_bucketer *b) { return b->state.next_draw_id; }
+
+/* How many layers are open. */
+static inline size_t coarse_bucketer_open_layers(const coarse_bucketer *b) { return b->state.layers; }
+
+/* Whether painting has begun, and nothing has ended it. */
+static inline int coarse_bucketer_is_painting(const coarse_bucketer *b) { return b->state.painting == 1; }
+
 /* How many pixels wide a bucket of the screen is. */
 static inline uint32_t coarse_bucketer_bucket_width(const coarse_bucketer *b) {
     return b->state.width == 1 ? COARSE_64 : b->state.width == 2 ? COARSE_256 : COARSE_128;
@@ -280,6 +304,61 @@ static inline uint32_t coarse_bucketer_paint_row(coarse_bucketer *b, size_t row,
     return answer;
 }
 
+/* How many render commands and depth fills are stored of a row of the screen. */
+static inline uint32_t coarse_bucketer_row_lengths(const coarse_bucketer *b, size_t row, coarse_row_counts *lengths) {
+    return coarse_row_lengths(&b->state, &b->stored, row, lengths);
+}
+
+/* A row's render command of a number, in the order in which they are drawn and painted. */
+static inline uint32_t coarse_bucketer_render_cmd(const coarse_bucketer *b, size_t row, size_t number, coarse_command *cmd) {
+    return coarse_render_cmd(&b->state, &b->stored, row, number, cmd);
+}
+
+/* A row's depth fill of a number, in the order in which they are drawn; painting begins with the last. */
+static inline uint32_t coarse_bucketer_depth_cmd(const coarse_bucketer *b, size_t row, size_t number, coarse_depth_fill *fill) {
+    return coarse_depth_cmd(&b->state, &b->stored, row, number, fill);
+}
+
+/* How far a row of the screen is painted: steps done, and how many buffers are open after them. */
+static inline uint32_t coarse_bucketer_progress(const coarse_bucketer *b, size_t row, coarse_row_progress *told) {
+    return coarse_progress(&b->state, &b->canvas, row, told);
+}
+
+/* What the calls of coarse.h read of the screen: a thread that paints it on a canvas of its own hands these to coarse_paint_step,
+ * coarse_paint_row, coarse_progress and the calls for runs. They stand until the screen has other tables. */
+static inline const coarse_state *coarse_bucketer_state(const coarse_bucketer *b) { return &b->state; }
+static inline const coarse_stored *coarse_bucketer_stored(const coarse_bucketer *b) { return &b->stored; }
+
+/* A canvas beside the screen's own, at the first step of every row. COARSE_OPEN where painting has not begun: then, and without memory,
+ * there is nothing to free. Several threads may paint one screen so, each with a canvas, while none changes the screen. */
+static inline uint32_t coarse_bucketer_canvas(const coarse_bucketer *b, coarse_canvas *canvas) {
+    uint32_t *words;
+    if (!coarse_bucketer_is_painting(b))
+        return COARSE_OPEN;
+    words = (uint32_t *)calloc(b->sizes.depth + b->sizes.painting + 1, sizeof *words);
+    if (!words)
+        return COARSE_NO_MEMORY;
+    canvas->depth = words, canvas->depth_len = b->sizes.depth;
+    canvas->painting = words + b->sizes.depth, canvas->painting_len = b->sizes.painting;
+    return COARSE_DONE;
+}
+
+static inline void coarse_bucketer_canvas_free(coarse_canvas *canvas) {
+    free(canvas->depth);
+    memset(canvas, 0, sizeof *canvas);
+}
+
+/* The depth words of a row of the screen, one for each bucket: the id of the newest depth fill that is painted there, or 0. They stand
+ * until the screen has other tables. COARSE_BAD_RUN for no such row. */
+static inline uint32_t coarse_bucketer_depth_words(const coarse_bucketer *b, size_t row, const uint32_t **words, size_t *count) {
+    size_t buckets = coarse_bucketer_buckets(b);
+    if (row >= coarse_bucketer_rows(b))
+        return COARSE_BAD_RUN;
+    *words = b->canvas.depth + row * buckets;
+    *count = buckets;
+    return COARSE_DONE;
+}
+
 /* Room for the runs of a row. */
 static inline uint32_t coarse_bucketer_run_room(coarse_bucketer *b) {
     size_t n = coarse_bucketer_buckets(b) + 1;
@@ -327,6 +406,12 @@ static inline uint32_t coarse_bucketer_visible_spans(const coarse_bucketer *b, s
     return coarse_visible_spans(&b->state, &b->canvas, row, span, id, list, room, count);
 }
 
+/* The runs of coarse_bucketer_unset_runs in such a list: those of the tiles that are visible for id 0. */
+static inline uint32_t coarse_bucketer_unset_spans(const coarse_bucketer *b, size_t row, uint32_t first, uint32_t end, coarse_span *list,
+                                                   size_t room, size_t *count) {
+    return coarse_bucketer_visible_spans(b, row, first, end, 0, list, room, count);
+}
+
 /* The unset runs of the buckets first to end of a row of the screen, as runs of buckets; the id is stored there, and painting ends. */
 static inline uint32_t coarse_bucketer_unset_runs_and_write(coarse_bucketer *b, size_t row, uint32_t first, uint32_t end, uint32_t id,
                                                             const coarse_run **runs, size_t *count) {
@@ -350,32 +435,94 @@ static inline uint32_t coarse_bucketer_can_skip(const coarse_bucketer *b, size_t
     return answer;
 }
 
-/* How many attributes of fills and of popped layers there are; one of them, by its index. */
+/* How many attributes of draws and filter fills, attributes of closed layers, and paints of filter fills there are. */
 static inline size_t coarse_bucketer_paint_attr_count(const coarse_bucketer *b) { return b->state.paint_attrs; }
 static inline size_t coarse_bucketer_layer_attr_count(const coarse_bucketer *b) { return b->state.layer_attrs; }
+static inline size_t coarse_bucketer_filter_paint_count(const coarse_bucketer *b) { return b->state.filter_paints; }
 
+/* One of them, by its index: all zeros where there is none. */
 static inline coarse_paint_attrs coarse_bucketer_paint_attrs(const coarse_bucketer *b, size_t i) {
     coarse_paint_attrs a = {0, {0, 0}, 0, 0, 0, 0, 0, 0};
     if (i < coarse_bucketer_paint_attr_count(b)) {
-        const uint32_t *w = b->tables.paint_attrs + COARSE_PAINT_ATTR * i;
+        const uint32_t *w = b->stored.paint_attrs + COARSE_PAINT_ATTR * i;
         a.paint = w[0], a.blend.mix = w[1], a.blend.compose = w[2], a.mask = w[3];
         a.draw_id = w[4], a.thread = w[5], a.origin_x = w[6], a.origin_y = w[7], a.panel = w[8];
     }
     return a;
 }
 
+/* The opacity of a pattern that is a NaN's, or the one that stands apart where the pattern is 0. */
+static inline float coarse_bucketer_opacity(const coarse_bucketer *b, uint32_t nan, size_t at) {
+    float opacity = b->tables.opacities[at];
+    if (nan)
+        memcpy(&opacity, &nan, sizeof opacity);
+    return opacity;
+}
+
 /* A NaN opacity has the pattern that was pushed. */
 static inline coarse_layer_attrs coarse_bucketer_layer_attrs(const coarse_bucketer *b, size_t i) {
     coarse_layer_attrs a = {{0, 0}, 0, 0, 0, 0, 0};
     if (i < coarse_bucketer_layer_attr_count(b)) {
-        const uint32_t *w = b->tables.layer_attrs + COARSE_LAYER_ATTR * i;
+        const uint32_t *w = b->stored.layer_attrs + COARSE_LAYER_ATTR * i;
         a.blend.mix = w[0], a.blend.compose = w[1], a.mask = w[2], a.draw_id = w[3], a.thread = w[4], a.panel = w[6];
-        if (w[5])
-            memcpy(&a.opacity, &w[5], sizeof a.opacity);
-        else
-            a.opacity = b->tables.opacities[COARSE_MOST_LAYERS + i];
+        a.opacity = coarse_bucketer_opacity(b, w[5], COARSE_MOST_LAYERS + i);
     }
     return a;
+}
+
+static inline coarse_filter_paint coarse_bucketer_filter_paint(const coarse_bucketer *b, size_t i) {
+    coarse_filter_paint p = {0, 0, 0};
+    if (i < coarse_bucketer_filter_paint_count(b)) {
+        const int32_t *w = b->tables.filter_paints + COARSE_FILTER_PAINT * i;
+        p.pixmap = (uint32_t)w[1], p.shift_x = w[2], p.shift_y = w[3];
+    }
+    return p;
+}
+
+/* All of them, at the start of a list of the caller's own, and how many. COARSE_NO_ROOM where the list is shorter, and then it stays. */
+static inline uint32_t coarse_bucketer_all_paint_attrs(const coarse_bucketer *b, coarse_paint_attrs *list, size_t room, size_t *count) {
+    size_t n = coarse_bucketer_paint_attr_count(b), i;
+    if (room < n)
+        return COARSE_NO_ROOM;
+    for (i = 0; i < n; i++)
+        list[i] = coarse_bucketer_paint_attrs(b, i);
+    *count = n;
+    return COARSE_DONE;
+}
+
+static inline uint32_t coarse_bucketer_all_layer_attrs(const coarse_bucketer *b, coarse_layer_attrs *list, size_t room, size_t *count) {
+    size_t n = coarse_bucketer_layer_attr_count(b), i;
+    if (room < n)
+        return COARSE_NO_ROOM;
+    for (i = 0; i < n; i++)
+        list[i] = coarse_bucketer_layer_attrs(b, i);
+    *count = n;
+    return COARSE_DONE;
+}
+
+static inline uint32_t coarse_bucketer_all_filter_paints(const coarse_bucketer *b, coarse_filter_paint *list, size_t room, size_t *count) {
+    size_t n = coarse_bucketer_filter_paint_count(b), i;
+    if (room < n)
+        return COARSE_NO_ROOM;
+    for (i = 0; i < n; i++)
+        list[i] = coarse_bucketer_filter_paint(b, i);
+    *count = n;
+    return COARSE_DONE;
+}
+
+/* An open layer, from 0 for the outermost on: all zeros where there is none. */
+static inline coarse_open_layer coarse_bucketer_open_layer(const coarse_bucketer *b, size_t i) {
+    coarse_open_layer l = {{0, 0}, 0, 0, 0, {{0, 0, 0, 0}, 0, 0, 0}, {0, 0, 0, 0}, 0};
+    if (i < coarse_bucketer_open_layers(b)) {
+        const uint32_t *w = b->tables.layers + COARSE_OPEN_LAYER * i;
+        l.blend.mix = w[0], l.blend.compose = w[1], l.mask = w[2], l.has_clip = w[3];
+        l.clip.box.x0 = w[4], l.clip.box.y0 = w[5], l.clip.box.x1 = w[6], l.clip.box.y1 = w[7];
+        l.clip.start = w[8], l.clip.end = w[9], l.clip.thread = w[10];
+        l.box.x0 = w[11], l.box.y0 = w[12], l.box.x1 = w[13], l.box.y1 = w[14];
+        l.opacity = coarse_bucketer_opacity(b, w[15], i);
+        l.panel = w[16];
+    }
+    return l;
 }
 
 #endif

@@ -33,7 +33,7 @@ static void expect(const char *what, uint32_t want, uint32_t got) {
 static const coarse_setup small = {8, 8, COARSE_EXACT, COARSE_128}, snapping = {8, 8, COARSE_SNAPPING, COARSE_128};
 static const coarse_paint paints[] = {{1, 1, 5, -5}, {0, 2, 0, 0}};
 static const coarse_segment segments[] = {{0, 0, 0, 64, 0}, {1, 0, 64, 70, 32}};
-static const coarse_draw both = {.start = 0, .end = 2, .paint = 0, .blend = COARSE_DEFAULT_BLEND};
+static const coarse_draw both = {.start = 0, .end = 2, .paint = 0, .blend = COARSE_DEFAULT_BLEND_INIT};
 
 /* A viewport of height 0 has no rows: every arena is empty. A parameter with length 0 may be null; a pointer in a struct is never. */
 static void null_pointers(void) {
@@ -50,7 +50,7 @@ static void null_pointers(void) {
     size_t count = 7;
     coarse_setup one = {1, 1, COARSE_EXACT, COARSE_128};
     expect("reset to no rows", COARSE_DONE, coarse_reset(&state, (coarse_rect){0, 0, 128, 0}, one, &tables));
-    expect("the structs hold what they held", 1, tables.layers == layers && tables.layers_len == COARSE_LAYERS && tables.render == none);
+    expect("the structs hold what they held", 1, tables.layers == layers && tables.layers_len == COARSE_LAYERS && tables.render_cmds == none);
     expect("a pop with none open", COARSE_NO_LAYER, coarse_pop_layer(&state, &tables, NULL, 0));
     expect("a fill without a paint", COARSE_BAD_RECORD, coarse_fill(&state, &tables, NULL, 0, NULL, 0, &draw));
     expect("painting no rows", COARSE_DONE, coarse_begin_painting(&state, &canvas));
@@ -98,6 +98,10 @@ static void lent_spans(void) {
     expect("the first is cut", 10, list[0].first);
     expect("the last", 960, list[15].first);
     expect("the spans after them stay", 500, list[16].first);
+    expect("unset, 16 for 16", COARSE_DONE, coarse_bucketer_unset_spans(&b, 0, 10, 1024, list, 16, &count));
+    expect("unset runs", COARSE_DONE, coarse_bucketer_unset_runs(&b, 0, 10, 1024, &runs, &n));
+    expect("as many again", (uint32_t)n, (uint32_t)count);
+    expect("the same last one", runs[15].first, list[15].first);
     expect("no tiles, no list", COARSE_DONE, coarse_bucketer_visible_spans(&b, 0, 5, 5, 7, NULL, 0, &count));
     expect("no runs", 0, (uint32_t)count);
     coarse_bucketer_free(&b);
@@ -130,7 +134,7 @@ static uint32_t record(coarse_bucketer *b, const uint32_t *file, size_t words, c
 static uint32_t sum(const coarse_bucketer *b) {
     const uint32_t *words = (const uint32_t *)b->block;
     const coarse_lengths *lens = &b->sizes;
-    size_t i, n = lens->render + lens->fills + lens->depth + lens->rows + lens->painting + lens->layers + lens->opacities +
+    size_t i, n = lens->render_cmds + lens->depth_cmds + lens->depth + lens->rows + lens->painting + lens->layers + lens->opacities +
                   lens->paint_attrs + lens->layer_attrs + lens->filter_paints;
     uint32_t mixed = 2166136261u;
     for (i = 0; i < n; i++)
@@ -153,7 +157,7 @@ static void snapped_screen(void) {
     expect("exact, it is refused", COARSE_BAD_VIEWPORT, coarse_bucketer_new(&b, odd, small));
     expect("exact, it has no sizes", COARSE_BAD_VIEWPORT, coarse_sizes(odd, small, &sizes));
     expect("snapping, it has", COARSE_DONE, coarse_sizes(odd, snapping, &sizes));
-    expect("192 rows of 8 commands", 192 * 32, (uint32_t)sizes.render);
+    expect("192 rows of 8 commands", 192 * 32, (uint32_t)sizes.render_cmds);
     expect("192 rows of 11 buckets", 192 * 11, (uint32_t)sizes.depth);
     expect("snapping, it is a screen", COARSE_DONE, coarse_bucketer_new(&b, odd, snapping));
     held = coarse_bucketer_viewport(&b);
@@ -245,7 +249,7 @@ static void widths(void) {
     static const struct { uint32_t width, buckets, fills, first, end; size_t pieces; } each[] = {
         {COARSE_64, 8, 1, 16, 80, 1}, {COARSE_128, 4, 1, 32, 64, 3}, {COARSE_256, 2, 0, 16, 80, 1}};
     static const coarse_segment over[] = {{0, 0, 16, 80, 0}};
-    static const coarse_draw draw = {.start = 0, .end = 1, .paint = 0, .blend = COARSE_DEFAULT_BLEND};
+    static const coarse_draw draw = {.start = 0, .end = 1, .paint = 0, .blend = COARSE_DEFAULT_BLEND_INIT};
     const coarse_piece *pieces = NULL;
     size_t i, count = 0;
     coarse_parts parts;
@@ -654,6 +658,295 @@ static void panels(void) {
     coarse_bucketer_free(&b);
 }
 
+/* What a call that reads a row answers, whatever it would read: all four at once, and that a refused one leaves its result. */
+enum { LENGTHS = 1, COMMAND = 2, FILL = 4, PROGRESS = 8, STORED = LENGTHS | COMMAND | FILL, READS = STORED | PROGRESS };
+
+static void expect_reads(const char *what, uint32_t want, int which, const coarse_state *state, const coarse_stored *stored, const coarse_canvas *canvas,
+                         size_t row, size_t number) {
+    static const coarse_row_counts seven_counts = {7, 7};
+    static const coarse_command seven_command = {7, 7, 7, 7, 7};
+    static const coarse_depth_fill seven_fill = {7, 7, 7};
+    static const coarse_row_progress seven_progress = {7, 7};
+    coarse_row_counts lengths = seven_counts;
+    coarse_command cmd = seven_command;
+    coarse_depth_fill fill = seven_fill;
+    coarse_row_progress told = seven_progress;
+    int stay = 1;
+    if (which & LENGTHS) {
+        expect(what, want, coarse_row_lengths(state, stored, row, &lengths));
+        stay = stay && memcmp(&lengths, &seven_counts, sizeof lengths) == 0;
+    }
+    if (which & COMMAND) {
+        expect(what, want, coarse_render_cmd(state, stored, row, number, &cmd));
+        stay = stay && memcmp(&cmd, &seven_command, sizeof cmd) == 0;
+    }
+    if (which & FILL) {
+        expect(what, want, coarse_depth_cmd(state, stored, row, number, &fill));
+        stay = stay && memcmp(&fill, &seven_fill, sizeof fill) == 0;
+    }
+    if (which & PROGRESS) {
+        expect(what, want, coarse_progress(state, canvas, row, &told));
+        stay = stay && memcmp(&told, &seven_progress, sizeof told) == 0;
+    }
+    expect("the results stay", want != COARSE_DONE, (uint32_t)stay);
+}
+
+/* What is stored of a row, by its number: every tag; and how many buffers are open after each step. */
+static void stored_commands(void) {
+    static const coarse_segment list[] = {{0, 0, 0, 64, 0}, {1, 0, 64, 70, 32}, {1, 0, 4, 12, 96}};
+    static const coarse_command want[] = {
+        {COARSE_PAINT_FILL_ALPHA, 64, 70, 32, 0}, {COARSE_PUSH_BUF_SPAN, 0, 96, 0, 0}, {COARSE_PAINT_FILL, 0, 64, 0, 1}, {COARSE_PAINT_FILL_ALPHA, 64, 70, 32, 1},
+        {COARSE_PUSH_BUF_SPAN, 0, 70, 0, 0}, {COARSE_PAINT_FILL, 0, 64, 0, 2}, {COARSE_PAINT_FILL_ALPHA, 64, 70, 32, 2}, {COARSE_LAYER_FILL_ALPHA, 4, 12, 96, 0},
+        {COARSE_POP_BUF, 0, 0, 0, 0}, {COARSE_LAYER_FILL, 0, 96, 0, 1}, {COARSE_POP_BUF, 0, 0, 0, 0}};
+    static const uint32_t nesting[] = {0, 0, 0, 1, 1, 1, 2, 2, 2, 2, 1, 1, 0};
+    enum { WANT = sizeof want / sizeof want[0], STEPS = sizeof nesting / sizeof nesting[0] };
+    coarse_bucketer b;
+    coarse_clip clip = {{0, 0, 384, 4}, 2, 3, 9};
+    coarse_layer_props plain = {.blend = COARSE_DEFAULT_BLEND, .opacity = 0.25f, .panel = 5}, clipped = {.blend = {1, 3}, .opacity = 0.5f, .mask = 6, .clip = &clip};
+    coarse_draw draw = {.start = 0, .end = 2, .paint = 0, .blend = COARSE_DEFAULT_BLEND};
+    coarse_row_counts lengths;
+    coarse_command cmd;
+    coarse_depth_fill fill;
+    coarse_row_progress told;
+    coarse_canvas other = {NULL, 0, NULL, 0};
+    coarse_painted painted = {0, 0};
+    uint32_t list_words[700] = {0};
+    const coarse_piece *pieces;
+    const uint32_t *words = NULL;
+    size_t i, count = 0;
+    int finished = 0;
+    uint32_t before;
+    expect("a screen", COARSE_DONE, coarse_bucketer_new(&b, (coarse_rect){0, 0, 384, 8}, (coarse_setup){16, 4, COARSE_EXACT, COARSE_128}));
+    expect("the first id", 1, coarse_bucketer_next_draw_id(&b));
+    expect("a fill", COARSE_DONE, coarse_bucketer_generate_fill(&b, paints, 2, list, 3, &draw));
+    expect("a layer", COARSE_DONE, coarse_bucketer_push_layer(&b, &plain));
+    expect("one is open", 1, (uint32_t)coarse_bucketer_open_layers(&b));
+    expect("a fill in it", COARSE_DONE, coarse_bucketer_generate_fill(&b, paints, 2, list, 3, &draw));
+    expect("its buffer", COARSE_DONE, coarse_bucketer_render_cmd(&b, 0, 1, &cmd));
+    expect("has no span so far", COARSE_PUSH_BUF, cmd.tag);
+    expect("from 0", 0, cmd.first);
+    expect("to 0", 0, cmd.end);
+    expect("a clipped layer in it", COARSE_DONE, coarse_bucketer_push_layer(&b, &clipped));
+    expect("its box is the clip box", 384, coarse_bucketer_clip_box(&b).x1);
+    expect("one row high", 4, coarse_bucketer_clip_box(&b).y1);
+    expect("and its own", 4, coarse_bucketer_open_layer(&b, 1).box.y1);
+    expect("with a clip", 1, coarse_bucketer_open_layer(&b, 1).has_clip);
+    expect("whose segments it names", 2, coarse_bucketer_open_layer(&b, 1).clip.start);
+    expect("in a thread", 9, coarse_bucketer_open_layer(&b, 1).clip.thread);
+    expect("its mask", 6, coarse_bucketer_open_layer(&b, 1).mask);
+    expect("its blend", 1, coarse_bucketer_open_layer(&b, 1).blend.mix);
+    expect("half opacity", 1, coarse_bucketer_open_layer(&b, 1).opacity == 0.5f);
+    expect("the outer one has none", 0, coarse_bucketer_open_layer(&b, 0).has_clip);
+    expect("the whole screen for its box", 8, coarse_bucketer_open_layer(&b, 0).box.y1);
+    expect("its panel", 5, coarse_bucketer_open_layer(&b, 0).panel);
+    expect("no third", 0, coarse_bucketer_open_layer(&b, 2).box.x1);
+    expect("a fill in both", COARSE_DONE, coarse_bucketer_generate_fill(&b, paints, 2, list, 3, &draw));
+    expect("the inner one closed", COARSE_DONE, coarse_bucketer_pop_layer(&b, list, 3));
+    expect("the outer one closed", COARSE_DONE, coarse_bucketer_pop_layer(&b, NULL, 0));
+    expect("five ids are taken", 6, coarse_bucketer_next_draw_id(&b));
+    before = sum(&b);
+
+    expect("what is stored", COARSE_DONE, coarse_bucketer_row_lengths(&b, 0, &lengths));
+    expect("of commands", WANT, lengths.render_cmds);
+    expect("of depth fills", 1, lengths.depth_cmds);
+    for (i = 0; i < WANT; i++) {
+        expect("a command", COARSE_DONE, coarse_bucketer_render_cmd(&b, 0, i, &cmd));
+        expect("its tag", want[i].tag, cmd.tag);
+        expect("its first tile", want[i].first, cmd.first);
+        expect("its end", want[i].end, cmd.end);
+        expect("its alphas", want[i].alpha_idx, cmd.alpha_idx);
+        expect("its attribute", want[i].attrs_idx, cmd.attrs_idx);
+    }
+    expect("a depth fill", COARSE_DONE, coarse_bucketer_depth_cmd(&b, 0, 0, &fill));
+    expect("from bucket 0", 0, fill.first);
+    expect("to bucket 2", 2, fill.end);
+    expect("of the first fill", 0, fill.attrs_idx);
+    expect("an empty row", COARSE_DONE, coarse_bucketer_row_lengths(&b, 1, &lengths));
+    expect("has no commands", 0, lengths.render_cmds + lengths.depth_cmds);
+    expect("and no first one", COARSE_BAD_RUN, coarse_bucketer_render_cmd(&b, 1, 0, &cmd));
+    expect("nor a depth fill", COARSE_BAD_RUN, coarse_bucketer_depth_cmd(&b, 1, 0, &fill));
+
+    expect("not painted yet", COARSE_DONE, coarse_bucketer_progress(&b, 0, &told));
+    expect("no steps", 0, told.steps + told.nesting);
+    expect("no painting", 0, (uint32_t)coarse_bucketer_is_painting(&b));
+    expect("no other canvas", COARSE_OPEN, coarse_bucketer_canvas(&b, &other));
+    expect("it is none", 1, other.depth == NULL && other.painting_len == 0);
+    expect("reading changes nothing", before, sum(&b));
+    expect("painting", COARSE_DONE, coarse_bucketer_begin_painting(&b));
+    expect("has begun", 1, (uint32_t)coarse_bucketer_is_painting(&b));
+    for (i = 0; i < STEPS; i++) {
+        expect("so far", COARSE_DONE, coarse_bucketer_progress(&b, 0, &told));
+        expect("steps", (uint32_t)i, told.steps);
+        expect("nesting", nesting[i], told.nesting);
+        expect("a step", COARSE_DONE, coarse_bucketer_paint_step(&b, 0, &finished, &pieces, &count));
+        expect("none is left", i + 1 == STEPS, (uint32_t)finished);
+    }
+    blocks = 0;
+    expect("no memory for a canvas", COARSE_NO_MEMORY, coarse_bucketer_canvas(&b, &other));
+    blocks = SIZE_MAX;
+    expect("a canvas", COARSE_DONE, coarse_bucketer_canvas(&b, &other));
+    expect("on which no step is done", COARSE_DONE, coarse_progress(coarse_bucketer_state(&b), &other, 0, &told));
+    expect("not one", 0, told.steps + told.nesting);
+    expect("a row on it", COARSE_DONE, coarse_paint_row(coarse_bucketer_state(&b), coarse_bucketer_stored(&b), &other, 0, list_words, 700, &painted));
+    expect("to its end", 1, painted.finished);
+    expect("steps there", COARSE_DONE, coarse_progress(coarse_bucketer_state(&b), &other, 0, &told));
+    expect("are as many", STEPS - 1, told.steps);
+    coarse_bucketer_canvas_free(&other);
+    expect("depth words", COARSE_DONE, coarse_bucketer_depth_words(&b, 0, &words, &count));
+    expect("of 3 buckets", 3, (uint32_t)count);
+    expect("hold the fill's id", 1, count == 3 ? words[0] : 0);
+    expect("to bucket 2", 0, count == 3 ? words[2] : 1);
+    expect("no row 2", COARSE_BAD_RUN, coarse_bucketer_depth_words(&b, 2, &words, &count));
+
+    /* Each refusal, in order: 2, 1, 4, 12. */
+    {
+        coarse_state state = b.state;
+        coarse_stored stored = b.stored;
+        coarse_canvas canvas = b.canvas;
+        size_t far_off[] = {2, SIZE_MAX};
+        expect_reads("all of them", COARSE_DONE, READS, &state, &stored, &canvas, 0, 0);
+        for (i = 0; i < 2; i++) {
+            expect_reads("no such row", COARSE_BAD_RUN, READS, &state, &stored, &canvas, far_off[i], 0);
+            expect_reads("no such command", COARSE_BAD_RUN, COMMAND | FILL, &state, &stored, &canvas, 0, i == 0 ? (size_t)WANT : SIZE_MAX);
+        }
+        expect_reads("no second depth fill", COARSE_BAD_RUN, FILL, &state, &stored, &canvas, 0, 1);
+        stored.rows_len--;
+        expect_reads("short rows before no row", COARSE_BAD_RECORD, STORED, &state, &stored, &canvas, 2, 0);
+        expect_reads("which progress does not read", COARSE_DONE, PROGRESS, &state, &stored, &canvas, 0, 0);
+        stored.render_cmds_len--;
+        expect_reads("short commands before short rows", COARSE_BAD_ARENA, STORED, &state, &stored, &canvas, 2, 0);
+        stored.render_cmds_len++, stored.depth_cmds_len++;
+        expect_reads("long depth fills before short rows", COARSE_BAD_ARENA, STORED, &state, &stored, &canvas, 2, 0);
+        stored = b.stored;
+        canvas.painting_len--;
+        expect_reads("short painting words before no row", COARSE_BAD_RECORD, PROGRESS, &state, &stored, &canvas, 2, 0);
+        expect_reads("which the others do not read", COARSE_DONE, STORED, &state, &stored, &canvas, 0, 0);
+        canvas = b.canvas;
+        canvas.depth_len = 1, stored.paint_attrs_len = 1, stored.layer_attrs_len = 1;
+        expect_reads("what none of them reads", COARSE_DONE, READS, &state, &stored, &canvas, 0, 0);
+        stored = b.stored, canvas = b.canvas;
+        state.painting = 2;
+        expect_reads("a state that is none before no row", COARSE_BAD_RECORD, READS, &state, &stored, &canvas, 2, 0);
+        state.d = 0;
+        expect_reads("no depth fills in a row before that", COARSE_BAD_ARENA, READS, &state, &stored, &canvas, 2, 0);
+        state.viewport.x1 = 2;
+        expect_reads("a bad viewport before that", COARSE_BAD_VIEWPORT, READS, &state, &stored, &canvas, 2, 0);
+        state = b.state;
+        state.layers = 17;
+        expect_reads("more layers than there may be", COARSE_BAD_RECORD, READS, &state, &stored, &canvas, 0, 0);
+        state = b.state;
+        state.painting = 0;
+        expect_reads("painting need not have begun", COARSE_DONE, READS, &state, &stored, &canvas, 0, 0);
+        state = b.state;
+
+        /* Words that no call leaves. */
+        b.tables.rows[0] = 17;
+        expect_reads("more commands than C", COARSE_BAD_RECORD, STORED, &state, &stored, &canvas, 0, 0);
+        b.tables.rows[0] = WANT, b.tables.rows[1] = 5;
+        expect_reads("more depth fills than D", COARSE_BAD_RECORD, STORED, &state, &stored, &canvas, 0, 0);
+        b.tables.rows[1] = 1, b.tables.render_cmds[0] = 8;
+        expect_reads("no tag", COARSE_BAD_RECORD, COMMAND, &state, &stored, &canvas, 0, 0);
+        expect_reads("the next one is", COARSE_DONE, COMMAND, &state, &stored, &canvas, 0, 1);
+        b.tables.render_cmds[0] = COARSE_PAINT_FILL_ALPHA, b.tables.depth_cmds[0] = 4;
+        expect_reads("a depth fill past the row's end", COARSE_BAD_RECORD, FILL, &state, &stored, &canvas, 0, 0);
+        b.tables.depth_cmds[0] = 2;
+        expect_reads("all of them again", COARSE_DONE, READS, &state, &stored, &canvas, 0, 0);
+    }
+    coarse_bucketer_free(&b);
+}
+
+/* All attributes and filter paints, typed: in a list that is long enough. */
+static void all_attributes(void) {
+    static const coarse_segment list[] = {{1, 0, 0, 8, 0}};
+    coarse_draw draw = {.thread = 3, .start = 0, .end = 1, .paint = 1, .blend = {2, 4}, .mask = 8, .panel = 6};
+    coarse_layer_props layer = {.blend = {3, 5}, .opacity = 0.75f, .mask = 9, .panel = 7};
+    coarse_placement placement = {{8, 3, 16, 7}, 5, 1};
+    coarse_bucketer b;
+    coarse_paint_attrs paint[3];
+    coarse_layer_attrs closed[2];
+    coarse_filter_paint filter[2];
+    uint32_t picture = 40, i;
+    size_t count = 99;
+    expect("a screen", COARSE_DONE, coarse_bucketer_new(&b, (coarse_rect){8, 4, 264, 12}, small));
+    for (i = 0; i < 2; i++) {
+        draw.panel = 6 + i, layer.panel = 8 + i;
+        expect("a layer", COARSE_DONE, coarse_bucketer_push_layer(&b, &layer));
+        if (i == 0)
+            expect("a fill", COARSE_DONE, coarse_bucketer_generate_fill(&b, paints, 2, list, 1, &draw));
+        else
+            expect("a picture", COARSE_DONE, coarse_bucketer_generate_filter_layer_fill(&b, &picture, &placement, 2, 11));
+        expect("closed", COARSE_DONE, coarse_bucketer_pop_layer(&b, NULL, 0));
+    }
+    memset(paint, 7, sizeof paint), memset(closed, 7, sizeof closed), memset(filter, 7, sizeof filter);
+    expect("a list for one attribute", COARSE_NO_ROOM, coarse_bucketer_all_paint_attrs(&b, paint, 1, &count));
+    expect("for one layer's", COARSE_NO_ROOM, coarse_bucketer_all_layer_attrs(&b, closed, 1, &count));
+    expect("for no filter paint", COARSE_NO_ROOM, coarse_bucketer_all_filter_paints(&b, filter, 0, &count));
+    expect("the count stays", 99, (uint32_t)count);
+    expect("the lists stay", 0x07070707, paint[0].paint == 0x07070707 && closed[0].mask == 0x07070707 ? filter[0].pixmap : 0);
+    expect("all paint attributes", COARSE_DONE, coarse_bucketer_all_paint_attrs(&b, paint, 3, &count));
+    expect("are two", 2, (uint32_t)count);
+    expect("the fill's paint", 1, paint[0].paint);
+    expect("its blend", 24, paint[0].blend.mix * 10 + paint[0].blend.compose);
+    expect("its mask", 8, paint[0].mask);
+    expect("its thread", 3, paint[0].thread);
+    expect("its panel", 6, paint[0].panel);
+    expect("the picture's paint follows the list", 2, paint[1].paint);
+    expect("its panel", 11, paint[1].panel);
+    expect("its origin", 84, paint[1].origin_x * 10 + paint[1].origin_y);
+    expect("the third stays", 0x07070707, paint[2].paint);
+    expect("all layer attributes", COARSE_DONE, coarse_bucketer_all_layer_attrs(&b, closed, 2, &count));
+    expect("are two", 2, (uint32_t)count);
+    expect("their blends", 35, closed[1].blend.mix * 10 + closed[1].blend.compose);
+    expect("their opacity", 1, closed[0].opacity == 0.75f && closed[1].opacity == 0.75f);
+    expect("their masks", 9, closed[1].mask);
+    expect("their ids", 2, closed[0].draw_id);
+    expect("and the next", 4, closed[1].draw_id);
+    expect("their panels", 9, closed[1].panel);
+    expect("all filter paints", COARSE_DONE, coarse_bucketer_all_filter_paints(&b, filter, 2, &count));
+    expect("are one", 1, (uint32_t)count);
+    expect("the picture", 40, filter[0].pixmap);
+    expect("its shift", (uint32_t)-3, (uint32_t)filter[0].shift_x);
+    expect("and down", (uint32_t)-2, (uint32_t)filter[0].shift_y);
+    expect("by itself", 40, coarse_bucketer_filter_paint(&b, 0).pixmap);
+    expect("no other", 0, coarse_bucketer_filter_paint(&b, 1).pixmap);
+    expect("none of a third fill", 0, coarse_bucketer_paint_attrs(&b, 2).paint);
+    coarse_bucketer_free(&b);
+}
+
+/* Each number has its words, and no two the same; numbers that are none share theirs. */
+static void words_of_numbers(void) {
+    uint32_t i, k;
+    for (i = 0; i <= COARSE_NO_ROOM + 1; i++)
+        for (k = 0; k < i; k++)
+            expect("two answers", 0, strcmp(coarse_answer_text(i), coarse_answer_text(k)) == 0);
+    expect("memory that runs out", 0, strcmp(coarse_answer_text(COARSE_NO_MEMORY), coarse_answer_text(COARSE_NO_ROOM + 1)) == 0);
+    expect("no answer", 1, strcmp(coarse_answer_text(COARSE_NO_MEMORY + 1), coarse_answer_text(COARSE_NO_ROOM + 1)) == 0);
+    for (i = 0; i <= COARSE_POP_BUF; i++)
+        for (k = 0; k < i; k++)
+            expect("two tags", 0, strcmp(coarse_tag_text(i), coarse_tag_text(k)) == 0);
+    expect("no tag", 1, strcmp(coarse_tag_text(COARSE_POP_BUF + 1), coarse_tag_text(0)) == 0);
+    for (i = 0; i <= COARSE_SHOWN + 1; i++)
+        for (k = 0; k < i; k++)
+            expect("two reasons", 0, strcmp(coarse_reason_text(i), coarse_reason_text(k)) == 0);
+    expect("the library's version is the headers'", COARSE_VERSION_NUMBER, coarse_version());
+}
+
+/* The default blend initializes, is assigned, and stands in an expression. */
+static void default_blend(void) {
+    static const coarse_blend fixed = COARSE_DEFAULT_BLEND_INIT;
+    coarse_draw draw = {0, 0, 0, 1, COARSE_DEFAULT_BLEND, 5, 6};
+    coarse_blend blend = COARSE_DEFAULT_BLEND;
+    expect("as a part", 3, draw.blend.compose);
+    expect("what follows it", 56, draw.mask * 10 + draw.panel);
+    expect("by itself", 3, blend.compose);
+    blend.compose = 9, draw.blend.mix = 9;
+    blend = COARSE_DEFAULT_BLEND, draw.blend = COARSE_DEFAULT_BLEND;
+    expect("assigned", 3, blend.compose);
+    expect("to a part", 0, draw.blend.mix);
+    expect("in an expression", 3, COARSE_DEFAULT_BLEND.compose);
+    expect("fixed", 3, fixed.compose);
+}
+
 int main(void) {
     null_pointers();
     owned_tables();
@@ -667,5 +960,9 @@ int main(void) {
     coordinates();
     named_sizes();
     panels();
+    stored_commands();
+    all_attributes();
+    words_of_numbers();
+    default_blend();
     return wrong;
 }

@@ -3,7 +3,7 @@
  *   - its answer is one of the header's;
  *   - refused, it has changed no word (a recording and a question, refused for the records or later, may have changed the screen alone);
  *   - done, it has changed only what it is there to write, and nothing past the length that its list was lent with;
- *   - no word between the tables has changed.
+ *   - no word between the tables has changed, and no pointer or length in a struct that lends them.
  * At the end each call has been done, and been refused.
  *     calls [COUNT [SEED [RECORDING ..]]]        300,000 calls, seed 1; recordings are files as samples/ has them, without which none is bucketed
  * Prints what does not hold; the status is 1 if anything does not. Wants coarse.h on the include path. */
@@ -12,24 +12,36 @@
 #include <stdlib.h>
 #include <string.h>
 
-/* The ten tables in the order of coarse_sizes, then what else a call may write. */
-enum { RENDER, FILLS, DEPTH, ROWS, PAINTING, LAYERS, OPACITIES, PAINT_ATTRS, LAYER_ATTRS, FILTER_PAINTS, TABLES, STATE = TABLES, LIST, PARTS };
+/* The ten tables in the order of coarse_lengths, then what else a call may write. */
+enum { RENDER_CMDS, DEPTH_CMDS, DEPTH, ROWS, PAINTING, LAYERS, OPACITIES, PAINT_ATTRS, LAYER_ATTRS, FILTER_PAINTS, TABLES, STATE = TABLES, LIST, PARTS };
 enum { SCREEN = (1 << (STATE + 1)) - 1, RESULTS = 1 << PARTS, LISTED = 1 << LIST | RESULTS };
-enum { LIST_WORDS = 512, ROOM = 1 << 17, BETWEEN = 3, MOST_SEGMENTS = 24, FILES = 32, FILE_WORDS = 4096, STATE_WORDS = COARSE_STATE };
+enum { LIST_WORDS = 512, ROOM = 1 << 17, BETWEEN = 3, MOST_SEGMENTS = 24, FILES = 32, FILE_WORDS = 4096, STATE_WORDS = sizeof(coarse_state) / sizeof(uint32_t) };
 #define GUARD 0x5eed5eedu
 
-/* Everything that is lent stands in one block, guard words before and after each part; what calls write as sizes, and words of results, beside it. */
+/* Everything that is lent stands in one block, guard words before and after each part; the structs that lend it, and results, beside it. */
 static uint32_t block[ROOM], held[ROOM], sound[ROOM];
 static size_t used;
 static uint32_t *part[PARTS];
 static size_t size[PARTS], length[PARTS];
-static struct results { size_t counts[12]; uint32_t words[12]; } results, held_results;
+static struct lent { coarse_tables tables; coarse_stored stored; coarse_canvas canvas; } lent, held_lent;
+static struct results {
+    coarse_lengths sizes;
+    coarse_painted painted;
+    coarse_reason reason;
+    coarse_parts parts;
+    coarse_row_counts lengths;
+    coarse_command cmd;
+    coarse_depth_fill fill;
+    coarse_row_progress told;
+    size_t count;
+    uint32_t yes;
+} results, held_results;
 
 static uint32_t segments[MOST_SEGMENTS * COARSE_SEGMENT];
 static uint32_t paints[4 * COARSE_PAINT];
 static uint32_t files[FILES][FILE_WORDS], file[FILE_WORDS];
 static size_t file_words[FILES], words, file_count;
-static struct { uint32_t x0, y0, x1, y1; } viewport;
+static coarse_rect viewport;
 static coarse_setup setup;
 
 /* Numbers */
@@ -65,7 +77,7 @@ static int place(const size_t *sizes) {
     size_t at = BETWEEN, i;
     for (i = 0; i < TABLES; i++)
         at += (sizes[i] < (size_t)ROOM ? sizes[i] : (size_t)ROOM) + BETWEEN;
-    if (at + COARSE_STATE + LIST_WORDS + 2 * BETWEEN > ROOM)
+    if (at + STATE_WORDS + LIST_WORDS + 2 * BETWEEN > ROOM)
         return 0;
     for (at = 0; at < ROOM; at++)
         block[at] = GUARD;
@@ -79,13 +91,23 @@ static int place(const size_t *sizes) {
     return 1;
 }
 
+#define LENT(i) part[i], length[i]
+#define SCREEN_STATE ((coarse_state *)(void *)part[STATE])
+
 /* How much of each part the next call is lent: now and then less than there is. */
 static void lend(void) {
     size_t i;
     for (i = 0; i < PARTS; i++)
         length[i] = odd(100) ? (size_t)below((uint32_t)size[i] + 1) : size[i];
     length[LIST] = once_in(3) ? (size_t)below(LIST_WORDS + 1) : (size_t)LIST_WORDS;
-    length[STATE] = COARSE_STATE;
+    length[STATE] = STATE_WORDS;
+    {
+        coarse_tables tables = {LENT(RENDER_CMDS), LENT(DEPTH_CMDS), LENT(DEPTH), LENT(ROWS), LENT(PAINTING), LENT(LAYERS), (float *)part[OPACITIES],
+                                length[OPACITIES], LENT(PAINT_ATTRS), LENT(LAYER_ATTRS), (int32_t *)part[FILTER_PAINTS], length[FILTER_PAINTS]};
+        coarse_stored stored = {LENT(ROWS), LENT(RENDER_CMDS), LENT(DEPTH_CMDS), LENT(PAINT_ATTRS), LENT(LAYER_ATTRS)};
+        coarse_canvas canvas = {LENT(DEPTH), LENT(PAINTING)};
+        lent.tables = tables, lent.stored = stored, lent.canvas = canvas;
+    }
 }
 
 /* Words that no call would leave. */
@@ -162,117 +184,134 @@ static void some_file(void) {
 }
 
 /* Tables for a viewport in the setup, on a state of zeros, or as they stand. */
-static int screen_for(uint32_t x0, uint32_t y0, uint32_t x1, uint32_t y1) {
-    size_t sizes[TABLES];
-    return coarse_sizes(x0, y0, x1, y1, setup, sizes, TABLES) == COARSE_DONE && place(sizes);
+static int screen_for(coarse_rect v) {
+    coarse_lengths sizes;
+    size_t each[TABLES];
+    if (coarse_sizes(v, setup, &sizes) != COARSE_DONE)
+        return 0;
+    memcpy(each, &sizes, sizeof each);
+    return place(each);
 }
 
 /* The calls: each with arguments of its own, on what is lent */
 
-#define LENT(i) part[i], length[i]
-#define ROW_WORDS LENT(ROWS), LENT(RENDER), LENT(FILLS)
-#define SCREEN_WORDS                                                                                                                              \
-    LENT(RENDER), LENT(FILLS), LENT(DEPTH), LENT(ROWS), LENT(PAINTING), LENT(LAYERS), (float *)part[OPACITIES], length[OPACITIES],               \
-        LENT(PAINT_ATTRS), LENT(LAYER_ATTRS), (int32_t *)part[FILTER_PAINTS], length[FILTER_PAINTS]
-
 static uint32_t call_sizes(void) {
     some_setup(), some_viewport();
-    return coarse_sizes(viewport.x0, viewport.y0, viewport.x1, viewport.y1, setup, results.counts, odd(10) ? (size_t)below(12) : (size_t)TABLES);
+    return coarse_sizes(viewport, setup, &results.sizes);
 }
 
-static uint32_t call_reset(void) { return coarse_reset(LENT(STATE), viewport.x0, viewport.y0, viewport.x1, viewport.y1, setup, SCREEN_WORDS); }
+static uint32_t call_reset(void) { return coarse_reset(SCREEN_STATE, viewport, setup, &lent.tables); }
 
-static uint32_t call_recording(void) { return coarse_bucket_recording(LENT(STATE), file, words, setup, SCREEN_WORDS); }
+static uint32_t call_recording(void) { return coarse_bucket_recording(SCREEN_STATE, file, words, setup, &lent.tables); }
 
 static uint32_t call_why(void) {
-    return coarse_why(LENT(STATE), file, words, setup, about(6), about(200), about(1), about(4), SCREEN_WORDS, results.words,
-                      odd(10) ? (size_t)below(8) : (size_t)COARSE_REASON);
+    coarse_question question = {0, 0, 0, 0};
+    question.row = about(6), question.tile = about(200), question.layer = about(1), question.attribute = about(4);
+    return coarse_why(SCREEN_STATE, file, words, setup, &question, &lent.tables, &results.reason);
 }
 
 static uint32_t call_fill(void) {
-    size_t n = some_segments(), count = some_paints(), start = below((uint32_t)n + 1), end = start + below((uint32_t)(n - start) + 1);
+    size_t n = some_segments(), count = some_paints();
+    coarse_draw draw;
+    draw.start = below((uint32_t)n + 1), draw.end = draw.start + below((uint32_t)(n - draw.start) + 1);
     if (once_in(3))
-        start = 0, end = n;
+        draw.start = 0, draw.end = n;
     if (odd(20))
-        end = about(MOST_SEGMENTS);
-    return coarse_fill(LENT(STATE), ROW_WORDS, LENT(PAINT_ATTRS), paints, count * COARSE_PAINT - odd(60), segments, n * COARSE_SEGMENT, about(3), start,
-                       end, about((uint32_t)count - 1), about(15), once_in(3) ? about(13) : 3, about(5), about(COARSE_LAST_PANEL));
+        draw.end = about(MOST_SEGMENTS);
+    draw.thread = about(3), draw.paint = about((uint32_t)count - 1), draw.blend.mix = about(15), draw.blend.compose = once_in(3) ? about(13) : 3;
+    draw.mask = about(5), draw.panel = about(COARSE_LAST_PANEL);
+    return coarse_fill(SCREEN_STATE, &lent.tables, paints, count * COARSE_PAINT - odd(60), segments, n * COARSE_SEGMENT, &draw);
 }
 
 static uint32_t call_push(void) {
-    uint32_t x0 = 4 * below(60), y0 = 4 * below(10);
-    return coarse_push_layer(LENT(STATE), ROW_WORDS, LENT(LAYERS), (float *)part[OPACITIES], length[OPACITIES], about(15), once_in(3) ? about(13) : 3, any(),
-                             about(5), about(1), x0, y0, x0 + about(300), y0 + about(30), 0, about(MOST_SEGMENTS), about(3),
-                             about(COARSE_LAST_PANEL));
+    coarse_props props;
+    props.blend.mix = about(15), props.blend.compose = once_in(3) ? about(13) : 3, props.opacity = any(), props.mask = about(5), props.flag = about(1);
+    props.bounds.x0 = 4 * below(60), props.bounds.y0 = 4 * below(10);
+    props.bounds.x1 = props.bounds.x0 + about(300), props.bounds.y1 = props.bounds.y0 + about(30);
+    props.start = 0, props.end = about(MOST_SEGMENTS), props.thread = about(3), props.panel = about(COARSE_LAST_PANEL);
+    return coarse_push_layer(SCREEN_STATE, &lent.tables, &props);
 }
 
 static uint32_t call_pop(void) {
     size_t n = once_in(4) ? some_segments() : (size_t)MOST_SEGMENTS;
-    return coarse_pop_layer(LENT(STATE), ROW_WORDS, LENT(LAYERS), (float *)part[OPACITIES], length[OPACITIES], LENT(LAYER_ATTRS), segments,
-                            n * COARSE_SEGMENT);
+    return coarse_pop_layer(SCREEN_STATE, &lent.tables, segments, n * COARSE_SEGMENT);
 }
 
 static uint32_t call_filter(void) {
-    uint32_t x0 = below(200), y0 = below(40);
-    return coarse_filter_fill(LENT(STATE), ROW_WORDS, LENT(PAINT_ATTRS), (int32_t *)part[FILTER_PAINTS], length[FILTER_PAINTS], x0, y0, x0 + about(200),
-                              y0 + about(20), about(9), about(9), about(1), about(99), about(4), about(COARSE_LAST_PANEL));
+    coarse_filter filter;
+    filter.dest.x0 = below(200), filter.dest.y0 = below(40);
+    filter.dest.x1 = filter.dest.x0 + about(200), filter.dest.y1 = filter.dest.y0 + about(20);
+    filter.source_x = about(9), filter.source_y = about(9), filter.has_pixmap = about(1), filter.pixmap = about(99);
+    filter.paint_count = about(4), filter.panel = about(COARSE_LAST_PANEL);
+    return coarse_filter_fill(SCREEN_STATE, &lent.tables, &filter);
 }
 
-static uint32_t call_begin(void) { return coarse_begin_painting(LENT(STATE), LENT(DEPTH), LENT(PAINTING)); }
+static uint32_t call_begin(void) { return coarse_begin_painting(SCREEN_STATE, &lent.canvas); }
 
-static uint32_t call_step(void) {
-    return coarse_paint_step(LENT(STATE), about(8), ROW_WORDS, LENT(DEPTH), LENT(PAINTING), LENT(PAINT_ATTRS), LENT(LAYER_ATTRS), LENT(LIST), results.counts,
-                             odd(20) ? (size_t)below(4) : (size_t)2);
-}
+static uint32_t call_step(void) { return coarse_paint_step(SCREEN_STATE, &lent.stored, &lent.canvas, about(8), LENT(LIST), &results.painted); }
 
-static uint32_t call_row(void) {
-    return coarse_paint_row(LENT(STATE), about(8), ROW_WORDS, LENT(DEPTH), LENT(PAINTING), LENT(PAINT_ATTRS), LENT(LAYER_ATTRS), LENT(LIST), results.counts,
-                            odd(20) ? (size_t)below(4) : (size_t)2);
+static uint32_t call_row(void) { return coarse_paint_row(SCREEN_STATE, &lent.stored, &lent.canvas, about(8), LENT(LIST), &results.painted); }
+
+/* Tiles of a row, or buckets. */
+static coarse_span some_span(uint32_t first, uint32_t more) {
+    coarse_span span = {0, 0};
+    span.first = first, span.end = more;
+    return span;
 }
 
 static uint32_t call_unset(void) {
-    return coarse_unset_runs(LENT(STATE), about(8), LENT(DEPTH), below(60), about(8192), LENT(LIST), results.counts, odd(20) ? (size_t)below(3) : (size_t)1);
+    return coarse_unset_runs(SCREEN_STATE, &lent.canvas, about(8), some_span(below(60), about(8192)), LENT(LIST), &results.count);
 }
 
 static uint32_t call_visible(void) {
-    return coarse_visible_runs(LENT(STATE), about(8), LENT(DEPTH), below(60), about(8192), about(40), LENT(LIST), results.counts, odd(20) ? (size_t)below(3) : (size_t)1);
+    return coarse_visible_runs(SCREEN_STATE, &lent.canvas, about(8), some_span(below(60), about(8192)), about(40), LENT(LIST), &results.count);
 }
 
 static uint32_t call_spans(void) {
-    return coarse_visible_spans(LENT(STATE), about(8), LENT(DEPTH), below(60), about(8192), about(40), (coarse_span *)part[LIST], length[LIST] / COARSE_RUN,
-                                results.counts, odd(20) ? (size_t)below(3) : (size_t)1);
+    return coarse_visible_spans(SCREEN_STATE, &lent.canvas, about(8), some_span(below(60), about(8192)), about(40), (coarse_span *)(void *)part[LIST],
+                                length[LIST] / COARSE_RUN, &results.count);
 }
 
 static uint32_t call_write(void) {
     uint32_t first = below(4);
-    return coarse_unset_runs_and_write(LENT(STATE), about(8), LENT(DEPTH), first, first + about(6), about(40), LENT(LIST), results.counts,
-                                       odd(20) ? (size_t)below(3) : (size_t)1);
+    return coarse_unset_runs_and_write(SCREEN_STATE, &lent.canvas, about(8), some_span(first, first + about(6)), about(40), LENT(LIST), &results.count);
 }
 
-static uint32_t call_skip(void) { return coarse_can_skip(LENT(STATE), about(8), LENT(ROWS), below(60), about(8192), about(40), results.words, odd(20) ? (size_t)below(3) : (size_t)1); }
+static uint32_t call_skip(void) { return coarse_can_skip(SCREEN_STATE, &lent.stored, about(8), some_span(below(60), about(8192)), about(40), &results.yes); }
 
 static uint32_t call_split(void) {
     uint32_t first = about(300);
-    return coarse_split_opaque_span(first, first + about(300), 64u << below(3), results.words, odd(10) ? (size_t)below(12) : (size_t)9);
+    return coarse_split_opaque_span(some_span(first, first + about(300)), 64u << below(3), &results.parts);
 }
+
+static uint32_t call_lengths(void) { return coarse_row_lengths(SCREEN_STATE, &lent.stored, about(8), &results.lengths); }
+
+static uint32_t call_cmd(void) { return coarse_render_cmd(SCREEN_STATE, &lent.stored, about(8), about(8), &results.cmd); }
+
+static uint32_t call_depth(void) { return coarse_depth_cmd(SCREEN_STATE, &lent.stored, about(8), about(3), &results.fill); }
+
+static uint32_t call_progress(void) { return coarse_progress(SCREEN_STATE, &lent.canvas, about(8), &results.told); }
 
 /* What is made ready before a call: a screen of another viewport, a recording and its screen. */
 static void ready_none(void) {}
 
 static void ready_reset(void) {
     some_setup(), some_viewport();
-    if (!screen_for(viewport.x0, viewport.y0, viewport.x1, viewport.y1) && once_in(2))
-        memset(part[STATE], 0, COARSE_STATE * sizeof(uint32_t));
+    if (!screen_for(viewport) && once_in(2))
+        memset(part[STATE], 0, sizeof(coarse_state));
 }
 
 static void ready_file(void) {
     some_setup(), some_file();
     setup.c += 40, setup.d += 40;
-    if (words > 4 && !screen_for(file[1], file[2], file[3], file[4]))
-        memset(part[STATE], 0, COARSE_STATE * sizeof(uint32_t));
+    if (words > 4) {
+        memcpy(&viewport, file + 1, sizeof viewport);
+        if (!screen_for(viewport))
+            memset(part[STATE], 0, sizeof(coarse_state));
+    }
 }
 
-#define ROWS_TOO (1 << STATE | 1 << ROWS | 1 << RENDER | 1 << FILLS)
+#define ROWS_TOO (1 << STATE | 1 << ROWS | 1 << RENDER_CMDS | 1 << DEPTH_CMDS)
 
 static struct {
     const char *name;
@@ -298,6 +337,10 @@ static struct {
     {"coarse_unset_runs_and_write", ready_none, call_write, 1 << STATE | 1 << DEPTH | LISTED, 4, 0, 0},
     {"coarse_can_skip", ready_none, call_skip, RESULTS, 6, 0, 0},
     {"coarse_split_opaque_span", ready_none, call_split, RESULTS, 3, 0, 0},
+    {"coarse_row_lengths", ready_none, call_lengths, RESULTS, 6, 0, 0},
+    {"coarse_render_cmd", ready_none, call_cmd, RESULTS, 12, 0, 0},
+    {"coarse_depth_cmd", ready_none, call_depth, RESULTS, 8, 0, 0},
+    {"coarse_progress", ready_none, call_progress, RESULTS, 8, 0, 0},
 };
 enum { CALLS = sizeof calls / sizeof calls[0] };
 
@@ -323,10 +366,12 @@ static void one(unsigned long number, size_t which) {
         forge();
     }
     memcpy(held, block, used * sizeof(uint32_t));
-    held_results = results;
+    memcpy(&held_results, &results, sizeof results);
+    memcpy(&held_lent, &lent, sizeof lent);
     answer = calls[which].make();
     hold(answer <= COARSE_NO_ROOM, number, name, answer, "no answer of the header");
     hold(guards_hold(), number, name, answer, "a word between the tables has changed");
+    hold(memcmp(&lent, &held_lent, sizeof lent) == 0, number, name, answer, "it has changed a pointer or a length");
     writes = answer == COARSE_DONE ? calls[which].writes : answer > COARSE_BAD_FORM ? calls[which].writes & SCREEN : 0;
     if (answer != COARSE_DONE && calls[which].make != call_recording && calls[which].make != call_why)
         writes = 0;
@@ -388,6 +433,7 @@ int main(int argc, char **argv) {
         done += calls[i].done;
         hold(!is_tried || (calls[i].done > 0 && calls[i].refused > 0), k, calls[i].name, 0, "it was never done, or never refused");
     }
+    hold(coarse_version() == COARSE_VERSION_NUMBER, k, "coarse_version", coarse_version(), "it is not the headers' version");
     printf("%lu calls, %lu of them done; %lu things do not hold\n", count, done, wrong);
     return wrong != 0;
 }

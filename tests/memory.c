@@ -1,6 +1,6 @@
-/* Memory that runs out: each allocation of a long scene fails in turn. The call that met it answers COARSE_NO_MEMORY, has changed nothing and left what its
+/* Memory that runs out: each allocation of a long scene, and of a recording of one, fails in turn. The call that met it answers COARSE_NO_MEMORY, has changed nothing and left what its
  * pointers are to receive; the same call again, with memory, is done, and at the end all that was painted is what a run without a failure painted.
- * Prints each thing that does not hold; the status is 1 if anything does not. Wants coarse_bucketer.h on the include path. */
+ * Prints each thing that does not hold; the status is 1 if anything does not. Wants coarse_recorder.h on the include path. */
 #include <stdint.h>
 #include <stdio.h>
 #include <stdlib.h>
@@ -14,7 +14,7 @@ static void *counted_realloc(void *block, size_t size) { return is_refused() ? N
 
 #define calloc counted_calloc
 #define realloc counted_realloc
-#include "coarse_bucketer.h"
+#include "coarse_recorder.h"
 #undef calloc
 #undef realloc
 
@@ -37,14 +37,16 @@ static uint64_t sum_of(uint64_t sum, const void *at, size_t size) {
 }
 
 static uint64_t everything(const coarse_bucketer *b) {
-    size_t words = 0, i;
+    const coarse_lengths *n = &b->sizes;
+    size_t words = n->render_cmds + n->depth_cmds + n->depth + n->rows + n->painting + n->layers + n->opacities + n->paint_attrs + n->layer_attrs + n->filter_paints;
     uint64_t sum = 14695981039346656037u;
-    for (i = 0; i < 10; i++)
-        words += b->sizes[i];
     sum = sum_of(sum, &b->setup, sizeof b->setup);
     sum = sum_of(sum, &b->state, sizeof b->state);
-    sum = sum_of(sum, b->sizes, sizeof b->sizes);
+    sum = sum_of(sum, &b->sizes, sizeof b->sizes);
     sum = sum_of(sum, &b->block, sizeof b->block);
+    sum = sum_of(sum, &b->tables, sizeof b->tables);
+    sum = sum_of(sum, &b->stored, sizeof b->stored);
+    sum = sum_of(sum, &b->canvas, sizeof b->canvas);
     return b->block ? sum_of(sum, b->block, words * sizeof(uint32_t)) : sum;
 }
 
@@ -184,16 +186,99 @@ static uint64_t run(unsigned long which) {
     return s.painted;
 }
 
-int main(void) {
-    uint64_t whole = run(0);
+/* All that a recorder holds, but for room that has grown. */
+static uint64_t recorded(const coarse_recorder *r) {
+    const coarse_records *sections[6];
+    static const size_t sizes[] = {COARSE_PAINT, COARSE_SEGMENT, COARSE_DRAW_RECORD, COARSE_LAYER_RECORD, COARSE_NODE_RECORD, COARSE_NODE_RECORD};
+    uint64_t sum = sum_of(14695981039346656037u, &r->viewport, sizeof r->viewport);
+    size_t i;
+    sections[0] = &r->paints, sections[1] = &r->segments, sections[2] = &r->draws, sections[3] = &r->layers, sections[4] = &r->nodes, sections[5] = &r->pending;
+    sum = sum_of(sum, &r->open, sizeof r->open);
+    for (i = 0; i < 6; i++) {
+        sum = sum_of(sum, &sections[i]->count, sizeof sections[i]->count);
+        sum = sum_of(sum, sections[i]->words, sections[i]->count * sizes[i] * sizeof(uint32_t));
+    }
+    return sum;
+}
+
+/* The calls of a recorder. */
+enum { PAINT, SEGMENTS, DRAW, PUSH, POP, FILTER, RECORDED };
+
+static uint32_t record(coarse_recorder *r, int which, uint32_t *place, const uint32_t **words, size_t *count) {
+    static const coarse_segment list[] = {{0, 0, 0, 9, 0}, {0, 1, 0, 9, 0}};
+    coarse_draw draw;
+    coarse_clip clip;
+    coarse_layer_props layer;
+    coarse_placement placement;
+    uint32_t picture = 3;
+    memset(&draw, 0, sizeof draw);
+    memset(&clip, 0, sizeof clip);
+    memset(&layer, 0, sizeof layer);
+    memset(&placement, 0, sizeof placement);
+    draw.end = clip.end = 2;
+    draw.blend.compose = layer.blend.compose = 3;
+    layer.clip = &clip;
+    clip.box.x1 = clip.box.y1 = placement.dest.x1 = placement.dest.y1 = 8;
+    switch (which) {
+    case PAINT: return coarse_recorder_paint(r, paints, place);
+    case SEGMENTS: return coarse_recorder_segments(r, list, 2, place);
+    case DRAW: return coarse_recorder_draw(r, &draw);
+    case PUSH: return coarse_recorder_push_layer(r, &layer);
+    case POP: return coarse_recorder_pop_layer(r);
+    case FILTER: return coarse_recorder_filter_layer(r, &layer, &picture, &placement);
+    default: return coarse_recorder_words(r, words, count);
+    }
+}
+
+/* A recording of nested layers, with one block that cannot be had: the words that it comes to. */
+static uint64_t run_recorder(unsigned long which) {
+    static const int calls[] = {PAINT, SEGMENTS, DRAW, DRAW, PUSH, DRAW, PUSH, DRAW, FILTER, DRAW, POP, PUSH, POP, PAINT, SEGMENTS, DRAW, POP, RECORDED, FILTER, DRAW, RECORDED};
+    const coarse_rect viewport = {0, 0, 64, 8};
+    coarse_recorder r;
+    const uint32_t *words = NULL;
+    uint64_t sum = 1;
+    size_t i, count = 7;
+    asked = 0, failing = which;
+    coarse_recorder_new(&r, viewport);
+    for (i = 0; i < sizeof calls / sizeof calls[0]; i++) {
+        uint32_t place = 9, answer;
+        uint64_t held = recorded(&r);
+        const uint32_t *before = words;
+        size_t counted = count;
+        answer = record(&r, calls[i], &place, &words, &count);
+        if (answer == COARSE_NO_MEMORY) {
+            refused++;
+            if (recorded(&r) != held)
+                fail("a recorder", "something has changed");
+            if (place != 9 || words != before || count != counted)
+                fail("a recorder", "what a pointer is to receive has changed");
+            answer = record(&r, calls[i], &place, &words, &count);
+        }
+        if (answer != COARSE_DONE)
+            fail("a recorder", coarse_answer_text(answer));
+        if (calls[i] == RECORDED && answer == COARSE_DONE)
+            sum = sum_of(sum, words, count * sizeof *words);
+    }
+    coarse_recorder_free(&r);
+    return sum;
+}
+
+/* Each block of a run in turn: how many there are. */
+static unsigned long each_block(uint64_t (*what)(unsigned long)) {
+    uint64_t whole = what(0);
     unsigned long blocks = asked, k;
     for (k = 1; k <= blocks; k++) {
         unsigned long before = refused;
-        if (run(k) != whole)
-            fail("the whole", "other pieces than with memory");
+        if (what(k) != whole)
+            fail("the whole", "another one than with memory");
         if (refused != before + 1)
             fail("the whole", "it was not told once that memory ran out");
     }
-    printf("%lu blocks, each refused in turn; %lu things do not hold\n", blocks, wrong);
-    return wrong != 0 || blocks < 6;
+    return blocks;
+}
+
+int main(void) {
+    unsigned long drawn = each_block(run), noted = each_block(run_recorder);
+    printf("%lu blocks of a screen and %lu of a recorder, each refused in turn; %lu things do not hold\n", drawn, noted, wrong);
+    return wrong != 0 || drawn < 6 || noted < 6;
 }

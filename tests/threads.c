@@ -41,29 +41,30 @@ static uint32_t drawn(coarse_bucketer *screen) {
 /* What a thread works with, and the pieces that it got, one row after the other. */
 typedef struct {
     const coarse_bucketer *screen;
-    uint32_t *depth, *painting, *pieces;
+    coarse_canvas canvas;
+    uint32_t *pieces;
     size_t words;
     int done;
 } job;
 
-/* A row of a screen, with depth and painting words that need not be the screen's: the one place where the call stands. */
-static uint32_t row_of(job *j, size_t row, uint32_t *list, size_t room, size_t *result) {
-    const coarse_bucketer *b = j->screen;
-    return coarse_paint_row(b->state, COARSE_STATE, row, b->rows, b->sizes[3], b->render, b->sizes[0], b->fills, b->sizes[1], j->depth, b->sizes[2],
-                            j->painting, b->sizes[4], b->paint_attrs, b->sizes[7], b->layer_attrs, b->sizes[8], list, room, result, 2);
-}
-
 static void *paint(void *given) {
     job *j = (job *)given;
-    size_t row, result[2];
-    j->done = 1;
+    const coarse_bucketer *b = j->screen;
+    const coarse_state *state = coarse_bucketer_state(b);
+    const coarse_stored *stored = coarse_bucketer_stored(b);
+    coarse_row_progress told = {0, 0};
+    size_t row;
     for (row = 0; row < ROWS; row++) {
-        if (row_of(j, row, j->pieces + j->words, ROOM - j->words, result) != COARSE_DONE || result[0] != 1) {
-            j->done = 0;
-            break;
-        }
-        j->words += result[1] * COARSE_PIECE;
+        coarse_painted painted = {0, 0};
+        coarse_row_counts lengths = {0, 0};
+        if (coarse_paint_row(state, stored, &j->canvas, row, j->pieces + j->words, ROOM - j->words, &painted) != COARSE_DONE || painted.finished != 1)
+            return NULL;
+        if (coarse_progress(state, &j->canvas, row, &told) != COARSE_DONE || coarse_bucketer_row_lengths(b, row, &lengths) != COARSE_DONE ||
+            told.steps != lengths.render_cmds + lengths.depth_cmds)
+            return NULL;
+        j->words += painted.pieces * COARSE_PIECE;
     }
+    j->done = 1;
     return NULL;
 }
 
@@ -85,17 +86,15 @@ static void *draw_and_paint(void *given) {
 }
 
 static job job_on(const coarse_bucketer *screen) {
-    job made = {screen, NULL, NULL, NULL, 0, 0};
-    made.depth = (uint32_t *)calloc(screen->sizes[2] + 1, sizeof(uint32_t));
-    made.painting = (uint32_t *)calloc(screen->sizes[4] + 1, sizeof(uint32_t));
+    job made = {screen, {NULL, 0, NULL, 0}, NULL, 0, 0};
     made.pieces = (uint32_t *)calloc(ROOM, sizeof(uint32_t));
-    if (!made.depth || !made.painting || !made.pieces)
+    if (coarse_bucketer_canvas(screen, &made.canvas) != COARSE_DONE || !made.pieces)
         exit(2);
     return made;
 }
 
 static void let_go(job *j) {
-    free(j->depth), free(j->painting), free(j->pieces);
+    coarse_bucketer_canvas_free(&j->canvas), free(j->pieces);
 }
 
 /* Four threads of the kind, and what each got beside what one thread gets. */

@@ -1,6 +1,6 @@
 //! The calls of `include/coarse.h` and the structs that cross. A slice crosses as a pointer and a length.
 
-use crate::{Rect, Run, Setup};
+use crate::input::{Rect, Setup};
 
 /// A [`Setup`] as it crosses.
 #[derive(Clone, Copy)]
@@ -90,8 +90,8 @@ impl<T> Lent<T> {
 #[repr(C)]
 #[derive(Clone, Copy, Debug, Default, PartialEq, Eq)]
 pub struct Lengths {
-    pub render: usize,
-    pub fills: usize,
+    pub render_cmds: usize,
+    pub depth_cmds: usize,
     pub depth: usize,
     pub rows: usize,
     pub painting: usize,
@@ -106,8 +106,8 @@ pub struct Lengths {
 #[repr(C)]
 #[derive(Clone, Copy, Debug)]
 pub struct TableWords {
-    pub render: Lent<u32>,
-    pub fills: Lent<u32>,
+    pub render_cmds: Lent<u32>,
+    pub depth_cmds: Lent<u32>,
     pub depth: Lent<u32>,
     pub rows: Lent<u32>,
     pub painting: Lent<u32>,
@@ -123,8 +123,8 @@ pub struct TableWords {
 #[derive(Clone, Copy, Debug)]
 pub struct StoredWords {
     pub rows: Read<u32>,
-    pub render: Read<u32>,
-    pub fills: Read<u32>,
+    pub render_cmds: Read<u32>,
+    pub depth_cmds: Read<u32>,
     pub paint_attrs: Read<u32>,
     pub layer_attrs: Read<u32>,
 }
@@ -143,6 +143,43 @@ pub struct CanvasWords {
 pub struct PaintedWords {
     pub finished: u32,
     pub pieces: usize,
+}
+
+/// How many render commands and depth fills a row has.
+#[repr(C)]
+#[derive(Clone, Copy, Debug, Default)]
+pub struct RowLengthsWords {
+    pub render_cmds: u32,
+    pub depth_cmds: u32,
+}
+
+/// A render command: 1 and 2 `PaintFill` without and with alpha, 3 and 4 `LayerFill`, 5 and 6 `PushBuf` without and with a span, 7 `PopBuf`;
+/// 0 for what it has none of.
+#[repr(C)]
+#[derive(Clone, Copy, Debug, Default)]
+pub struct RenderCmdWords {
+    pub tag: u32,
+    pub first: u32,
+    pub end: u32,
+    pub alpha_idx: u32,
+    pub attrs_idx: u32,
+}
+
+/// A depth fill: its buckets and its paint attribute.
+#[repr(C)]
+#[derive(Clone, Copy, Debug, Default)]
+pub struct DepthCmdWords {
+    pub first: u32,
+    pub end: u32,
+    pub attrs_idx: u32,
+}
+
+/// How far a row is painted: steps done, and how many buffers are open after them.
+#[repr(C)]
+#[derive(Clone, Copy, Debug, Default)]
+pub struct ProgressWords {
+    pub steps: u32,
+    pub nesting: u32,
 }
 
 /// What is drawn.
@@ -224,6 +261,16 @@ pub struct SplitWords {
     pub left: PartWords,
     pub middle: PartWords,
     pub right: PartWords,
+}
+
+/// From a first tile of a row to an end, which is not in it. A tile is 4 pixels wide.
+#[derive(Debug, Clone, Copy, PartialEq, Eq, Hash, Default)]
+#[repr(C)]
+pub struct TileSpan {
+    /// The first tile.
+    pub first: u32,
+    /// The tile after the last.
+    pub end: u32,
 }
 
 /// A box, by value.
@@ -344,7 +391,7 @@ extern "C" {
         state: *const StateWords,
         canvas: *const CanvasWords,
         row: usize,
-        tiles: Run,
+        tiles: TileSpan,
         list: *mut u32,
         list_len: usize,
         count: *mut usize,
@@ -354,7 +401,7 @@ extern "C" {
         state: *const StateWords,
         canvas: *const CanvasWords,
         row: usize,
-        tiles: Run,
+        tiles: TileSpan,
         id: u32,
         list: *mut u32,
         list_len: usize,
@@ -365,9 +412,9 @@ extern "C" {
         state: *const StateWords,
         canvas: *const CanvasWords,
         row: usize,
-        tiles: Run,
+        tiles: TileSpan,
         id: u32,
-        list: *mut Run,
+        list: *mut TileSpan,
         list_len: usize,
         count: *mut usize,
     ) -> u32;
@@ -376,7 +423,7 @@ extern "C" {
         state: *mut StateWords,
         canvas: *mut CanvasWords,
         row: usize,
-        buckets: Run,
+        buckets: TileSpan,
         id: u32,
         list: *mut u32,
         list_len: usize,
@@ -387,10 +434,42 @@ extern "C" {
         state: *const StateWords,
         stored: *const StoredWords,
         row: usize,
-        tiles: Run,
+        tiles: TileSpan,
         id: u32,
         yes: *mut u32,
     ) -> u32;
 
-    pub fn coarse_split_opaque_span(tiles: Run, pixels: u32, parts: *mut SplitWords) -> u32;
+    pub fn coarse_row_lengths(
+        state: *const StateWords,
+        stored: *const StoredWords,
+        row: usize,
+        lengths: *mut RowLengthsWords,
+    ) -> u32;
+
+    pub fn coarse_render_cmd(
+        state: *const StateWords,
+        stored: *const StoredWords,
+        row: usize,
+        number: usize,
+        cmd: *mut RenderCmdWords,
+    ) -> u32;
+
+    pub fn coarse_depth_cmd(
+        state: *const StateWords,
+        stored: *const StoredWords,
+        row: usize,
+        number: usize,
+        fill: *mut DepthCmdWords,
+    ) -> u32;
+
+    pub fn coarse_progress(
+        state: *const StateWords,
+        canvas: *const CanvasWords,
+        row: usize,
+        told: *mut ProgressWords,
+    ) -> u32;
+
+    pub fn coarse_version() -> u32;
+
+    pub fn coarse_split_opaque_span(tiles: TileSpan, pixels: u32, parts: *mut SplitWords) -> u32;
 }

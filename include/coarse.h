@@ -367,10 +367,10 @@ uint32_t coarse_render_cmd(const coarse_state *state, const coarse_stored *store
 /* A row's depth fill of a number, from 0 on, in the order of drawing; painting begins with the last of them. Refused as a command is. */
 uint32_t coarse_depth_cmd(const coarse_state *state, const coarse_stored *stored, size_t row, size_t number, coarse_depth_fill *fill);
 
-/* How far a row of the screen is painted on a canvas. It reads the painting words alone. Refused, told stays: 2 for the state's viewport;
+/* How far a row of the screen is painted on a canvas. It reads the painting words alone. Refused, progress stays: 2 for the state's viewport;
  * 1 for its C or D; 4 where painting has another length than the screen's rows ask for, or for a state that is none; 12 for no such row.
  * After painting has ended it says what the words hold still. */
-uint32_t coarse_progress(const coarse_state *state, const coarse_canvas *canvas, size_t row, coarse_row_progress *told);
+uint32_t coarse_progress(const coarse_state *state, const coarse_canvas *canvas, size_t row, coarse_row_progress *progress);
 
 /* The version of the library that is linked: 65,536 x the first number + 256 x the second + the third. COARSE_VERSION_NUMBER is that of
  * these headers. */

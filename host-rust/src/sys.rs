@@ -466,7 +466,7 @@ extern "C" {
         state: *const StateWords,
         canvas: *const CanvasWords,
         row: usize,
-        told: *mut ProgressWords,
+        progress: *mut ProgressWords,
     ) -> u32;
 
     pub fn coarse_version() -> u32;

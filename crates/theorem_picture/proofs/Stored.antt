@@ -36,9 +36,6 @@ module _ (k : Canvas) (w : WholeCanvas k) (i : ℕ) (h : i < length k.screen.row
   abbrev r : Row
   r = get_or s.rows i fresh-row
 
-  abbrev p : Painter
-  p = get_or k.painters i (begin 0)
-
   own : Stands s.state.attrs (buckets-across s.state.frame) r (part 54 i t.state) (part (4 * s.state.frame.c) i t.render) (part (2 * s.state.frame.d) i t.fills)
   own = row-stands s i h w.sound w.fair
 

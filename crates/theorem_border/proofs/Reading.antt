@@ -1,13 +1,10 @@
 -- What a host reads of a row is what is read of it below the border; refused, the result is as it was. Assumes nothing.
 use Rattle.std.proofs.Common.{ℕ, ◌≡◌, ap, ◌∙◌, true, List, ne_eqb}
 use Rattle.rules.specs.Answers.{Answer}
-use Rattle.row.specs.Words.{Words}
 use Rattle.screen.specs.declared.Screen.{Screen}
-use Rattle.screen.specs.Tables.{ScreenLent}
 use Rattle.walk.specs.Steps.{rows_words}
 use Rattle.paint.specs.StoredCmds.{lengths-of-row, command-of-row, depth-of-row, progress-of-row}
 use Rattle.theorem_picture.specs.Kept.{Refused}
-use Rattle.theorem_picture.specs.Stored.{RowRead}
 use Rattle.theorem_picture.proofs.Reached.{reached}
 use Rattle.theorem_picture.proofs.Stored.{stands-stored}
 use Rattle.host.specs.State.{screen-words, on}
@@ -16,7 +13,6 @@ use Rattle.host.proofs.Kept.{at-screen}
 use Rattle.theorem_border.specs.Refused.{LengthsRefused, CmdRefused, DepthRefused, ProgressRefused}
 use Rattle.theorem_border.specs.Numbers.{LengthsKeeps, CmdKeeps, DepthKeeps, ProgressKeeps}
 use Rattle.theorem_border.specs.Hosted.{Host}
-use Rattle.theorem_border.specs.Held.{host-of}
 use Rattle.theorem_border.specs.Reading.{HostedStands, LengthsRead, CmdsRead, NoCmdRead, DepthsRead, NoDepthRead, ProgressRead}
 use Rattle.theorem_border.proofs.Words.{on-screen}
 use Rattle.theorem_border.proofs.Numbers.{kept-on}

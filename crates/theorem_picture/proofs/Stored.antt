@@ -5,7 +5,7 @@ use Rattle.rules.specs.Answers.{answer, Done}
 use Rattle.rules.specs.Rows.{Row, fresh-row}
 use Rattle.rules.specs.Plans.{buckets-across}
 use Rattle.rules.specs.Steps as rule
-use Rattle.rules.specs.Painting.{Painter, begin}
+use Rattle.rules.specs.Painting.{begin}
 use Rattle.rules.specs.Calls.{Canvas}
 use Rattle.row.specs.Words.{Words}
 use Rattle.screen.specs.declared.Screen.{Screen}

@@ -68,7 +68,7 @@ never_done st f = go (eqb (length st) state-size)
 
 module _ {T : Type 0} (t : T) (f : Screen → Answer T) where
   -- a call on the words of the screen s
-  on-screen : (s : Screen) → on true (screen-words s) t f ≡ f s
+  pub on-screen : (s : Screen) → on true (screen-words s) t f ≡ f s
   on-screen s = ap (λ (h : Option Screen). at_held h (screen-words s) t f) (read_back s)
 
   -- .. done, whatever else is asked

@@ -27,12 +27,14 @@ use Rattle.paint.specs.Beginning.{canvas, beginning}
 use Rattle.paint.specs.Stepping.{Attributes, stepped}
 use Rattle.paint.specs.Running.{row-painted}
 use Rattle.paint.specs.DirectRuns.{unset-of, visible-of, write-of, skip-of-row}
+use Rattle.paint.specs.StoredCmds.{lengths-of-row, command-of-row, depth-of-row, progress-of-row}
 use Rattle.host.specs.declared.state.SetupWords.{SetupWords}
 use Rattle.host.specs.State.{screen-at, before_4}
 use Rattle.host.specs.Reasons.{asked, why_call}
 use Rattle.host.specs.Building.{reset_call, recording_call, fill_call, push_call, pop_call, filter_call}
 use Rattle.host.specs.Painting.{begin_call, step_call, row_call, unset_call, visible_call, write_call, skip_call}
 use Rattle.host.specs.Spans.{runs_of, spans_call}
+use Rattle.host.specs.Reading.{lengths_call, cmd_call, depth_call, progress_call}
 use Rattle.theorem_border.specs.Hosted.{Asks}
 
 -- n: what the border answers on the state's words st; own: the call's own number. `before_4` leaves 1, 2 and 3, and makes a 4 of every other number.
@@ -107,3 +109,16 @@ WriteKeeps =
 abbrev pub SkipKeeps : Type 0
 SkipKeeps =
     (r : ℕ) (t : Span) (id : ℕ) (st rows old : List ℕ) → Keeps st (skip-of-row (screen-at st) r rows t id).number (skip_call r t id st rows old).number
+
+abbrev pub LengthsKeeps : Type 0
+LengthsKeeps = (r : ℕ) (t : Words) (st old : List ℕ) → Keeps st (lengths-of-row (screen-at st) r t).number (lengths_call r t st old).number
+
+abbrev pub CmdKeeps : Type 0
+CmdKeeps = (r : ℕ) (t : Words) (i : ℕ) (st old : List ℕ) → Keeps st (command-of-row (screen-at st) r t i).number (cmd_call r t i st old).number
+
+abbrev pub DepthKeeps : Type 0
+DepthKeeps = (r : ℕ) (t : Words) (i : ℕ) (st old : List ℕ) → Keeps st (depth-of-row (screen-at st) r t i).number (depth_call r t i st old).number
+
+abbrev pub ProgressKeeps : Type 0
+ProgressKeeps =
+    (r : ℕ) (painting st old : List ℕ) → Keeps st (progress-of-row (screen-at st) r painting).number (progress_call r painting st old).number

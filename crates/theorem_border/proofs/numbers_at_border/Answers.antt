@@ -28,6 +28,7 @@ use Rattle.host.specs.Building.{tables-left, reset_in, reset_call, recording_in,
 use Rattle.host.specs.Painting.{begin-left, begin_call, step_left, step_call, row_call, runs-left, unset_call, visible_call, write-left, write_call, skip_call}
 use Rattle.host.specs.Spans.{runs_of, spans-left, spans_call}
 use Rattle.theorem_border.proofs.Numbers.{kept-on, kept_in}
+use Rattle.theorem_border.proofs.Reading.{lengths-keeps, cmd-keeps, depth-keeps, progress-keeps}
 use Rattle.theorem_border.proofs.numbers_at_border.Goals as goal
 
 pub returns-clause-reset : goal.returns-clause-reset
@@ -95,3 +96,15 @@ returns-clause-unset_runs_and_write c = λ r t id st d l n long. kept-on (eqb (l
 pub returns-clause-can_skip : goal.returns-clause-can_skip
 unfolding skip_call
 returns-clause-can_skip c = λ r t id st rows old long. kept-on (eqb (length old) 1) st old (λ (s : Screen). skip-left old (skip-of-row s r rows t id)) long
+
+pub returns-clause-row_lengths : goal.returns-clause-row_lengths
+returns-clause-row_lengths c = lengths-keeps
+
+pub returns-clause-render_cmd : goal.returns-clause-render_cmd
+returns-clause-render_cmd c = cmd-keeps
+
+pub returns-clause-depth_cmd : goal.returns-clause-depth_cmd
+returns-clause-depth_cmd c = depth-keeps
+
+pub returns-clause-progress : goal.returns-clause-progress
+returns-clause-progress c = progress-keeps

@@ -13,8 +13,8 @@ use Rattle.host.specs.declared.state.StateWords.{StateWords}
 use Rattle.host.specs.declared.state.SetupWords.{SetupWords}
 use Rattle.paint.specs.declared.canvas.stored.Canvas.{Canvas}
 use Rattle.host.specs.declared.build.DrawWords.{DrawWords}
-use Rattle.host.specs.declared.layers.PropsWords.{PropsWords}
-use Rattle.host.specs.declared.layers.FilterWords.{FilterWords}
+use Rattle.host.specs.declared.layer.PropsWords.{PropsWords}
+use Rattle.host.specs.declared.layer.FilterWords.{FilterWords}
 use Rattle.host.specs.declared.reasons.QuestionWords.{QuestionWords}
 use Rattle.host.specs.declared.reasons.ReasonWords.{ReasonWords}
 use Rattle.host.specs.declared.results.PaintedWords.{PaintedWords}

@@ -9,8 +9,8 @@ use Rattle.host.specs.Building.{draw, props, clip, picture, filter-in}
 use Rattle.host.specs.State.{rect}
 use Rattle.layers.specs.Filter.{FilterGiven, given}
 use Rattle.screen.specs.declared.layers.LayerProps.{LayerProps}
-use Rattle.host.specs.declared.layers.PropsWords.{PropsWords}
-use Rattle.host.specs.declared.layers.FilterWords.{FilterWords}
+use Rattle.host.specs.declared.layer.PropsWords.{PropsWords}
+use Rattle.host.specs.declared.layer.FilterWords.{FilterWords}
 use Rattle.host.specs.declared.reasons.ReasonWords.{ReasonWords}
 use Rattle.host.specs.declared.results.PaintedWords.{PaintedWords}
 use Rattle.host.specs.declared.results.PartWords.{PartWords}

@@ -5,7 +5,7 @@
 
 mod border;
 pub mod build;
-pub mod layers;
+pub mod layer;
 pub mod lengths;
 pub mod painting;
 pub mod reading;

@@ -7,7 +7,7 @@ ghost use Rattle.theorem_once.specs.Border.{screen-words, recording-words, pop-w
 
 use crate::Twice;
 use host::build::{DrawWords, coarse_bucket_recording, coarse_fill, coarse_reset};
-use host::layers::{
+use host::layer::{
     FilterWords, PropsWords, coarse_filter_fill, coarse_pop_layer, coarse_push_layer,
 };
 use host::lengths::coarse_sizes;

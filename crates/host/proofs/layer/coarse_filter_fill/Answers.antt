@@ -1,7 +1,7 @@
 -- The call's own equation, carried over to the words.
 use Rattle.std.proofs.Common.{rules}
 use Rattle.host.proofs.Built.{filter_built}
-use Rattle.host.proofs.layers.coarse_filter_fill.Goals as goal
+use Rattle.host.proofs.layer.coarse_filter_fill.Goals as goal
 
 pub returns-clause-filtered : goal.returns-clause-filtered
 returns-clause-filtered c =

@@ -1,7 +1,7 @@
 -- The call's own equation, carried over to the words.
 use Rattle.std.proofs.Common.{rules}
 use Rattle.host.proofs.Built.{push_built}
-use Rattle.host.proofs.layers.coarse_push_layer.Goals as goal
+use Rattle.host.proofs.layer.coarse_push_layer.Goals as goal
 
 pub returns-clause-pushed : goal.returns-clause-pushed
 returns-clause-pushed c =

@@ -1,7 +1,7 @@
 -- The call's own equation, carried over to the words.
 use Rattle.std.proofs.Common.{rules}
 use Rattle.host.proofs.Built.{pop_built}
-use Rattle.host.proofs.layers.coarse_pop_layer.Goals as goal
+use Rattle.host.proofs.layer.coarse_pop_layer.Goals as goal
 
 pub returns-clause-popped : goal.returns-clause-popped
 returns-clause-popped c =

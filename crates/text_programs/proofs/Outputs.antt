@@ -1,10 +1,12 @@
 -- What is written of a text where its writing ends early.
-use Rattle.std.proofs.Common.{◌≡◌, Bool, true, if◌then◌else◌, ℕ, ◌+◌, ◌-◌, ◌≤◌, List, ◌++◌, length, take, drop, take_all, length-drop, length-take-le, Option, Some, None, IfSome, sym, ap, ◌∙◌, subst, arith}
+use Rattle.std.proofs.Common.{◌≡◌, ℕ, ◌+◌, ◌-◌, ◌≤◌, List, ◌++◌, length, take, drop, take_all, length-drop, length-take-le, Option, Some, None, IfSome, sym, ap, ◌∙◌, subst, arith}
 use Rattle.std.proofs.Math.Seq.{take-append-add}
 use Rattle.std.proofs.lemmas.List.{take-append-drop}
 use Rattle.std.proofs.KnownBytes.{Appends-trans, Appends-nil}
 use Rattle.std.specs.Io.KnownBytes.{Appends, Keeps}
+use Rattle.text_programs.specs.declared.about.About.{About}
 use Rattle.text_programs.specs.Failures.{Begins}
+use Rattle.text_programs.specs.Abouts.{said_or}
 
 -- an output that a failed write left as it was, and that bytes were then written to
 pub kept_appends : (a b c : Option (List ℕ)) (bs : List ℕ) → Keeps a b → Appends b c bs → Appends a c bs
@@ -34,10 +36,10 @@ for_any : (known : Option (List ℕ)) (P : List ℕ → Type 0) → ((bs : List 
 for_any None P h = tt
 for_any (Some bs) P h = h bs
 
--- a program that is asked for its usage prints that, whatever its input is
-module _ (b : Bool) (known old new : Option (List ℕ)) (t : List ℕ) (f : List ℕ → List ℕ) where
-  pub usage_printed : b ≡ true → Appends old new t → IfSome known (λ bs. Appends old new (if b then t else f bs))
-  usage_printed e p = for_any known (λ bs. Appends old new (if b then t else f bs)) (λ bs. rw e p)
+-- a program that is asked about itself prints that, whatever its input is
+module _ (asked : Option About) (a : About) (known old new : Option (List ℕ)) (said : About → List ℕ) (f : List ℕ → List ℕ) where
+  pub about_printed : asked ≡ Some a → Appends old new (said a) → IfSome known (λ bs. Appends old new (said_or asked said (f bs)))
+  about_printed e p = for_any known (λ bs. Appends old new (said_or asked said (f bs))) (λ bs. rw e p)
 
-  pub usage_begun : b ≡ true → Begins old new t → IfSome known (λ bs. Begins old new (if b then t else f bs))
-  usage_begun e p = for_any known (λ bs. Begins old new (if b then t else f bs)) (λ bs. rw e p)
+  pub about_begun : asked ≡ Some a → Begins old new (said a) → IfSome known (λ bs. Begins old new (said_or asked said (f bs)))
+  about_begun e p = for_any known (λ bs. Begins old new (said_or asked said (f bs))) (λ bs. rw e p)

@@ -4,9 +4,7 @@ use Rattle.std.proofs.Math.Seq.{take-append-add}
 use Rattle.std.proofs.lemmas.List.{take-append-drop}
 use Rattle.std.proofs.KnownBytes.{Appends-trans, Appends-nil}
 use Rattle.std.specs.Io.KnownBytes.{Appends, Keeps}
-use Rattle.text_programs.specs.declared.about.About.{About}
 use Rattle.text_programs.specs.Failures.{Begins}
-use Rattle.text_programs.specs.Abouts.{said_or}
 
 -- an output that a failed write left as it was, and that bytes were then written to
 pub kept_appends : (a b c : Option (List ℕ)) (bs : List ℕ) → Keeps a b → Appends b c bs → Appends a c bs
@@ -31,15 +29,3 @@ write_more a b c k n ts h i p q =
 pub nothing_begun : (known a : Option (List ℕ)) (f : List ℕ → List ℕ) → IfSome known (λ bs. Begins a a (f bs))
 nothing_begun None a f = tt
 nothing_begun (Some bs) a f = (0, Appends-nil a)
-
-for_any : (known : Option (List ℕ)) (P : List ℕ → Type 0) → ((bs : List ℕ) → P bs) → IfSome known P
-for_any None P h = tt
-for_any (Some bs) P h = h bs
-
--- a program that is asked about itself prints that, whatever its input is
-module _ (asked : Option About) (a : About) (known old new : Option (List ℕ)) (said : About → List ℕ) (f : List ℕ → List ℕ) where
-  pub about_printed : asked ≡ Some a → Appends old new (said a) → IfSome known (λ bs. Appends old new (said_or asked said (f bs)))
-  about_printed e p = for_any known (λ bs. Appends old new (said_or asked said (f bs))) (λ bs. rw e p)
-
-  pub about_begun : asked ≡ Some a → Begins old new (said a) → IfSome known (λ bs. Begins old new (said_or asked said (f bs)))
-  about_begun e p = for_any known (λ bs. Begins old new (said_or asked said (f bs))) (λ bs. rw e p)

@@ -10,26 +10,27 @@ ghost use Rattle.screen.specs.Screens.{setup-of};
 ghost use Rattle.text.specs.Files.{Usual};
 ghost use Rattle.text_programs.specs.Rooms.{file-room, text-room};
 ghost use Rattle.text_programs.specs.Failures.{IsOfReading, IsOfWriting, IsUsage, IsUnwritten, Begins};
-ghost use Rattle.text_programs.specs.Arguments.{asks_help, read_arguments, wanted_of};
+ghost use Rattle.text_programs.specs.Arguments.{asked_about, read_arguments, wanted_of};
 ghost use Rattle.text_programs.specs.Streams.{PrintsFirst};
 ghost use Rattle.run_why.specs.Requests.{request_of, IsOfFile, AsksOfFile, AsksOfStream};
 ghost use Rattle.run_why.specs.Desks.{Ready};
-ghost use Rattle.run_why.specs.Printed.{usage, answer, item_answer, reply, printed, item_of};
+ghost use Rattle.run_why.specs.Printed.{about, answer, item_answer, reply, printed, item_of};
 
 use crate::arguments::{Query, Request, read_request, wrong_after_stream};
 use std::alloc::Global;
 use std::io::{Read, Write};
+use text_programs::about::{asked_about, print_about};
 use text_programs::failure::{Failure, Stop};
 use text_programs::options::{Want, read_options};
 use text_programs::stream::{Replies, answer_all, word};
 use text_programs::tables::{Tables, file_buffer, text_buffer};
-use text_programs::usage::{Usage, asks_help, print_usage};
+use text_programs::usage::Usage;
 use text_programs::{no_width_text, read_all, write_text};
 use text_why::{Question, question_text, why_text};
 
 mod arguments;
 
-/// What it says where it is asked how it is called.
+/// What it says of itself where it is asked.
 pub const USAGE: Usage = Usage {
     program: "why",
     calls: "usage: why [--snap] [--width N] ROW TILE [draw N | layer N] < FILE\n       why [--snap] [--width N] --stream < STREAM\n\
@@ -202,7 +203,7 @@ fn answer_input<R: Read, W: Write>(
     answer_request(input, output, request, buffer.as_mut_slice(), &mut desk)
 }
 
-/// Prints what the arguments ask for, over any input and output: the usage, the answer about the file on the input, or the answers to its stream.
+/// Prints what the arguments ask for, over any input and output: its usage, its version, the answer about the file on the input, or the answers to its stream.
 #[tactic(auto, using(crate::proofs::Answering::none_answered))]
 pub fn run<'a, R: Read, W: Write>(
     alloc: Global,
@@ -211,7 +212,7 @@ pub fn run<'a, R: Read, W: Write>(
     output: &mut W,
 ) -> Result<(), Stop<'a>>
     ensures usage { IsErrAnd result IsUsage
-        ↔ ((asks_help (map string_bytes args.now) ≡ false) × (request_of (read_arguments false (map string_bytes args.now)).others ≡ None)) }
+        ↔ ((asked_about (map string_bytes args.now) ≡ None) × (request_of (read_arguments false (map string_bytes args.now)).others ≡ None)) }
     ensures untouched { IfErr result (λ stop. IsUsage stop → (input.new ≡ input.old) × (output.new ≡ output.old)) }
 
     ensures printed { OnOk result (IfSome (R.remaining input.old) (λ bytes.
@@ -224,12 +225,12 @@ pub fn run<'a, R: Read, W: Write>(
     ensures whole { AsksOfStream (map string_bytes args.now) → IfErr result (λ stop. IsUnwritten stop
         ⊎ PrintsFirst (item_of (map string_bytes args.now)) 12 (R.remaining input.old) (W.contents output.old) (W.contents output.new)) }
 
-    // Asked for its usage, it prints that whatever the input is.
-    ensures help { asks_help (map string_bytes args.now) ≡ true
-        → (input.new ≡ input.old) × OnOk result (Appends (W.contents output.old) (W.contents output.new) usage) }
+    // Asked about itself, it prints that whatever the input is.
+    ensures about { IfSome (asked_about (map string_bytes args.now)) (λ asked.
+        (input.new ≡ input.old) × OnOk result (Appends (W.contents output.old) (W.contents output.new) (about asked))) }
 {
-    if asks_help(args) {
-        print_usage(alloc, output, &USAGE)?;
+    if let Some(about) = asked_about(args) {
+        print_about(alloc, output, &USAGE, about)?;
         return Ok(());
     }
     let options = read_options(args, false);

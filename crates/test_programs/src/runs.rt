@@ -6,7 +6,7 @@ use std::test::*;
 // Usages: nothing is read or written, and the first line says which word is wrong.
 #[test]
 fn a_usage_names_the_word_that_is_wrong(rt: HostRuntime) -> Result<(), Fail> {
-    let cases: [(Program, &[&str], &str); 18] = [
+    let cases: [(Program, &[&str], &str); 21] = [
         (Program::Rowlist, &["--wdith"], "--wdith is no option"),
         (Program::Rowlist, &["--panels"], "--panels is no option"),
         (
@@ -20,11 +20,21 @@ fn a_usage_names_the_word_that_is_wrong(rt: HostRuntime) -> Result<(), Fail> {
             &["--snap", "--help"],
             "--help stands alone or not at all",
         ),
+        (
+            Program::Rowlist,
+            &["--version", "--snap"],
+            "--version stands alone or not at all",
+        ),
         (Program::Rowlist, &["x"], "x is one argument too many"),
         (
             Program::Rowdump,
             &["--panels", "--snpa"],
             "--snpa is no option",
+        ),
+        (
+            Program::Rowdump,
+            &["--panels", "--version"],
+            "--version stands alone or not at all",
         ),
         (
             Program::Rowdump,
@@ -55,6 +65,11 @@ fn a_usage_names_the_word_that_is_wrong(rt: HostRuntime) -> Result<(), Fail> {
             "2 is one argument too many",
         ),
         (Program::Why, &["--panels", "3"], "--panels is no option"),
+        (
+            Program::Why,
+            &["--version", "3", "70"],
+            "--version stands alone or not at all",
+        ),
         (
             Program::Why,
             &["--stream", "3"],
@@ -114,6 +129,50 @@ fn help_prints_the_usage_and_reads_nothing(rt: HostRuntime) -> Result<(), Fail> 
                     .ends_with(b"  14: the list has no room for the result\n")
             );
         }
+    }
+    Ok(())
+}
+
+// Through short writes; where writing fails, a beginning of the line is there.
+#[test]
+fn version_prints_one_line_and_reads_nothing(rt: HostRuntime) -> Result<(), Fail> {
+    let programs: [(Program, &[u8]); 3] = [
+        (
+            Program::Rowlist,
+            b"rowlist 0.1.0 rattle-kit-13f dac8208d650f15bf\n",
+        ),
+        (
+            Program::Rowdump,
+            b"rowdump 0.1.0 rattle-kit-13f dac8208d650f15bf\n",
+        ),
+        (
+            Program::Why,
+            b"why 0.1.0 rattle-kit-13f dac8208d650f15bf\n",
+        ),
+    ];
+    let reads = [Fails(ErrorKind::Other)];
+    for (program, line) in programs {
+        let (end, held) = run(
+            rt.alloc(),
+            program,
+            &["--version"],
+            &[],
+            &reads,
+            &[Bytes(3), Bytes(ANY)],
+        )?;
+        assert_eq!(rt; end, End::Done);
+        assert_eq!(rt; held.as_slice(), line);
+
+        let (end, held) = run(
+            rt.alloc(),
+            program,
+            &["--version"],
+            &[],
+            &reads,
+            &[Bytes(9), Fails(ErrorKind::StorageFull)],
+        )?;
+        assert_eq!(rt; end, End::Write(ErrorKind::StorageFull));
+        assert_eq!(rt; held.as_slice(), &line[..9]);
     }
     Ok(())
 }

@@ -25,6 +25,7 @@ use text::{
     refuse,
 };
 
+pub mod about;
 pub mod failure;
 pub mod options;
 pub mod stream;

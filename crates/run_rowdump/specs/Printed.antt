@@ -1,5 +1,5 @@
 -- What `rowdump` prints.
-use Rattle.std.specs.Prelude.{ℕ, true, List, codes, if◌then◌else◌}
+use Rattle.std.specs.Prelude.{ℕ, true, List, codes}
 use Rattle.text_programs.specs.Programs.{Wanted}
 use Rattle.text_programs.specs.Arguments.{asked_about, read_arguments, wanted_by}
 use Rattle.text_programs.specs.Streams.{Item, stream_printed}

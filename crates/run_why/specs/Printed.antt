@@ -1,5 +1,5 @@
 -- What `why` prints.
-use Rattle.std.specs.Prelude.{ℕ, false, List, [], ◌++◌, codes, if◌then◌else◌, Some, None}
+use Rattle.std.specs.Prelude.{ℕ, false, List, [], ◌++◌, codes, Some, None}
 use Rattle.rules_reason.specs.Answers.{why-text, question-line}
 use Rattle.text_programs.specs.Programs.{Wanted, by_width}
 use Rattle.text_programs.specs.Arguments.{Arguments, asked_about, read_arguments, wanted_by}

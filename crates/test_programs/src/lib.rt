@@ -11,3 +11,5 @@ mod programs;
 mod runs;
 #[cfg(test)]
 mod tests;
+#[cfg(test)]
+mod usages;

@@ -11,12 +11,12 @@ use Rattle.paint.specs.declared.canvas.stored.Canvas.{Canvas}
 use Rattle.host.specs.Held.{words_in, painted_in, reason_in, one}
 use Rattle.host.specs.Lent.{rows_in, pop_in}
 use Rattle.host.specs.Called.{canvas_out, write_out}
-use Rattle.theorem_once.specs.declared.border.WhyHost.{WhyHost}
-use Rattle.theorem_once.specs.declared.border.FillHost.{FillHost}
-use Rattle.theorem_once.specs.declared.border.PaintHost.{PaintHost}
-use Rattle.theorem_once.specs.declared.border.RunsHost.{RunsHost}
-use Rattle.theorem_once.specs.declared.border.SpansHost.{SpansHost}
-use Rattle.theorem_once.specs.declared.border.SkipHost.{SkipHost}
+use Rattle.theorem_once.specs.declared.border.building.WhyHost.{WhyHost}
+use Rattle.theorem_once.specs.declared.border.building.FillHost.{FillHost}
+use Rattle.theorem_once.specs.declared.border.painting.PaintHost.{PaintHost}
+use Rattle.theorem_once.specs.declared.border.painting.RunsHost.{RunsHost}
+use Rattle.theorem_once.specs.declared.border.painting.SpansHost.{SpansHost}
+use Rattle.theorem_once.specs.declared.border.painting.SkipHost.{SkipHost}
 
 abbrev pub screen-words : StateWords → Lent → List ℕ × Tables
 screen-words w t = (words_in w, tables_in t)

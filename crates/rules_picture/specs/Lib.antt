@@ -4,3 +4,4 @@ pub mod Skip
 pub mod Recorded
 pub mod Panels
 pub mod TwoPanels
+pub mod Edited

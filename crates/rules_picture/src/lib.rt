@@ -2,6 +2,7 @@
 //! theorem about the rules, and it does nothing else.
 #![tactic(auto)]
 
+ghost use Rattle.rules_picture.specs.Edited.{Line-edited, Line-painted, Row-unchanged};
 ghost use Rattle.rules_picture.specs.Panels.{Answered-alike, Built-alike, Panel-blind, Painted-alike, Told-alike};
 ghost use Rattle.rules_picture.specs.TwoPanels.{TwoPanels};
 
@@ -13,4 +14,11 @@ pub fn panels_decide_nothing()
     ensures painted { Painted-alike }
     ensures told { Told-alike }
     ensures two { TwoPanels }
+{}
+
+/// Editing one line of the screen leaves the other rows as they were.
+pub fn lines_stay()
+    ensures histories { Row-unchanged }
+    ensures recordings { Line-edited }
+    ensures painted { Line-painted }
 {}

@@ -22,11 +22,12 @@ use Rattle.rules.proofs.All.{and_left, never}
 use Rattle.rules.proofs.laws.Changes.{puts-length}
 use Rattle.rules_picture.specs.Built.{Built, no_step, then}
 use Rattle.rules_picture.specs.Edited as edit
-use Rattle.rules_picture.specs.Edited.{on-row, Beside, placeless-draw, placeless-clip, placeless-props, Clips, Edited, SameRow, Row-unchanged}
+use Rattle.rules_picture.specs.Edited.{on-row, Beside, placeless-draw, placeless-clip, placeless-props, Clips, Edited, SameRow, Row-unchanged, Line-listed}
 use Rattle.rules_picture.proofs.Cases.{by}
 use Rattle.rules_picture.proofs.Acts.{acts-at, do-acts, row-by-row}
 use Rattle.rules_picture.proofs.Listed.{cut-act, in_row, draw-acts, acts-once, such-append}
 use Rattle.rules_picture.proofs.Pops.{acts-both, touched-rows, touched-has, close-acts}
+use Rattle.rules_picture.proofs.Picture.{row-picture}
 use Rattle.rules_picture.proofs.Stepped.{call-done, call-frame, filter_none, filter-some}
 
 module _ (v c : Box) (i : ℕ) where
@@ -286,3 +287,10 @@ unfolding reset
 row-unchanged f i there xs ys e u v b c =
     let n : i < length (replicate (rows_of f.viewport) fresh-row) = rw length-replicate there in
     both-after f i e (record { frame = refl; next = refl; attrs = refl; layers = no_pairs; row = refl; one_there = n; other_there = n }) refl b c
+
+pub line-listed : Line-listed
+line-listed f i there xs ys e u v b c t =
+    let q = row-unchanged f i there xs ys e u v b c in
+    let n = t / bucket f + 1 in
+    sym (row-picture f xs u b i t n there (omega arith))
+    ∙ rw (q.attrs, q.row) (row-picture f ys v c i t n there (omega arith))

@@ -6,7 +6,8 @@ use Rattle.rules.specs.Boxes.{rows_of}
 use Rattle.rules.specs.Segments.{Segment}
 use Rattle.rules.specs.Inputs.{Paint, Draw, draw-segments, Clip, Props, Filter}
 use Rattle.rules.specs.Rows.{Row, fresh-row}
-use Rattle.rules.specs.Plans.{Frame, Step, a-fill, a-push, a-pop, a-filter, clip-segments}
+use Rattle.rules.specs.Plain.{plain}
+use Rattle.rules.specs.Plans.{Frame, bucket, Step, a-fill, a-push, a-pop, a-filter, clip-segments}
 use Rattle.rules.specs.Steps.{Screen, reset}
 use Rattle.rules.specs.Answers.{Done}
 use Rattle.rules.specs.Calls.{Canvas, begin-call}
@@ -70,6 +71,13 @@ abbrev pub Row-unchanged : Type 0
 Row-unchanged =
     (f : Frame) (i : ℕ) → i < rows_of f.viewport → (xs ys : List Step) → Edited (i + f.viewport.y0 / 4) [] xs ys
     → (u v : Screen Row) → Built xs (reset fresh-row f) u → Built ys (reset fresh-row f) v → SameRow i u v
+
+-- .. and each tile of that row has the same list in plain draw order.
+abbrev pub Line-listed : Type 0
+Line-listed =
+    (f : Frame) (i : ℕ) → i < rows_of f.viewport → (xs ys : List Step) → Edited (i + f.viewport.y0 / 4) [] xs ys
+    → (u v : Screen Row) → Built xs (reset fresh-row f) u → Built ys (reset fresh-row f) v
+    → (t : ℕ) → plain (bucket f) f.viewport i t xs ≡ plain (bucket f) f.viewport i t ys
 
 -- two lists, place by place
 pub data Alongside {A : Type 0} (P : A → A → Type 0) : List A → List A → Type 0 where

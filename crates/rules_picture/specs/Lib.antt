@@ -5,3 +5,4 @@ pub mod Recorded
 pub mod Panels
 pub mod TwoPanels
 pub mod Edited
+pub mod EditedPairs

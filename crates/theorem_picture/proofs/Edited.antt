@@ -1,6 +1,6 @@
 -- Editing one line of the screen, at the lent words: the words of a row are a function of the rules' row, and the pieces those of its painting. Assumes nothing.
-use Rattle.std.proofs.Common.{◌≡◌, refl, sym, ap, ◌∙◌, subst, Bool, true, false, cond, List, [], map, ℕ, ◌+◌, ◌/◌, ◌<◌, eqb, length, get_or}
-use Rattle.rules.specs.Answers.{Answer, answer, Done}
+use Rattle.std.proofs.Common.{◌≡◌, refl, sym, ap, ◌∙◌, subst, Bool, true, false, cond, List, [], map, ℕ, ◌+◌, ◌/◌, ◌<◌, eqb, length}
+use Rattle.rules.specs.Answers.{Answer, Done}
 use Rattle.rules.specs.Boxes.{Box, rows_of}
 use Rattle.rules.specs.Rows.{Row, fresh-row, row-ops}
 use Rattle.rules.specs.Plain.{plain}
@@ -21,14 +21,13 @@ use Rattle.refine_steps.specs.Lent.{lent_of, answer-of}
 use Rattle.refine_steps.proofs.Kept.{call-sound}
 use Rattle.refine_steps.proofs.Refined.{stepped}
 use Rattle.refine_steps.proofs.Reset.{fresh-sound, fresh-words}
-use Rattle.refine_steps.proofs.Walks.{Both, Follow, walk-follows}
+use Rattle.refine_steps.proofs.Walks.{Follow, walk-follows}
 use Rattle.refine_paint.proofs.Kept.{own-words}
 use Rattle.refine_paint.proofs.Whole.{begin-whole}
-use Rattle.refine_file.specs.Played.{place}
 use Rattle.rules_picture.specs.Built.{Built}
 use Rattle.rules_picture.specs.Turns as rule
-use Rattle.rules_picture.specs.Turns.{from, has-finished, painted}
-use Rattle.rules_picture.specs.Recorded.{Readable, said}
+use Rattle.rules_picture.specs.Turns.{Gave, from, has-finished, painted}
+use Rattle.rules_picture.specs.Recorded.{said}
 use Rattle.rules_picture.specs.Edited.{Edited, SameRow}
 use Rattle.rules_picture.proofs.Walked.{all-walks}
 use Rattle.rules_picture.proofs.Picture.{built-on}
@@ -134,7 +133,7 @@ gives {f = f} {xs = xs} {l = l} s e i there cs fin =
       begins = d;
       turns = map turn-of z.turns;
       finished = finished-rules z.turns (begin-call k).value w i row (sym (ap (finished i z.turns) v) ∙ y);
-      gave = sym (z.pieces i) ∙ rw (v, log-words z.turns (begin-call k).value w);
+      gave = sym (z.pieces i) ∙ ap (λ (m : ScreenLent). from i (log z.turns m)) v ∙ ap (from i) (log-words z.turns (begin-call k).value w);
     }
 
 -- two reached screens whose histories are edits of one another outside row i

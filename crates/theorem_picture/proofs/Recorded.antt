@@ -145,7 +145,7 @@ module _ (ws : List ℕ) (q : Setup) (l : ScreenLent) where
     where
       go : (o : Option (List (List (List ℕ)))) → sections shape ws ≡ o → (of-sections o q l).number ≡ Done → Accepted (place q l) ws (of-sections o q l).value
       go None e z = absurd (omega arith)
-      go (Some ss) e z = 
+      go (Some ss) e z =
           let r : Readable ws = record { parts = ss; formed = e } in
           let t = (result ws r q l).0 z in
           record { words = r; reached = taken-reached ws r q l t; begins = taken-begins ws r q l t }

@@ -1,5 +1,5 @@
 /* A panel over a banner, drawn by two program modules: whose each piece of a row is, and what its tiles receive. */
-#include "../include/coarse_bucketer.h"
+#include "coarse_bucketer.h"
 #include <stdio.h>
 
 static const char *const names[] = {"banner", "panel"};

@@ -33,39 +33,32 @@ static void expect(const char *what, uint32_t want, uint32_t got) {
 static const coarse_setup small = {8, 8, COARSE_EXACT, COARSE_128}, snapping = {8, 8, COARSE_SNAPPING, COARSE_128};
 static const coarse_paint paints[] = {{1, 1, 5, -5}, {0, 2, 0, 0}};
 static const coarse_segment segments[] = {{0, 0, 0, 64, 0}, {1, 0, 64, 70, 32}};
-static const coarse_draw both = {.start = 0, .end = 2, .paint = 0, .blend = COARSE_DEFAULT_BLEND};
+static const coarse_draw both = {.start = 0, .end = 2, .paint = 0, .blend = COARSE_DEFAULT_BLEND_INIT};
 
-/* A viewport of height 0 has no rows: every arena is empty, and may be null. */
+/* A viewport of height 0 has no rows: every arena is empty. A parameter with length 0 may be null; a pointer in a struct is never. */
 static void null_pointers(void) {
-    uint32_t state[COARSE_STATE] = {0};
+    coarse_state state = {{0, 0, 0, 0}, {0, 0, 0, 0}, 0, 0, 0, 0, 0, 0, 0, 0, 0};
+    uint32_t none[1] = {0};
     uint32_t *layers = calloc(COARSE_LAYERS, 4), *paint_attrs = calloc(COARSE_PAINT_ATTRS, 4);
     uint32_t *layer_attrs = calloc(COARSE_LAYER_ATTRS, 4);
     float *opacities = calloc(COARSE_OPACITIES, 4);
     int32_t *filter_paints = calloc(COARSE_FILTER_PAINTS, 4);
-    size_t count[2] = {7, 7};
+    coarse_tables tables = {none, 0, none, 0, none, 0, none, 0, none, 0, layers, COARSE_LAYERS, opacities, COARSE_OPACITIES,
+                            paint_attrs, COARSE_PAINT_ATTRS, layer_attrs, COARSE_LAYER_ATTRS, filter_paints, COARSE_FILTER_PAINTS};
+    coarse_canvas canvas = {none, 0, none, 0};
+    coarse_draw draw = {0, 0, 0, 0, {0, 3}, 0, 0};
+    size_t count = 7;
     coarse_setup one = {1, 1, COARSE_EXACT, COARSE_128};
-    expect("reset to no rows", COARSE_DONE,
-           coarse_reset(state, COARSE_STATE, 0, 0, 128, 0, one, NULL, 0, NULL, 0, NULL, 0, NULL, 0, NULL, 0, layers, COARSE_LAYERS,
-                        opacities, COARSE_OPACITIES, paint_attrs, COARSE_PAINT_ATTRS, layer_attrs, COARSE_LAYER_ATTRS,
-                        filter_paints, COARSE_FILTER_PAINTS));
-    expect("a pop with none open", COARSE_NO_LAYER,
-           coarse_pop_layer(state, COARSE_STATE, NULL, 0, NULL, 0, NULL, 0, layers, COARSE_LAYERS, opacities, COARSE_OPACITIES,
-                            layer_attrs, COARSE_LAYER_ATTRS, NULL, 0));
-    expect("a fill without a paint", COARSE_BAD_RECORD,
-           coarse_fill(state, COARSE_STATE, NULL, 0, NULL, 0, NULL, 0, paint_attrs, COARSE_PAINT_ATTRS, NULL, 0, NULL, 0, 0, 0, 0, 0,
-                       0, 3, 0, 0));
-    expect("painting no rows", COARSE_DONE, coarse_begin_painting(state, COARSE_STATE, NULL, 0, NULL, 0));
-    expect("a run of no row", COARSE_BAD_RUN, coarse_unset_runs(state, COARSE_STATE, 0, NULL, 0, 0, 4, NULL, 0, count, 1));
-    expect("its count stays", 7, (uint32_t)count[0]);
-    expect("spans of no row", COARSE_BAD_RUN, coarse_visible_spans(state, COARSE_STATE, 0, NULL, 0, 0, 4, 1, NULL, 0, count, 1));
-    expect("spans, a count of two words", COARSE_BAD_RECORD,
-           coarse_visible_spans(state, COARSE_STATE, 0, NULL, 0, 0, 4, 1, NULL, 0, count, 2));
-    expect("their count stays", 7, (uint32_t)count[0]);
-    expect("no state", COARSE_BAD_RECORD, coarse_begin_painting(NULL, 0, NULL, 0, NULL, 0));
-    expect("a recording of no words", COARSE_BAD_FORM,
-           coarse_bucket_recording(state, COARSE_STATE, NULL, 0, one, NULL, 0, NULL, 0, NULL, 0, NULL, 0, NULL, 0, layers,
-                                   COARSE_LAYERS, opacities, COARSE_OPACITIES, paint_attrs, COARSE_PAINT_ATTRS, layer_attrs,
-                                   COARSE_LAYER_ATTRS, filter_paints, COARSE_FILTER_PAINTS));
+    expect("reset to no rows", COARSE_DONE, coarse_reset(&state, (coarse_rect){0, 0, 128, 0}, one, &tables));
+    expect("the structs hold what they held", 1, tables.layers == layers && tables.layers_len == COARSE_LAYERS && tables.render_cmds == none);
+    expect("a pop with none open", COARSE_NO_LAYER, coarse_pop_layer(&state, &tables, NULL, 0));
+    expect("a fill without a paint", COARSE_BAD_RECORD, coarse_fill(&state, &tables, NULL, 0, NULL, 0, &draw));
+    expect("painting no rows", COARSE_DONE, coarse_begin_painting(&state, &canvas));
+    expect("a run of no row", COARSE_BAD_RUN, coarse_unset_runs(&state, &canvas, 0, (coarse_span){0, 4}, NULL, 0, &count));
+    expect("its count stays", 7, (uint32_t)count);
+    expect("spans of no row", COARSE_BAD_RUN, coarse_visible_spans(&state, &canvas, 0, (coarse_span){0, 4}, 1, NULL, 0, &count));
+    expect("their count stays", 7, (uint32_t)count);
+    expect("a recording of no words", COARSE_BAD_FORM, coarse_bucket_recording(&state, NULL, 0, one, &tables));
     free(layers), free(paint_attrs), free(layer_attrs), free(opacities), free(filter_paints);
 }
 
@@ -73,6 +66,7 @@ static void null_pointers(void) {
 static void lent_spans(void) {
     coarse_bucketer b;
     coarse_rect viewport = {0, 0, 4096, 4};
+    coarse_canvas short_row;
     coarse_span list[20];
     const coarse_run *runs;
     size_t count = 0, n = 0, i;
@@ -86,8 +80,10 @@ static void lent_spans(void) {
     expect("15 spans for 16 runs", COARSE_NO_ROOM, coarse_bucketer_visible_spans(&b, 0, 10, 1024, 6, list, 15, &count));
     expect("out of order", COARSE_BAD_RUN, coarse_bucketer_visible_spans(&b, 0, 11, 10, 6, list, 20, &count));
     expect("no row 1", COARSE_BAD_RUN, coarse_bucketer_visible_spans(&b, 1, 10, 1024, 6, list, 20, &count));
+    short_row = b.canvas;
+    short_row.depth_len = 31;
     expect("a short arena before a bad range", COARSE_BAD_ARENA,
-           coarse_visible_spans(b.state, COARSE_STATE, 0, b.depth, 31, 11, 10, 6, list, 20, &count, 1));
+           coarse_visible_spans(&b.state, &short_row, 0, (coarse_span){11, 10}, 6, list, 20, &count));
     expect("refused, the count stays", 9, (uint32_t)count);
     for (i = 0; i < 20; i++)
         expect("refused, the list stays", 500, list[i].first);
@@ -102,6 +98,10 @@ static void lent_spans(void) {
     expect("the first is cut", 10, list[0].first);
     expect("the last", 960, list[15].first);
     expect("the spans after them stay", 500, list[16].first);
+    expect("unset, 16 for 16", COARSE_DONE, coarse_bucketer_unset_spans(&b, 0, 10, 1024, list, 16, &count));
+    expect("unset runs", COARSE_DONE, coarse_bucketer_unset_runs(&b, 0, 10, 1024, &runs, &n));
+    expect("as many again", (uint32_t)n, (uint32_t)count);
+    expect("the same last one", runs[15].first, list[15].first);
     expect("no tiles, no list", COARSE_DONE, coarse_bucketer_visible_spans(&b, 0, 5, 5, 7, NULL, 0, &count));
     expect("no runs", 0, (uint32_t)count);
     coarse_bucketer_free(&b);
@@ -109,53 +109,38 @@ static void lent_spans(void) {
 
 /* A filter fill of 8 by 3 pixels with any flag and handle, of any panel. */
 static uint32_t filter_fill(coarse_bucketer *b, uint32_t has_pixmap, uint32_t pixmap, uint32_t panel) {
-    return coarse_filter_fill(b->state, COARSE_STATE, b->rows, b->sizes[3], b->render, b->sizes[0], b->fills, b->sizes[1], b->paint_attrs,
-                              b->sizes[7], b->filter_paints, b->sizes[9], 0, 0, 8, 3, 4, 0, has_pixmap, pixmap, 2,
-                              panel);
+    coarse_filter given = {{0, 0, 8, 3}, 4, 0, has_pixmap, pixmap, 2, panel};
+    return coarse_filter_fill(&b->state, &b->tables, &given);
 }
 
-/* The first tile, in any setup, with any word for draw or layer, and any length of the result. */
-static uint32_t why(coarse_bucketer *b, const uint32_t *file, size_t words, coarse_setup setup, uint32_t layer, size_t room) {
-    uint32_t result[COARSE_REASON + 1];
-    return coarse_why(b->state, COARSE_STATE, file, words, setup, 0, 0, layer, 0, b->render, b->sizes[0], b->fills, b->sizes[1],
-                      b->depth, b->sizes[2], b->rows, b->sizes[3], b->painting, b->sizes[4], b->layers, b->sizes[5], b->opacities,
-                      b->sizes[6], b->paint_attrs, b->sizes[7], b->layer_attrs, b->sizes[8], b->filter_paints, b->sizes[9], result,
-                      room);
+/* The first tile, in any setup, with any word for draw or layer. */
+static uint32_t why(coarse_bucketer *b, const uint32_t *file, size_t words, coarse_setup setup, uint32_t layer) {
+    coarse_question question = {0, 0, layer, 0};
+    coarse_reason result;
+    return coarse_why(&b->state, file, words, setup, &question, &b->tables, &result);
 }
 
 /* A reset of the screen that it is, in any setup. */
 static uint32_t reset(coarse_bucketer *b, coarse_rect v, coarse_setup setup) {
-    return coarse_reset(b->state, COARSE_STATE, v.x0, v.y0, v.x1, v.y1, setup, b->render, b->sizes[0], b->fills, b->sizes[1], b->depth,
-                        b->sizes[2], b->rows, b->sizes[3], b->painting, b->sizes[4], b->layers, b->sizes[5], b->opacities, b->sizes[6],
-                        b->paint_attrs, b->sizes[7], b->layer_attrs, b->sizes[8], b->filter_paints, b->sizes[9]);
+    return coarse_reset(&b->state, v, setup, &b->tables);
 }
 
-/* A recording into its tables, in any setup, with so many words of its state. */
-static uint32_t record_with(coarse_bucketer *b, size_t state_len, const uint32_t *file, size_t words, coarse_setup setup) {
-    return coarse_bucket_recording(b->state, state_len, file, words, setup, b->render, b->sizes[0], b->fills, b->sizes[1], b->depth,
-                                   b->sizes[2], b->rows, b->sizes[3], b->painting, b->sizes[4], b->layers, b->sizes[5], b->opacities,
-                                   b->sizes[6], b->paint_attrs, b->sizes[7], b->layer_attrs, b->sizes[8], b->filter_paints, b->sizes[9]);
-}
-
+/* A recording into its tables, in any setup. */
 static uint32_t record(coarse_bucketer *b, const uint32_t *file, size_t words, coarse_setup setup) {
-    return record_with(b, COARSE_STATE, file, words, setup);
-}
-
-static uint32_t stateless(coarse_bucketer *b, const uint32_t *file, size_t words, coarse_setup setup) {
-    return record_with(b, COARSE_STATE - 1, file, words, setup);
+    return coarse_bucket_recording(&b->state, file, words, setup, &b->tables);
 }
 
 /* All words of a bucketer, as one number that a change of any changes. */
 static uint32_t sum(const coarse_bucketer *b) {
     const uint32_t *words = (const uint32_t *)b->block;
-    size_t n = 0, i;
+    const coarse_lengths *lens = &b->sizes;
+    size_t i, n = lens->render_cmds + lens->depth_cmds + lens->depth + lens->rows + lens->painting + lens->layers + lens->opacities +
+                  lens->paint_attrs + lens->layer_attrs + lens->filter_paints;
     uint32_t mixed = 2166136261u;
-    for (i = 0; i < 10; i++)
-        n += b->sizes[i];
     for (i = 0; i < n; i++)
         mixed = (mixed ^ words[i]) * 16777619u;
-    for (i = 0; i < COARSE_STATE; i++)
-        mixed = (mixed ^ b->state[i]) * 16777619u;
+    for (i = 0; i < sizeof b->state / sizeof(uint32_t); i++)
+        mixed = (mixed ^ ((const uint32_t *)&b->state)[i]) * 16777619u;
     return mixed;
 }
 
@@ -167,12 +152,13 @@ static void snapped_screen(void) {
     const coarse_segment last[] = {{0, 191, 0, 342, 0}};
     const coarse_draw draw = {.start = 0, .end = 1, .paint = 0, .blend = COARSE_DEFAULT_BLEND};
     const coarse_piece *pieces;
-    size_t count = 0, sizes[10] = {0};
+    coarse_lengths sizes = {0, 0, 0, 0, 0, 0, 0, 0, 0, 0};
+    size_t count = 0;
     expect("exact, it is refused", COARSE_BAD_VIEWPORT, coarse_bucketer_new(&b, odd, small));
-    expect("exact, it has no sizes", COARSE_BAD_VIEWPORT, coarse_bucketer_sizes(odd, small, sizes));
-    expect("snapping, it has", COARSE_DONE, coarse_bucketer_sizes(odd, snapping, sizes));
-    expect("192 rows of 8 commands", 192 * 32, (uint32_t)sizes[0]);
-    expect("192 rows of 11 buckets", 192 * 11, (uint32_t)sizes[2]);
+    expect("exact, it has no sizes", COARSE_BAD_VIEWPORT, coarse_sizes(odd, small, &sizes));
+    expect("snapping, it has", COARSE_DONE, coarse_sizes(odd, snapping, &sizes));
+    expect("192 rows of 8 commands", 192 * 32, (uint32_t)sizes.render_cmds);
+    expect("192 rows of 11 buckets", 192 * 11, (uint32_t)sizes.depth);
     expect("snapping, it is a screen", COARSE_DONE, coarse_bucketer_new(&b, odd, snapping));
     held = coarse_bucketer_viewport(&b);
     expect("to the next tile edge", 1368, held.x1);
@@ -208,30 +194,33 @@ static void snapped_screen(void) {
     expect("shows the draw", COARSE_SHOWN, reason.reason);
     expect("a tile past it", COARSE_BAD_RUN, coarse_bucketer_why(&b, file, 32, 0, 128, 0, 0, &reason));
     expect("exact, it is refused", COARSE_BAD_VIEWPORT, record(&b, file, 32, small));
-    expect("and so is the question", COARSE_BAD_VIEWPORT, why(&b, file, 32, small, 0, COARSE_REASON));
+    expect("and so is the question", COARSE_BAD_VIEWPORT, why(&b, file, 32, small, 0));
     coarse_bucketer_free(&b);
 }
 
 /* One draw over tiles 0 to 64 of a screen of 256 x 8. */
 static const uint32_t one_draw[] = {1, 0, 0, 256, 8, 1, 1, 1, 0, 0, 1, 0, 0, 0, 64, 0, 1, 0, 0, 1, 0, 0, 3, 0, 0, 1, 0, 1, 0, 1, 0, 1};
 
+/* What a refused call for sizes is to leave. */
+static const coarse_lengths sevens = {7, 7, 7, 7, 7, 7, 7, 7, 7, 7};
+
 /* Words that ask for no setup: every call that takes them gives this answer, a recording and a question after their 3. */
-static void unasked(uint32_t answer, coarse_bucketer *b, coarse_rect viewport, coarse_setup setup, size_t *sizes) {
+static void unasked(uint32_t answer, coarse_bucketer *b, coarse_rect viewport, coarse_setup setup, coarse_lengths *sizes) {
     coarse_bucketer other;
     expect("no screen of it", answer, coarse_bucketer_new(&other, viewport, setup));
-    expect("no sizes", answer, coarse_bucketer_sizes(viewport, setup, sizes));
+    expect("no sizes", answer, coarse_sizes(viewport, setup, sizes));
     expect("no reset", answer, reset(b, viewport, setup));
     expect("no recording", answer, record(b, one_draw, 32, setup));
     expect("a cut recording's form first", COARSE_BAD_FORM, record(b, one_draw, 31, setup));
-    expect("no reason", answer, why(b, one_draw, 32, setup, 0, COARSE_REASON));
-    expect("a cut recording's form first, asked why", COARSE_BAD_FORM, why(b, one_draw, 31, setup, 0, COARSE_REASON));
+    expect("no reason", answer, why(b, one_draw, 32, setup, 0));
+    expect("a cut recording's form first, asked why", COARSE_BAD_FORM, why(b, one_draw, 31, setup, 0));
 }
 
 /* A mode above 1 is refused by 4 with nothing changed, whatever the viewport and C; of a recording after its 3. */
 static void no_mode(void) {
     coarse_bucketer b;
     coarse_rect narrow = {0, 0, 256, 8}, bad = {0, 0, 2, 4};
-    size_t sizes[10] = {7, 7, 7, 7, 7, 7, 7, 7, 7, 7};
+    coarse_lengths sizes = sevens;
     uint32_t modes[] = {2, 3, 0xffffffffu}, before;
     size_t i;
     expect("a screen", COARSE_DONE, coarse_bucketer_new(&b, narrow, small));
@@ -239,23 +228,19 @@ static void no_mode(void) {
     before = sum(&b);
     for (i = 0; i < 3; i++) {
         coarse_setup setup = {8, 8, modes[i], COARSE_128}, empty = {0, 8, modes[i], COARSE_128};
-        unasked(COARSE_BAD_RECORD, &b, narrow, setup, sizes);
-        expect("no sizes of a bad viewport", COARSE_BAD_RECORD, coarse_bucketer_sizes(bad, empty, sizes));
+        unasked(COARSE_BAD_RECORD, &b, narrow, setup, &sizes);
+        expect("no sizes of a bad viewport", COARSE_BAD_RECORD, coarse_sizes(bad, empty, &sizes));
         expect("no reset to a bad viewport", COARSE_BAD_RECORD, reset(&b, bad, empty));
     }
     expect("nothing has changed", before, sum(&b));
-    for (i = 0; i < 10; i++)
-        expect("the sizes stay", 7, (uint32_t)sizes[i]);
+    expect("the sizes stay", 0, memcmp(&sizes, &sevens, sizeof sizes) != 0);
     /* With a mode, the viewport and the arenas come before a word that is no flag. */
-    b.state[15] = 2;
+    b.state.painting = 2;
     expect("a bad viewport before a bad state", COARSE_BAD_VIEWPORT, reset(&b, bad, small));
     expect("a bad state", COARSE_BAD_RECORD, reset(&b, narrow, small));
     expect("a bad state, snapping", COARSE_BAD_RECORD, reset(&b, narrow, snapping));
     expect("no mode and a bad state", COARSE_BAD_RECORD, reset(&b, bad, (coarse_setup){8, 8, 2, COARSE_128}));
     expect("a cut recording before both", COARSE_BAD_FORM, record(&b, one_draw, 31, (coarse_setup){8, 8, 2, COARSE_128}));
-    expect("no state, a cut recording", COARSE_BAD_RECORD, stateless(&b, one_draw, 31, small));
-    expect("no state, no mode, a cut recording", COARSE_BAD_FORM, stateless(&b, one_draw, 31, (coarse_setup){8, 8, 2, COARSE_128}));
-    expect("no state, no mode", COARSE_BAD_RECORD, stateless(&b, one_draw, 32, (coarse_setup){8, 8, 2, COARSE_128}));
     coarse_bucketer_free(&b);
 }
 
@@ -264,26 +249,26 @@ static void widths(void) {
     static const struct { uint32_t width, buckets, fills, first, end; size_t pieces; } each[] = {
         {COARSE_64, 8, 1, 16, 80, 1}, {COARSE_128, 4, 1, 32, 64, 3}, {COARSE_256, 2, 0, 16, 80, 1}};
     static const coarse_segment over[] = {{0, 0, 16, 80, 0}};
-    static const coarse_draw draw = {.start = 0, .end = 1, .paint = 0, .blend = COARSE_DEFAULT_BLEND};
+    static const coarse_draw draw = {.start = 0, .end = 1, .paint = 0, .blend = COARSE_DEFAULT_BLEND_INIT};
     const coarse_piece *pieces = NULL;
     size_t i, count = 0;
-    uint32_t parts[9];
+    coarse_parts parts;
     for (i = 0; i < 3; i++) {
         coarse_bucketer b;
         coarse_setup setup = {8, 8, COARSE_EXACT, each[i].width};
         expect("a screen", COARSE_DONE, coarse_bucketer_new(&b, (coarse_rect){0, 0, 512, 4}, setup));
         expect("of that width", each[i].width, coarse_bucketer_bucket_width(&b));
         expect("its buckets", each[i].buckets, (uint32_t)coarse_bucketer_buckets(&b));
-        expect("and its depth words", each[i].buckets, (uint32_t)b.sizes[2]);
+        expect("and its depth words", each[i].buckets, (uint32_t)b.sizes.depth);
         expect("a fill", COARSE_DONE, coarse_bucketer_generate_fill(&b, paints, 2, over, 1, &draw));
-        expect("its depth fills", each[i].fills, b.rows[1]);
+        expect("its depth fills", each[i].fills, b.tables.rows[1]);
         expect("painting", COARSE_DONE, coarse_bucketer_begin_painting(&b));
         expect("the row", COARSE_DONE, coarse_bucketer_paint_row(&b, 0, &pieces, &count));
         expect("its pieces", (uint32_t)each[i].pieces, (uint32_t)count);
         expect("the first", each[i].first, count ? pieces[0].first : 0);
         expect("to its end", each[i].end, count ? pieces[0].end : 0);
-        expect("the same split", COARSE_DONE, coarse_split_opaque_span(16, 80, each[i].width, parts, 9));
-        expect("in as many parts", (uint32_t)each[i].pieces, parts[6] ? 3u : parts[3] ? 2u : 1u);
+        expect("the same split", COARSE_DONE, coarse_split_opaque_span((coarse_span){16, 80}, each[i].width, &parts));
+        expect("in as many parts", (uint32_t)each[i].pieces, parts.right.kind ? 3u : parts.middle.kind ? 2u : 1u);
         coarse_bucketer_free(&b);
     }
 }
@@ -292,25 +277,26 @@ static void widths(void) {
 static void no_width(void) {
     coarse_bucketer b;
     coarse_rect narrow = {0, 0, 256, 8};
-    size_t sizes[10] = {7, 7, 7, 7, 7, 7, 7, 7, 7, 7};
-    uint32_t none[] = {0, 1, 16, 32, 63, 65, 96, 127, 129, 255, 257, 512, 0xffffffffu}, parts[9] = {7}, before;
+    coarse_lengths sizes = sevens;
+    uint32_t none[] = {0, 1, 16, 32, 63, 65, 96, 127, 129, 255, 257, 512, 0xffffffffu}, before;
+    const coarse_parts seven = {{7, 7, 7}, {7, 7, 7}, {7, 7, 7}};
+    coarse_parts parts = seven;
     size_t i;
     expect("a screen", COARSE_DONE, coarse_bucketer_new(&b, narrow, (coarse_setup){8, 8, COARSE_EXACT, COARSE_64}));
     expect("with a fill", COARSE_DONE, coarse_bucketer_generate_fill(&b, paints, 2, segments, 2, &both));
     before = sum(&b);
     for (i = 0; i < sizeof none / sizeof none[0]; i++) {
         coarse_setup setup = {8, 8, COARSE_EXACT, none[i]}, empty = {0, 8, 2, none[i]};
-        unasked(COARSE_BAD_VIEWPORT, &b, narrow, setup, sizes);
-        unasked(COARSE_BAD_VIEWPORT, &b, narrow, empty, sizes);
-        expect("no split", COARSE_BAD_VIEWPORT, coarse_split_opaque_span(0, 64, none[i], parts, 9));
-        expect("nor of nine words less one", COARSE_BAD_VIEWPORT, coarse_split_opaque_span(64, 0, none[i], parts, 8));
+        unasked(COARSE_BAD_VIEWPORT, &b, narrow, setup, &sizes);
+        unasked(COARSE_BAD_VIEWPORT, &b, narrow, empty, &sizes);
+        expect("no split", COARSE_BAD_VIEWPORT, coarse_split_opaque_span((coarse_span){0, 64}, none[i], &parts));
+        expect("nor of a bad range", COARSE_BAD_VIEWPORT, coarse_split_opaque_span((coarse_span){64, 0}, none[i], &parts));
     }
     expect("nothing has changed", before, sum(&b));
-    expect("the parts stay", 7, parts[0]);
-    for (i = 0; i < 10; i++)
-        expect("the sizes stay", 7, (uint32_t)sizes[i]);
+    expect("the parts stay", 0, memcmp(&parts, &seven, sizeof parts) != 0);
+    expect("the sizes stay", 0, memcmp(&sizes, &sevens, sizeof sizes) != 0);
     /* The screen's own word: 2 and 1 come before its 4. */
-    b.state[16] = 3;
+    b.state.width = 3;
     expect("a bad viewport before a bad word", COARSE_BAD_VIEWPORT, reset(&b, (coarse_rect){0, 0, 2, 4}, small));
     expect("a bad word", COARSE_BAD_RECORD, coarse_bucketer_pop_layer(&b, NULL, 0));
     expect("its depth arena first, read as 128", COARSE_BAD_ARENA, coarse_bucketer_begin_painting(&b));
@@ -353,7 +339,7 @@ static void owned_tables(void) {
     expect("a flag of 2", COARSE_BAD_RECORD, filter_fill(&b, 2, 9, 0));
     expect("no picture, any handle", COARSE_DONE, filter_fill(&b, 0, too_large, 0));
     expect("the first picture", COARSE_DONE, coarse_bucketer_generate_filter_layer_fill(&b, &first, &placement, 2, 0));
-    expect("is number 0", 0, (uint32_t)b.filter_paints[1]);
+    expect("is number 0", 0, (uint32_t)b.tables.filter_paints[1]);
     expect("a step too early", COARSE_OPEN, coarse_bucketer_paint_step(&b, 0, &finished, &pieces, &count));
     expect("painting", COARSE_DONE, coarse_bucketer_begin_painting(&b));
     expect("a step", COARSE_DONE, coarse_bucketer_paint_step(&b, 0, &finished, &pieces, &count));
@@ -405,12 +391,9 @@ static void owned_tables(void) {
     expect("a layer's attribute", COARSE_DONE, coarse_bucketer_why(&b, file, 32, 0, 127, 1, 0, &reason));
     expect("is not there", COARSE_UNKNOWN_ATTRIBUTE, reason.reason);
     expect("and has no panel", 0, reason.panel);
-    expect("neither draw nor layer", COARSE_BAD_RECORD, why(&b, file, 32, small, 2, COARSE_REASON));
-    expect("of a cut recording", COARSE_BAD_FORM, why(&b, file, 31, small, 2, COARSE_REASON));
-    expect("one word for a reason", COARSE_BAD_RECORD, why(&b, file, 32, small, 0, 1));
-    expect("one too few", COARSE_BAD_RECORD, why(&b, file, 32, small, 0, COARSE_REASON - 1));
-    expect("one too many", COARSE_BAD_RECORD, why(&b, file, 32, small, 0, COARSE_REASON + 1));
-    expect("as many as there are", COARSE_DONE, why(&b, file, 32, small, 0, COARSE_REASON));
+    expect("neither draw nor layer", COARSE_BAD_RECORD, why(&b, file, 32, small, 2));
+    expect("of a cut recording", COARSE_BAD_FORM, why(&b, file, 31, small, 2));
+    expect("as many as there are", COARSE_DONE, why(&b, file, 32, small, 0));
 
     /* Two such draws: the second hides the first. */
     const uint32_t two[] = {1, 0, 0, 512, 4, 1, 1, 1, 0, 0, 1, 0, 0, 0, 128, 0, 2, 0, 0, 1, 0, 0, 3, 0, 0, 0, 1, 0, 0, 3, 0, 0, 1, 0, 2, 0, 1, 0, 1};
@@ -481,7 +464,7 @@ static void kept_rows(void) {
         expect("memory ran out on the way", 1, answer == COARSE_DONE && had > 1);
 
         row_of_20(&b, steps);
-        panel = b.paint_attrs + 19 * COARSE_PAINT_ATTR + 8;
+        panel = b.tables.paint_attrs + 19 * COARSE_PAINT_ATTR + 8;
         *panel = 256;
         before = sum(&b);
         pieces = &none, count = 99;
@@ -549,8 +532,8 @@ static void coordinates(void) {
     expect("the same fill in it", COARSE_DONE, coarse_bucketer_generate_fill(&b, paints, 2, list, 3, &draw));
     expect("closed", COARSE_DONE, coarse_bucketer_pop_layer(&b, list, 3));
     expect("a picture", COARSE_DONE, coarse_bucketer_generate_filter_layer_fill(&b, &picture, &placement, 2, 0));
-    expect("its shift", (uint32_t)-20, (uint32_t)b.filter_paints[2]);
-    expect("down too", (uint32_t)-8, (uint32_t)b.filter_paints[3]);
+    expect("its shift", (uint32_t)-20, (uint32_t)b.tables.filter_paints[2]);
+    expect("down too", (uint32_t)-8, (uint32_t)b.tables.filter_paints[3]);
     expect("a fill's origin", 20, coarse_bucketer_paint_attrs(&b, 0).origin_x);
     expect("and down", 8, coarse_bucketer_paint_attrs(&b, 0).origin_y);
     expect("painting", COARSE_DONE, coarse_bucketer_begin_painting(&b));
@@ -584,15 +567,14 @@ static void coordinates(void) {
 
 /* The tables have the lengths that the header names. */
 static void named_sizes(void) {
-    size_t sizes[10] = {0};
-    expect("sizes", COARSE_DONE, coarse_bucketer_sizes((coarse_rect){0, 0, 256, 8}, small, sizes));
-    expect("open layers", COARSE_LAYERS, (uint32_t)sizes[5]);
-    expect("opacities", COARSE_OPACITIES, (uint32_t)sizes[6]);
-    expect("paint attributes", COARSE_PAINT_ATTRS, (uint32_t)sizes[7]);
-    expect("layer attributes", COARSE_LAYER_ATTRS, (uint32_t)sizes[8]);
-    expect("filter paints", COARSE_FILTER_PAINTS, (uint32_t)sizes[9]);
+    coarse_lengths sizes = {0, 0, 0, 0, 0, 0, 0, 0, 0, 0};
+    expect("sizes", COARSE_DONE, coarse_sizes((coarse_rect){0, 0, 256, 8}, small, &sizes));
+    expect("open layers", COARSE_LAYERS, (uint32_t)sizes.layers);
+    expect("opacities", COARSE_OPACITIES, (uint32_t)sizes.opacities);
+    expect("paint attributes", COARSE_PAINT_ATTRS, (uint32_t)sizes.paint_attrs);
+    expect("layer attributes", COARSE_LAYER_ATTRS, (uint32_t)sizes.layer_attrs);
+    expect("filter paints", COARSE_FILTER_PAINTS, (uint32_t)sizes.filter_paints);
     expect("a piece is its words", COARSE_PIECE, (uint32_t)(sizeof(coarse_piece) / sizeof(uint32_t)));
-    expect("a reason is its words", COARSE_REASON, (uint32_t)(sizeof(coarse_reason) / sizeof(uint32_t)));
 }
 
 static const coarse_segment eight[] = {{1, 0, 0, 8, 0}};
@@ -640,7 +622,7 @@ static void panels(void) {
     }
     expect("nothing has changed", before, sum(&b));
 
-    inner = b.layers + COARSE_OPEN_LAYER + 16;
+    inner = b.tables.layers + COARSE_OPEN_LAYER + 16;
     expect("the open layer's panel", 255, *inner);
     *inner = 256;
     expect("none, it is not closed", COARSE_BAD_RECORD, coarse_bucketer_pop_layer(&b, NULL, 0));
@@ -656,8 +638,8 @@ static void panels(void) {
     expect("the outer layer's own", 7, coarse_bucketer_layer_attrs(&b, 1).panel);
 
     /* Words of an attribute with such a panel are refused where a step reads them. */
-    fill = b.paint_attrs + 8;
-    layer = b.layer_attrs + 6;
+    fill = b.tables.paint_attrs + 8;
+    layer = b.tables.layer_attrs + 6;
     *fill = 256;
     expect("none, a fill's", COARSE_BAD_RECORD, steps(&b));
     *fill = 255;
@@ -676,6 +658,295 @@ static void panels(void) {
     coarse_bucketer_free(&b);
 }
 
+/* What a call that reads a row answers, whatever it would read: all four at once, and that a refused one leaves its result. */
+enum { LENGTHS = 1, COMMAND = 2, FILL = 4, PROGRESS = 8, STORED = LENGTHS | COMMAND | FILL, READS = STORED | PROGRESS };
+
+static void expect_reads(const char *what, uint32_t want, int which, const coarse_state *state, const coarse_stored *stored, const coarse_canvas *canvas,
+                         size_t row, size_t number) {
+    static const coarse_row_counts seven_counts = {7, 7};
+    static const coarse_command seven_command = {7, 7, 7, 7, 7};
+    static const coarse_depth_fill seven_fill = {7, 7, 7};
+    static const coarse_row_progress seven_progress = {7, 7};
+    coarse_row_counts lengths = seven_counts;
+    coarse_command cmd = seven_command;
+    coarse_depth_fill fill = seven_fill;
+    coarse_row_progress told = seven_progress;
+    int stay = 1;
+    if (which & LENGTHS) {
+        expect(what, want, coarse_row_lengths(state, stored, row, &lengths));
+        stay = stay && memcmp(&lengths, &seven_counts, sizeof lengths) == 0;
+    }
+    if (which & COMMAND) {
+        expect(what, want, coarse_render_cmd(state, stored, row, number, &cmd));
+        stay = stay && memcmp(&cmd, &seven_command, sizeof cmd) == 0;
+    }
+    if (which & FILL) {
+        expect(what, want, coarse_depth_cmd(state, stored, row, number, &fill));
+        stay = stay && memcmp(&fill, &seven_fill, sizeof fill) == 0;
+    }
+    if (which & PROGRESS) {
+        expect(what, want, coarse_progress(state, canvas, row, &told));
+        stay = stay && memcmp(&told, &seven_progress, sizeof told) == 0;
+    }
+    expect("the results stay", want != COARSE_DONE, (uint32_t)stay);
+}
+
+/* What is stored of a row, by its number: every tag; and how many buffers are open after each step. */
+static void stored_commands(void) {
+    static const coarse_segment list[] = {{0, 0, 0, 64, 0}, {1, 0, 64, 70, 32}, {1, 0, 4, 12, 96}};
+    static const coarse_command want[] = {
+        {COARSE_PAINT_FILL_ALPHA, 64, 70, 32, 0}, {COARSE_PUSH_BUF_SPAN, 0, 96, 0, 0}, {COARSE_PAINT_FILL, 0, 64, 0, 1}, {COARSE_PAINT_FILL_ALPHA, 64, 70, 32, 1},
+        {COARSE_PUSH_BUF_SPAN, 0, 70, 0, 0}, {COARSE_PAINT_FILL, 0, 64, 0, 2}, {COARSE_PAINT_FILL_ALPHA, 64, 70, 32, 2}, {COARSE_LAYER_FILL_ALPHA, 4, 12, 96, 0},
+        {COARSE_POP_BUF, 0, 0, 0, 0}, {COARSE_LAYER_FILL, 0, 96, 0, 1}, {COARSE_POP_BUF, 0, 0, 0, 0}};
+    static const uint32_t nesting[] = {0, 0, 0, 1, 1, 1, 2, 2, 2, 2, 1, 1, 0};
+    enum { WANT = sizeof want / sizeof want[0], STEPS = sizeof nesting / sizeof nesting[0] };
+    coarse_bucketer b;
+    coarse_clip clip = {{0, 0, 384, 4}, 2, 3, 9};
+    coarse_layer_props plain = {.blend = COARSE_DEFAULT_BLEND, .opacity = 0.25f, .panel = 5}, clipped = {.blend = {1, 3}, .opacity = 0.5f, .mask = 6, .clip = &clip};
+    coarse_draw draw = {.start = 0, .end = 2, .paint = 0, .blend = COARSE_DEFAULT_BLEND};
+    coarse_row_counts lengths;
+    coarse_command cmd;
+    coarse_depth_fill fill;
+    coarse_row_progress told;
+    coarse_canvas other = {NULL, 0, NULL, 0};
+    coarse_painted painted = {0, 0};
+    uint32_t list_words[700] = {0};
+    const coarse_piece *pieces;
+    const uint32_t *words = NULL;
+    size_t i, count = 0;
+    int finished = 0;
+    uint32_t before;
+    expect("a screen", COARSE_DONE, coarse_bucketer_new(&b, (coarse_rect){0, 0, 384, 8}, (coarse_setup){16, 4, COARSE_EXACT, COARSE_128}));
+    expect("the first id", 1, coarse_bucketer_next_draw_id(&b));
+    expect("a fill", COARSE_DONE, coarse_bucketer_generate_fill(&b, paints, 2, list, 3, &draw));
+    expect("a layer", COARSE_DONE, coarse_bucketer_push_layer(&b, &plain));
+    expect("one is open", 1, (uint32_t)coarse_bucketer_open_layers(&b));
+    expect("a fill in it", COARSE_DONE, coarse_bucketer_generate_fill(&b, paints, 2, list, 3, &draw));
+    expect("its buffer", COARSE_DONE, coarse_bucketer_render_cmd(&b, 0, 1, &cmd));
+    expect("has no span so far", COARSE_PUSH_BUF, cmd.tag);
+    expect("from 0", 0, cmd.first);
+    expect("to 0", 0, cmd.end);
+    expect("a clipped layer in it", COARSE_DONE, coarse_bucketer_push_layer(&b, &clipped));
+    expect("its box is the clip box", 384, coarse_bucketer_clip_box(&b).x1);
+    expect("one row high", 4, coarse_bucketer_clip_box(&b).y1);
+    expect("and its own", 4, coarse_bucketer_open_layer(&b, 1).box.y1);
+    expect("with a clip", 1, coarse_bucketer_open_layer(&b, 1).has_clip);
+    expect("whose segments it names", 2, coarse_bucketer_open_layer(&b, 1).clip.start);
+    expect("in a thread", 9, coarse_bucketer_open_layer(&b, 1).clip.thread);
+    expect("its mask", 6, coarse_bucketer_open_layer(&b, 1).mask);
+    expect("its blend", 1, coarse_bucketer_open_layer(&b, 1).blend.mix);
+    expect("half opacity", 1, coarse_bucketer_open_layer(&b, 1).opacity == 0.5f);
+    expect("the outer one has none", 0, coarse_bucketer_open_layer(&b, 0).has_clip);
+    expect("the whole screen for its box", 8, coarse_bucketer_open_layer(&b, 0).box.y1);
+    expect("its panel", 5, coarse_bucketer_open_layer(&b, 0).panel);
+    expect("no third", 0, coarse_bucketer_open_layer(&b, 2).box.x1);
+    expect("a fill in both", COARSE_DONE, coarse_bucketer_generate_fill(&b, paints, 2, list, 3, &draw));
+    expect("the inner one closed", COARSE_DONE, coarse_bucketer_pop_layer(&b, list, 3));
+    expect("the outer one closed", COARSE_DONE, coarse_bucketer_pop_layer(&b, NULL, 0));
+    expect("five ids are taken", 6, coarse_bucketer_next_draw_id(&b));
+    before = sum(&b);
+
+    expect("what is stored", COARSE_DONE, coarse_bucketer_row_lengths(&b, 0, &lengths));
+    expect("of commands", WANT, lengths.render_cmds);
+    expect("of depth fills", 1, lengths.depth_cmds);
+    for (i = 0; i < WANT; i++) {
+        expect("a command", COARSE_DONE, coarse_bucketer_render_cmd(&b, 0, i, &cmd));
+        expect("its tag", want[i].tag, cmd.tag);
+        expect("its first tile", want[i].first, cmd.first);
+        expect("its end", want[i].end, cmd.end);
+        expect("its alphas", want[i].alpha_idx, cmd.alpha_idx);
+        expect("its attribute", want[i].attrs_idx, cmd.attrs_idx);
+    }
+    expect("a depth fill", COARSE_DONE, coarse_bucketer_depth_cmd(&b, 0, 0, &fill));
+    expect("from bucket 0", 0, fill.first);
+    expect("to bucket 2", 2, fill.end);
+    expect("of the first fill", 0, fill.attrs_idx);
+    expect("an empty row", COARSE_DONE, coarse_bucketer_row_lengths(&b, 1, &lengths));
+    expect("has no commands", 0, lengths.render_cmds + lengths.depth_cmds);
+    expect("and no first one", COARSE_BAD_RUN, coarse_bucketer_render_cmd(&b, 1, 0, &cmd));
+    expect("nor a depth fill", COARSE_BAD_RUN, coarse_bucketer_depth_cmd(&b, 1, 0, &fill));
+
+    expect("not painted yet", COARSE_DONE, coarse_bucketer_progress(&b, 0, &told));
+    expect("no steps", 0, told.steps + told.nesting);
+    expect("no painting", 0, (uint32_t)coarse_bucketer_is_painting(&b));
+    expect("no other canvas", COARSE_OPEN, coarse_bucketer_canvas(&b, &other));
+    expect("it is none", 1, other.depth == NULL && other.painting_len == 0);
+    expect("reading changes nothing", before, sum(&b));
+    expect("painting", COARSE_DONE, coarse_bucketer_begin_painting(&b));
+    expect("has begun", 1, (uint32_t)coarse_bucketer_is_painting(&b));
+    for (i = 0; i < STEPS; i++) {
+        expect("so far", COARSE_DONE, coarse_bucketer_progress(&b, 0, &told));
+        expect("steps", (uint32_t)i, told.steps);
+        expect("nesting", nesting[i], told.nesting);
+        expect("a step", COARSE_DONE, coarse_bucketer_paint_step(&b, 0, &finished, &pieces, &count));
+        expect("none is left", i + 1 == STEPS, (uint32_t)finished);
+    }
+    blocks = 0;
+    expect("no memory for a canvas", COARSE_NO_MEMORY, coarse_bucketer_canvas(&b, &other));
+    blocks = SIZE_MAX;
+    expect("a canvas", COARSE_DONE, coarse_bucketer_canvas(&b, &other));
+    expect("on which no step is done", COARSE_DONE, coarse_progress(coarse_bucketer_state(&b), &other, 0, &told));
+    expect("not one", 0, told.steps + told.nesting);
+    expect("a row on it", COARSE_DONE, coarse_paint_row(coarse_bucketer_state(&b), coarse_bucketer_stored(&b), &other, 0, list_words, 700, &painted));
+    expect("to its end", 1, painted.finished);
+    expect("steps there", COARSE_DONE, coarse_progress(coarse_bucketer_state(&b), &other, 0, &told));
+    expect("are as many", STEPS - 1, told.steps);
+    coarse_bucketer_canvas_free(&other);
+    expect("depth words", COARSE_DONE, coarse_bucketer_depth_words(&b, 0, &words, &count));
+    expect("of 3 buckets", 3, (uint32_t)count);
+    expect("hold the fill's id", 1, count == 3 ? words[0] : 0);
+    expect("to bucket 2", 0, count == 3 ? words[2] : 1);
+    expect("no row 2", COARSE_BAD_RUN, coarse_bucketer_depth_words(&b, 2, &words, &count));
+
+    /* Each refusal, in order: 2, 1, 4, 12. */
+    {
+        coarse_state state = b.state;
+        coarse_stored stored = b.stored;
+        coarse_canvas canvas = b.canvas;
+        size_t far_off[] = {2, SIZE_MAX};
+        expect_reads("all of them", COARSE_DONE, READS, &state, &stored, &canvas, 0, 0);
+        for (i = 0; i < 2; i++) {
+            expect_reads("no such row", COARSE_BAD_RUN, READS, &state, &stored, &canvas, far_off[i], 0);
+            expect_reads("no such command", COARSE_BAD_RUN, COMMAND | FILL, &state, &stored, &canvas, 0, i == 0 ? (size_t)WANT : SIZE_MAX);
+        }
+        expect_reads("no second depth fill", COARSE_BAD_RUN, FILL, &state, &stored, &canvas, 0, 1);
+        stored.rows_len--;
+        expect_reads("short rows before no row", COARSE_BAD_RECORD, STORED, &state, &stored, &canvas, 2, 0);
+        expect_reads("which progress does not read", COARSE_DONE, PROGRESS, &state, &stored, &canvas, 0, 0);
+        stored.render_cmds_len--;
+        expect_reads("short commands before short rows", COARSE_BAD_ARENA, STORED, &state, &stored, &canvas, 2, 0);
+        stored.render_cmds_len++, stored.depth_cmds_len++;
+        expect_reads("long depth fills before short rows", COARSE_BAD_ARENA, STORED, &state, &stored, &canvas, 2, 0);
+        stored = b.stored;
+        canvas.painting_len--;
+        expect_reads("short painting words before no row", COARSE_BAD_RECORD, PROGRESS, &state, &stored, &canvas, 2, 0);
+        expect_reads("which the others do not read", COARSE_DONE, STORED, &state, &stored, &canvas, 0, 0);
+        canvas = b.canvas;
+        canvas.depth_len = 1, stored.paint_attrs_len = 1, stored.layer_attrs_len = 1;
+        expect_reads("what none of them reads", COARSE_DONE, READS, &state, &stored, &canvas, 0, 0);
+        stored = b.stored, canvas = b.canvas;
+        state.painting = 2;
+        expect_reads("a state that is none before no row", COARSE_BAD_RECORD, READS, &state, &stored, &canvas, 2, 0);
+        state.d = 0;
+        expect_reads("no depth fills in a row before that", COARSE_BAD_ARENA, READS, &state, &stored, &canvas, 2, 0);
+        state.viewport.x1 = 2;
+        expect_reads("a bad viewport before that", COARSE_BAD_VIEWPORT, READS, &state, &stored, &canvas, 2, 0);
+        state = b.state;
+        state.layers = 17;
+        expect_reads("more layers than there may be", COARSE_BAD_RECORD, READS, &state, &stored, &canvas, 0, 0);
+        state = b.state;
+        state.painting = 0;
+        expect_reads("painting need not have begun", COARSE_DONE, READS, &state, &stored, &canvas, 0, 0);
+        state = b.state;
+
+        /* Words that no call leaves. */
+        b.tables.rows[0] = 17;
+        expect_reads("more commands than C", COARSE_BAD_RECORD, STORED, &state, &stored, &canvas, 0, 0);
+        b.tables.rows[0] = WANT, b.tables.rows[1] = 5;
+        expect_reads("more depth fills than D", COARSE_BAD_RECORD, STORED, &state, &stored, &canvas, 0, 0);
+        b.tables.rows[1] = 1, b.tables.render_cmds[0] = 8;
+        expect_reads("no tag", COARSE_BAD_RECORD, COMMAND, &state, &stored, &canvas, 0, 0);
+        expect_reads("the next one is", COARSE_DONE, COMMAND, &state, &stored, &canvas, 0, 1);
+        b.tables.render_cmds[0] = COARSE_PAINT_FILL_ALPHA, b.tables.depth_cmds[0] = 4;
+        expect_reads("a depth fill past the row's end", COARSE_BAD_RECORD, FILL, &state, &stored, &canvas, 0, 0);
+        b.tables.depth_cmds[0] = 2;
+        expect_reads("all of them again", COARSE_DONE, READS, &state, &stored, &canvas, 0, 0);
+    }
+    coarse_bucketer_free(&b);
+}
+
+/* All attributes and filter paints, typed: in a list that is long enough. */
+static void all_attributes(void) {
+    static const coarse_segment list[] = {{1, 0, 0, 8, 0}};
+    coarse_draw draw = {.thread = 3, .start = 0, .end = 1, .paint = 1, .blend = {2, 4}, .mask = 8, .panel = 6};
+    coarse_layer_props layer = {.blend = {3, 5}, .opacity = 0.75f, .mask = 9, .panel = 7};
+    coarse_placement placement = {{8, 3, 16, 7}, 5, 1};
+    coarse_bucketer b;
+    coarse_paint_attrs paint[3];
+    coarse_layer_attrs closed[2];
+    coarse_filter_paint filter[2];
+    uint32_t picture = 40, i;
+    size_t count = 99;
+    expect("a screen", COARSE_DONE, coarse_bucketer_new(&b, (coarse_rect){8, 4, 264, 12}, small));
+    for (i = 0; i < 2; i++) {
+        draw.panel = 6 + i, layer.panel = 8 + i;
+        expect("a layer", COARSE_DONE, coarse_bucketer_push_layer(&b, &layer));
+        if (i == 0)
+            expect("a fill", COARSE_DONE, coarse_bucketer_generate_fill(&b, paints, 2, list, 1, &draw));
+        else
+            expect("a picture", COARSE_DONE, coarse_bucketer_generate_filter_layer_fill(&b, &picture, &placement, 2, 11));
+        expect("closed", COARSE_DONE, coarse_bucketer_pop_layer(&b, NULL, 0));
+    }
+    memset(paint, 7, sizeof paint), memset(closed, 7, sizeof closed), memset(filter, 7, sizeof filter);
+    expect("a list for one attribute", COARSE_NO_ROOM, coarse_bucketer_all_paint_attrs(&b, paint, 1, &count));
+    expect("for one layer's", COARSE_NO_ROOM, coarse_bucketer_all_layer_attrs(&b, closed, 1, &count));
+    expect("for no filter paint", COARSE_NO_ROOM, coarse_bucketer_all_filter_paints(&b, filter, 0, &count));
+    expect("the count stays", 99, (uint32_t)count);
+    expect("the lists stay", 0x07070707, paint[0].paint == 0x07070707 && closed[0].mask == 0x07070707 ? filter[0].pixmap : 0);
+    expect("all paint attributes", COARSE_DONE, coarse_bucketer_all_paint_attrs(&b, paint, 3, &count));
+    expect("are two", 2, (uint32_t)count);
+    expect("the fill's paint", 1, paint[0].paint);
+    expect("its blend", 24, paint[0].blend.mix * 10 + paint[0].blend.compose);
+    expect("its mask", 8, paint[0].mask);
+    expect("its thread", 3, paint[0].thread);
+    expect("its panel", 6, paint[0].panel);
+    expect("the picture's paint follows the list", 2, paint[1].paint);
+    expect("its panel", 11, paint[1].panel);
+    expect("its origin", 84, paint[1].origin_x * 10 + paint[1].origin_y);
+    expect("the third stays", 0x07070707, paint[2].paint);
+    expect("all layer attributes", COARSE_DONE, coarse_bucketer_all_layer_attrs(&b, closed, 2, &count));
+    expect("are two", 2, (uint32_t)count);
+    expect("their blends", 35, closed[1].blend.mix * 10 + closed[1].blend.compose);
+    expect("their opacity", 1, closed[0].opacity == 0.75f && closed[1].opacity == 0.75f);
+    expect("their masks", 9, closed[1].mask);
+    expect("their ids", 2, closed[0].draw_id);
+    expect("and the next", 4, closed[1].draw_id);
+    expect("their panels", 9, closed[1].panel);
+    expect("all filter paints", COARSE_DONE, coarse_bucketer_all_filter_paints(&b, filter, 2, &count));
+    expect("are one", 1, (uint32_t)count);
+    expect("the picture", 40, filter[0].pixmap);
+    expect("its shift", (uint32_t)-3, (uint32_t)filter[0].shift_x);
+    expect("and down", (uint32_t)-2, (uint32_t)filter[0].shift_y);
+    expect("by itself", 40, coarse_bucketer_filter_paint(&b, 0).pixmap);
+    expect("no other", 0, coarse_bucketer_filter_paint(&b, 1).pixmap);
+    expect("none of a third fill", 0, coarse_bucketer_paint_attrs(&b, 2).paint);
+    coarse_bucketer_free(&b);
+}
+
+/* Each number has its words, and no two the same; numbers that are none share theirs. */
+static void words_of_numbers(void) {
+    uint32_t i, k;
+    for (i = 0; i <= COARSE_NO_ROOM + 1; i++)
+        for (k = 0; k < i; k++)
+            expect("two answers", 0, strcmp(coarse_answer_text(i), coarse_answer_text(k)) == 0);
+    expect("memory that runs out", 0, strcmp(coarse_answer_text(COARSE_NO_MEMORY), coarse_answer_text(COARSE_NO_ROOM + 1)) == 0);
+    expect("no answer", 1, strcmp(coarse_answer_text(COARSE_NO_MEMORY + 1), coarse_answer_text(COARSE_NO_ROOM + 1)) == 0);
+    for (i = 0; i <= COARSE_POP_BUF; i++)
+        for (k = 0; k < i; k++)
+            expect("two tags", 0, strcmp(coarse_tag_text(i), coarse_tag_text(k)) == 0);
+    expect("no tag", 1, strcmp(coarse_tag_text(COARSE_POP_BUF + 1), coarse_tag_text(0)) == 0);
+    for (i = 0; i <= COARSE_SHOWN + 1; i++)
+        for (k = 0; k < i; k++)
+            expect("two reasons", 0, strcmp(coarse_reason_text(i), coarse_reason_text(k)) == 0);
+    expect("the library's version is the headers'", COARSE_VERSION_NUMBER, coarse_version());
+}
+
+/* The default blend initializes, is assigned, and stands in an expression. */
+static void default_blend(void) {
+    static const coarse_blend fixed = COARSE_DEFAULT_BLEND_INIT;
+    coarse_draw draw = {0, 0, 0, 1, COARSE_DEFAULT_BLEND, 5, 6};
+    coarse_blend blend = COARSE_DEFAULT_BLEND;
+    expect("as a part", 3, draw.blend.compose);
+    expect("what follows it", 56, draw.mask * 10 + draw.panel);
+    expect("by itself", 3, blend.compose);
+    blend.compose = 9, draw.blend.mix = 9;
+    blend = COARSE_DEFAULT_BLEND, draw.blend = COARSE_DEFAULT_BLEND;
+    expect("assigned", 3, blend.compose);
+    expect("to a part", 0, draw.blend.mix);
+    expect("in an expression", 3, COARSE_DEFAULT_BLEND.compose);
+    expect("fixed", 3, fixed.compose);
+}
+
 int main(void) {
     null_pointers();
     owned_tables();
@@ -689,5 +960,9 @@ int main(void) {
     coordinates();
     named_sizes();
     panels();
+    stored_commands();
+    all_attributes();
+    words_of_numbers();
+    default_blend();
     return wrong;
 }

@@ -66,8 +66,8 @@ impl Port {
 
     /// The depth fills of all rows.
     pub(crate) fn depth_fills(&self) -> usize {
-        let rows = 0..self.bucketer.rows();
-        rows.map(|row| self.bucketer.depth_fills(row)).sum()
+        let rows = self.bucketer.rows();
+        rows.map(|row| row.depth_cmds().len()).sum()
     }
 
     pub(crate) fn depth_words(&self) -> &[u32] {
@@ -77,7 +77,7 @@ impl Port {
     /// Every row painted to its end by a call for each, its pieces handed to `give`.
     pub(crate) fn paint(&mut self, mut give: impl FnMut(&[Piece])) {
         self.bucketer.begin_painting().expect("closed layers");
-        for row in 0..self.bucketer.rows() {
+        for row in 0..self.bucketer.rows().len() {
             give(self.bucketer.paint_row(row).expect("a row"));
         }
     }
@@ -85,7 +85,7 @@ impl Port {
     /// The same by a call for each step.
     pub(crate) fn paint_by_steps(&mut self, mut give: impl FnMut(&[Piece])) {
         self.bucketer.begin_painting().expect("closed layers");
-        for row in 0..self.bucketer.rows() {
+        for row in 0..self.bucketer.rows().len() {
             while let Some(pieces) = self.bucketer.paint_step(row).expect("a step") {
                 give(pieces);
             }

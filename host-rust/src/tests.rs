@@ -1,9 +1,7 @@
 use super::*;
+use crate::bucketer::{sizes, FILTER_PAINT, LAYER_ATTR, MOST_LAYERS, OPEN_LAYER, PAINT_ATTR};
 
 const SOLID: BlendMode = BlendMode { mix: 0, compose: 3 };
-
-/// The words of an open layer; the last is its panel.
-const OPEN_LAYER: usize = 17;
 
 fn fill(start: usize, end: usize, paint: u32) -> RecordedFill {
     RecordedFill {
@@ -37,8 +35,8 @@ fn paint(attrs_idx: u32, first: u32, end: u32) -> Piece {
 
 #[test]
 fn known_points_of_the_split() {
-    let regular = |first, end| DepthSegment::Regular(Run { first, end });
-    let opaque = |first, end| DepthSegment::Opaque(Run { first, end });
+    let regular = |first, end| DepthSegment::Regular(TileSpan { first, end });
+    let opaque = |first, end| DepthSegment::Opaque(BucketRange { first, end });
     assert_eq!(
         split_opaque_span(10, 100, Width::W128),
         Ok(vec![regular(10, 32), opaque(1, 3), regular(96, 100)])
@@ -101,9 +99,7 @@ fn answers_in_words() {
 fn sizes_by_name() {
     let header = include_str!("../../include/coarse.h");
     for (name, number) in [
-        ("STATE", STATE),
         ("PIECE", size_of_val(&Piece::default()) / 4),
-        ("REASON", REASON),
         ("OPEN_LAYER", OPEN_LAYER),
         ("PAINT_ATTR", PAINT_ATTR),
         ("LAYER_ATTR", LAYER_ATTR),
@@ -119,13 +115,12 @@ fn sizes_by_name() {
             "{name}"
         );
     }
-    let [.., layers, opacities, paint_attrs, layer_attrs, filter_paints] =
-        sizes(Rect::new(0, 0, 256, 8), Setup::new(8, 8)).unwrap();
-    assert_eq!(layers, MOST_LAYERS * OPEN_LAYER);
-    assert_eq!(opacities, MOST_LAYERS + 1024);
-    assert_eq!(paint_attrs, 1024 * PAINT_ATTR);
-    assert_eq!(layer_attrs, 1024 * LAYER_ATTR);
-    assert_eq!(filter_paints, 256 * FILTER_PAINT);
+    let sizes = sizes(Rect::new(0, 0, 256, 8), Setup::new(8, 8)).unwrap();
+    assert_eq!(sizes.layers, MOST_LAYERS * OPEN_LAYER);
+    assert_eq!(sizes.opacities, MOST_LAYERS + 1024);
+    assert_eq!(sizes.paint_attrs, 1024 * PAINT_ATTR);
+    assert_eq!(sizes.layer_attrs, 1024 * LAYER_ATTR);
+    assert_eq!(sizes.filter_paints, 256 * FILTER_PAINT);
 }
 
 fn words(bytes: &[u8]) -> Vec<u32> {
@@ -160,7 +155,7 @@ fn the_samples() {
         assert_eq!(done.map_or_else(Answer::number, |()| 0), number, "{name}");
         if number == 0 {
             bucketer.begin_painting().unwrap();
-            let pieces: usize = (0..bucketer.rows())
+            let pieces: usize = (0..bucketer.rows().len())
                 .map(|row| painted(&mut bucketer, row).len())
                 .sum();
             assert!(pieces > 0, "{name}");
@@ -187,7 +182,7 @@ fn why_a_tile_shows_what_it_shows() {
     assert_eq!(why(0, 9, Attribute::Draw(9)), Ok(Reason::UnknownAttribute));
     assert_eq!(why(2, 0, Attribute::Draw(0)), Err(Answer::BadRun));
     assert_eq!(why(0, 64, Attribute::Draw(0)), Err(Answer::BadRun));
-    assert_eq!(bucketer.rows(), 2);
+    assert_eq!(bucketer.rows().len(), 2);
     assert_eq!(
         bucketer.why(&file[1..], 9, 9, Attribute::Draw(0)),
         Err(Answer::BadForm)
@@ -233,6 +228,12 @@ fn reasons_by_their_words() {
         ([4, 7, 255, 9], hidden, Some(255)),
         ([5, 7, 255, 0], shown, Some(255)),
     ] {
+        let words = sys::ReasonWords {
+            kind: words[0],
+            number: words[1],
+            panel: words[2],
+            hider_panel: words[3],
+        };
         assert_eq!(Reason::of(words), reason);
         assert_eq!(reason.panel(), panel);
     }
@@ -244,7 +245,11 @@ fn the_worked_example() {
     let mut bucketer = CommandBucketer::from_wh(4, 4, Setup::new(64, 64)).unwrap();
     bucketer.bucket_commands(&file).unwrap();
     assert_eq!(
-        (bucketer.rows(), bucketer.buckets(), bucketer.next_draw_id()),
+        (
+            bucketer.rows().len(),
+            bucketer.buckets(),
+            bucketer.next_draw_id()
+        ),
         (2, 2, 4)
     );
     bucketer.begin_painting().unwrap();
@@ -303,14 +308,14 @@ fn refused_recordings_change_nothing_or_leave_a_fresh_screen() {
         Err(Answer::BadViewport)
     );
     assert_eq!(
-        (bucketer.state, &bucketer.tables.render),
-        (before.state, &before.tables.render)
+        (*bucketer.state(), &bucketer.parts().1.render_cmds),
+        (*before.state(), &before.clone().parts().1.render_cmds)
     );
     assert_eq!(
         bucketer.bucket_commands(&[1, 0, 0, 8, 12, 0, 0, 0, 0, 0, 1, 0, 1]),
         Err(Answer::BadRecord)
     );
-    assert_eq!((bucketer.rows(), bucketer.next_draw_id()), (3, 1));
+    assert_eq!((bucketer.rows().len(), bucketer.next_draw_id()), (3, 1));
 }
 
 #[test]
@@ -521,31 +526,34 @@ fn no_panels() {
             assert_eq!(refused, Err(Answer::BadRecord));
         }
     }
-    assert_eq!(bucketer.state, before.state);
+    assert_eq!(*bucketer.state(), *before.state());
     let words = |b: &CommandBucketer| {
-        let t = b.tables.clone();
-        ([t.render, t.rows, t.layers, t.paint_attrs], t.filter_paints)
+        let t = b.clone().parts().1.clone();
+        (
+            [t.render_cmds, t.rows, t.layers, t.paint_attrs],
+            t.filter_paints,
+        )
     };
     assert_eq!(words(&bucketer), words(&before));
     // So are words of a table with such a panel, where they are read: the inner layer's, then the first fill's.
     let inner = 2 * OPEN_LAYER - 1;
-    bucketer.tables.layers[inner] = 256;
+    bucketer.parts().1.layers[inner] = 256;
     assert_eq!(bucketer.pop_layer(&[]), Err(Answer::BadRecord));
-    bucketer.tables.layers[inner] = 255;
+    bucketer.parts().1.layers[inner] = 255;
     bucketer.pop_layer(&[]).unwrap();
     bucketer.pop_layer(&[]).unwrap();
     bucketer.begin_painting().unwrap();
-    bucketer.tables.paint_attrs[PAINT_ATTR - 1] = 256;
+    bucketer.parts().1.paint_attrs[PAINT_ATTR - 1] = 256;
     assert_eq!(bucketer.paint_step(0), Err(Answer::BadRecord));
 }
 
 #[test]
 fn runs_and_skips() {
     let mut bucketer = CommandBucketer::from_wh(512, 4, Setup::new(8, 8)).unwrap();
-    let run = |first, end| Run { first, end };
+    let run = |first, end| TileSpan { first, end };
     assert_eq!(
         bucketer.unset_runs_and_write(0, 1, 2, 7).unwrap(),
-        [run(1, 2)]
+        [BucketRange::new(1, 2)]
     );
     assert_eq!(
         bucketer.unset_runs(0, 10, 100).unwrap(),
@@ -589,7 +597,7 @@ fn runs_and_skips() {
 fn spans_in_a_lent_list() {
     let mut bucketer = CommandBucketer::from_wh(512, 8, Setup::new(8, 8)).unwrap();
     bucketer.unset_runs_and_write(0, 1, 2, 7).unwrap();
-    let other = Run { first: 1, end: 0 };
+    let other = TileSpan { first: 1, end: 0 };
     let mut list = [other; 3];
     assert_eq!(
         bucketer.visible_spans(0, 10, 100, 6, &mut list[..1]),
@@ -610,7 +618,7 @@ fn spans_in_a_lent_list() {
             let count = bucketer.visible_spans(row, 10, 100, id, &mut list).unwrap();
             assert_eq!(
                 &list[..count],
-                bucketer.visible_runs(row, 10, 100, id).unwrap()
+                &*bucketer.visible_runs(row, 10, 100, id).unwrap()
             );
             assert!(list[count..].iter().all(|run| *run == other));
         }
@@ -658,8 +666,8 @@ fn a_row_is_its_steps() {
         assert_eq!(by_rows.paint_row(row).unwrap(), []);
         assert_eq!(by_rows.paint_step(row), Ok(None));
     }
-    assert_eq!(by_rows.tables.depth, by_steps.tables.depth);
-    assert_eq!(by_rows.tables.painting, by_steps.tables.painting);
+    assert_eq!(by_rows.depth_words(), by_steps.depth_words());
+    assert_eq!(by_rows.parts().1.painting, by_steps.parts().1.painting);
     assert_eq!(by_rows.paint_row(2), Err(Answer::BadRun));
     assert_eq!(by_rows.paint_row(usize::MAX), Err(Answer::BadRun));
 }
@@ -670,16 +678,24 @@ fn a_row_with_little_room() {
     let mut by_rows = nested();
     let pieces = painted(&mut by_steps, 0);
     // A list of two pieces holds the first steps alone.
-    by_rows.pieces.truncate(2);
-    let (finished, n) = by_rows.paint_on(sys::coarse_paint_row, 0, 0).unwrap();
+    let (state, _, brush) = by_rows.parts();
+    let state = *state;
+    brush.pieces().truncate(2);
+    let stored = *by_rows.stored();
+    let brush = by_rows.parts().2;
+    let (finished, n) = brush
+        .paint_on(sys::coarse_paint_row, &state, &stored, 0, 0)
+        .unwrap();
     assert!(!finished && n <= 2);
-    assert_eq!(by_rows.pieces[..n], pieces[..n]);
+    assert_eq!(brush.pieces()[..n], pieces[..n]);
     assert_eq!(by_rows.paint_row(0).unwrap(), &pieces[n..]);
     // Without room the first step that has pieces is refused; the list grows as the row asks.
     let mut by_rows = nested();
-    by_rows.pieces.clear();
+    let stored = *by_rows.stored();
+    let brush = by_rows.parts().2;
+    brush.pieces().clear();
     assert_eq!(
-        by_rows.paint_on(sys::coarse_paint_row, 0, 0),
+        brush.paint_on(sys::coarse_paint_row, &state, &stored, 0, 0),
         Err(Answer::NoRoom)
     );
     assert_eq!(by_rows.paint_row(0).unwrap(), pieces);
@@ -734,13 +750,16 @@ fn refusals_change_nothing() {
         Err(Answer::Deep)
     );
     assert_eq!(bucketer.begin_painting(), Err(Answer::Open));
-    assert_eq!((bucketer.open_layers(), bucketer.next_draw_id()), (16, 1));
+    assert_eq!(
+        (bucketer.open_layers().len(), bucketer.next_draw_id()),
+        (16, 1)
+    );
 }
 
 #[test]
 fn words_that_are_no_screen() {
     let mut bucketer = CommandBucketer::from_wh(256, 8, Setup::new(8, 8)).unwrap();
-    bucketer.state[15] = 2;
+    bucketer.parts().0.painting = 2;
     let before = bucketer.clone();
     assert_eq!(
         bucketer.push_layer(&LayerProps::default()),
@@ -750,14 +769,14 @@ fn words_that_are_no_screen() {
         bucketer.reset(Rect::new(0, 0, 256, 8)),
         Err(Answer::BadRecord)
     );
-    assert_eq!(bucketer.state, before.state);
+    assert_eq!(*bucketer.state(), *before.state());
     // The viewport, then C and D, are judged before the word that is no flag.
-    bucketer.state[8] = 0;
+    bucketer.parts().0.c = 0;
     assert_eq!(
         bucketer.push_layer(&LayerProps::default()),
         Err(Answer::BadArena)
     );
-    bucketer.state[0] = 2;
+    bucketer.parts().0.viewport.x0 = 2;
     assert_eq!(
         bucketer.push_layer(&LayerProps::default()),
         Err(Answer::BadViewport)
@@ -768,12 +787,12 @@ fn words_that_are_no_screen() {
 /// One solid fill over tiles 16 to 80: whole buckets of it are depth fills, at each width.
 #[test]
 fn widths() {
-    let run = |first, end| Run { first, end };
+    let run = |first, end| TileSpan { first, end };
     for (width, buckets, split, pieces) in [
         (
             Width::W64,
             8,
-            vec![DepthSegment::Opaque(run(1, 5))],
+            vec![DepthSegment::Opaque(BucketRange::new(1, 5))],
             vec![paint(0, 16, 80)],
         ),
         (
@@ -781,7 +800,7 @@ fn widths() {
             4,
             vec![
                 DepthSegment::Regular(run(16, 32)),
-                DepthSegment::Opaque(run(1, 2)),
+                DepthSegment::Opaque(BucketRange::new(1, 2)),
                 DepthSegment::Regular(run(64, 80)),
             ],
             vec![paint(0, 32, 64), paint(0, 16, 32), paint(0, 64, 80)],
@@ -826,7 +845,7 @@ fn a_snapped_screen() {
     });
     let mut bucketer = CommandBucketer::from_wh(1366, 768, setup).unwrap();
     assert_eq!(bucketer.viewport(), Rect::new(0, 0, 1368, 768));
-    assert_eq!((bucketer.rows(), bucketer.buckets()), (192, 11));
+    assert_eq!((bucketer.rows().len(), bucketer.buckets()), (192, 11));
     bucketer
         .generate_fill(
             &[Paint::new(true, 1)],
@@ -843,7 +862,7 @@ fn a_snapped_screen() {
     // A viewport of tile edges is the same screen in both modes.
     bucketer.reset(Rect::new(0, 0, 1368, 768)).unwrap();
     let exact = CommandBucketer::from_wh(1368, 768, Setup::new(8, 8)).unwrap();
-    assert_eq!(bucketer.state, exact.state);
+    assert_eq!(*bucketer.state(), *exact.state());
 }
 
 /// An end before its start, and the limits, are judged on the snapped box.
@@ -872,7 +891,7 @@ fn snapped_edges() {
             "{refused:?}"
         );
     }
-    assert_eq!(bucketer.state, before.state);
+    assert_eq!(*bucketer.state(), *before.state());
     assert_eq!(
         CommandBucketer::from_wh(1366, 768, Setup::snapping(0, 8)).err(),
         Some(Answer::BadArena)

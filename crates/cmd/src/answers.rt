@@ -6,7 +6,8 @@ use sizes::answers::{Refusal, answer_number};
 
 // All fifteen, from 0, done, up.
 fn tied_answers() -> [u32; 15]
-    ensures { result ≡ Done ∷ BadArena ∷ BadViewport ∷ BadForm ∷ BadRecord ∷ BadOrder ∷ Deep ∷ NoLayer ∷ Ids ∷ FullAttrs ∷ FullRow ∷ FullDepth ∷ BadRun ∷ Open ∷ NoRoom ∷ [] }
+    ensures { result ≡ Done ∷ BadArena ∷ BadViewport ∷ BadForm ∷ BadRecord ∷ BadOrder ∷ Deep ∷ NoLayer
+        ∷ Ids ∷ FullAttrs ∷ FullRow ∷ FullDepth ∷ BadRun ∷ Open ∷ NoRoom ∷ [] }
 {
     [
         answer_number(Ok(())),

@@ -62,7 +62,8 @@ pub fn put_paint_attrs(table: &mut [u32], i: usize, a: PaintFillAttrs)
 
 /// The id of the draw that paint attribute i belongs to.
 pub fn paint_id(table: &[u32], i: usize) -> u32
-    requires { (i < most-attrs) × (length table.now ≡ paint-attr-table) }
+    requires place { i < most-attrs }
+    requires long { length table.now ≡ paint-attr-table }
     ensures { result ≡ get_or table.now (paint-attr-size * i + paint-id-at) 0 }
 {
     table[PAINT_ATTR * i + PAINT_ID]
@@ -70,7 +71,8 @@ pub fn paint_id(table: &[u32], i: usize) -> u32
 
 /// The panel of paint attribute i.
 pub fn paint_panel(table: &[u32], i: usize) -> u32
-    requires { (i < most-attrs) × (length table.now ≡ paint-attr-table) }
+    requires place { i < most-attrs }
+    requires long { length table.now ≡ paint-attr-table }
     ensures { result ≡ get_or table.now (paint-attr-size * i + paint-panel-at) 0 }
 {
     table[PAINT_ATTR * i + PAINT_PANEL]
@@ -78,7 +80,9 @@ pub fn paint_panel(table: &[u32], i: usize) -> u32
 
 /// Stores attribute i in the table of layer attributes, seven words, and its opacity, after those of the 16 open layers.
 pub fn put_layer_attrs(table: &mut [u32], opacities: &mut [f32], i: usize, a: LayerFillAttrs)
-    requires { (i < most-attrs) × (length table.old ≡ layer-attr-table) × (length opacities.old ≡ opacity-count) }
+    requires place { i < most-attrs }
+    requires long { length table.old ≡ layer-attr-table }
+    requires opacities_long { length opacities.old ≡ opacity-count }
     ensures { layer-tables table.new opacities.new ≡ put-layer (layer-tables table.old opacities.old) i a }
 {
     let at = LAYER_ATTR * i;
@@ -94,7 +98,8 @@ pub fn put_layer_attrs(table: &mut [u32], opacities: &mut [f32], i: usize, a: La
 
 /// The id of the closing layer that layer attribute i belongs to.
 pub fn layer_id(table: &[u32], i: usize) -> u32
-    requires { (i < most-attrs) × (length table.now ≡ layer-attr-table) }
+    requires place { i < most-attrs }
+    requires long { length table.now ≡ layer-attr-table }
     ensures { result ≡ get_or table.now (layer-attr-size * i + layer-id-at) 0 }
 {
     table[LAYER_ATTR * i + LAYER_ID]
@@ -102,7 +107,8 @@ pub fn layer_id(table: &[u32], i: usize) -> u32
 
 /// The panel of layer attribute i.
 pub fn layer_panel(table: &[u32], i: usize) -> u32
-    requires { (i < most-attrs) × (length table.now ≡ layer-attr-table) }
+    requires place { i < most-attrs }
+    requires long { length table.now ≡ layer-attr-table }
     ensures { result ≡ get_or table.now (layer-attr-size * i + layer-panel-at) 0 }
 {
     table[LAYER_ATTR * i + LAYER_PANEL]

@@ -153,29 +153,29 @@ impl RenderCmd {
 
 impl CmdWords {
     /// The words at place k of a row's commands.
-    pub fn at(render: &[u32], k: usize) -> CmdWords
-        requires { 4 * k + 4 ≤ length render.now }
-        ensures { result ≡ cmd_at render.now k }
+    pub fn at(render_cmds: &[u32], k: usize) -> CmdWords
+        requires { 4 * k + 4 ≤ length render_cmds.now }
+        ensures { result ≡ cmd_at render_cmds.now k }
     {
         let at = 4 * k;
         CmdWords {
-            tag: render[at],
-            span: SpanWord(render[at + 1]),
-            alpha: render[at + 2],
-            attrs_idx: render[at + 3],
+            tag: render_cmds[at],
+            span: SpanWord(render_cmds[at + 1]),
+            alpha: render_cmds[at + 2],
+            attrs_idx: render_cmds[at + 3],
         }
     }
 
     /// Written at place k of a row's commands.
-    pub fn put(self, render: &mut [u32], k: usize)
-        requires { 4 * k + 4 ≤ length render.old }
-        ensures { render.new ≡ put4 render.old k self.tag self.span.0 self.alpha self.attrs_idx }
+    pub fn put(self, render_cmds: &mut [u32], k: usize)
+        requires { 4 * k + 4 ≤ length render_cmds.old }
+        ensures { render_cmds.new ≡ put4 render_cmds.old k self.tag self.span.0 self.alpha self.attrs_idx }
     {
         let at = 4 * k;
-        render[at] = self.tag;
-        render[at + 1] = self.span.0;
-        render[at + 2] = self.alpha;
-        render[at + 3] = self.attrs_idx;
+        render_cmds[at] = self.tag;
+        render_cmds[at + 1] = self.span.0;
+        render_cmds[at + 2] = self.alpha;
+        render_cmds[at + 3] = self.attrs_idx;
     }
 
     // A span up to tile 8,192, and no alpha index.
@@ -227,6 +227,7 @@ impl CmdWords {
     /// The command that the words stand for, or none: an unknown tag, a span past tile 8,192, an alpha index that cannot be moved over it, or an unused word
     /// that is not 0.
     #[tactic(auto, unfolding(crate::specs::Reading::command_of))]
+    #[inline(always)]
     pub fn read(self) -> Option<RenderCmd>
         ensures { option_map command result ≡ read-words self }
     {

@@ -37,14 +37,14 @@ impl DepthFill {
 
 impl DepthWords {
     /// The words at place k of a row's depth fills.
-    pub fn at(fills: &[u32], k: usize) -> DepthWords
-        requires { 2 * k + 2 ≤ length fills.now }
-        ensures { result ≡ depth_words_at fills.now k }
+    pub fn at(depth_cmds: &[u32], k: usize) -> DepthWords
+        requires { 2 * k + 2 ≤ length depth_cmds.now }
+        ensures { result ≡ depth_words_at depth_cmds.now k }
     {
         let at = 2 * k;
         DepthWords {
-            span: SpanWord(fills[at]),
-            attrs_idx: fills[at + 1],
+            span: SpanWord(depth_cmds[at]),
+            attrs_idx: depth_cmds[at + 1],
         }
     }
 

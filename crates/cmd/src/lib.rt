@@ -1,4 +1,4 @@
-//! Commands, depth fills, blends and attributes (cmd.rs), and the words that stand for them. Parts: where a function asks something, its callers have judged it.
+//! Commands, depth fills, blends and attributes (cmd.rs), and the words that stand for them. Parts: what a function asks, its callers have judged.
 #![tactic(auto)]
 
 ghost use Rattle.cmd.specs.ReadBack.{CommandsReadBack, CommandsWrittenBack, DepthFillsReadBack, DepthFillsWrittenBack};

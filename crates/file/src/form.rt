@@ -8,7 +8,7 @@ use sizes::answers::Refusal;
 use sizes::{DRAW, LAYER, MOST_RECORDS, NODE, PAINT, SEGMENT};
 
 /// The place of its first record among the file's words, and how many records it has.
-#[derive(Clone, Copy)]
+#[derive(Clone, Copy, Debug, PartialEq, Eq)]
 pub struct Section {
     pub at: usize,
     pub count: usize,
@@ -18,7 +18,7 @@ pub struct Section {
 pub const VIEWPORT: usize = 1;
 
 /// The sections after the viewport. The root has two words.
-#[derive(Clone, Copy)]
+#[derive(Clone, Copy, Debug, PartialEq, Eq)]
 pub struct Layout {
     pub paints: Section,
     pub segments: Section,

@@ -33,7 +33,7 @@ pub struct Layer {
 }
 
 /// A node: its draws are places start to end; `layer` is its layer's number + 1, or 0 for none.
-#[derive(Clone, Copy)]
+#[derive(Clone, Copy, Debug, PartialEq, Eq)]
 pub struct Node {
     pub start: u32,
     pub end: u32,

@@ -31,11 +31,11 @@ use Rattle.segments.proofs.Laws as listed
 use Rattle.fill.specs.Filling.{FillReady}
 use Rattle.fill.proofs.Rising.{rising}
 use Rattle.fill.proofs.Judged.{all-landed, roomy-judged}
-use Rattle.fill.specs.declared.rows.Job.{Job}
+use Rattle.fill.specs.declared.rows.FillJob.{FillJob}
 use Rattle.fill.specs.Named.{job_rows, rows_after}
 use Rattle.inputs.specs.declared.Draw.{Draw}
 use Rattle.inputs.specs.Inputs.{draw-of}
-use Rattle.fill.specs.Fills.{paints-of, job_of, FillLent, lent, fill-plan, first-of-lent, fill_number, fill_done, filled}
+use Rattle.fill.specs.Fills.{paints-of, job_of, FillLent, fill_lent, fill-plan, first-of-lent, fill_number, fill_done, filled}
 use Rattle.fill.proofs.Inputs.{GoodDraw, draw-facts}
 use Rattle.fill.proofs.Planned.{state-frame, state-next, plan-layers, plan-next, refused-bad, refused-are, puts-are, rows_are, attrs-same, attrs-more, full-attrs, paints-more, filters-same}
 use Rattle.fill.proofs.Numbers.{passing, long, rowed, good-are}
@@ -169,7 +169,7 @@ module _ (l : FillLent) (ps ss : List ℕ) (d : Draw) (z : Zero l ps ss d) where
         rw (attrs-same l.screen ps ss d good u, e) (no_words l.paint-attrs (paint-attr-size * l.screen.paint_attrs))
 
     pub done-empty : {s : Screen} → s ≡ counted l.screen (l.screen.next_draw_id + 1) (l.screen.paint_attrs + 0) l.screen.layer_attrs l.screen.filter_paints
-        → lent s l.words l.paint-attrs ≡ fill_done l ps ss d
+        → fill_lent s l.words l.paint-attrs ≡ fill_done l ps ss d
     unfolding fill_done
     done-empty h = rw (h, screen-empty, words-empty, table_empty)
 
@@ -189,13 +189,13 @@ module _ (l : FillLent) (ps ss : List ℕ) (d : Draw) (z : Zero l ps ss d) where
         go true e = ltb-true l.screen.paint_attrs 1024 e
         go false e = never (sym (full-attrs l.screen fine d (ltb-false l.screen.paint_attrs 1024 e)) ∙ (rw (attrs-more l.screen ps ss d good u) at z.attrs))
 
-    pub done-some : {s : Screen} {j : Job} {w : Words} {t : List ℕ} → s ≡ counted l.screen (l.screen.next_draw_id + 1) (l.screen.paint_attrs + 1) l.screen.layer_attrs l.screen.filter_paints
+    pub done-some : {s : Screen} {j : FillJob} {w : Words} {t : List ℕ} → s ≡ counted l.screen (l.screen.next_draw_id + 1) (l.screen.paint_attrs + 1) l.screen.layer_attrs l.screen.filter_paints
         → j ≡ job_of l.screen ps d → w ≡ lay (rows_after j ss d.start d.end (job_rows j l.words.state l.words)) → t ≡ put-paint l.paint-attrs l.screen.paint_attrs (attr-of l.screen d)
-        → lent s w t ≡ fill_done l ps ss d
+        → fill_lent s w t ≡ fill_done l ps ss d
     unfolding fill_done
     done-some h q i k =
         let drawn = rw (q, rows-counted l.words.state (rows_of (box_of l.screen.viewport)) fine.row_words) at i in
         rw (h, drawn, k, screen-some, rows_are l.screen ps ss d good l.words fine, table-some)
 
-    pub rows-asked : {j : Job} → j ≡ job_of l.screen ps d → FillReady j (count-rows l.words.state) ss d.start d.end l.words
+    pub rows-asked : {j : FillJob} → j ≡ job_of l.screen ps d → FillReady j (count-rows l.words.state) ss d.start d.end l.words
     rows-asked q = rw (q, rows-counted l.words.state (rows_of (box_of l.screen.viewport)) fine.row_words) z.ready

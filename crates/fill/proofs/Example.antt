@@ -18,14 +18,14 @@ use Rattle.screen.specs.Screens.{good_clip, good_screen, state-of, screen-after,
 use Rattle.screen.specs.Judging.{judged}
 use Rattle.segments.specs.Segs.{seg-at, segs}
 use Rattle.inputs.specs.declared.Draw.{Draw}
-use Rattle.fill.specs.Fills.{paints, FillLent, lent, first_number, fill_number, fill_done, filled}
+use Rattle.fill.specs.Fills.{paints, FillLent, fill_lent, first_number, fill_number, fill_done, filled}
 
 abbrev viewport : Rect
 viewport = record { x0 = 0; y0 = 0; x1 = 256; y1 = 8 }
 
 -- two rows, room for c commands and 64 depth fills in each, buckets of 128 pixels
 abbrev fresh : ℕ → List ℕ → FillLent
-fresh c render = lent (fresh-screen (record { viewport = box_of viewport; c = c; d = 64; width = W128 })) (words (replicate 108 0) render (replicate 256 0)) (replicate paint-attr-table 0)
+fresh c render = fill_lent (fresh-screen (record { viewport = box_of viewport; c = c; d = 64; width = W128 })) (words (replicate 108 0) render (replicate 256 0)) (replicate paint-attr-table 0)
 
 abbrev blank : FillLent
 blank = fresh 64 (replicate 512 0)
@@ -68,7 +68,7 @@ unfolding fill_done screen-after fill_number step_number first_number judged goo
 taken = refl
 
 -- without segments: an id, and nothing else
-empty : filled blank one-paint list (draw 0) ≡ record { number = 0; value = lent (counted blank.screen 2 0 0 0) blank.words blank.paint-attrs }
+empty : filled blank one-paint list (draw 0) ≡ record { number = 0; value = fill_lent (counted blank.screen 2 0 0 0) blank.words blank.paint-attrs }
 unfolding fill_done screen-after fill_number step_number first_number judged good_viewport good_screen good_clip state-of plan-fill judge-segments ordered segs seg-at paints cuts cut_in cut_to meeting scene-tiles draw-puts draw-act do-puts do-act done refusal passes good_rows good_row cut lay split put_command put_depth include_span hull_word
 empty = refl
 

@@ -11,7 +11,7 @@ use Rattle.segments.specs.Segs.{seg-at, segs, origin, bounds}
 use Rattle.segments.proofs.Laws.{segs-end, segs-first}
 use Rattle.segments.proofs.Judging as list
 use Rattle.segments.proofs.Judging.{AtPlace, judging}
-use Rattle.fill.specs.declared.rows.Job.{Job}
+use Rattle.fill.specs.declared.rows.FillJob.{FillJob}
 use Rattle.fill.proofs.Runs.{at_most_one}
 use Rattle.row.specs.declared.room.Limits.{Limits}
 use Rattle.row.specs.Room.{record-at, Counted, hand_of, loaded, noted, added_to}
@@ -38,7 +38,7 @@ noted-is : (ok full deep f g : Bool) → noted (code_of ok full deep) f g ≡ co
 noted-is ok full deep f g = grind (arith, nat_tests)
 
 -- the hand h has the tally t, and an order that is kept if ok
-pub record Holds (j : Job) (rows : List ℕ) (h : Counted) (ok : Bool) (t : Tally) : Type 0 where
+pub record Holds (j : FillJob) (rows : List ℕ) (h : Counted) (ok : Bool) (t : Tally) : Type 0 where
   pub row : h.row ≡ t.row
   pub renders : h.renders ≡ t.renders
   pub depths : h.depths ≡ t.depths
@@ -47,14 +47,14 @@ pub record Holds (j : Job) (rows : List ℕ) (h : Counted) (ok : Bool) (t : Tall
   pub good : t.row ≤ 8191 → good_row j.c j.d j.layers (record-at rows t.row) ≡ true
 
 -- row r is at hand, with all its layers
-record Turned (j : Job) (u : Counted) (n r : ℕ) (k : Counts) : Type 0 where
+record Turned (j : FillJob) (u : Counted) (n r : ℕ) (k : Counts) : Type 0 where
   row : u.row ≡ r
   renders : u.renders ≡ k.renders + (j.layers - k.levels)
   depths : u.depths ≡ k.depths
   code : u.code ≡ n
   levels : k.levels ≤ j.layers
 
-module _ (j : Job) (rows : List ℕ) (h : Counted) (ok : Bool) (t : Tally) (o : Holds j rows h ok t) where
+module _ (j : FillJob) (rows : List ℕ) (h : Counted) (ok : Bool) (t : Tally) (o : Holds j rows h ok t) where
   pub marks : (f : Bool) → Holds j rows (marked_by h f) (ok && f) t
   marks true = record { row = o.row; renders = o.renders; depths = o.depths; code = o.code ∙ code-kept ok t.full t.deep; levels = o.levels; good = o.good }
   marks false = record { row = o.row; renders = o.renders; depths = o.depths; code = code-broken ok t.full t.deep; levels = o.levels; good = o.good }
@@ -96,13 +96,13 @@ module _ (j : Job) (rows : List ℕ) (h : Counted) (ok : Bool) (t : Tally) (o : 
         })
 
 -- a cut segment was counted in the hand u, or its row's record is bad
-data Told : Job → List ℕ → Bool → Tally → Cut → Counted → Type 0 where
-  bad : {j : Job} {rows : List ℕ} {ok : Bool} {t : Tally} {k : Cut} {u : Counted}
+data Told : FillJob → List ℕ → Bool → Tally → Cut → Counted → Type 0 where
+  bad : {j : FillJob} {rows : List ℕ} {ok : Bool} {t : Tally} {k : Cut} {u : Counted}
       → good_row j.c j.d j.layers (record-at rows k.row) ≡ false → u.code ≡ 4 → Told j rows ok t k u
-  fine : {j : Job} {rows : List ℕ} {ok : Bool} {t : Tally} {k : Cut} {u : Counted}
+  fine : {j : FillJob} {rows : List ℕ} {ok : Bool} {t : Tally} {k : Cut} {u : Counted}
       → good_row j.c j.d j.layers (record-at rows k.row) ≡ true → Holds j rows u ok (tallied j (record-at rows k.row) t k) → Told j rows ok t k u
 
-module _ (j : Job) (rows : List ℕ) (h : Counted) (ok : Bool) (t : Tally) (o : Holds j rows h ok t) where
+module _ (j : FillJob) (rows : List ℕ) (h : Counted) (ok : Bool) (t : Tally) (o : Holds j rows h ok t) where
   told-cut : (k : Cut) → k.row ≤ 8191 → Told j rows ok t k (counted_cut j rows h k)
   unfolding counted_cut
   told-cut k b = go (eqb h.row k.row) refl (good_row j.c j.d j.layers (record-at rows k.row)) refl
@@ -132,16 +132,16 @@ module _ (j : Job) (rows : List ℕ) (h : Counted) (ok : Bool) (t : Tally) (o : 
       by (fine g m) e = absurd (never-four ok (tallied j (record-at rows k.row) t k).full (tallied j (record-at rows k.row) t k).deep (sym m.code ∙ e))
   bad-cuts (k ∷ m ∷ ks) l b e = absurd (omega arith)
 
-as-hand : {j : Job} {rows : List ℕ} {u w : Counted} {ok : Bool} {t : Tally} → u ≡ w → Holds j rows w ok t → Holds j rows u ok t
+as-hand : {j : FillJob} {rows : List ℕ} {u w : Counted} {ok : Bool} {t : Tally} → u ≡ w → Holds j rows w ok t → Holds j rows u ok t
 as-hand e o = rw e o
 
 -- the tally after the cut segments ks, in the hand u
-pub record Held (j : Job) (rows : List ℕ) (ok : Bool) (t : Tally) (ks : List Cut) (u : Counted) : Type 0 where
+pub record Held (j : FillJob) (rows : List ℕ) (ok : Bool) (t : Tally) (ks : List Cut) (u : Counted) : Type 0 where
   pub tally : Tally
   pub taken : Some tally ≡ tally_cuts j rows t ks
   pub holds : Holds j rows u ok tally
 
-module _ (j : Job) (rows : List ℕ) (h : Counted) (ok : Bool) (t : Tally) (o : Holds j rows h ok t) where
+module _ (j : FillJob) (rows : List ℕ) (h : Counted) (ok : Bool) (t : Tally) (o : Holds j rows h ok t) where
   held-cuts : (ks : List Cut) → length ks ≤ 1 → ((k : Cut) → k ∷ [] ≡ ks → k.row ≤ 8191) → ((hand_cuts j rows h ks).code ≡ 4 → ⊥) → Held j rows ok t ks (hand_cuts j rows h ks)
   unfolding hand_cuts
   held-cuts [] l b n = record { tally = t; taken = took-none j rows t [] refl; holds = o }
@@ -153,12 +153,12 @@ module _ (j : Job) (rows : List ℕ) (h : Counted) (ok : Bool) (t : Tally) (o : 
   held-cuts (k ∷ m ∷ ks) l b n = absurd (omega arith)
 
 -- a stretch, as the code adds it
-pub stretch-is : (j : Job) (h : Counted) (s : Span) (a : Option ℕ) {l : Limits} {x y : ℕ} {w : Counted} → l ≡ limits_of j → counts x y 0 ≡ job-adds j s a → w ≡ added_to l h x y → w ≡ stretched j h s a
+pub stretch-is : (j : FillJob) (h : Counted) (s : Span) (a : Option ℕ) {l : Limits} {x y : ℕ} {w : Counted} → l ≡ limits_of j → counts x y 0 ≡ job-adds j s a → w ≡ added_to l h x y → w ≡ stretched j h s a
 unfolding stretched
 stretch-is j h s a p q e = rw (← q, ← p) e
 
 -- what is left of a segment, as the code takes it
-module _ (j : Job) (rows : List ℕ) (h : Counted) {ks : List Cut} where
+module _ (j : FillJob) (rows : List ℕ) (h : Counted) {ks : List Cut} where
   pub took-nothing : [] ≡ ks → h ≡ hand_cuts j rows h ks
   unfolding hand_cuts
   took-nothing e = rw (← e)
@@ -190,7 +190,7 @@ all_told : (ok full deep : Bool) → code_of ok full deep ≡ list-number (cond 
 all_told ok full deep = grind (arith, nat_tests)
 
 -- the pass over the segments from a to b, at segment i, after the segment s
-pub record Passing (j : Job) (n : ℕ) (rows ws : List ℕ) (a b : ℕ) (s : Segment) (h : Counted) (i : ℕ) : Type 0 where
+pub record Passing (j : FillJob) (n : ℕ) (rows ws : List ℕ) (a b : ℕ) (s : Segment) (h : Counted) (i : ℕ) : Type 0 where
   pub rowed : Rowed j n rows
   pub within : 5 * b ≤ length ws
   pub ok : Bool
@@ -217,7 +217,7 @@ pub none_before : (ss : List Segment) → judging nowhere true ss ≡ judge-segm
 unfolding judging judge-segments
 none_before ss = rw (ordered-first ss)
 
-pub begun : {j : Job} {n : ℕ} {rows ws : List ℕ} {a b : ℕ} → Rowed j n rows → a ≤ b → 5 * b ≤ length ws
+pub begun : {j : FillJob} {n : ℕ} {rows ws : List ℕ} {a b : ℕ} → Rowed j n rows → a ≤ b → 5 * b ≤ length ws
     → Passing j n rows ws a b nowhere (record { row = 8192; renders = 0; depths = 0; code = 0 }) a
 begun {ws = ws} {a = a} {b = b} o h l =
     record {
@@ -231,7 +231,7 @@ begun {ws = ws} {a = a} {b = b} o h l =
       rest = refl;
     }
 
-module _ {j : Job} {n : ℕ} {rows ws : List ℕ} {a b : ℕ} {s : Segment} {h : Counted} {i : ℕ} (v : Passing j n rows ws a b s h i) where
+module _ {j : FillJob} {n : ℕ} {rows ws : List ℕ} {a b : ℕ} {s : Segment} {h : Counted} {i : ℕ} (v : Passing j n rows ws a b s h i) where
   module _ (l : b ≤ i) where
     order-told : (x : Bool) → v.ok ≡ x → cond x 0 5 ≡ judge-segments false (segs ws a (b - a))
     order-told true e = list.all-ordered v.place l e

@@ -16,7 +16,7 @@ use Rattle.sizes.specs.Widths.{bucket-tiles}
 use Rattle.rules.proofs.All.{never}
 use Rattle.row.specs.Acts.{unsplit}
 use Rattle.row.specs.Counts.{Counts, counts, count-ops}
-use Rattle.fill.specs.declared.rows.Job.{Job}
+use Rattle.fill.specs.declared.rows.FillJob.{FillJob}
 use Rattle.row.specs.Building.{good_row}
 use Rattle.segments.specs.Segs.{origin, bounds}
 use Rattle.segments.proofs.Laws.{landed}
@@ -167,13 +167,13 @@ few-more v e s a q = (
 )
 
 -- the counts at hand are small before segment i
-pub record Fits (j : Job) (i : ℕ) (t : Tally) : Type 0 where
+pub record Fits (j : FillJob) (i : ℕ) (t : Tally) : Type 0 where
   pub levels : t.levels ≤ j.layers
   pub renders : t.renders + (j.layers - t.levels) ≤ 1040 + 2 * i
   pub depths : t.depths ≤ 1024 + i
 
 -- one turn
-module _ (j : Job) (s : List ℕ) (t : Tally) where
+module _ (j : FillJob) (s : List ℕ) (t : Tally) where
   module _ (i r : ℕ) (f : Fits j i t) (c : j.c ≤ 1024) (d : j.d ≤ 1024) (l : j.layers ≤ 16) (g : good_row j.c j.d j.layers s ≡ true) where
     near : ((known t s r).levels ≤ j.layers) × ((known t s r).renders + (j.layers - (known t s r).levels) ≤ 1040 + 2 * i) × ((known t s r).depths ≤ 1024 + i)
     unfolding known
@@ -220,7 +220,7 @@ unfolding after
 after-if true m f = refl
 after-if false m f = refl
 
-module _ (j : Job) (rows : List ℕ) where
+module _ (j : FillJob) (rows : List ℕ) where
   tally-append : (t : Tally) (ks ls : List Cut) → tally_cuts j rows t (ks ++ ls) ≡ after (tally_cuts j rows t ks) (λ (u : Tally). tally_cuts j rows u ls)
   unfolding tally_cuts after
   tally-append t [] ls = refl
@@ -237,7 +237,7 @@ module _ (j : Job) (rows : List ℕ) where
   tally-stop t ks ls e = rw (tally-append t ks ls, ← e)
 
 -- a cut segment as the code takes it
-module _ (j : Job) (rows : List ℕ) (t : Tally) (ks : List Cut) where
+module _ (j : FillJob) (rows : List ℕ) (t : Tally) (ks : List Cut) where
   pub took-none : [] ≡ ks → Some t ≡ tally_cuts j rows t ks
   unfolding tally_cuts
   took-none e = rw (← e)
@@ -251,7 +251,7 @@ module _ (j : Job) (rows : List ℕ) (t : Tally) (ks : List Cut) where
     unfolding tally_cuts
     took-good u g h = rw (← e, g, h)
 
-module _ (j : Job) (rows : List ℕ) (t u : Tally) (i : ℕ) (f : Fits j i t) (c : j.c ≤ 1024) (d : j.d ≤ 1024) (l : j.layers ≤ 16) where
+module _ (j : FillJob) (rows : List ℕ) (t u : Tally) (i : ℕ) (f : Fits j i t) (c : j.c ≤ 1024) (d : j.d ≤ 1024) (l : j.layers ≤ 16) where
   later : t ≡ u → Fits j (i + 1) u
   later e = rw (← e) (record { levels = f.levels; renders = omega (arith, f.renders); depths = omega (arith, f.depths) })
 
@@ -269,12 +269,12 @@ module _ (j : Job) (rows : List ℕ) (t u : Tally) (i : ℕ) (f : Fits j i t) (c
   fits_after (k ∷ m ∷ ks) h e = absurd (omega arith)
 
 -- what is left of a good segment lies on a row
-pub lands : (j : Job) (n : ℕ) (rows : List ℕ) (g : Segment) (k : Cut) → Rowed j n rows → good-segment g ≡ true → k ∷ [] ≡ cut_in (origin j.scene) (bounds j.scene) g
+pub lands : (j : FillJob) (n : ℕ) (rows : List ℕ) (g : Segment) (k : Cut) → Rowed j n rows → good-segment g ≡ true → k ∷ [] ≡ cut_in (origin j.scene) (bounds j.scene) g
     → (k.row < n) × (k.stretch.tiles.first ≤ 8192) × (k.stretch.tiles.end ≤ 8192)
 lands j n rows g k o t e =
     let l = landed (origin j.scene) (bounds j.scene) g k t o.starts e in
     (omega (arith, l.row, o.bottom), omega (arith, l.order, l.ends), l.ends)
 
 -- .. whose record is there
-pub row-there : (j : Job) (n : ℕ) (rows : List ℕ) (r : ℕ) → Rowed j n rows → r < n → r * 54 + 54 ≤ length rows
+pub row-there : (j : FillJob) (n : ℕ) (rows : List ℕ) (r : ℕ) → Rowed j n rows → r < n → r * 54 + 54 ≤ length rows
 row-there j n rows r o h = omega (arith, o.long)

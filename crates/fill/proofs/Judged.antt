@@ -18,7 +18,7 @@ use Rattle.row.specs.Counts.{count}
 use Rattle.row.proofs.CountsLaws.{Sane, any, counted}
 use Rattle.row.specs.Building.{good_row, good-at, good_rows}
 use Rattle.segments.specs.Segs.{origin, bounds}
-use Rattle.fill.specs.declared.rows.Job.{Job}
+use Rattle.fill.specs.declared.rows.FillJob.{FillJob}
 use Rattle.fill.specs.Filling.{draws, puts_of, done, Roomy, none-put, one_more}
 use Rattle.row.specs.Room.{record-at}
 use Rattle.row.proofs.RoomLaws.{good-small}
@@ -29,7 +29,7 @@ use Rattle.fill.proofs.Running.{full_at, running, SaneAt, sane-after, runs, pass
 use Rattle.fill.proofs.Rising.{Rising, then}
 
 -- the tally without the records' test
-abbrev pub run : Job → List ℕ → Tally → List Cut → Tally
+abbrev pub run : FillJob → List ℕ → Tally → List Cut → Tally
 run j rows t [] = t
 run j rows t (k ∷ ks) = run j rows (tallied j (record-at rows k.row) t k) ks
 
@@ -61,7 +61,7 @@ record Knows (n : ℕ) (rows : List ℕ) (t : Tally) (us : List Words) (r : ℕ)
 abbrev Fine : ℕ → List Words → Cut → Type 0
 Fine n us k = (k.row < n) × Sane (get_or us k.row nowhere)
 
-module _ (j : Job) (n : ℕ) (rows : List ℕ) (m : j.layers ≤ 16) where
+module _ (j : FillJob) (n : ℕ) (rows : List ℕ) (m : j.layers ≤ 16) where
   module _ (t : Tally) (us : List Words) (r : ℕ) (k : Cut) (l : length us ≡ n) (h : r ≤ k.row) (f : Fine n us k) (o : Knows n rows t us r) where
     -- the row after its act
     after-act : get_or (change (draws j k.stretch.tiles k.stretch.alpha) k.row us) k.row nowhere ≡ draws j k.stretch.tiles k.stretch.alpha (get_or us k.row nowhere)
@@ -112,11 +112,11 @@ module _ (j : Job) (n : ℕ) (rows : List ℕ) (m : j.layers ≤ 16) where
       )
 
 -- the frame of a job's screen
-abbrev frame_at : Job → Box → Frame
+abbrev frame_at : FillJob → Box → Frame
 frame_at j v = record { viewport = v; c = j.c; d = j.d; width = j.width }
 
 -- rows of words
-module _ (j : Job) (v : Box) (n : ℕ) (w : Words) (m : j.layers ≤ 16) (l : Long (sizes j.c j.d) n w) where
+module _ (j : FillJob) (v : Box) (n : ℕ) (w : Words) (m : j.layers ≤ 16) (l : Long (sizes j.c j.d) n w) where
   state-is : (x : ℕ) → x < n → (get_or (cut (sizes j.c j.d) n w) x nowhere).state ≡ record-at w.state x
   state-is x h = ap (λ (u : Words). u.state) (cut_at (sizes j.c j.d) n x w nowhere h)
 
@@ -251,7 +251,7 @@ module _ (j : Job) (v : Box) (n : ℕ) (w : Words) (m : j.layers ≤ 16) (l : Lo
   verdict-is q {ks} a r = let f = flags-are q a r in verdict-any a ∙ grind (arith, nat_tests)
 
 -- the cut segments of good segments are on rows
-module _ {j : Job} {n : ℕ} {rows : List ℕ} (o : Rowed j n rows) where
+module _ {j : FillJob} {n : ℕ} {rows : List ℕ} (o : Rowed j n rows) where
   one-landed : (g : Segment) → good-segment g ≡ true → (ks : List Cut) → length ks ≤ 1 → ks ≡ cut_in (origin j.scene) (bounds j.scene) g → All (λ (k : Cut). k.row < n) ks
   one-landed g t [] h e = nil
   one-landed g t (k ∷ []) h e = cons (lands j n rows g k o t e).0 nil

@@ -18,7 +18,7 @@ use Rattle.row.proofs.RowsLaws.{cut-length, lay-cut}
 use Rattle.row.specs.Cmds.{Short}
 use Rattle.segments.specs.Segs.{seg-at, segs, origin, bounds}
 use Rattle.segments.proofs.Laws.{segs-end, segs-first, good-first, good-rest, landed}
-use Rattle.fill.specs.declared.rows.Job.{Job}
+use Rattle.fill.specs.declared.rows.FillJob.{FillJob}
 use Rattle.fill.specs.Filling.{draws, puts_of, one-put, puts, done, Roomy, none-put, one_more, Fits, FillReady}
 
 -- one command, on a row that has its layers
@@ -32,11 +32,11 @@ module _ (v n : ℕ) (s : Span) (i id : ℕ) (w : Words) (h : word 5 w ≡ n) wh
   drawn-once true None u = never (sym u)
 
 -- drawing grows a row that has room for it
-pub draws-grow : (j : Job) (s : Span) (a : Option ℕ) (w : Words) → j.layers ≤ 16 → Room w (draws j s a w) → Grown w (draws j s a w)
+pub draws-grow : (j : FillJob) (s : Span) (a : Option ℕ) (w : Words) → j.layers ≤ 16 → Room w (draws j s a w) → Grown w (draws j s a w)
 draws-grow j s a w m r = (drawn-sound (bucket-tiles j.width) j.layers j.attr j.id s w r.state r.levels m j.eligible a).grown
 
 -- one segment
-module _ (j : Job) (g : Segment) (rs : List Words) where
+module _ (j : FillJob) (g : Segment) (rs : List Words) where
   pub one_none : [] ≡ cut_in (origin j.scene) (bounds j.scene) g → done j (puts_of j (cut_in (origin j.scene) (bounds j.scene) g)) rs ≡ rs
   unfolding do-puts draw-puts
   one_none e = rw (← e)
@@ -56,7 +56,7 @@ module _ (j : Job) (g : Segment) (rs : List Words) where
     one-room h m = room_of (rw (one-some, ← e) at m) h
 
 -- what is left of a good segment lies on a row, which has room for it
-pub on-its-row : (j : Job) (n : ℕ) (w : Words) (g : Segment) (k : Cut) → Fits j n w → k ∷ [] ≡ cut_in (origin j.scene) (bounds j.scene) g → good-segment g ≡ true
+pub on-its-row : (j : FillJob) (n : ℕ) (w : Words) (g : Segment) (k : Cut) → Fits j n w → k ∷ [] ≡ cut_in (origin j.scene) (bounds j.scene) g → good-segment g ≡ true
     → Roomy (puts_of j (cut_in (origin j.scene) (bounds j.scene) g)) (cut (sizes j.c j.d) n w) (done j (puts_of j (cut_in (origin j.scene) (bounds j.scene) g)) (cut (sizes j.c j.d) n w))
     → Fits j n w × (k.row < n) × Short k.stretch.tiles × Room (get_or (cut (sizes j.c j.d) n w) k.row nowhere) (draws j k.stretch.tiles k.stretch.alpha (get_or (cut (sizes j.c j.d) n w) k.row nowhere))
 on-its-row j n w g k o e t m =
@@ -77,12 +77,12 @@ roomy-by : {rs ts rs' ts' : List Words} → ((x : ℕ) → Room (get_or rs x now
 roomy-by f none-put = none-put
 roomy-by f (one_more {p = p} r a) = one_more (f p.row r) (roomy-by f a)
 
-pub puts-join : (j : Job) (ks ls : List Cut) → puts_of j (ks ++ ls) ≡ puts_of j ks ++ puts_of j ls
+pub puts-join : (j : FillJob) (ks ls : List Cut) → puts_of j (ks ++ ls) ≡ puts_of j ks ++ puts_of j ls
 unfolding draw-puts
 puts-join j [] ls = refl
 puts-join j (k ∷ ks) ls = ap (λ (t : List Put). on (draw-act j.eligible j.attr j.id k.stretch.tiles k.stretch.alpha) k.row ∷ t) (puts-join j ks ls)
 
-module _ (j : Job) (m : j.layers ≤ 16) where
+module _ (j : FillJob) (m : j.layers ≤ 16) where
   pub done-append : (ps qs : List Put) (rs : List Words) → done j (ps ++ qs) rs ≡ done j qs (done j ps rs)
   done-append ps qs rs = puts-append Words word-ops (bucket-tiles j.width) j.layers ps qs rs
 
@@ -113,11 +113,11 @@ module _ (j : Job) (m : j.layers ≤ 16) where
       roomy-by (λ x r. room_after (done-sound ps rs x r.state r.levels) (rw (done-append ps qs rs) at r)) (roomy-rest ps qs a)
 
 -- the loop over the segments from a to b, at segment i, on its way from the words w₀
-pub record Filling (j : Job) (n : ℕ) (ws : List ℕ) (a b : ℕ) (w₀ : Words) (i : ℕ) (w : Words) : Type 0 where
+pub record Filling (j : FillJob) (n : ℕ) (ws : List ℕ) (a b : ℕ) (w₀ : Words) (i : ℕ) (w : Words) : Type 0 where
   pub rest : FillReady j n ws i b w
   pub all : done j (puts j ws i (b - i)) (cut (sizes j.c j.d) n w) ≡ done j (puts j ws a (b - a)) (cut (sizes j.c j.d) n w₀)
 
-module _ {j : Job} {n : ℕ} {ws : List ℕ} {a b : ℕ} {w₀ : Words} {i : ℕ} {w : Words} (v : Filling j n ws a b w₀ i w) where
+module _ {j : FillJob} {n : ℕ} {ws : List ℕ} {a b : ℕ} {w₀ : Words} {i : ℕ} {w : Words} (v : Filling j n ws a b w₀ i w) where
   pub filled : b ≤ i → w ≡ lay (done j (puts j ws a (b - a)) (cut (sizes j.c j.d) n w₀))
   unfolding do-puts draw-puts
   filled h =

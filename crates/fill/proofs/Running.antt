@@ -12,7 +12,7 @@ use Rattle.row.specs.Acts.{acted}
 use Rattle.row.proofs.ActsLaws.{acted-sound}
 use Rattle.row.specs.Arena.{nowhere}
 use Rattle.row.proofs.CountsLaws.{Sane}
-use Rattle.fill.specs.declared.rows.Job.{Job}
+use Rattle.fill.specs.declared.rows.FillJob.{FillJob}
 use Rattle.fill.specs.Filling.{done}
 use Rattle.fill.proofs.RowsLaws.{done-sound}
 
@@ -21,7 +21,7 @@ abbrev pub full_at : (Words → ℕ) → ℕ → List Words → ℕ → Bool
 full_at f c rs x = ltb c (f (get_or rs x nowhere))
 
 -- some row's count passes c after its put, as the puts run
-abbrev pub running : Job → (Words → ℕ) → ℕ → List Put → List Words → Bool
+abbrev pub running : FillJob → (Words → ℕ) → ℕ → List Put → List Words → Bool
 running j f c [] rs = false
 running j f c (p ∷ ps) rs = full_at f c (change (acted (bucket-tiles j.width) j.layers p.act) p.row rs) p.row || running j f c ps (change (acted (bucket-tiles j.width) j.layers p.act) p.row rs)
 
@@ -33,12 +33,12 @@ same_or : (a b y : Bool) → (y ≡ false → a ≡ b) → (a || y) ≡ (b || y)
 same_or a b y h = grind (arith, nat_tests)
 
 -- a put anywhere leaves a record that can be counted so
-pub sane-after : (j : Job) (p : Put) (rs : List Words) (x : ℕ) → j.layers ≤ 16 → Sane (get_or rs x nowhere) → Sane (get_or (change (acted (bucket-tiles j.width) j.layers p.act) p.row rs) x nowhere)
+pub sane-after : (j : FillJob) (p : Put) (rs : List Words) (x : ℕ) → j.layers ≤ 16 → Sane (get_or rs x nowhere) → Sane (get_or (change (acted (bucket-tiles j.width) j.layers p.act) p.row rs) x nowhere)
 sane-after j p rs x m s =
     change-at Sane (acted (bucket-tiles j.width) j.layers p.act) p.row x rs nowhere s
     (let t = acted-sound (bucket-tiles j.width) j.layers (get_or rs x nowhere) s.state s.levels m p.act in record { state = t.grown.state ∙ s.state; levels = t.levels })
 
-module _ (j : Job) (m : j.layers ≤ 16) (f : Words → ℕ) (c : ℕ) where
+module _ (j : FillJob) (m : j.layers ≤ 16) (f : Words → ℕ) (c : ℕ) where
   not_full : (x : ℕ) (ts : List Words) (ps : List Put) → puts-on x ps ≡ true → some_of (λ (p : Put). full_at f c ts p.row) ps ≡ false → full_at f c ts x ≡ false
   unfolding puts-on
   not_full x ts [] h g = never (sym h)

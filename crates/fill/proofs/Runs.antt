@@ -25,7 +25,7 @@ use Rattle.row.proofs.RowsLaws.{cut-length, lent, back}
 use Rattle.segments.specs.Segs.{seg-at, segs, origin, bounds}
 use Rattle.segments.proofs.Laws.{segs-end, segs-first, good-first, good-rest, landed}
 use Rattle.segments.proofs.Cutting.{left_in}
-use Rattle.fill.specs.declared.rows.Job.{Job}
+use Rattle.fill.specs.declared.rows.FillJob.{FillJob}
 use Rattle.fill.specs.Filling.{draws, puts_of, puts, done, draw-all, cuts-of, run_of, OnRow, Roomy, one_more, FillReady, RunReady}
 use Rattle.fill.proofs.RowsLaws.{puts-join, done-append, room-one, room-more, Filling}
 
@@ -83,7 +83,7 @@ module _ {A : Type 0} where
 abbrev AllOn : ℕ → List Cut → Type 0
 AllOn r ks = All (λ (k : Cut). k.row ≡ r) ks
 
-module _ (j : Job) where
+module _ (j : FillJob) where
   -- .. come to one change
   one-change : (r : ℕ) {ks : List Cut} → AllOn r ks → (rs : List Words) → done j (puts_of j ks) rs ≡ change (draw-all j ks) r rs
   unfolding do-puts draw-puts
@@ -150,7 +150,7 @@ module _ (ws : List ℕ) where
       go true e f = rw (eqb-true a i e) at (good-first ws a b (omega arith) g)
       go false e f = f (eqb-false a i e)
 
-module _ (j : Job) (ws : List ℕ) where
+module _ (j : FillJob) (ws : List ℕ) where
   cuts-parts : (a t b : ℕ) → a ≤ t → t ≤ b → cuts-of j ws a b ≡ cuts-of j ws a t ++ cuts-of j ws t b
   cuts-parts a t b h g = rw (segs-parts ws a t b h g) (join-append (cut_in (origin j.scene) (bounds j.scene)) (segs ws a (t - a)) (segs ws t (b - t)))
 
@@ -191,7 +191,7 @@ module _ (j : Job) (ws : List ℕ) where
   run_none a w = rw (segs-end ws a a (omega arith))
 
 -- an alpha index, on a row that has its layers and on one that gets them
-module _ (j : Job) (k : Cut) (x : Indexed k) (w : Words) where
+module _ (j : FillJob) (k : Cut) (x : Indexed k) (w : Words) where
   indexed-draw : draws j k.stretch.tiles k.stretch.alpha w ≡ put_command (paint-fill k.stretch.tiles k.stretch.alpha j.attr) (ensured j.layers w)
   indexed-draw = rw x.is (drawn-alpha (bucket-tiles j.width) j.layers k.stretch.tiles j.attr j.id w j.eligible x.at)
 
@@ -210,7 +210,7 @@ module _ (j : Job) (k : Cut) (x : Indexed k) (w : Words) where
           ∙ ap (put_command (paint-fill k.stretch.tiles (Some x.at) j.attr)) (no_more j.layers (ensured j.layers w) h))
 
 -- a run that begins with an alpha index gives its row its layers
-module _ {j : Job} {ws : List ℕ} {row a b : ℕ} {w : Words} (v : RunReady j ws row a b w) where
+module _ {j : FillJob} {ws : List ℕ} {row a b : ℕ} {w : Words} (v : RunReady j ws row a b w) where
   first-index : Indexed v.first
   first-index = index-left (origin j.scene) (bounds j.scene) (seg-at ws a) v.first v.index v.left
 
@@ -256,7 +256,7 @@ module _ {j : Job} {ws : List ℕ} {row a b : ℕ} {w : Words} (v : RunReady j w
       }
 
 -- at segment i of a run from a, on its way from the words w₀, which have their layers
-pub record Running (j : Job) (ws : List ℕ) (row a b : ℕ) (w₀ : Words) (i : ℕ) (w : Words) : Type 0 where
+pub record Running (j : FillJob) (ws : List ℕ) (row a b : ℕ) (w₀ : Words) (i : ℕ) (w : Words) : Type 0 where
   pub ready : RunReady j ws row a b w₀
   pub start : a ≤ i
   pub stop : i ≤ b
@@ -264,7 +264,7 @@ pub record Running (j : Job) (ws : List ℕ) (row a b : ℕ) (w₀ : Words) (i :
   pub is : w ≡ run_of j ws a i w₀
   pub there : j.layers ≤ word 5 w
 
-pub set-off : {j : Job} {ws : List ℕ} {row a b : ℕ} {w u : Words} → RunReady j ws row a b w → u ≡ ensured j.layers w → Running j ws row a b u a u
+pub set-off : {j : FillJob} {ws : List ℕ} {row a b : ℕ} {w u : Words} → RunReady j ws row a b w → u ≡ ensured j.layers w → Running j ws row a b u a u
 set-off {j} {ws} {row} {a} {b} {w} {u} v e =
     rw e
     (record {
@@ -276,7 +276,7 @@ set-off {j} {ws} {row} {a} {b} {w} {u} v e =
       there = there v;
     })
 
-module _ {j : Job} {ws : List ℕ} {row a b : ℕ} {w₀ : Words} {i : ℕ} {w : Words} (v : Running j ws row a b w₀ i w) where
+module _ {j : FillJob} {ws : List ℕ} {row a b : ℕ} {w₀ : Words} {i : ℕ} {w : Words} (v : Running j ws row a b w₀ i w) where
   run_sound : Sound w₀ w
   run_sound = let o = own_room v.ready in rw v.is (draw-sound j v.ready.layers (cuts-of j ws a i) w₀ o.state o.levels)
 
@@ -326,12 +326,12 @@ module _ {j : Job} {ws : List ℕ} {row a b : ℕ} {w₀ : Words} {i : ℕ} {w :
             })
 
 -- the whole run, from the words before its layers
-pub run-done : {j : Job} {ws : List ℕ} {row a b : ℕ} {w u : Words} {i : ℕ} {x : Words} → RunReady j ws row a b w → u ≡ ensured j.layers w → Running j ws row a b u i x → a < i
+pub run-done : {j : FillJob} {ws : List ℕ} {row a b : ℕ} {w u : Words} {i : ℕ} {x : Words} → RunReady j ws row a b w → u ≡ ensured j.layers w → Running j ws row a b u i x → a < i
     → (a < i) × (i ≤ b) × OnRow ws row a i × (x ≡ run_of j ws a i w)
 run-done {j} {ws} {row} {a} {b} {w} {u} {i} {x} v e r h = (h, r.stop, r.same, r.is ∙ ap (run_of j ws a i) e ∙ same-run v i h)
 
 -- on the whole screen
-module _ {j : Job} {n : ℕ} {ws : List ℕ} {a b : ℕ} {w : Words} (v : FillReady j n ws a b w) (h : a < b) where
+module _ {j : FillJob} {n : ℕ} {ws : List ℕ} {a b : ℕ} {w : Words} (v : FillReady j n ws a b w) (h : a < b) where
   split-puts : (t : ℕ) → a ≤ t → t ≤ b → puts j ws a (b - a) ≡ puts j ws a (t - a) ++ puts j ws t (b - t)
   split-puts t p q = rw (cuts-parts j ws a t b p q) (puts-join j (cuts-of j ws a t) (cuts-of j ws t b))
 
@@ -405,7 +405,7 @@ module _ {j : Job} {n : ℕ} {ws : List ℕ} {a b : ℕ} {w : Words} (v : FillRe
           ∙ sym (run-puts t u (cut (sizes j.c j.d) n w))
 
 -- a segment of which nothing is left
-pub nothing_put : (j : Job) (ws : List ℕ) (a : ℕ) (rs : List Words) → [] ≡ cut_in (origin j.scene) (bounds j.scene) (seg-at ws a) → rs ≡ done j (puts j ws a (a + 1 - a)) rs
+pub nothing_put : (j : FillJob) (ws : List ℕ) (a : ℕ) (rs : List Words) → [] ≡ cut_in (origin j.scene) (bounds j.scene) (seg-at ws a) → rs ≡ done j (puts j ws a (a + 1 - a)) rs
 unfolding do-puts draw-puts
 nothing_put j ws a rs e = rw (cuts-one j ws a, ← e)
 
@@ -414,7 +414,7 @@ every_rest : (f : Segment → Bool) (xs ys : List Segment) → every f (xs ++ ys
 every_rest f [] ys e = e
 every_rest f (x ∷ xs) ys e = every_rest f xs ys (both (f x) (every f (xs ++ ys)) e).1
 
-pub after_run : {j : Job} {n : ℕ} {ws : List ℕ} {a b : ℕ} {w₀ : Words} {i : ℕ} {w : Words} → Filling j n ws a b w₀ i w → (t : ℕ) → i < t → t ≤ b → (u : Words)
+pub after_run : {j : FillJob} {n : ℕ} {ws : List ℕ} {a b : ℕ} {w₀ : Words} {i : ℕ} {w : Words} → Filling j n ws a b w₀ i w → (t : ℕ) → i < t → t ≤ b → (u : Words)
     → Long (sizes j.c j.d) n u → cut (sizes j.c j.d) n u ≡ done j (puts j ws i (t - i)) (cut (sizes j.c j.d) n w) → Filling j n ws a b w₀ t u
 after_run {j} {n} {ws} {a} {b} {w₀} {i} {w} v t p q u l e =
     let o = v.rest.fits in

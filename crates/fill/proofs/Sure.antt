@@ -12,7 +12,7 @@ use Rattle.segments.specs.Segs.{seg-at, segs, origin, bounds}
 use Rattle.segments.proofs.Laws.{segs-end, segs-first}
 use Rattle.segments.proofs.Judging as list
 use Rattle.segments.proofs.Judging.{AtPlace}
-use Rattle.fill.specs.declared.rows.Job.{Job}
+use Rattle.fill.specs.declared.rows.FillJob.{FillJob}
 use Rattle.fill.proofs.Runs.{piece, at_most_one}
 use Rattle.fill.specs.Filling.{cuts-of}
 use Rattle.fill.specs.Tallies.{Tally, added, job-adds, known, stored, tallied, tally_cuts, verdict, none_yet, Rowed}
@@ -60,18 +60,18 @@ unfolding known
 known-else t s r e = rw (ne_eqb t.row r e)
 
 -- counts, with the layers that are lacking, within bounds
-record Near (j : Job) (c : Counts) (x y : ℕ) : Type 0 where
+record Near (j : FillJob) (c : Counts) (x y : ℕ) : Type 0 where
   levels : c.levels ≤ j.layers
   renders : c.renders + (j.layers - c.levels) ≤ x
   depths : c.depths ≤ y
 
-near_same : (j : Job) (u : Tally) (s : List ℕ) (r x y : ℕ) → u.row ≡ r → Near j (counts u.renders u.depths u.levels) x y → Near j (known u s r) x y
+near_same : (j : FillJob) (u : Tally) (s : List ℕ) (r x y : ℕ) → u.row ≡ r → Near j (counts u.renders u.depths u.levels) x y → Near j (known u s r) x y
 near_same j u s r x y e n = rw (known_same u s r e) n
 
-near-row : (j : Job) (rows : List ℕ) (u : Tally) (x y : ℕ) {m n : ℕ} → m ≡ n → Near j (known u (record-at rows m) m) x y → Near j (known u (record-at rows n) n) x y
+near-row : (j : FillJob) (rows : List ℕ) (u : Tally) (x y : ℕ) {m n : ℕ} → m ≡ n → Near j (known u (record-at rows m) m) x y → Near j (known u (record-at rows n) n) x y
 near-row j rows u x y e n = rw e at n
 
-record After (j : Job) (s : List ℕ) (u : Tally) (r x y : ℕ) : Type 0 where
+record After (j : FillJob) (s : List ℕ) (u : Tally) (r x y : ℕ) : Type 0 where
   row : u.row ≡ r
   full : u.full ≡ false
   deep : u.deep ≡ false
@@ -80,7 +80,7 @@ record After (j : Job) (s : List ℕ) (u : Tally) (r x y : ℕ) : Type 0 where
 both-down : (a b : Bool) → a ≡ false → b ≡ false → (a || b) ≡ false
 both-down a b p q = rw (p, q)
 
-after : (j : Job) (s : List ℕ) (t : Tally) (k : Cut) (x y x' y' z : ℕ) → Near j (known t s k.row) x y → t.full ≡ false → t.deep ≡ false
+after : (j : FillJob) (s : List ℕ) (t : Tally) (k : Cut) (x y x' y' z : ℕ) → Near j (known t s k.row) x y → t.full ≡ false → t.deep ≡ false
     → (job-adds j k.stretch.tiles k.stretch.alpha).renders ≤ 1 + z → (job-adds j k.stretch.tiles k.stretch.alpha).depths ≤ z
     → x + 1 + z ≤ x' → y + z ≤ y' → x' ≤ j.c → y' ≤ j.d → After j s (tallied j s t k) k.row x' y'
 after j s t k x y x' y' z o f d p q a b l m =
@@ -93,7 +93,7 @@ after j s t k x y x' y' z o f d p q a b l m =
     })
 
 -- in a run on row r, at segment i: the last one ended at e, and the row's counts are at most x and y
-record On (j : Job) (rows ws : List ℕ) (a b r i e x y : ℕ) : Type 0 where
+record On (j : FillJob) (rows ws : List ℕ) (a b r i e x y : ℕ) : Type 0 where
   tally : Tally
   last : Segment
   place : AtPlace ws a b last true i
@@ -109,7 +109,7 @@ same_row : (s g : Segment) (r : ℕ) → s.row ≡ r → g.row ≡ r → s.end �
 same_row s g r p q h = rw (le-ltb s.row g.row (omega arith), eq-eqb s.row g.row (omega arith), le-leb s.end g.first h)
 
 -- one more segment of the run
-module _ {j : Job} {n : ℕ} {rows ws : List ℕ} {a b r i e x y : ℕ} (w : Rowed j n rows) (o : On j rows ws a b r i e x y) (l : i < b)
+module _ {j : FillJob} {n : ℕ} {rows ws : List ℕ} {a b r i e x y : ℕ} (w : Rowed j n rows) (o : On j rows ws a b r i e x y) (l : i < b)
     (p : (seg-at ws i).row ≡ r) (g : good-segment (seg-at ws i) ≡ true) (f : e ≤ (seg-at ws i).first) where
   split-cuts : cuts-of j ws i b ≡ cut_in (origin j.scene) (bounds j.scene) (seg-at ws i) ++ cuts-of j ws (i + 1) b
   split-cuts = rw (segs-first ws i b l)
@@ -165,7 +165,7 @@ module _ {j : Job} {n : ℕ} {rows ws : List ℕ} {a b r i e x y : ℕ} (w : Row
     step = by-cuts (cut_in (origin j.scene) (bounds j.scene) (seg-at ws i)) refl (at_most_one _ _ (seg-at ws i))
 
 -- between the runs, at segment i: rows from q on are to come
-pub record Sure (j : Job) (n : ℕ) (rows ws : List ℕ) (a b q i : ℕ) : Type 0 where
+pub record Sure (j : FillJob) (n : ℕ) (rows ws : List ℕ) (a b q i : ℕ) : Type 0 where
   pub rowed : Rowed j n rows
   pub tally : Tally
   pub last : Segment
@@ -177,7 +177,7 @@ pub record Sure (j : Job) (n : ℕ) (rows ws : List ℕ) (a b q i : ℕ) : Type 
   pub fresh : tally.row ≤ 8191 → tally.row + j.scene.y / 4 < q
   pub rest : verdict (tally_cuts j rows tally (cuts-of j ws i b)) ≡ verdict (tally_cuts j rows none_yet (cuts-of j ws a b))
 
-sure-so-far : {j : Job} {n : ℕ} {rows ws : List ℕ} {a b : ℕ} → Rowed j n rows → a ≤ b → Sure j n rows ws a b 0 a
+sure-so-far : {j : FillJob} {n : ℕ} {rows ws : List ℕ} {a b : ℕ} → Rowed j n rows → a ≤ b → Sure j n rows ws a b 0 a
 sure-so-far {ws = ws} {a = a} {b = b} o h =
     record {
       rowed = o;
@@ -192,7 +192,7 @@ sure-so-far {ws = ws} {a = a} {b = b} o h =
       rest = refl;
     }
 
-module _ {j : Job} {n : ℕ} {rows ws : List ℕ} {a b q i : ℕ} (v : Sure j n rows ws a b q i) where
+module _ {j : FillJob} {n : ℕ} {rows ws : List ℕ} {a b q i : ℕ} (v : Sure j n rows ws a b q i) where
   surely : b ≤ i → number_in j rows ws a b ≡ 0
   unfolding tally_cuts
   surely l =
@@ -244,25 +244,25 @@ module _ {j : Job} {n : ℕ} {rows ws : List ℕ} {a b q i : ℕ} (v : Sure j n 
         }
 
 -- sure up to the run that began at segment f on the row r; it has come to segment i, to tile e, and m of it may be split
-pub record Walk (j : Job) (n : ℕ) (rows ws : List ℕ) (a b r f e m i : ℕ) : Type 0 where
+pub record Walk (j : FillJob) (n : ℕ) (rows ws : List ℕ) (a b r f e m i : ℕ) : Type 0 where
   pub next : ℕ
   pub sure : Sure j n rows ws a b next f
   pub rises : next ≤ r
   pub ran : Ran j.eligible ws r f i e m
 
 -- .. if r is a row: rows rise, so the last one tells it of all
-pub record Walking (j : Job) (n : ℕ) (rows ws : List ℕ) (a b r f e m i : ℕ) : Type 0 where
+pub record Walking (j : FillJob) (n : ℕ) (rows ws : List ℕ) (a b r f e m i : ℕ) : Type 0 where
   pub rowed : Rowed j n rows
   pub within : 5 * b ≤ length ws
   pub before : i ≤ b
   pub few : m + f ≤ i
   pub walk : r < 8192 → Walk j n rows ws a b r f e m i
 
-pub set_out : {j : Job} {n : ℕ} {rows ws : List ℕ} {a b : ℕ} (r : ℕ) → Rowed j n rows → a < b → 5 * b ≤ length ws → Walking j n rows ws a b r a 0 0 a
+pub set_out : {j : FillJob} {n : ℕ} {rows ws : List ℕ} {a b : ℕ} (r : ℕ) → Rowed j n rows → a < b → 5 * b ≤ length ws → Walking j n rows ws a b r a 0 0 a
 set_out r o h l =
     record { rowed = o; within = l; before = omega arith; few = omega arith; walk = λ z. record { next = 0; sure = sure-so-far o (omega arith); rises = omega arith; ran = not_yet } }
 
-module _ {j : Job} {n : ℕ} {rows ws : List ℕ} {a b r f e m i : ℕ} (v : Walking j n rows ws a b r f e m i) where
+module _ {j : FillJob} {n : ℕ} {rows ws : List ℕ} {a b r f e m i : ℕ} (v : Walking j n rows ws a b r f e m i) where
   -- the run has room, and the next row begins
   pub turns-over : (q : ℕ) → r < q → RoomAt j rows r (i - f) m → Walking j n rows ws a b q i 0 0 i
   turns-over q h o =
@@ -310,5 +310,5 @@ module _ {j : Job} {n : ℕ} {rows ws : List ℕ} {a b r f e m i : ℕ} (v : Wal
         o (rw t (split-none j.eligible)) (omega arith))
 
 -- a record with room, as the code tests it
-pub room-found : (j : Job) (s : List ℕ) (m n : ℕ) → good_row j.c j.d j.layers s ≡ true → get_or s 1 0 + n ≤ j.d → get_or s 0 0 + j.layers + m + n ≤ j.c + get_or s 5 0 → Roomed j s m n
+pub room-found : (j : FillJob) (s : List ℕ) (m n : ℕ) → good_row j.c j.d j.layers s ≡ true → get_or s 1 0 + n ≤ j.d → get_or s 0 0 + j.layers + m + n ≤ j.c + get_or s 5 0 → Roomed j s m n
 room-found j s m n g d h = record { good = g; renders = omega (arith, (good-small _ _ _ _ g).levels); depths = d }

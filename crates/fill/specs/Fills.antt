@@ -18,7 +18,7 @@ use Rattle.screen.specs.Screens.{frame-of, state-of, screen-after}
 use Rattle.screen.specs.Judging.{judged}
 use Rattle.segments.specs.declared.Scene.{Scene}
 use Rattle.segments.specs.Segs.{segs-of}
-use Rattle.fill.specs.declared.rows.Job.{Job}
+use Rattle.fill.specs.declared.rows.FillJob.{FillJob}
 use Rattle.inputs.specs.declared.Draw.{Draw}
 use Rattle.inputs.specs.Inputs.{draw_fields, draw-of}
 
@@ -53,7 +53,7 @@ scene-at v c =
     }
 
 -- what stays the same over a fill's segments
-abbrev pub job_of : Screen → List ℕ → Draw → Job
+abbrev pub job_of : Screen → List ℕ → Draw → FillJob
 job_of s ps d =
     record {
       scene = scene-at (box_of s.viewport) (box_of s.clip_bbox);
@@ -72,8 +72,8 @@ pub record FillLent : Type 0 where
   pub words : Words
   pub paint-attrs : List ℕ
 
-abbrev pub lent : Screen → Words → List ℕ → FillLent
-lent s w table = record { screen = s; words = w; paint-attrs = table }
+abbrev pub fill_lent : Screen → Words → List ℕ → FillLent
+fill_lent s w table = record { screen = s; words = w; paint-attrs = table }
 
 -- what the fill would do
 abbrev pub fill-plan : Screen → List ℕ → List ℕ → Draw → Plan
@@ -105,7 +105,7 @@ unfoldable pub fill_done : FillLent → List ℕ → List ℕ → Draw → FillL
 fill_done l ps ss d =
     let p = fill-plan l.screen ps ss d in
     let n = l.screen.paint_attrs in
-    lent (screen-after l.screen p) (lay (done Words word-ops p (screen-at (state-of l.screen) l.words)).rows)
+    fill_lent (screen-after l.screen p) (lay (done Words word-ops p (screen-at (state-of l.screen) l.words)).rows)
     (words-at l.paint-attrs (paint-attr-size * n) (join paint-attr-words (drop n p.attrs.paints)))
 
 -- a fill: what is refused alters nothing

@@ -8,33 +8,33 @@ use Rattle.row.specs.Rows.{all-held}
 use Rattle.row.specs.Arena.{sizes, cut, count-rows}
 use Rattle.screen.specs.declared.Screen.{Screen}
 use Rattle.segments.specs.Segs.{seg-at}
-use Rattle.fill.specs.declared.rows.Job.{Job}
+use Rattle.fill.specs.declared.rows.FillJob.{FillJob}
 use Rattle.fill.specs.Filling.{puts, done, Roomy}
-use Rattle.fill.specs.Fills.{FillLent, lent}
+use Rattle.fill.specs.Fills.{FillLent, fill_lent}
 use Rattle.fill.specs.Tallies.{Rowed}
 
 -- a screen and the words that a fill writes, as they are lent
-abbrev pub lent_of : Screen → Rows → List ℕ → FillLent
-lent_of s r table = lent s (all-held r) table
+abbrev pub fill_lent_of : Screen → Rows → List ℕ → FillLent
+fill_lent_of s r table = fill_lent s (all-held r) table
 
 -- the rows whose records are s, as the words hold them
-abbrev pub job_rows : Job → List ℕ → Words → List Words
+abbrev pub job_rows : FillJob → List ℕ → Words → List Words
 job_rows j s w = cut (sizes j.c j.d) (count-rows s) w
 
 -- .. as they are lent
-abbrev pub held_rows : Job → Rows → List Words
+abbrev pub held_rows : FillJob → Rows → List Words
 held_rows j r = job_rows j r.state.now (all-held r)
 
 -- .. after the segments from a to b were drawn on them
-abbrev pub rows_after : Job → List ℕ → ℕ → ℕ → List Words → List Words
+abbrev pub rows_after : FillJob → List ℕ → ℕ → ℕ → List Words → List Words
 rows_after j ws a b rs = done j (puts j ws a (b - a)) rs
 
 -- each row that is put on has room for what all the puts make of it
-abbrev pub RoomFor : Job → List Put → List Words → Type 0
+abbrev pub RoomFor : FillJob → List Put → List Words → Type 0
 RoomFor j ps rs = Roomy ps rs (done j ps rs)
 
 -- the records are those of a screen's rows, and the job's numbers are in their bounds
-abbrev pub RecordsOf : Job → List ℕ → Type 0
+abbrev pub RecordsOf : FillJob → List ℕ → Type 0
 RecordsOf j rows = Rowed j (count-rows rows) rows
 
 -- the segments before b are in the list

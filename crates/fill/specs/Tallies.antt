@@ -12,7 +12,7 @@ use Rattle.row.specs.Counts as count
 use Rattle.row.specs.Counts.{counts, count-ops}
 use Rattle.row.specs.Building.{good_row}
 use Rattle.segments.specs.Segs.{origin, bounds, Starts}
-use Rattle.fill.specs.declared.rows.Job.{Job}
+use Rattle.fill.specs.declared.rows.FillJob.{FillJob}
 use Rattle.row.specs.declared.room.Limits.{Limits}
 use Rattle.row.specs.declared.room.Hand.{Hand}
 use Rattle.sizes.specs.declared.answers.Refusal.{Refusal}
@@ -46,10 +46,10 @@ unfoldable pub known : Tally → List ℕ → ℕ → count.Counts
 known t s r = cond (eqb t.row r) (counts t.renders t.depths t.levels) (stored s)
 
 -- a cut segment's act, on counts
-abbrev pub drawn-counts : Job → Cut → count.Counts → count.Counts
+abbrev pub drawn-counts : FillJob → Cut → count.Counts → count.Counts
 drawn-counts j k c = do-act count.Counts count-ops (bucket-tiles j.width) j.layers (draw-act j.eligible j.attr j.id k.stretch.tiles k.stretch.alpha) c
 
-abbrev pub tally-of : Job → Tally → ℕ → count.Counts → Tally
+abbrev pub tally-of : FillJob → Tally → ℕ → count.Counts → Tally
 tally-of j t r c =
     record {
       row = r;
@@ -61,11 +61,11 @@ tally-of j t r c =
     }
 
 -- one more cut segment, on a row whose record at entry is s
-unfoldable pub tallied : Job → List ℕ → Tally → Cut → Tally
+unfoldable pub tallied : FillJob → List ℕ → Tally → Cut → Tally
 tallied j s t k = tally-of j t k.row (drawn-counts j k (known t s k.row))
 
 -- none where a row's record is bad
-unfoldable pub tally_cuts : Job → List ℕ → Tally → List Cut → Option Tally
+unfoldable pub tally_cuts : FillJob → List ℕ → Tally → List Cut → Option Tally
 tally_cuts j rows t [] = Some t
 tally_cuts j rows t (k ∷ ks) =
     let s = record-at rows k.row in
@@ -81,7 +81,7 @@ abbrev pub none_yet : Tally
 none_yet = record { row = tile-end; renders = 0; depths = 0; levels = 0; full = false; deep = false }
 
 -- the job's numbers, and the records of n rows
-pub record Rowed (j : Job) (n : ℕ) (rows : List ℕ) : Type 0 where
+pub record Rowed (j : FillJob) (n : ℕ) (rows : List ℕ) : Type 0 where
   pub c : j.c ≤ most-room
   pub d : j.d ≤ most-room
   pub layers : j.layers ≤ most-layers
@@ -108,19 +108,19 @@ abbrev pub marked_by : Counted → Bool → Counted
 marked_by h follows = cond follows h (record { row = h.row; renders = h.renders; depths = h.depths; code = BadOrder })
 
 -- what its rows have room for
-abbrev pub limits_of : Job → Limits
+abbrev pub limits_of : FillJob → Limits
 limits_of j = limits j.c j.d j.layers 0
 
 -- what it adds in a job
-abbrev pub job-adds : Job → Span → Option ℕ → count.Counts
+abbrev pub job-adds : FillJob → Span → Option ℕ → count.Counts
 job-adds j s a = added (bucket-tiles j.width) j.eligible s a
 
 -- one more stretch on the row at hand
-unfoldable pub stretched : Job → Counted → Span → Option ℕ → Counted
+unfoldable pub stretched : FillJob → Counted → Span → Option ℕ → Counted
 stretched j h s a = added_to (limits_of j) h (job-adds j s a).renders (job-adds j s a).depths
 
 -- one more cut segment: on the row at hand, or on its own, whose record is judged
-unfoldable pub counted_cut : Job → List ℕ → Counted → Cut → Counted
+unfoldable pub counted_cut : FillJob → List ℕ → Counted → Cut → Counted
 counted_cut j rows h k =
     let s = record-at rows k.row in
     let held = stretched j h k.stretch.tiles k.stretch.alpha in
@@ -128,7 +128,7 @@ counted_cut j rows h k =
     cond (eqb h.row k.row) held (cond (good_row j.c j.d j.layers s) more (hand_of 0 0 k.row BadRecord))
 
 -- what is left of a segment: nothing, or one cut segment more
-unfoldable pub hand_cuts : Job → List ℕ → Counted → List Cut → Counted
+unfoldable pub hand_cuts : FillJob → List ℕ → Counted → List Cut → Counted
 hand_cuts j rows h [] = h
 hand_cuts j rows h (k ∷ ks) = hand_cuts j rows (counted_cut j rows h k) ks
 

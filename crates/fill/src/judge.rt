@@ -14,7 +14,7 @@ ghost use Rattle.fill.specs.Filling.{cut_for};
 ghost use Rattle.fill.specs.Named.{RecordsOf, InList};
 ghost use Rattle.fill.specs.Sure.{Few, Roomed, RoomAt, number_in};
 
-use crate::rows::Job;
+use crate::rows::FillJob;
 use row::acts::is_unsplit;
 use row::judge::is_good_row;
 use row::part;
@@ -66,7 +66,7 @@ fn mark(hand: Hand, follows: bool) -> Hand
 }
 
 // What the rows of a fill have room for.
-fn limits_of(job: Job) -> Limits
+fn limits_of(job: FillJob) -> Limits
     ensures { result ≡ limits_of job }
 {
     Limits {
@@ -79,7 +79,7 @@ fn limits_of(job: Job) -> Limits
 
 // One more good segment: BadRecord where it gets on a row whose record is bad.
 #[inline(never)]
-fn judge_segment(rows: &[u32], job: Job, hand: Hand, segment: Segment) -> Result<Hand, Refusal>
+fn judge_segment(rows: &[u32], job: FillJob, hand: Hand, segment: Segment) -> Result<Hand, Refusal>
     requires rows { RecordsOf job rows.now }
     requires segment { good-segment (segment-of segment) ≡ true }
     requires hand { Low (at-hand hand) }
@@ -105,7 +105,7 @@ fn judge_each(
     list: &[u32],
     start: usize,
     end: usize,
-    job: Job,
+    job: FillJob,
 ) -> Result<Fault, Refusal>
     requires rows { RecordsOf job rows.now }
     requires range { start ≤ «end» }
@@ -127,7 +127,7 @@ fn judge_each(
 
 // The row's record is good, with room for the most that so many segments come to: a command each, and for each of the `split` solid ones that
 // may be split a command and a depth fill more.
-fn has_room(state: &[u32], job: Job, segments: usize, split: usize) -> bool
+fn has_room(state: &[u32], job: FillJob, segments: usize, split: usize) -> bool
     requires words { length state.now ≡ row-size }
     requires room { (job.c ≤ most-room) × (job.d ≤ most-room) }
     requires layers { job.layers ≤ most-layers }
@@ -143,7 +143,7 @@ fn has_room(state: &[u32], job: Job, segments: usize, split: usize) -> bool
 }
 
 // The same of a row of the scene, by its number there; of any other row nothing is asked.
-fn has_room_at(rows: &[u32], job: Job, row: u32, segments: usize, split: usize) -> bool
+fn has_room_at(rows: &[u32], job: FillJob, row: u32, segments: usize, split: usize) -> bool
     requires rows { RecordsOf job rows.now }
     requires few { Few segments split }
     ensures { result ≡ true → RoomAt job rows.now row segments split }
@@ -157,7 +157,7 @@ fn has_room_at(rows: &[u32], job: Job, row: u32, segments: usize, split: usize) 
 
 // Yes only where the exact number is 0: rows rise, each segment is good and in order, and each row has room for the most that its segments come
 // to, looked at once for all of them.
-fn is_sure(rows: &[u32], list: &[u32], start: usize, end: usize, job: Job) -> bool
+fn is_sure(rows: &[u32], list: &[u32], start: usize, end: usize, job: FillJob) -> bool
     requires rows { RecordsOf job rows.now }
     requires range { start < «end» }
     requires list { InList list.now «end» }
@@ -212,7 +212,7 @@ pub fn judge_list(
     list: &[u32],
     start: usize,
     end: usize,
-    job: Job,
+    job: FillJob,
 ) -> Result<Fault, Refusal>
     requires rows { RecordsOf job rows.now }
     requires range { start ≤ «end» }

@@ -13,10 +13,10 @@ ghost use Rattle.row.specs.Rows.{SameRows};
 ghost use Rattle.screen.specs.Screens.{good_screen};
 ghost use Rattle.inputs.specs.Inputs.{draw-of};
 ghost use Rattle.fill.specs.Fills.{paint-at, paints-of, good-draw-at, good-fill-at, job_of, first-of-lent, fill_number, fill_done, filled};
-ghost use Rattle.fill.specs.Named.{lent_of};
+ghost use Rattle.fill.specs.Named.{fill_lent_of};
 
 use crate::judge::judge_list;
-use crate::rows::{Job, fill_rows};
+use crate::rows::{FillJob, fill_rows};
 use cmd::attrs::{PaintFillAttrs, put_paint_attrs};
 use inputs::Draw;
 use row::Rows;
@@ -65,13 +65,13 @@ pub fn is_eligible(layers: u32, paints: &[u32], draw: Draw) -> bool
 }
 
 // What the segments of the draw have in common.
-fn job_of(screen: Screen, paints: &[u32], draw: Draw) -> Job
+fn job_of(screen: Screen, paints: &[u32], draw: Draw) -> FillJob
     requires viewport { good_viewport (box_of screen.viewport) ≡ true }
     requires numbers { good_screen screen ≡ true }
     requires paint { draw.paint < length paints.now / 4 }
     ensures { result ≡ job_of screen paints.now draw }
 {
-    Job {
+    FillJob {
         scene: scene_of(screen.viewport, screen.clip_bbox),
         c: screen.c,
         d: screen.d,
@@ -92,13 +92,13 @@ fn judge_lent(
     paints: &[u32],
     segments: &[u32],
 ) -> Result<(), Refusal>
-    ensures { answer_number result ≡ first-of-lent (lent_of screen rows.now paint_attrs.now) paints.now segments.now }
+    ensures { answer_number result ≡ first-of-lent (fill_lent_of screen rows.now paint_attrs.now) paints.now segments.now }
 {
     judge_screen(
         screen,
         rows.state.len(),
-        rows.render.len(),
-        rows.fills.len(),
+        rows.render_cmds.len(),
+        rows.depth_cmds.len(),
     )?;
     if paint_attrs.len() != PAINT_TABLE
         || paints.len() % PAINT != 0
@@ -118,10 +118,10 @@ fn judge_fill(
     paints: &[u32],
     segments: &[u32],
     draw: Draw,
-) -> Result<Job, Refusal>
+) -> Result<FillJob, Refusal>
     ensures job { IfOk result (λ j. j ≡ job_of screen paints.now draw) }
     ensures number { answer_number result
-        ≡ fill_number (lent_of screen rows.now paint_attrs.now) paints.now segments.now draw }
+        ≡ fill_number (fill_lent_of screen rows.now paint_attrs.now) paints.now segments.now draw }
 {
     judge_lent(screen, rows, paint_attrs, paints, segments)?;
     if !is_good_fill(paints, segments, draw) {
@@ -154,13 +154,13 @@ pub fn fill(
 ) -> Result<(), Refusal>
     ensures same { SameRows rows.old rows.new }
     ensures refused { answer_number result
-        ≡ fill_number (lent_of screen.old rows.old paint_attrs.old) paints.now segments.now draw }
+        ≡ fill_number (fill_lent_of screen.old rows.old paint_attrs.old) paints.now segments.now draw }
     ensures unchanged { OnErr result
-        (lent_of screen.new rows.new paint_attrs.new ≡ lent_of screen.old rows.old paint_attrs.old) }
-    ensures done { OnOk result (lent_of screen.new rows.new paint_attrs.new
-        ≡ fill_done (lent_of screen.old rows.old paint_attrs.old) paints.now segments.now draw) }
-    ensures filled { answer (answer_number result) (lent_of screen.new rows.new paint_attrs.new)
-        ≡ filled (lent_of screen.old rows.old paint_attrs.old) paints.now segments.now draw }
+        (fill_lent_of screen.new rows.new paint_attrs.new ≡ fill_lent_of screen.old rows.old paint_attrs.old) }
+    ensures done { OnOk result (fill_lent_of screen.new rows.new paint_attrs.new
+        ≡ fill_done (fill_lent_of screen.old rows.old paint_attrs.old) paints.now segments.now draw) }
+    ensures filled { answer (answer_number result) (fill_lent_of screen.new rows.new paint_attrs.new)
+        ≡ filled (fill_lent_of screen.old rows.old paint_attrs.old) paints.now segments.now draw }
 {
     let job = judge_fill(*screen, rows, paint_attrs, paints, segments, draw)?;
     if draw.start == draw.end {

@@ -20,8 +20,8 @@ use span::Stretch;
 
 /// What stays the same over all the segments of a fill: the scene, room for c commands and d depth fills in a row, how many layers are open, whether solid
 /// segments are eligible (rule 6), the place of the attribute, the draw's id, and the width of a depth bucket.
-#[derive(Clone, Copy)]
-pub struct Job {
+#[derive(Clone, Copy, Debug, PartialEq, Eq)]
+pub struct FillJob {
     pub scene: Scene,
     pub c: u32,
     pub d: u32,
@@ -34,7 +34,7 @@ pub struct Job {
 
 /// Segments of a list from start to end at most, that stand on one row, numbered as in the scene.
 #[derive(Clone, Copy, Debug, PartialEq, Eq)]
-pub struct Run {
+pub struct SegmentRun {
     pub start: usize,
     pub end: usize,
     pub row: u32,
@@ -43,7 +43,7 @@ pub struct Run {
 // What is left of a segment, drawn on its row.
 #[derive(Clone, Copy)]
 struct Stroke {
-    job: Job,
+    job: FillJob,
     stretch: Stretch,
 }
 
@@ -73,7 +73,7 @@ impl RowAct for Stroke {
 }
 
 // One segment of the list.
-fn fill_segment(rows: &mut Rows<'_>, segs: &[u32], i: usize, job: Job)
+fn fill_segment(rows: &mut Rows<'_>, segs: &[u32], i: usize, job: FillJob)
     requires fits { Fits job (count-rows rows.old.state.now) (all-held rows.old) }
     requires segment { GoodAt segs.now i }
     requires room { RoomFor job (one-put job segs.now i) (held_rows job rows.old) }
@@ -88,8 +88,8 @@ fn fill_segment(rows: &mut Rows<'_>, segs: &[u32], i: usize, job: Job)
         };
         on_row(
             rows.state,
-            rows.render,
-            rows.fills,
+            rows.render_cmds,
+            rows.depth_cmds,
             job.c,
             job.d,
             placed.row as usize,
@@ -101,21 +101,21 @@ fn fill_segment(rows: &mut Rows<'_>, segs: &[u32], i: usize, job: Job)
 // The alpha segments of a run, in a row: a command each, on the row's own words. It gives the first segment after them.
 fn push_run(
     state: &mut [u32],
-    render: &mut [u32],
-    fills: &mut [u32],
+    render_cmds: &mut [u32],
+    depth_cmds: &mut [u32],
     segs: &[u32],
-    run: Run,
-    job: Job,
+    run: SegmentRun,
+    job: FillJob,
 ) -> usize
-    requires { RunReady job segs.now run.row run.start run.«end» (words state.old render.old fills.old) }
+    requires { RunReady job segs.now run.row run.start run.«end» (words state.old render_cmds.old depth_cmds.old) }
     ensures after { (run.start < result) × (result ≤ run.«end») }
     ensures on { OnRow segs.now run.row run.start result }
-    ensures row { words state.new render.new fills.new ≡ run_of job segs.now run.start result (words state.old render.old fills.old) }
+    ensures row { words state.new render_cmds.new depth_cmds.new ≡ run_of job segs.now run.start result (words state.old render_cmds.old depth_cmds.old) }
 {
     let mut lent = Row {
         state,
-        render,
-        fills,
+        render_cmds,
+        depth_cmds,
     };
     ensure_row_layers(&mut lent, job.layers);
     let mut next = run.start;
@@ -138,34 +138,34 @@ fn push_run(
 // The same on the whole screen, from a segment that is not solid: its row is found once for all. Where nothing is left of it, it alone.
 fn fill_run(
     state: &mut [u32],
-    render: &mut [u32],
-    fills: &mut [u32],
+    render_cmds: &mut [u32],
+    depth_cmds: &mut [u32],
     segs: &[u32],
     start: usize,
     end: usize,
-    job: Job,
+    job: FillJob,
 ) -> usize
-    requires ready { FillReady job (count-rows state.old) segs.now start «end» (words state.old render.old fills.old) }
+    requires ready { FillReady job (count-rows state.old) segs.now start «end» (words state.old render_cmds.old depth_cmds.old) }
     requires some { start < «end» }
     requires alpha { NotSolid segs.now start }
     ensures after { (start < result) × (result ≤ «end») }
-    ensures rows { job_rows job state.old (words state.new render.new fills.new)
-        ≡ rows_after job segs.now start result (job_rows job state.old (words state.old render.old fills.old)) }
+    ensures rows { job_rows job state.old (words state.new render_cmds.new depth_cmds.new)
+        ≡ rows_after job segs.now start result (job_rows job state.old (words state.old render_cmds.old depth_cmds.old)) }
 {
     let first = segment_at(segs, start);
     let Some(placed) = place(first, job.scene) else {
         return start + 1;
     };
     let p = place_of(job.c, job.d, placed.row as usize);
-    let run = Run {
+    let run = SegmentRun {
         start,
         end,
         row: first.row,
     };
     push_run(
         &mut state[p.x0..p.x1],
-        &mut render[p.y0..p.y1],
-        &mut fills[p.z0..p.z1],
+        &mut render_cmds[p.y0..p.y1],
+        &mut depth_cmds[p.z0..p.z1],
         segs,
         run,
         job,
@@ -173,7 +173,7 @@ fn fill_run(
 }
 
 /// The segments from start to end of a list that is judged: solid ones one by one, those with alpha in runs.
-pub fn fill_rows(rows: &mut Rows<'_>, segs: &[u32], start: usize, end: usize, job: Job)
+pub fn fill_rows(rows: &mut Rows<'_>, segs: &[u32], start: usize, end: usize, job: FillJob)
     requires { FillReady job (count-rows rows.old.state.now) segs.now start «end» (all-held rows.old) }
     ensures same { SameRows rows.old rows.new }
     ensures rows { all-held rows.new ≡ lay (rows_after job segs.now start «end» (held_rows job rows.old)) }
@@ -184,7 +184,15 @@ pub fn fill_rows(rows: &mut Rows<'_>, segs: &[u32], start: usize, end: usize, jo
             fill_segment(rows, segs, i, job);
             i += 1;
         } else {
-            i = fill_run(rows.state, rows.render, rows.fills, segs, i, end, job);
+            i = fill_run(
+                rows.state,
+                rows.render_cmds,
+                rows.depth_cmds,
+                segs,
+                i,
+                end,
+                job,
+            );
         }
     }
 }

@@ -1,3 +1,4 @@
+pub mod RowReads
 pub mod Ways
 pub mod Built
 pub mod HostResults
@@ -13,3 +14,4 @@ pub mod HostAsked
 pub mod Lists
 pub mod Words
 pub mod ScreenAsked
+pub mod OneLook

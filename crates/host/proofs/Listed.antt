@@ -1,7 +1,7 @@
 -- Runs that `coarse_visible_runs` lists in words of a call's own, and the same runs written as spans. The words have room for as many runs
 -- as any row has, so that they are listed as in a list of spans. Assumes nothing.
 use Rattle.std.proofs.Common.{◌≡◌, refl, sym, ap, ◌∙◌, Bool, true, false, ◌&&◌, cond, List, [], ◌∷◌, ◌++◌, append_assoc, Option, None, Some, ℕ, zero, suc, ◌*◌, ◌/◌, ◌≤◌, min, not-suc-le-zero}
-use Rattle.std.proofs.Common.{le_of_suc-le-suc, arith, length, get_or, take, drop, length-append, take-append-drop, length-take-le, ltb, eqb, eq-eqb, eqb-true, ltb-true}
+use Rattle.std.proofs.Common.{le_of_suc-le-suc, arith, length, get_or, take, drop, length-append, take-append-drop, length-take-le, ltb, eqb, eq-eqb, ltb-true}
 use Rattle.sizes.specs.Sizes.{bucket-end, state-size}
 use Rattle.sizes.specs.Widths.{bucket-tiles}
 use Rattle.rules.proofs.All.{both}
@@ -21,7 +21,6 @@ use Rattle.paint.specs.Judging.{wide, runs_number}
 use Rattle.paint.specs.Stepping.{part}
 use Rattle.paint.specs.DirectRuns.{or-runs, visible-of}
 use Rattle.host.specs.State.{screen-at, screen_of, before_4, refused_at, at_held}
-use Rattle.host.proofs.Words.{was_good}
 use Rattle.host.specs.Painting.{runs-left, visible_call}
 use Rattle.depth.specs.SpanLists.{own_words}
 use Rattle.host.specs.Spans.{runs_of, spans-left, spans_call, found_left, found_call}
@@ -159,14 +158,6 @@ module _ (r : ℕ) (t : Span) (id : ℕ) (st d : List ℕ) (room : ℕ) (c : Lis
       go (Some s) h =
           let v : (runs_of s r d t id room).value ≡ [] = none-refused s r d t id room (λ q. z (its-number s h ∙ q)) in
           rw (ap length v) at (counted s h)
-
-  -- a border that refuses does not answer 0
-  pub one-result : n ≡ 0 → length c ≡ 1
-  one-result z = go (screen_of (eqb (length c) 1) st) refl from
-    where
-      go : (h : Option Screen) → screen_of (eqb (length c) 1) st ≡ h → Here h → length c ≡ 1
-      go None q h = absurd (refuses st _ (sym (ap (λ (a : Answer (List ℕ × List ℕ)). a.number) h) ∙ z))
-      go (Some s) q h = eqb-true (length c) 1 (was_good _ st s (sym q))
 
   pub found_some : n ≡ 0 → answer n (get_or c' 0 0, ws ++ drop m own_words, c') ≡ found_call r t id st d room c
   unfolding found_call

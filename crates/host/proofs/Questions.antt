@@ -6,7 +6,7 @@ use Rattle.rules.proofs.laws.Answers.{settle-number}
 use Rattle.rules_reason.specs.Reasons.{Reason}
 use Rattle.screen.specs.declared.Screen.{Screen}
 use Rattle.screen.specs.Judging.{arenas}
-use Rattle.screen.specs.Tables.{Tables, lengths, lent}
+use Rattle.screen.specs.Tables.{Tables, lengths, screen_lent}
 use Rattle.tile.specs.Explained.{explained-as, explained}
 use Rattle.host.specs.State.{screen-words, screen_of, refused_at, before_4, at_held}
 use Rattle.host.proofs.Words.{refused-on}
@@ -17,7 +17,7 @@ use Rattle.host.proofs.Stories.{explained-is-early}
 module _ (file : List ℕ) (q : Setup) (row tile layer attribute : ℕ) (st : List ℕ) (t : Tables) (res : List ℕ) where
   -- the call at a screen
   abbrev at-screen : Screen → Answer (List ℕ × Tables × List ℕ)
-  at-screen s = why-left res (explained file q row tile (asked layer attribute) (lent s t))
+  at-screen s = why-left res (explained file q row tile (asked layer attribute) (screen_lent s t))
 
   pub why_unheld : (n : ℕ) → None ≡ screen_of (leb layer 1 && eqb (length res) reason-size) st
       → n ≡ refused_at st (λ (s : Screen). file_number file q (arenas (lengths t)))
@@ -27,13 +27,13 @@ module _ (file : List ℕ) (q : Setup) (row tile layer attribute : ℕ) (st : Li
       refused-on (screen_of (leb layer 1 && eqb (length res) reason-size) st) st (st, t, res) at-screen
       (λ (s : Screen). file_number file q (arenas (lengths t))) n h f
       (λ (s : Screen).
-      let e = explained file q row tile (asked layer attribute) (lent s t) in
-      explained-is-early file q row tile (asked layer attribute) (lent s t) ∙ ap before_4 (sym (settle-number e.number res (reason-words e.reason))))
+      let e = explained file q row tile (asked layer attribute) (screen_lent s t) in
+      explained-is-early file q row tile (asked layer attribute) (screen_lent s t) ∙ ap before_4 (sym (settle-number e.number res (reason-words e.reason))))
 
   -- st stands for s; afterwards the call has the screen s', the words st' are its, and res' is what the number leaves of the result
   pub why_built : (st' : List ℕ) (s s' : Screen) (t' : Tables) (r n : ℕ) (x : Reason) (res' : List ℕ)
       → Some s ≡ screen_of (leb layer 1 && eqb (length res) reason-size) st → st' ≡ screen-words s' → answer r res' ≡ result-left n x res
-      → explained-as n (lent s' t') x ≡ explained file q row tile (asked layer attribute) (lent s t)
+      → explained-as n (screen_lent s' t') x ≡ explained file q row tile (asked layer attribute) (screen_lent s t)
       → answer r (st', t', res') ≡ why_in file q row tile layer attribute st t res
   unfolding why_in
   why_built st' s s' t' r n x res' h sw p e =

@@ -10,7 +10,7 @@ use Rattle.row.specs.Words.{Words}
 use Rattle.screen.specs.declared.Screen.{Screen}
 use Rattle.screen.specs.Screens.{fresh-screen}
 use Rattle.screen.specs.Judging.{judged_reset}
-use Rattle.screen.specs.Tables.{Tables, lent, lengths, zeros, zeroed, reset_to}
+use Rattle.screen.specs.Tables.{Tables, screen_lent, lengths, zeros, zeroed, reset_to}
 use Rattle.inputs.specs.declared.Draw.{Draw}
 use Rattle.fill.specs.Fills as fills
 use Rattle.fill.specs.Fills.{filled}
@@ -42,8 +42,8 @@ reset-in-refused : (v : Rect) (q : Setup) (st : List ℕ) (t : Tables) → Refus
 unfolding reset_in reset_to
 reset-in-refused v q st t =
     let f = frame q (box_of v) in
-    at-screen true st (st, t) (λ (s : Screen). tables-left (reset_to f (lent s t)))
-    (λ s e r. rw (unsettled (judged_reset f (lengths t)) (lent s t) (lent (fresh-screen f) (zeroed t)) r, written_back true st s e))
+    at-screen true st (st, t) (λ (s : Screen). tables-left (reset_to f (screen_lent s t)))
+    (λ s e r. rw (unsettled (judged_reset f (lengths t)) (screen_lent s t) (screen_lent (fresh-screen f) (zeroed t)) r, written_back true st s e))
 
 pub reset-refused : (v : Rect) (w : SetupWords) (st : List ℕ) (t : Tables) → Refused (reset_call v w st t) → (reset_call v w st t).value ≡ (st, t)
 unfolding reset_call
@@ -52,22 +52,22 @@ reset-refused v w st t = asked-kept (asked_setup w) _ (st, t) (λ (q : Setup). r
 pub fill-refused : (ps ss : List ℕ) (d : Draw) (st : List ℕ) (w : Words) (pas : List ℕ) → Refused (fill_call ps ss d st w pas) → (fill_call ps ss d st w pas).value ≡ (st, w, pas)
 unfolding fill_call
 fill-refused ps ss d st w pas =
-    at-screen true st (st, w, pas) (λ (s : Screen). fill-left (filled (fills.lent s w pas) ps ss d))
-    (λ s e q. let l = fills.lent s w pas in rw (unsettled (fills.fill_number l ps ss d) l (fills.fill_done l ps ss d) q, written_back true st s e))
+    at-screen true st (st, w, pas) (λ (s : Screen). fill-left (filled (fills.fill_lent s w pas) ps ss d))
+    (λ s e q. let l = fills.fill_lent s w pas in rw (unsettled (fills.fill_number l ps ss d) l (fills.fill_done l ps ss d) q, written_back true st s e))
 
 pub push-refused : (flag : ℕ) (p : LayerProps) (st : List ℕ) (w : Words) (ls : List ℕ) (os : List Float) → Refused (push_call flag p st w ls os)
     → (push_call flag p st w ls os).value ≡ (st, w, ls, os)
 unfolding push_call pushed
 push-refused flag p st w ls os =
-    at-screen (leb flag 1) st (st, w, ls, os) (λ (s : Screen). push-left (pushed p (push.lent s w ls os)))
-    (λ s e q. let l = push.lent s w ls os in rw (unsettled (push.push-number p l) l (push.after p l) q, written_back (leb flag 1) st s e))
+    at-screen (leb flag 1) st (st, w, ls, os) (λ (s : Screen). push-left (pushed p (push.push_lent s w ls os)))
+    (λ s e q. let l = push.push_lent s w ls os in rw (unsettled (push.push-number p l) l (push.after p l) q, written_back (leb flag 1) st s e))
 
 pub filter-refused : (flag : ℕ) (g : FilterGiven) (st : List ℕ) (w : Words) (pas : List ℕ) (fps : List ℤ) → Refused (filter_call flag g st w pas fps)
     → (filter_call flag g st w pas fps).value ≡ (st, w, pas, fps)
 unfolding filter_call filtered
 filter-refused flag g st w pas fps =
-    at-screen (leb flag 1) st (st, w, pas, fps) (λ (s : Screen). filter-left (filtered g (filter.lent s w pas fps)))
-    (λ s e q. let l = filter.lent s w pas fps in rw (unsettled (filter.filter-number g l) l (filter.after g l) q, written_back (leb flag 1) st s e))
+    at-screen (leb flag 1) st (st, w, pas, fps) (λ (s : Screen). filter-left (filtered g (filter.filter_lent s w pas fps)))
+    (λ s e q. let l = filter.filter_lent s w pas fps in rw (unsettled (filter.filter-number g l) l (filter.after g l) q, written_back (leb flag 1) st s e))
 
 pub begin-refused : (st d p : List ℕ) → Refused (begin_call st d p) → (begin_call st d p).value ≡ (st, d, p)
 unfolding begin_call beginning

@@ -11,7 +11,7 @@ use Rattle.rules.specs.Setups.{Setup, frame}
 use Rattle.rules.specs.Walk.{good-room}
 use Rattle.rect.specs.declared.Rect.{Rect}
 use Rattle.rect.specs.Rects.{box_of}
-use Rattle.screen.specs.declared.Lengths.{Lengths}
+use Rattle.screen.specs.declared.lent.Lengths.{Lengths}
 use Rattle.screen.specs.Judging.{judged_reset}
 use Rattle.host.specs.declared.state.SetupWords.{SetupWords}
 use Rattle.host.specs.Asked.{asked_setup}

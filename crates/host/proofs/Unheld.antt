@@ -9,7 +9,7 @@ use Rattle.rect.specs.Rects.{box_of}
 use Rattle.row.specs.Words.{Words}
 use Rattle.screen.specs.declared.Screen.{Screen}
 use Rattle.screen.specs.Judging.{judged, arenas}
-use Rattle.screen.specs.Tables.{Tables, lengths, lent, reset_to}
+use Rattle.screen.specs.Tables.{Tables, lengths, screen_lent, reset_to}
 use Rattle.walk.specs.Recorded.{recorded}
 use Rattle.inputs.specs.declared.Draw.{Draw}
 use Rattle.fill.specs.Fills as fills
@@ -40,31 +40,31 @@ module _ (st : List ℕ) (n : ℕ) where
       → n ≡ refused_at st (λ (s : Screen). arenas_number (frame q (box_of v)) (arenas (lengths t))) → answer n (st, t) ≡ reset_in v q st t
   unfolding reset_in
   reset_unheld v q t h e =
-      refused-on (screen_of true st) st (st, t) (λ (s : Screen). tables-left (reset_to (frame q (box_of v)) (lent s t)))
+      refused-on (screen_of true st) st (st, t) (λ (s : Screen). tables-left (reset_to (frame q (box_of v)) (screen_lent s t)))
       (λ (s : Screen). arenas_number (frame q (box_of v)) (arenas (lengths t))) n h e
-      (λ (s : Screen). reset-early (frame q (box_of v)) (lent s t))
+      (λ (s : Screen). reset-early (frame q (box_of v)) (screen_lent s t))
 
   pub recording_unheld : (file : List ℕ) (q : Setup) (t : Tables) → None ≡ screen_of true st
       → n ≡ refused_at st (λ (s : Screen). file_number file q (arenas (lengths t))) → answer n (st, t) ≡ recording_in file q st t
   unfolding recording_in
   recording_unheld file q t h e =
-      refused-on (screen_of true st) st (st, t) (λ (s : Screen). tables-left (recorded file q (lent s t)))
+      refused-on (screen_of true st) st (st, t) (λ (s : Screen). tables-left (recorded file q (screen_lent s t)))
       (λ (s : Screen). file_number file q (arenas (lengths t))) n h e
-      (λ (s : Screen). recorded-is-early file q (lent s t))
+      (λ (s : Screen). recorded-is-early file q (screen_lent s t))
 
   pub fill_unheld : (ps ss : List ℕ) (d : Draw) (w : Words) (pas : List ℕ) → None ≡ screen_of true st
       → n ≡ refused_at st (λ (s : Screen). judged s (length w.state) (length w.render) (length w.fills)) → answer n (st, w, pas) ≡ fill_call ps ss d st w pas
   unfolding fill_call
   fill_unheld ps ss d w pas h q =
-      refused-on (screen_of true st) st (st, w, pas) (λ (s : Screen). fill-left (filled (fills.lent s w pas) ps ss d))
-      (λ (s : Screen). judged s (length w.state) (length w.render) (length w.fills)) n h q (λ (s : Screen). fill-early (fills.lent s w pas) ps ss d)
+      refused-on (screen_of true st) st (st, w, pas) (λ (s : Screen). fill-left (filled (fills.fill_lent s w pas) ps ss d))
+      (λ (s : Screen). judged s (length w.state) (length w.render) (length w.fills)) n h q (λ (s : Screen). fill-early (fills.fill_lent s w pas) ps ss d)
 
   pub push_unheld : (flag : ℕ) (p : LayerProps) (w : Words) (ls : List ℕ) (os : List Float) → None ≡ screen_of (leb flag 1) st
       → n ≡ refused_at st (λ (s : Screen). judged s (length w.state) (length w.render) (length w.fills)) → answer n (st, w, ls, os) ≡ push_call flag p st w ls os
   unfolding push_call
   push_unheld flag p w ls os h q =
-      refused-on (screen_of (leb flag 1) st) st (st, w, ls, os) (λ (s : Screen). push-left (pushed p (push.lent s w ls os)))
-      (λ (s : Screen). judged s (length w.state) (length w.render) (length w.fills)) n h q (λ (s : Screen). push-early p (push.lent s w ls os))
+      refused-on (screen_of (leb flag 1) st) st (st, w, ls, os) (λ (s : Screen). push-left (pushed p (push.push_lent s w ls os)))
+      (λ (s : Screen). judged s (length w.state) (length w.render) (length w.fills)) n h q (λ (s : Screen). push-early p (push.push_lent s w ls os))
 
   pub pop_unheld : (ss : List ℕ) (l : pop.PopLent) → None ≡ screen_of true st
       → n ≡ refused_at st (λ (s : Screen). judged s (length l.words.state) (length l.words.render) (length l.words.fills)) → answer n (st, l) ≡ pop_call ss st l
@@ -77,8 +77,8 @@ module _ (st : List ℕ) (n : ℕ) where
       → n ≡ refused_at st (λ (s : Screen). judged s (length w.state) (length w.render) (length w.fills)) → answer n (st, w, pas, fps) ≡ filter_call flag g st w pas fps
   unfolding filter_call
   filter_unheld flag g w pas fps h q =
-      refused-on (screen_of (leb flag 1) st) st (st, w, pas, fps) (λ (s : Screen). filter-left (filtered g (filter.lent s w pas fps)))
-      (λ (s : Screen). judged s (length w.state) (length w.render) (length w.fills)) n h q (λ (s : Screen). filter-early g (filter.lent s w pas fps))
+      refused-on (screen_of (leb flag 1) st) st (st, w, pas, fps) (λ (s : Screen). filter-left (filtered g (filter.filter_lent s w pas fps)))
+      (λ (s : Screen). judged s (length w.state) (length w.render) (length w.fills)) n h q (λ (s : Screen). filter-early g (filter.filter_lent s w pas fps))
 
   pub begin_unheld : (d p : List ℕ) → None ≡ screen_of true st → n ≡ refused_at st (λ (s : Screen). begin_number s (length d) (length p)) → answer n (st, d, p) ≡ begin_call st d p
   unfolding begin_call

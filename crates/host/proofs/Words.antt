@@ -31,15 +31,6 @@ module _ (good : Bool) (st : List ℕ) (s : Screen) where
   abbrev Known : Type 0
   Known = (length st ≡ state-size) × (screen-words s ≡ st)
 
-  -- words that stand for a screen come with what is good
-  pub was_good : Some s ≡ screen_of good st → good ≡ true
-  unfolding screen_of
-  was_good e = by (good && good-words st) refl e
-    where
-      by : (b : Bool) → good && good-words st ≡ b → Some s ≡ cond b (Some (screen-at st)) None → good ≡ true
-      by true q e = (both good (good-words st) q).0
-      by false q e = let z : ◌≡◌ {A = ℕ} 0 1 = cc in absurd (omega arith)
-
   known : (b : Bool) → good && good-words st ≡ b → Some s ≡ cond b (Some (screen-at st)) None → Known
   known true q e =
       let h : s ≡ screen-at st = cc in

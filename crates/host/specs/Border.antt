@@ -1,5 +1,5 @@
 -- What a reset says of its frame and the three arenas (2, 1 or 0), and a recording file before its records are looked at.
-use Rattle.std.specs.Prelude.{ℕ, not, List, [], ◌∷◌}
+use Rattle.std.specs.Prelude.{ℕ, not, List, [], ◌∷◌, length}
 use Rattle.std.specs.Prelude.{Option, None, Some}
 use Rattle.sizes.specs.declared.answers.Refusal.{Refusal}
 use Rattle.sizes.specs.Refusals.{number_of}
@@ -9,8 +9,12 @@ use Rattle.rules.specs.Plans.{Frame}
 use Rattle.rules.specs.Setups.{Setup, frame}
 use Rattle.rules.specs.Recording.{shape, sections, recording}
 use Rattle.rules.specs.Walk.{Arenas, good-arenas}
-use Rattle.screen.specs.declared.Lent.{Lent}
-use Rattle.screen.specs.Judging.{arenas}
+use Rattle.screen.specs.declared.lent.Lent.{Lent}
+use Rattle.row.specs.declared.Rows.{Rows}
+use Rattle.screen.specs.declared.Screen.{Screen}
+use Rattle.screen.specs.Judging.{arenas, judged}
+use Rattle.paint.specs.declared.canvas.stored.Stored.{Stored}
+use Rattle.paint.specs.Judging.{arenas-long, tables-long, step_number}
 use Rattle.screen.specs.Lent.{tables_in}
 use Rattle.screen.specs.Tables.{lengths}
 
@@ -36,3 +40,12 @@ unasked (Some ss) r = number_of r
 
 unfoldable pub unasked_number : List ℕ → Refusal → ℕ
 unasked_number ws = unasked (sections shape ws)
+
+-- what the judges of a building step and of a painting step say of a screen, by the lengths that are lent
+abbrev pub rows-judged : Rows → Screen → ℕ
+rows-judged w s = judged s (length w.state.now) (length w.render_cmds.now) (length w.depth_cmds.now)
+
+abbrev pub step-judged : Stored → ℕ → ℕ → ℕ → Screen → ℕ
+step-judged t row depth painting s =
+    step_number s row (arenas-long s (length t.render_cmds.now) (length t.depth_cmds.now) depth)
+    (tables-long s (length t.rows.now) painting (length t.paint_attrs.now) (length t.layer_attrs.now))

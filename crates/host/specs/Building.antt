@@ -10,7 +10,7 @@ use Rattle.rules.specs.Inputs as rule
 use Rattle.rect.specs.declared.Rect.{Rect}
 use Rattle.rect.specs.Rects.{box_of}
 use Rattle.row.specs.Words.{Words}
-use Rattle.screen.specs.Tables.{Tables, ScreenLent, lent, reset_to}
+use Rattle.screen.specs.Tables.{Tables, ScreenLent, screen_lent, reset_to}
 use Rattle.walk.specs.Recorded.{recorded}
 use Rattle.inputs.specs.declared.Draw.{Draw}
 use Rattle.fill.specs.Fills as fills
@@ -35,14 +35,14 @@ tables-left a = answer a.number (screen-words a.value.screen, a.value.tables)
 
 -- a reset in a setup, and as a host's words ask
 unfoldable pub reset_in : Rect → Setup → List ℕ → Tables → Answer (List ℕ × Tables)
-reset_in v q st t = on true st (st, t) (λ s. tables-left (reset_to (frame q (box_of v)) (lent s t)))
+reset_in v q st t = on true st (st, t) (λ s. tables-left (reset_to (frame q (box_of v)) (screen_lent s t)))
 
 unfoldable pub reset_call : Rect → SetupWords → List ℕ → Tables → Answer (List ℕ × Tables)
 reset_call v w st t = in-setup (asked_setup w) number_of (st, t) (λ q. reset_in v q st t)
 
 -- a recording, likewise; 3 for the file's form before all
 unfoldable pub recording_in : List ℕ → Setup → List ℕ → Tables → Answer (List ℕ × Tables)
-recording_in file q st t = on true st (st, t) (λ s. tables-left (recorded file q (lent s t)))
+recording_in file q st t = on true st (st, t) (λ s. tables-left (recorded file q (screen_lent s t)))
 
 unfoldable pub recording_call : List ℕ → SetupWords → List ℕ → Tables → Answer (List ℕ × Tables)
 recording_call file w st t = in-setup (asked_setup w) (unasked_number file) (st, t) (λ q. recording_in file q st t)
@@ -64,7 +64,7 @@ abbrev pub fill-left : Answer fills.FillLent → Answer (List ℕ × Words × Li
 fill-left a = answer a.number (screen-words a.value.screen, a.value.words, a.value.paint-attrs)
 
 unfoldable pub fill_call : List ℕ → List ℕ → Draw → List ℕ → Words → List ℕ → Answer (List ℕ × Words × List ℕ)
-fill_call ps ss d st w pas = on true st (st, w, pas) (λ s. fill-left (filled (fills.lent s w pas) ps ss d))
+fill_call ps ss d st w pas = on true st (st, w, pas) (λ s. fill-left (filled (fills.fill_lent s w pas) ps ss d))
 
 -- A layer's properties; the opacity as its bits, a clip where the flag is 1.
 abbrev pub said-props : ℕ → ℕ → ℕ → ℕ → ℕ → rule.Clip → ℕ → rule.Props
@@ -88,7 +88,7 @@ abbrev pub push-left : Answer push.PushLent → Answer (List ℕ × Words × Lis
 push-left a = answer a.number (screen-words a.value.screen, a.value.words, a.value.layers, a.value.opacities)
 
 unfoldable pub push_call : ℕ → LayerProps → List ℕ → Words → List ℕ → List Float → Answer (List ℕ × Words × List ℕ × List Float)
-push_call flag p st w ls os = on (leb flag 1) st (st, w, ls, os) (λ s. push-left (pushed p (push.lent s w ls os)))
+push_call flag p st w ls os = on (leb flag 1) st (st, w, ls, os) (λ s. push-left (pushed p (push.push_lent s w ls os)))
 
 -- the rows, the open layers, the opacities and the layer attributes
 abbrev pub pop-left : pop.PopOut → Answer (List ℕ × pop.PopLent)
@@ -110,4 +110,4 @@ filter-left a = answer a.number (screen-words a.value.screen, a.value.words, a.v
 
 unfoldable pub filter_call : ℕ → FilterGiven → List ℕ → Words → List ℕ → List ℤ → Answer (List ℕ × Words × List ℕ × List ℤ)
 filter_call flag g st w pas fps =
-    on (leb flag 1) st (st, w, pas, fps) (λ s. filter-left (filtered g (filter.lent s w pas fps)))
+    on (leb flag 1) st (st, w, pas, fps) (λ s. filter-left (filtered g (filter.filter_lent s w pas fps)))

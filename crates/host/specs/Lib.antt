@@ -5,5 +5,10 @@ pub mod Reasons
 pub mod Sizes
 pub mod Spans
 pub mod State
+pub mod Held
+pub mod Lent
+pub mod OneLook
 pub mod Asked
 pub mod Results
+pub mod Called
+pub mod Reading

@@ -4,7 +4,7 @@ use Rattle.rules.specs.Answers.{Answer, answer, settle}
 use Rattle.rules.specs.Setups.{Setup}
 use Rattle.rules_reason.specs.Reasons.{Reason, unknown-attribute, no-segment, cut-away, row-untouched, hidden-by, shown-at, Asked}
 use Rattle.screen.specs.declared.Screen.{Screen}
-use Rattle.screen.specs.Tables.{Tables, lent}
+use Rattle.screen.specs.Tables.{Tables, screen_lent}
 use Rattle.tile.specs.Explained.{Explained, explained}
 use Rattle.host.specs.declared.state.SetupWords.{SetupWords}
 use Rattle.host.specs.State.{screen-words, on}
@@ -41,7 +41,7 @@ why-left result e =
 unfoldable pub why_in : List ℕ → Setup → ℕ → ℕ → ℕ → ℕ → List ℕ → Tables → List ℕ → Answer (List ℕ × Tables × List ℕ)
 why_in file q row tile layer attribute st t result =
     on (leb layer 1 && eqb (length result) reason-size) st (st, t, result)
-    (λ (s : Screen). why-left result (explained file q row tile (asked layer attribute) (lent s t)))
+    (λ (s : Screen). why-left result (explained file q row tile (asked layer attribute) (screen_lent s t)))
 
 -- as a host's words ask
 unfoldable pub why_call : List ℕ → SetupWords → ℕ → ℕ → ℕ → ℕ → List ℕ → Tables → List ℕ → Answer (List ℕ × Tables × List ℕ)

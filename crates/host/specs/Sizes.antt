@@ -9,7 +9,7 @@ use Rattle.rules.specs.Setups.{frame}
 use Rattle.rules.specs.Walk.{good-room}
 use Rattle.rect.specs.declared.Rect.{Rect}
 use Rattle.rect.specs.Rects.{box_of}
-use Rattle.screen.specs.declared.Lengths.{Lengths}
+use Rattle.screen.specs.declared.lent.Lengths.{Lengths}
 use Rattle.host.specs.declared.state.SetupWords.{SetupWords}
 use Rattle.host.specs.Asked.{asked_setup, in-setup}
 
@@ -30,8 +30,8 @@ size-words f =
 -- as many words of each table as are lent, in that order
 abbrev pub length-words : Lengths → List ℕ
 length-words l =
-    l.render
-    ∷ l.fills
+    l.render_cmds
+    ∷ l.depth_cmds
     ∷ l.depth
     ∷ l.rows
     ∷ l.painting

@@ -1,24 +1,23 @@
-//! What a call answers where the host's own words are refused by 4: a state that is no screen's, the flag of a clip or of a picture, a result of a wrong length.
+//! What a call answers where the host's own words are refused by 4: a state that is no screen's, the flag of a clip or of a picture.
 //! Each asks the judge that the call itself asks first, so that 3, 2 and 1 come before that 4. Parts of the calls.
-ghost use Rattle.std.specs.Prelude.{◌≡◌, true, length};
+ghost use Rattle.std.specs.Prelude.{◌≡◌, true};
 ghost use Rattle.sizes.specs.Refusals.{answer_number};
 ghost use Rattle.rules.specs.Boxes.{good_viewport};
 ghost use Rattle.rect.specs.Rects.{box_of};
 ghost use Rattle.screen.specs.declared.Screen.{Screen as Numbers};
 ghost use Rattle.screen.specs.Screens.{setup-of, frame, frame-of};
-ghost use Rattle.screen.specs.Judging.{judged};
-ghost use Rattle.paint.specs.Judging.{arenas-long, tables-long, begin_number, step_number, runs_number, skip_number};
+ghost use Rattle.paint.specs.Judging.{begin_number, runs_number, skip_number};
 ghost use Rattle.host.specs.State.{refused_at};
-ghost use Rattle.host.specs.Border.{arenas-in, arenas_number, file_number, unasked_number};
+ghost use Rattle.host.specs.Held.{words_in};
+ghost use Rattle.host.specs.Border.{arenas-in, arenas_number, file_number, unasked_number, rows-judged, step-judged};
 
-use crate::state::{before_4, screen_at};
+use crate::state::{StateWords, before_4, screen_at};
 use file::Recording;
 use paint::Stored;
 use paint::canvas::judge::{judge_begin, judge_runs, judge_skip, judge_step};
 use rect::Rect;
 use row::Rows;
 use screen::{Lent, Screen, Setup, fresh, is_good_rooms, judge_screen};
-use sizes::STATE;
 use sizes::answers::Refusal;
 
 // The arenas that are lent for a fresh screen (answer 1).
@@ -28,8 +27,13 @@ fn judge_lent(screen: Screen, lent: &Lent<'_>) -> Result<(), Refusal>
     ensures { answer_number result ≡ arenas_number (frame-of screen) (arenas-in lent.now) }
 {
     let n = screen.rows();
-    if !is_good_rooms(n, screen.c, screen.d, lent.render.len(), lent.fills.len())
-        || lent.depth.len() != n * screen.buckets()
+    if !is_good_rooms(
+        n,
+        screen.c,
+        screen.d,
+        lent.render_cmds.len(),
+        lent.depth_cmds.len(),
+    ) || lent.depth.len() != n * screen.buckets()
     {
         return Err(Refusal::BadArena);
     }
@@ -46,12 +50,9 @@ fn judge_arenas(viewport: Rect, setup: Setup, lent: &Lent<'_>) -> Result<(), Ref
 
 /// The number of a reset: 2 or 1 as it would answer, else 4.
 #[tactic(auto, unfolding(crate::specs::State::refused_at))]
-pub fn refuse_reset(state: &[u32], viewport: Rect, setup: Setup, lent: &Lent<'_>) -> u32
-    ensures { result ≡ refused_at state.now (λ (s : Numbers). arenas_number (frame setup viewport) (arenas-in lent.now)) }
+pub fn refuse_reset(state: &StateWords, viewport: Rect, setup: Setup, lent: &Lent<'_>) -> u32
+    ensures { result ≡ refused_at (words_in state.now) (λ (s : Numbers). arenas_number (frame setup viewport) (arenas-in lent.now)) }
 {
-    if state.len() != STATE {
-        return Refusal::BadRecord.number();
-    }
     before_4(judge_arenas(viewport, setup, lent))
 }
 
@@ -65,12 +66,9 @@ fn judge_file(file: &[u32], setup: Setup, lent: &Lent<'_>) -> Result<(), Refusal
 
 /// The number of a recording, or of a question about one: 3, 2 or 1 as it would answer, else 4.
 #[tactic(auto, unfolding(crate::specs::State::refused_at))]
-pub fn refuse_recording(state: &[u32], file: &[u32], setup: Setup, lent: &Lent<'_>) -> u32
-    ensures { result ≡ refused_at state.now (λ (s : Numbers). file_number file.now (setup-of setup) (arenas-in lent.now)) }
+pub fn refuse_recording(state: &StateWords, file: &[u32], setup: Setup, lent: &Lent<'_>) -> u32
+    ensures { result ≡ refused_at (words_in state.now) (λ (s : Numbers). file_number file.now (setup-of setup) (arenas-in lent.now)) }
 {
-    if state.len() != STATE {
-        return Refusal::BadRecord.number();
-    }
     before_4(judge_file(file, setup, lent))
 }
 
@@ -86,66 +84,51 @@ pub fn refuse_setup(file: &[u32], refusal: Refusal) -> u32
 
 /// The number of a building step: 2 or 1 as it would answer, else 4.
 #[tactic(auto, unfolding(crate::specs::State::refused_at))]
-pub fn refuse_build(state: &[u32], rows: &Rows<'_>) -> u32
-    ensures { result ≡ refused_at state.now (λ (s : Numbers). judged s (length rows.now.state.now) (length rows.now.render.now) (length rows.now.fills.now)) }
+pub fn refuse_build(state: &StateWords, rows: &Rows<'_>) -> u32
+    ensures { result ≡ refused_at (words_in state.now) (rows-judged rows.now) }
 {
-    if state.len() != STATE {
-        return Refusal::BadRecord.number();
-    }
     before_4(judge_screen(
         screen_at(state),
         rows.state.len(),
-        rows.render.len(),
-        rows.fills.len(),
+        rows.render_cmds.len(),
+        rows.depth_cmds.len(),
     ))
 }
 
 /// The number of a beginning of painting: 2 or 1 as it would answer, else 4.
 #[tactic(auto, unfolding(crate::specs::State::refused_at))]
-pub fn refuse_begin(state: &[u32], depth: usize, painting: usize) -> u32
-    ensures { result ≡ refused_at state.now (λ (s : Numbers). begin_number s depth painting) }
+pub fn refuse_begin(state: &StateWords, depth: usize, painting: usize) -> u32
+    ensures { result ≡ refused_at (words_in state.now) (λ (s : Numbers). begin_number s depth painting) }
 {
-    if state.len() != STATE {
-        return Refusal::BadRecord.number();
-    }
     before_4(judge_begin(screen_at(state), depth, painting))
 }
 
 /// The number of a painting step, or of a whole row's steps: 2 or 1 as it would answer, else 4.
 #[tactic(auto, unfolding(crate::specs::State::refused_at))]
 pub fn refuse_step(
-    state: &[u32],
+    state: &StateWords,
     row: usize,
     stored: &Stored<'_>,
     depth: usize,
     painting: usize,
 ) -> u32
-    ensures { result ≡ refused_at state.now (λ (s : Numbers). step_number s row (arenas-long s (length stored.now.render.now) (length stored.now.fills.now) depth) (tables-long s (length stored.now.rows.now) painting (length stored.now.paint_attrs.now) (length stored.now.layer_attrs.now))) }
+    ensures { result ≡ refused_at (words_in state.now) (step-judged stored.now row depth painting) }
 {
-    if state.len() != STATE {
-        return Refusal::BadRecord.number();
-    }
     before_4(judge_step(screen_at(state), row, stored, depth, painting))
 }
 
 /// The number of a call for the runs of a row: 2 or 1 as it would answer, else 4.
 #[tactic(auto, unfolding(crate::specs::State::refused_at))]
-pub fn refuse_runs(state: &[u32], row: usize, depth: usize) -> u32
-    ensures { result ≡ refused_at state.now (λ (s : Numbers). runs_number s row depth) }
+pub fn refuse_runs(state: &StateWords, row: usize, depth: usize) -> u32
+    ensures { result ≡ refused_at (words_in state.now) (λ (s : Numbers). runs_number s row depth) }
 {
-    if state.len() != STATE {
-        return Refusal::BadRecord.number();
-    }
     before_4(judge_runs(screen_at(state), row, depth))
 }
 
 /// The number of `can_skip`: 2 as it would answer, or 1 for C or D, else 4.
 #[tactic(auto, unfolding(crate::specs::State::refused_at))]
-pub fn refuse_skip(state: &[u32], row: usize, rows: usize) -> u32
-    ensures { result ≡ refused_at state.now (λ (s : Numbers). skip_number s row rows) }
+pub fn refuse_skip(state: &StateWords, row: usize, rows: usize) -> u32
+    ensures { result ≡ refused_at (words_in state.now) (λ (s : Numbers). skip_number s row rows) }
 {
-    if state.len() != STATE {
-        return Refusal::BadRecord.number();
-    }
     before_4(judge_skip(screen_at(state), row, rows))
 }

@@ -1,90 +1,84 @@
 //! How many words a host lends.
-ghost use Rattle.std.specs.Prelude.{◌≡◌, ◌∷◌, true, length};
+ghost use Rattle.std.specs.Prelude.{◌≡◌, ◌∷◌, true};
 ghost use Rattle.sizes.specs.Refusals.{answer_number};
 ghost use Rattle.rules.specs.Answers.{answer};
 ghost use Rattle.rules.specs.Boxes.{good_viewport};
 ghost use Rattle.rect.specs.Rects.{box_of};
 ghost use Rattle.screen.specs.Screens.{frame, frame-of};
-ghost use Rattle.host.specs.State.{rect};
-ghost use Rattle.host.specs.Sizes.{fixed, sizes-of, size_call};
+ghost use Rattle.host.specs.Held.{rect_of};
+ghost use Rattle.host.specs.Sizes.{fixed, length-words, sizes-of, size_call};
 
-use crate::state::{SetupWords, read_setup};
+use crate::state::{Corners, SetupWords, box_of, read_setup};
 use rect::Rect;
-use screen::{Screen, Setup, fresh, is_good_room};
+use screen::{Lengths, Screen, Setup, fresh, is_good_room};
 use sizes::answers::{Refusal, answer_number};
 use sizes::{FILTER_TABLE, LAYER_TABLE, OPACITIES, OPEN_TABLE, PAINT_TABLE, ROW};
 
 // The lengths of ten tables: five that the screen decides, five that are always the same.
 fn put_sizes(
-    sizes: &mut [usize],
-    render: usize,
-    fills: usize,
+    sizes: &mut Lengths,
+    render_cmds: usize,
+    depth_cmds: usize,
     depth: usize,
     rows: usize,
     painting: usize,
 )
-    requires { length sizes.old ≡ 10 }
-    ensures { sizes.new ≡ render ∷ fills ∷ depth ∷ rows ∷ painting ∷ fixed }
+    ensures { length-words sizes.new ≡ render_cmds ∷ depth_cmds ∷ depth ∷ rows ∷ painting ∷ fixed }
 {
-    sizes.copy_from_slice(&[
-        render,
-        fills,
+    *sizes = Lengths {
+        render_cmds,
+        depth_cmds,
         depth,
         rows,
         painting,
-        OPEN_TABLE,
-        OPACITIES,
-        PAINT_TABLE,
-        LAYER_TABLE,
-        FILTER_TABLE,
-    ]);
+        layers: OPEN_TABLE,
+        opacities: OPACITIES,
+        paint_attrs: PAINT_TABLE,
+        layer_attrs: LAYER_TABLE,
+        filter_paints: FILTER_TABLE,
+    };
 }
 
-// 1, then 4, or the ten lengths for a fresh screen.
-fn put_lengths_of(screen: Screen, sizes: &mut [usize]) -> Result<(), Refusal>
+// 1, or the ten lengths for a fresh screen.
+fn put_lengths_of(screen: Screen, sizes: &mut Lengths) -> Result<(), Refusal>
     requires { good_viewport (box_of screen.viewport) ≡ true }
-    ensures { answer (answer_number result) sizes.new ≡ sizes-of (frame-of screen) sizes.old }
+    ensures { answer (answer_number result) (length-words sizes.new) ≡ sizes-of (frame-of screen) (length-words sizes.old) }
 {
     if !is_good_room(screen.c) || !is_good_room(screen.d) {
         return Err(Refusal::BadArena);
     }
-    if sizes.len() != 10 {
-        return Err(Refusal::BadRecord);
-    }
     let n = screen.rows();
-    let render = n * (4 * screen.c as usize);
-    let fills = n * (2 * screen.d as usize);
-    put_sizes(sizes, render, fills, n * screen.buckets(), n * ROW, n * 2);
+    let render_cmds = n * (4 * screen.c as usize);
+    let depth_cmds = n * (2 * screen.d as usize);
+    put_sizes(
+        sizes,
+        render_cmds,
+        depth_cmds,
+        n * screen.buckets(),
+        n * ROW,
+        n * 2,
+    );
     Ok(())
 }
 
-// 2, then 1, then 4, or the ten lengths for the frame that a reset makes.
-fn put_lengths(viewport: Rect, setup: Setup, sizes: &mut [usize]) -> Result<(), Refusal>
-    ensures { answer (answer_number result) sizes.new ≡ sizes-of (frame setup viewport) sizes.old }
+// 2, then 1, or the ten lengths for the frame that a reset makes.
+fn put_lengths(viewport: Rect, setup: Setup, sizes: &mut Lengths) -> Result<(), Refusal>
+    ensures { answer (answer_number result) (length-words sizes.new) ≡ sizes-of (frame setup viewport) (length-words sizes.old) }
 {
     let seen = viewport.viewport_in(setup.mode)?;
     put_lengths_of(fresh(seen, setup.c, setup.d, setup.width), sizes)
 }
 
-/// How many words are lent for a viewport in a setup. sizes: render, fills, depth, rows, painting, layers, opacities, paint_attrs, layer_attrs, filter_paints.
-/// Words that ask for no setup are refused at once, by 2 or 4; then 2 for the viewport, 1 for C or D, 4 where sizes has not ten places.
+/// How many words are lent for a viewport in a setup. Words that ask for no setup are refused at once, by 2 or 4; then 2 for the viewport, 1 for C or D.
 #[unsafe(no_mangle)]
 #[tactic(auto, using(crate::proofs::HostAsked::sizes_unasked))]
-pub extern "C" fn coarse_sizes(
-    x0: u32,
-    y0: u32,
-    x1: u32,
-    y1: u32,
-    setup: SetupWords,
-    sizes: &mut [usize],
-) -> u32
-    ensures { answer result sizes.new
-        ≡ size_call (rect x0 y0 x1 y1) setup sizes.old }
+pub extern "C" fn coarse_sizes(viewport: Corners, setup: SetupWords, sizes: &mut Lengths) -> u32
+    ensures { answer result (length-words sizes.new) ≡ size_call (rect_of viewport) setup (length-words sizes.old) }
 {
     let asked = match read_setup(setup) {
         Ok(asked) => asked,
         Err(refusal) => return refusal.number(),
     };
-    let viewport = Rect { x0, y0, x1, y1 };
+    let viewport = box_of(viewport);
     answer_number(put_lengths(viewport, asked, sizes))
 }

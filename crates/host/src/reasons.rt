@@ -2,42 +2,70 @@
 ghost use Rattle.std.specs.Prelude.{◌≡◌, ◌&&◌, [], ◌∷◌, length, leb, eqb};
 ghost use Rattle.sizes.specs.Refusals.{answer_number};
 ghost use Rattle.rules.specs.Answers.{answer};
-ghost use Rattle.screen.specs.Tables.{tables};
 ghost use Rattle.tile.specs.Reasons.{reason-of};
 ghost use Rattle.tile.specs.Explained.{reason_said};
-ghost use Rattle.host.specs.Reasons.{reason-words, reason-size, result-left, why_call};
+ghost use Rattle.screen.specs.Lent.{SameLent};
+ghost use Rattle.host.specs.Held.{reason_in};
+ghost use Rattle.host.specs.Called.{why_on, why_out};
+ghost use Rattle.host.specs.Reasons.{reason-words, reason-size, result-left};
 
 use crate::border::{refuse_recording, refuse_setup};
-use crate::state::{SetupWords, put_screen, read_setup, screen_of};
+use crate::state::{SetupWords, StateWords, put_screen, read_setup, screen_of};
 use screen::Lent;
 use sizes::answers::Refusal;
 use tile::{Asked, Reason, why};
 
+/// Which row and tile of the recording's screen are asked about, from 0, and which attribute: a draw's (layer 0) or a layer's (1). Laid out as in C.
+#[repr(C)]
+#[derive(Clone, Copy, Debug, PartialEq, Eq)]
+pub struct QuestionWords {
+    pub row: u32,
+    pub tile: u32,
+    pub layer: u32,
+    pub attribute: u32,
+}
+
+/// A reason's case (0 unknown attribute, 1 no segment, 2 cut away, 3 row untouched, 4 hidden, 5 shown); the attribute that hides or the place in the tile's
+/// list, else 0; the asked attribute's panel, and that of the attribute that hides, else 0. Laid out as in C.
+#[repr(C)]
+#[derive(Clone, Copy, Debug, PartialEq, Eq)]
+pub struct ReasonWords {
+    pub kind: u32,
+    pub number: u32,
+    pub panel: u32,
+    pub hider_panel: u32,
+}
+
 // The words of a reason.
 const REASON: usize = 4;
 
-// A reason's case; the attribute that hides or the place in the tile's list, else 0; the asked attribute's panel; that of the one that hides, else 0.
-fn words_of(reason: Reason) -> [u32; REASON]
-    ensures { result ≡ reason-words (reason-of reason) }
+// A reason in words.
+fn words_of(reason: Reason) -> ReasonWords
+    ensures { reason_in result ≡ reason-words (reason-of reason) }
 {
-    match reason {
-        Reason::UnknownAttribute => [0, 0, 0, 0],
-        Reason::NoSegment(panel) => [1, 0, panel, 0],
-        Reason::CutAway(panel) => [2, 0, panel, 0],
-        Reason::RowUntouched(panel) => [3, 0, panel, 0],
-        Reason::HiddenBy(by) => [4, by.attribute, by.panel, by.hider_panel],
-        Reason::ShownAt(at) => [5, at.place, at.panel, 0],
+    let (kind, number, panel, hider_panel) = match reason {
+        Reason::UnknownAttribute => (0, 0, 0, 0),
+        Reason::NoSegment(panel) => (1, 0, panel, 0),
+        Reason::CutAway(panel) => (2, 0, panel, 0),
+        Reason::RowUntouched(panel) => (3, 0, panel, 0),
+        Reason::HiddenBy(by) => (4, by.attribute, by.panel, by.hider_panel),
+        Reason::ShownAt(at) => (5, at.place, at.panel, 0),
+    };
+    ReasonWords {
+        kind,
+        number,
+        panel,
+        hider_panel,
     }
 }
 
 // Where the question is answered, the reason's words.
-fn put_reason(told: Result<Reason, Refusal>, res: &mut [u32]) -> u32
-    requires { length res.old ≡ reason-size }
-    ensures { answer result res.new ≡ result-left (answer_number told) (reason_said told) res.old }
+fn put_reason(told: Result<Reason, Refusal>, reason: &mut ReasonWords) -> u32
+    ensures { answer result (reason_in reason.new) ≡ result-left (answer_number told) (reason_said told) (reason_in reason.old) }
 {
     match told {
-        Ok(reason) => {
-            res.copy_from_slice(&words_of(reason));
+        Ok(found) => {
+            *reason = words_of(found);
             0
         }
         Err(refusal) => refusal.number(),
@@ -51,59 +79,42 @@ fn is_good_question(layer: u32, n: usize) -> bool
     layer <= 1 && n == REASON
 }
 
-/// A recording is bucketed, and answers for a paint's attribute (layer 0) or a layer's (1) at one tile. res: the reason's case (0 unknown attribute, 1 no
-/// segment, 2 cut away, 3 row untouched, 4 hidden, 5 shown), the attribute that hides or the place in the tile's list, the asked attribute's panel, and that of
-/// the attribute that hides. Refused as the recording call, by 4 also where layer is above 1 or res has not four words; then by 12 off the screen.
+/// A recording is bucketed, and answers for a paint's attribute or a layer's at one tile. Refused as the recording call, by 4 also where layer is above 1;
+/// then by 12 off the screen.
 #[unsafe(no_mangle)]
-#[tactic(auto, using(crate::proofs::Words::long, crate::proofs::HostAsked::why_unasked))]
+#[tactic(auto, using(crate::proofs::HostAsked::why_unasked))]
 pub extern "C" fn coarse_why(
-    state: &mut [u32],
+    state: &mut StateWords,
     file: &[u32],
     setup: SetupWords,
-    row: u32,
-    tile: u32,
-    layer: u32,
-    attribute: u32,
-    render: &mut [u32],
-    fills: &mut [u32],
-    depth: &mut [u32],
-    rows: &mut [u32],
-    painting: &mut [u32],
-    layers: &mut [u32],
-    opacities: &mut [f32],
-    paint_attrs: &mut [u32],
-    layer_attrs: &mut [u32],
-    filter_paints: &mut [i32],
-    res: &mut [u32],
+    question: &QuestionWords,
+    tables: &mut Lent<'_>,
+    reason: &mut ReasonWords,
 ) -> u32
-    ensures { answer result (state.new, tables render.new fills.new depth.new rows.new painting.new layers.new opacities.new paint_attrs.new layer_attrs.new filter_paints.new, res.new)
-        ≡ why_call file.now setup row tile layer attribute state.old (tables render.old fills.old depth.old rows.old painting.old layers.old opacities.old paint_attrs.old layer_attrs.old filter_paints.old) res.old }
+    ensures same { SameLent tables.old tables.new }
+    ensures explained { answer result (why_out state.new tables.new reason.new) ≡ why_on file.now setup question.now state.old tables.old reason.old }
 {
     let wanted = match read_setup(setup) {
         Ok(wanted) => wanted,
         Err(refusal) => return refuse_setup(file, refusal),
     };
-    let mut lent = Lent {
-        render,
-        fills,
-        depth,
-        rows,
-        painting,
-        layers,
-        opacities,
-        paint_attrs,
-        layer_attrs,
-        filter_paints,
-    };
-    let good = is_good_question(layer, res.len());
+    let good = is_good_question(question.layer, REASON);
     let Some(mut screen) = screen_of(state, good) else {
-        return refuse_recording(state, file, wanted, &lent);
+        return refuse_recording(state, file, wanted, tables);
     };
     let asked = Asked {
-        layer: layer == 1,
-        attribute,
+        layer: question.layer == 1,
+        attribute: question.attribute,
     };
-    let told = why(&mut screen, file, wanted, row, tile, asked, &mut lent);
+    let told = why(
+        &mut screen,
+        file,
+        wanted,
+        question.row,
+        question.tile,
+        asked,
+        tables,
+    );
     put_screen(state, screen);
-    put_reason(told, res)
+    put_reason(told, reason)
 }

@@ -4,10 +4,13 @@ ghost use Rattle.std.specs.Prelude.{◌≡◌, ◌*◌, ◌/◌, min};
 ghost use Rattle.sizes.specs.Sizes.{bucket-end};
 ghost use Rattle.rules.specs.Answers.{answer};
 ghost use Rattle.rules.specs.Spans.{span};
+ghost use Rattle.host.specs.Held.{words_in, one};
 ghost use Rattle.host.specs.Spans.{found_call, spans_call};
 
 use crate::painting::coarse_visible_runs;
+use crate::state::StateWords;
 use depth::forms::write_runs;
+use paint::Canvas;
 use sizes::BUCKET_END;
 use span::TileSpan;
 
@@ -32,21 +35,20 @@ fn words_for(room: usize) -> usize
 
 // The runs that a list of so many spans has room for, as `coarse_visible_runs` answers and lists them.
 fn found_spans(
-    state: &[u32],
+    state: &StateWords,
+    canvas: &Canvas<'_>,
     row: usize,
-    depth: &[u32],
-    first: u32,
-    end: u32,
+    tiles: TileSpan,
     id: u32,
     room: usize,
-    count: &mut [usize],
+    count: &mut usize,
 ) -> Found
-    ensures { answer result.number (result.count, result.words, count.new)
-        ≡ found_call row (span first «end») id state.now depth.now room count.old }
+    ensures { answer result.number (result.count, result.words, one count.new)
+        ≡ found_call row (span tiles.first tiles.end) id (words_in state.now) canvas.now.depth.now room (one count.old) }
 {
     let mut words = [0u32; BUCKET_END];
     let n = words_for(room);
-    let number = coarse_visible_runs(state, row, depth, first, end, id, &mut words[..n], count);
+    let number = coarse_visible_runs(state, canvas, row, tiles, id, &mut words[..n], count);
     if number != 0 {
         return Found {
             number,
@@ -56,7 +58,7 @@ fn found_spans(
     }
     Found {
         number,
-        count: count[0],
+        count: *count,
         words,
     }
 }
@@ -65,19 +67,18 @@ fn found_spans(
 /// where the list is shorter; the spans after the runs stay. At id 0 they are the unset runs.
 #[unsafe(no_mangle)]
 pub extern "C" fn coarse_visible_spans(
-    state: &[u32],
+    state: &StateWords,
+    canvas: &Canvas<'_>,
     row: usize,
-    depth: &[u32],
-    first: u32,
-    end: u32,
+    tiles: TileSpan,
     id: u32,
     list: &mut [TileSpan],
-    count: &mut [usize],
+    count: &mut usize,
 ) -> u32
-    ensures { answer result (list.new, count.new)
-        ≡ spans_call row (span first «end») id state.now depth.now list.old count.old }
+    ensures { answer result (list.new, one count.new)
+        ≡ spans_call row (span tiles.first tiles.end) id (words_in state.now) canvas.now.depth.now list.old (one count.old) }
 {
-    let found = found_spans(state, row, depth, first, end, id, list.len(), count);
+    let found = found_spans(state, canvas, row, tiles, id, list.len(), count);
     let words = found.words;
     write_runs(list, &words, found.count);
     found.number

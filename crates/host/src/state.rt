@@ -1,23 +1,48 @@
-//! A screen's numbers as 17 lent words: the viewport's four, the clip box's four, C, D, next id, the counts of paint attributes, layer
-//! attributes, filter paints and open layers, 1 if painting has begun, else 0, and a bucket's width: 0 for 128 pixels, 1 for 64, 2 for 256.
-//! So words that are all 0 are a screen's. And what a host asks a screen to be, as words.
-ghost use Rattle.std.specs.Prelude.{◌≡◌, length};
+//! A screen's numbers as a host holds them, and what a host asks a screen to be. Laid out as in C.
+ghost use Rattle.std.specs.Prelude.{◌≡◌};
 ghost use Rattle.sizes.specs.Refusals.{answer_number};
-ghost use Rattle.sizes.specs.Sizes.{state-size};
 ghost use Rattle.rect.specs.Rects.{mode_of};
-ghost use Rattle.host.specs.State.{width-at, width_word, screen-words, screen-at, screen_of, before_4};
+ghost use Rattle.host.specs.State.{rect, width-at, width_word, screen-words, screen-at, screen_of, before_4};
+ghost use Rattle.host.specs.Held.{words_in};
 ghost use Rattle.host.specs.Asked.{mode-at, asked_setup, asked-for};
 
 use rect::{Mode, Rect};
 use screen::{Screen, Setup};
-use sizes::STATE;
 use sizes::answers::{Refusal, answer_number};
 use sizes::width::Width;
+
+/// A box, in pixels.
+#[repr(C)]
+#[derive(Clone, Copy, Debug, PartialEq, Eq)]
+pub struct Corners {
+    pub x0: u32,
+    pub y0: u32,
+    pub x1: u32,
+    pub y1: u32,
+}
+
+/// A screen's own numbers: the viewport, the clip box, C, D, the next id, the counts of paint attributes, layer attributes, filter paints and open layers, 1 if
+/// painting has begun, else 0, and a bucket's width: 0 for 128 pixels, 1 for 64, 2 for 256. So numbers that are all 0 are a screen's.
+#[repr(C)]
+#[derive(Clone, Copy, Debug, PartialEq, Eq)]
+pub struct StateWords {
+    pub viewport: Corners,
+    pub clip: Corners,
+    pub c: u32,
+    pub d: u32,
+    pub next_draw_id: u32,
+    pub paint_attrs: u32,
+    pub layer_attrs: u32,
+    pub filter_paints: u32,
+    pub layers: u32,
+    pub painting: u32,
+    pub width: u32,
+}
 
 /// What a screen is asked to be, as a host gives it: room for C render commands and D depth fills in each row; the mode is 0 exact, 1 snapping; the width of a
 /// bucket is 64, 128 or 256 pixels. Laid out as in C.
 #[repr(C)]
-#[derive(Clone, Copy)]
+#[derive(Clone, Copy, Debug, PartialEq, Eq)]
 pub struct SetupWords {
     pub c: u32,
     pub d: u32,
@@ -52,8 +77,8 @@ pub fn read_setup(words: SetupWords) -> Result<Setup, Refusal>
     })
 }
 
-// The width of a screen's word that is 0, 1 or 2.
-fn width_at(word: u32) -> Width
+/// The width of a screen's word that is 0, 1 or 2.
+pub fn width_at(word: u32) -> Width
     ensures { result ≡ width-at word }
 {
     match word {
@@ -74,44 +99,43 @@ fn width_word(width: Width) -> u32
     }
 }
 
-/// The screen of 17 words, whatever the last two: painting has begun only if its word is 1, a width that is none is 128 pixels.
-pub fn screen_at(state: &[u32]) -> Screen
-    requires { length state.now ≡ state-size }
-    ensures { result ≡ screen-at state.now }
+/// The box of four words.
+pub fn box_of(c: Corners) -> Rect
+    ensures { result ≡ rect c.x0 c.y0 c.x1 c.y1 }
 {
-    let viewport = Rect {
-        x0: state[0],
-        y0: state[1],
-        x1: state[2],
-        y1: state[3],
-    };
-    let clip_bbox = Rect {
-        x0: state[4],
-        y0: state[5],
-        x1: state[6],
-        y1: state[7],
-    };
-    Screen {
-        viewport,
-        clip_bbox,
-        c: state[8],
-        d: state[9],
-        next_draw_id: state[10],
-        paint_attrs: state[11],
-        layer_attrs: state[12],
-        filter_paints: state[13],
-        layers: state[14],
-        painting: state[15] == 1,
-        width: width_at(state[16]),
+    Rect {
+        x0: c.x0,
+        y0: c.y0,
+        x1: c.x1,
+        y1: c.y1,
     }
 }
 
-/// The screen of a state of 17 words, if the last two are good and what else the host gives is.
-#[tactic(auto, unfolding(crate::specs::State::screen_of))]
-pub fn screen_of(state: &[u32], good: bool) -> Option<Screen>
-    ensures { result ≡ screen_of good state.now }
+/// The screen of such words, whatever the last two: painting has begun only if its word is 1, a width that is none is 128 pixels.
+pub fn screen_at(state: &StateWords) -> Screen
+    ensures { result ≡ screen-at (words_in state.now) }
 {
-    if !good || state.len() != STATE || 1 < state[15] || 2 < state[16] {
+    Screen {
+        viewport: box_of(state.viewport),
+        clip_bbox: box_of(state.clip),
+        c: state.c,
+        d: state.d,
+        next_draw_id: state.next_draw_id,
+        paint_attrs: state.paint_attrs,
+        layer_attrs: state.layer_attrs,
+        filter_paints: state.filter_paints,
+        layers: state.layers,
+        painting: state.painting == 1,
+        width: width_at(state.width),
+    }
+}
+
+/// The screen of a state, if the last two words are good and what else the host gives is.
+#[tactic(auto, unfolding(crate::specs::State::screen_of))]
+pub fn screen_of(state: &StateWords, good: bool) -> Option<Screen>
+    ensures { result ≡ screen_of good (words_in state.now) }
+{
+    if !good || 1 < state.painting || 2 < state.width {
         return None;
     }
     Some(screen_at(state))
@@ -119,7 +143,7 @@ pub fn screen_of(state: &[u32], good: bool) -> Option<Screen>
 
 /// The number of a call whose words are refused by 4 at the border, by what the call's own judge says: 1, 2 and 3 come first.
 #[tactic(auto, unfolding(crate::specs::State::before_4))]
-pub fn before_4(judged: Result<(), Refusal>) -> u32
+pub fn before_4<T: Copy>(judged: Result<T, Refusal>) -> u32
     ensures { result ≡ before_4 (answer_number judged) }
 {
     match judged {
@@ -130,38 +154,38 @@ pub fn before_4(judged: Result<(), Refusal>) -> u32
     }
 }
 
-/// The 17 words of a screen.
-pub fn put_screen(state: &mut [u32], screen: Screen)
-    requires { length state.old ≡ state-size }
-    ensures { state.new ≡ screen-words screen }
+/// The words of a screen.
+pub fn put_screen(state: &mut StateWords, screen: Screen)
+    ensures { words_in state.new ≡ screen-words screen }
 {
-    let v = screen.viewport;
-    let b = screen.clip_bbox;
-    state.copy_from_slice(&[
-        v.x0,
-        v.y0,
-        v.x1,
-        v.y1,
-        b.x0,
-        b.y0,
-        b.x1,
-        b.y1,
-        screen.c,
-        screen.d,
-        screen.next_draw_id,
-        screen.paint_attrs,
-        screen.layer_attrs,
-        screen.filter_paints,
-        screen.layers,
-        u32::from(screen.painting),
-        width_word(screen.width),
-    ]);
+    *state = StateWords {
+        viewport: Corners {
+            x0: screen.viewport.x0,
+            y0: screen.viewport.y0,
+            x1: screen.viewport.x1,
+            y1: screen.viewport.y1,
+        },
+        clip: Corners {
+            x0: screen.clip_bbox.x0,
+            y0: screen.clip_bbox.y0,
+            x1: screen.clip_bbox.x1,
+            y1: screen.clip_bbox.y1,
+        },
+        c: screen.c,
+        d: screen.d,
+        next_draw_id: screen.next_draw_id,
+        paint_attrs: screen.paint_attrs,
+        layer_attrs: screen.layer_attrs,
+        filter_paints: screen.filter_paints,
+        layers: screen.layers,
+        painting: u32::from(screen.painting),
+        width: width_word(screen.width),
+    };
 }
 
 /// What a call gave: its screen's words are stored, and its number given.
-pub fn leave(state: &mut [u32], screen: Screen, done: Result<(), Refusal>) -> u32
-    requires { length state.old ≡ state-size }
-    ensures { (result ≡ answer_number done) × (state.new ≡ screen-words screen) }
+pub fn leave(state: &mut StateWords, screen: Screen, done: Result<(), Refusal>) -> u32
+    ensures { (result ≡ answer_number done) × (words_in state.new ≡ screen-words screen) }
 {
     put_screen(state, screen);
     answer_number(done)

@@ -11,7 +11,7 @@ ghost use Rattle.inputs.specs.Inputs.{draw-of, clip-of, filter-of, draw_fields, 
 
 use cmd::blend::Blend;
 use rect::Rect;
-use sizes::{HANDLE_END, PANEL_END, THREAD_END};
+use sizes::{HANDLE_END, PANEL_END, SCENE_END, THREAD_END};
 
 /// Segments start to end of a list, painted with the paint at a place of a paint list (record.rs, RecordedFill). The thread is that of their alpha values;
 /// `mask` is a handle, or 0 for none.
@@ -105,8 +105,8 @@ impl Filter {
     {
         self.pixmap.is_none_or(|handle| handle < HANDLE_END)
             && self.dest.is_good_dest()
-            && self.source_x <= 32768
-            && self.source_y <= 32768
+            && self.source_x <= SCENE_END
+            && self.source_y <= SCENE_END
     }
 
     /// No picture, and zeros: what stands for a filter where there is none.

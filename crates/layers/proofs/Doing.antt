@@ -20,11 +20,11 @@ use Rattle.screen.specs.Screens.{frame-of, counted}
 use Rattle.screen.proofs.ScreenLaws.{bounds}
 use Rattle.row.specs.Building.{rows_at}
 use Rattle.layers.specs.Band.{each, OnRows}
-use Rattle.layers.specs.Filter.{FilterGiven, filter-of, paint-from, attrs-of, lent, filter-number, after, own-box, Drawing}
+use Rattle.layers.specs.Filter.{FilterGiven, filter-of, paint-from, attrs-of, filter_lent, filter-number, after, own-box, Drawing}
 use Rattle.layers.proofs.RowsLaws.{plain-on, plain-each}
 use Rattle.layers.proofs.FilterLaws.{told-by, Sound, sound, FilterReady, ready, Free, free, paint-asked, after-drawn, after_nothing, fit}
 
-module _ {g : FilterGiven} {s : Screen} {w : Words} {ps : List ℕ} {fs : List ℤ} {b : Rect} (q : Drawing g (lent s w ps fs) b) where
+module _ {g : FilterGiven} {s : Screen} {w : Words} {ps : List ℕ} {fs : List ℤ} {b : Rect} (q : Drawing g (filter_lent s w ps fs) b) where
   able : FilterReady g s w ps fs
   able = ready g s w ps fs q.number
 
@@ -55,17 +55,17 @@ module _ {g : FilterGiven} {s : Screen} {w : Words} {ps : List ℕ} {fs : List �
   pub leaves : (x : Screen) (ws : Words) (t : Span) → t ≡ span_of (box_of b)
       → x ≡ counted s (s.next_draw_id + 1) (s.paint_attrs + 1) s.layer_attrs (s.filter_paints + 1)
       → ws ≡ lay (each (λ (u : Words). put_command (paint-fill t None s.paint_attrs) (ensured s.layers u)) (range (b.y0 / 4) ((b.y1 + 3) / 4)) (rows_at (frame-of s) w))
-      → lent x ws (put-paint ps s.paint_attrs (attrs-of s g.count g.panel)) (put-filter fs s.filter_paints (paint-from g.filter.dest g.filter.source_x g.filter.source_y (unwrap_or g.filter.pixmap 0))) ≡ after g (lent s w ps fs)
+      → filter_lent x ws (put-paint ps s.paint_attrs (attrs-of s g.count g.panel)) (put-filter fs s.filter_paints (paint-from g.filter.dest g.filter.source_x g.filter.source_y (unwrap_or g.filter.pixmap 0))) ≡ after g (filter_lent s w ps fs)
   leaves x ws t e h i =
       after-drawn g s w ps fs able draws x ws t b q.bounds e h (i ∙ ap lay (plain-each (bucket-tiles s.width) s.layers s.paint_attrs t _ _))
 
 -- where nothing is drawn
-module _ (g : FilterGiven) (s : Screen) (w : Words) (ps : List ℕ) (fs : List ℤ) (q : filter-number g (lent s w ps fs) ≡ 0) where
+module _ (g : FilterGiven) (s : Screen) (w : Words) (ps : List ℕ) (fs : List ℤ) (q : filter-number g (filter_lent s w ps fs) ≡ 0) where
   pub nothing-needs : (s.next_draw_id ≤ 1048577) × (s.paint_attrs ≤ 1024) × (s.filter_paints ≤ 256)
   nothing-needs = let k = bounds s (fit g s w ps fs (ready g s w ps fs q).zero).screen in (k.ids, k.paints, k.filters)
 
   pub nothing_left : (x : Screen) → draws-nothing (filter-of g) (own-box g s) ≡ true
-      → x ≡ counted s (s.next_draw_id + 0) (s.paint_attrs + 0) s.layer_attrs (s.filter_paints + 0) → lent x w ps fs ≡ after g (lent s w ps fs)
+      → x ≡ counted s (s.next_draw_id + 0) (s.paint_attrs + 0) s.layer_attrs (s.filter_paints + 0) → filter_lent x w ps fs ≡ after g (filter_lent s w ps fs)
   nothing_left x d h =
       let i : s.next_draw_id + 0 ≡ s.next_draw_id = omega arith in
       let j : s.paint_attrs + 0 ≡ s.paint_attrs = omega arith in

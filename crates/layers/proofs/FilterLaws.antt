@@ -40,7 +40,7 @@ use Rattle.layers.proofs.RowsLaws.{puts-each}
 use Rattle.layers.proofs.Numbers.{band-answer, band-step, band-room, paint-adds, run-told}
 use Rattle.std.proofs.lemmas.Bool.Decides.{nat_tests}
 use Rattle.layers.proofs.Passing.{PassedOn, passed-whole, rows-within, either}
-use Rattle.layers.specs.Filter.{FilterGiven, filter-of, good-given, paint-from, attrs-of, FilterLent, lent, plan-of, filter-number, filter-paint-words, after, filtered, own-box}
+use Rattle.layers.specs.Filter.{FilterGiven, filter-of, good-given, paint-from, attrs-of, FilterLent, filter_lent, plan-of, filter-number, filter-paint-words, after, filtered, own-box}
 
 frame_is : (s : Screen) → (state-of s).frame ≡ frame-of s
 unfolding state-of
@@ -223,7 +223,7 @@ module _ (g : FilterGiven) (s : Screen) (w : Words) (ps : List ℕ) (fs : List �
     abbrev lens-f : Bool
     lens-f = eqb (length fs) filter-paint-table
 
-    bad-way : good-given g ≡ false → filter-number g (lent s w ps fs) ≡ told (own-box g s)
+    bad-way : good-given g ≡ false → filter-number g (filter_lent s w ps fs) ≡ told (own-box g s)
     unfolding filter-number step_number
     bad-way h =
         rw h
@@ -231,12 +231,12 @@ module _ (g : FilterGiven) (s : Screen) (w : Words) (ps : List ℕ) (fs : List �
         (cond (draws-nothing (filter-of g) (own-box g s)) 0 (drawing (own-box g s))) z (refused-4 h))
 
     good-way : good-given g ≡ true → (k : ℕ) → stepped ≡ k → cond (draws-nothing (filter-of g) (own-box g s)) 0 (drawing (own-box g s)) ≡ k
-        → filter-number g (lent s w ps fs) ≡ told (own-box g s)
+        → filter-number g (filter_lent s w ps fs) ≡ told (own-box g s)
     unfolding filter-number step_number
     good-way h k e q =
         rw (h, q) (right (judged-at s w) lens-p lens-f (good_rows (frame-of s) s.layers (plan-of g s).puts (rows_at (frame-of s) w)) _ k z e)
 
-    pub own-tests : filter-number g (lent s w ps fs) ≡ told (own-box g s)
+    pub own-tests : filter-number g (filter_lent s w ps fs) ≡ told (own-box g s)
     own-tests =
         either (good-given g)
         (λ h.
@@ -245,7 +245,7 @@ module _ (g : FilterGiven) (s : Screen) (w : Words) (ps : List ℕ) (fs : List �
         (λ d. good-way h (drawing (own-box g s)) (drawing-is h d) (rw d)))
         bad-way
 
-    pub tests : (b : Rect) → box_of b ≡ own-box g s → filter-number g (lent s w ps fs) ≡ told (box_of b)
+    pub tests : (b : Rect) → box_of b ≡ own-box g s → filter-number g (filter_lent s w ps fs) ≡ told (box_of b)
     tests b x = own-tests ∙ ap told (sym x)
 
 -- the box and the rows that the code finds
@@ -314,7 +314,7 @@ pub record Free (g : FilterGiven) (s : Screen) (w : Words) : Type 0 where
   pub paint : s.filter_paints < 256
   pub on : OnRows s (acted (bucket-tiles s.width) s.layers (own-act g s)) ((own-box g s).y0 / 4) (((own-box g s).y1 + 3) / 4) w
 
-module _ (g : FilterGiven) (s : Screen) (w : Words) (ps : List ℕ) (fs : List ℤ) (q : filter-number g (lent s w ps fs) ≡ 0) where
+module _ (g : FilterGiven) (s : Screen) (w : Words) (ps : List ℕ) (fs : List ℤ) (q : filter-number g (filter_lent s w ps fs) ≡ 0) where
   zero : judged-at s w ≡ 0
   unfolding filter-number step_number
   zero = grind (arith, nat_tests)
@@ -375,7 +375,7 @@ module _ (g : FilterGiven) (s : Screen) (w : Words) (ps : List ℕ) (fs : List �
   still-rows = rw (frame_is s)
 
   pub after_nothing : (x : Screen) → draws-nothing (filter-of g) (own-box g s) ≡ true
-      → x ≡ counted s s.next_draw_id s.paint_attrs s.layer_attrs s.filter_paints → lent x w ps fs ≡ after g (lent s w ps fs)
+      → x ≡ counted s s.next_draw_id s.paint_attrs s.layer_attrs s.filter_paints → filter_lent x w ps fs ≡ after g (filter_lent s w ps fs)
   unfolding after
   after_nothing x d e =
       rw (
@@ -421,7 +421,7 @@ module _ (g : FilterGiven) (s : Screen) (w : Words) (ps : List ℕ) (fs : List �
     pub after-drawn : (x : Screen) (ws : Words) (t : Span) (b : Rect) → box_of b ≡ own-box g s → t ≡ span_of (box_of b)
         → x ≡ counted s (s.next_draw_id + 1) (s.paint_attrs + 1) s.layer_attrs (s.filter_paints + 1)
         → ws ≡ lay (each (acted (bucket-tiles s.width) s.layers (paint t None s.paint_attrs)) (range (b.y0 / 4) ((b.y1 + 3) / 4)) (rows_at (frame-of s) w))
-        → lent x ws (put-paint ps s.paint_attrs (attrs-of s g.count g.panel)) (put-filter fs s.filter_paints (paint-from g.filter.dest g.filter.source_x g.filter.source_y (unwrap_or g.filter.pixmap 0))) ≡ after g (lent s w ps fs)
+        → filter_lent x ws (put-paint ps s.paint_attrs (attrs-of s g.count g.panel)) (put-filter fs s.filter_paints (paint-from g.filter.dest g.filter.source_x g.filter.source_y (unwrap_or g.filter.pixmap 0))) ≡ after g (filter_lent s w ps fs)
     unfolding after
     after-drawn x ws t b e f h i =
         rw (
@@ -442,7 +442,7 @@ pub told-by : (g : FilterGiven) (s : Screen) (b : Rect) (t : Bool) → box_of b 
 told-by g s b t e h = sym (ap (λ (x : Box). draws-nothing (filter-of g) x) e) ∙ h
 
 -- what painting its rows asks
-pub paint-asked : (g : FilterGiven) (s : Screen) (w : Words) (ps : List ℕ) (fs : List ℤ) (q : filter-number g (lent s w ps fs) ≡ 0) (d : draws-nothing (filter-of g) (own-box g s) ≡ false)
+pub paint-asked : (g : FilterGiven) (s : Screen) (w : Words) (ps : List ℕ) (fs : List ℤ) (q : filter-number g (filter_lent s w ps fs) ≡ 0) (d : draws-nothing (filter-of g) (own-box g s) ≡ false)
     (b : Rect) (t : Span) → box_of b ≡ own-box g s → t ≡ span_of (box_of b)
     → Short t × OnRows s (acted (bucket-tiles s.width) s.layers (paint t None s.paint_attrs)) (b.y0 / 4) ((b.y1 + 3) / 4) w
 paint-asked g s w ps fs q d b t e f =

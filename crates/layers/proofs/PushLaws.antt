@@ -33,7 +33,7 @@ use Rattle.layers.proofs.Numbers.{Adding, band-answer, band-step, band-room, tou
 use Rattle.std.proofs.lemmas.Bool.Decides.{nat_tests}
 use Rattle.layers.proofs.Passing.{PassedOn, passed-whole, rows-within, either}
 use Rattle.std.specs.declared.ops.Range.{Range}
-use Rattle.layers.specs.Push.{PushLent, lent, plan-of, push-number, after, pushed, no_rows, box-rows, touch_rows}
+use Rattle.layers.specs.Push.{PushLent, push_lent, plan-of, push-number, after, pushed, no_rows, box-rows, touch_rows}
 
 -- the new layer's box, and the rows that it touches at once
 abbrev pub own-box : LayerProps → Screen → Box
@@ -146,7 +146,7 @@ module _ (p : LayerProps) (s : Screen) (w : Words) (ls : List ℕ) (os : List Fl
         (plan-fine p s fit.screen h) (plan-puts p s fit.screen) (plan-adds p s fit.screen)
         ∙ rw (plan-deep p s fit.screen, plan-next p s fit.screen, le-ltb 1048577 s.next_draw_id b.ids, plan-attrs p s fit.screen)
 
-    bad-way : good-props (props-of p) ≡ false → push-number p (lent s w ls os) ≡ told
+    bad-way : good-props (props-of p) ≡ false → push-number p (push_lent s w ls os) ≡ told
     unfolding push-number step_number
     bad-way h =
         rw h
@@ -154,14 +154,14 @@ module _ (p : LayerProps) (s : Screen) (w : Words) (ls : List ℕ) (os : List Fl
         (good_rows (frame-of s) s.layers (plan-of p s).puts (rows_at (frame-of s) w)) _
         (cond (eqb rows-number 4) 4 (cond (ltb 16 (s.layers + 1)) 6 rows-number)) z (plan-bad h))
 
-    good-way : good-props (props-of p) ≡ true → push-number p (lent s w ls os) ≡ told
+    good-way : good-props (props-of p) ≡ true → push-number p (push_lent s w ls os) ≡ told
     unfolding push-number step_number
     good-way h =
         let b = band-is h in
         let t = run-told s.c s.d s.layers w.state (range (own-rows p s).start (own-rows p s).end) in
         grind (arith, nat_tests)
 
-    pub tests : push-number p (lent s w ls os) ≡ told
+    pub tests : push-number p (push_lent s w ls os) ≡ told
     tests = either (good-props (props-of p)) good-way bad-way
 
 -- the box and the rows that the code finds
@@ -190,7 +190,7 @@ pub record PushReady (p : LayerProps) (s : Screen) (w : Words) (ls : List ℕ) (
   pub free : s.layers < 16
   pub on : OnRows s (acted (bucket-tiles s.width) (s.layers + 1) touch) (own-rows p s).start (own-rows p s).end w
 
-module _ (p : LayerProps) (s : Screen) (w : Words) (ls : List ℕ) (os : List Float) (q : push-number p (lent s w ls os) ≡ 0) where
+module _ (p : LayerProps) (s : Screen) (w : Words) (ls : List ℕ) (os : List Float) (q : push-number p (push_lent s w ls os) ≡ 0) where
   zero : judged-at s w ≡ 0
   unfolding push-number step_number
   zero = grind (arith, nat_tests)
@@ -228,7 +228,7 @@ module _ (p : LayerProps) (s : Screen) (w : Words) (ls : List ℕ) (os : List Fl
 
   pub after_is : (x : Screen) (ws : Words) (r : Range ℕ) → x ≡ opened s b → r ≡ touch_rows p.blend.compose (box_of b)
       → ws ≡ lay (each (acted (bucket-tiles s.width) (s.layers + 1) touch) (range r.start r.end) (rows_at (frame-of s) w))
-      → lent x ws (words-at ls (open-layer-size * s.layers) (layer-words (layer-of p b) p.nan)) (set os s.layers p.opacity) ≡ after p (lent s w ls os)
+      → push_lent x ws (words-at ls (open-layer-size * s.layers) (layer-words (layer-of p b) p.nan)) (set os s.layers p.opacity) ≡ after p (push_lent s w ls os)
   unfolding after
   after_is x ws r f g h =
       rw (screen-is, rows_are, plan-layers p s ok-screen, f, h, rows_is p s w y.zero b e r g, ← e)

@@ -70,12 +70,12 @@ pub record FilterLent : Type 0 where
   pub paint-attrs : List ℕ
   pub filter-paints : List ℤ
 
-abbrev pub lent : Screen → Words → List ℕ → List ℤ → FilterLent
-lent s w ps fs = record { screen = s; words = w; paint-attrs = ps; filter-paints = fs }
+abbrev pub filter_lent : Screen → Words → List ℕ → List ℤ → FilterLent
+filter_lent s w ps fs = record { screen = s; words = w; paint-attrs = ps; filter-paints = fs }
 
 -- the same, of what is lent
-abbrev pub lent_of : Screen → Rows → List ℕ → List ℤ → FilterLent
-lent_of s r ps fs = lent s (all-held r) ps fs
+abbrev pub filter_lent_of : Screen → Rows → List ℕ → List ℤ → FilterLent
+filter_lent_of s r ps fs = filter_lent s (all-held r) ps fs
 
 -- the rules' filter fill
 abbrev pub plan-of : FilterGiven → Screen → Plan
@@ -102,7 +102,7 @@ unfoldable pub after : FilterGiven → FilterLent → FilterLent
 after g l =
     let s = l.screen in
     let p = plan-of g s in
-    lent (screen-after s p) (lay (done Words word-ops p (screen-at (state-of s) l.words)).rows)
+    filter_lent (screen-after s p) (lay (done Words word-ops p (screen-at (state-of s) l.words)).rows)
     (words-at l.paint-attrs (paint-attr-size * s.paint_attrs) (join paint-attr-words (drop s.paint_attrs p.attrs.paints)))
     (words-at l.filter-paints (filter-paint-size * s.filter_paints) (join filter-paint-words (drop s.filter_paints p.attrs.filters)))
 

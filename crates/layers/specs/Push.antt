@@ -29,12 +29,12 @@ pub record PushLent : Type 0 where
   pub layers : List ℕ
   pub opacities : List Float
 
-abbrev pub lent : Screen → Words → List ℕ → List Float → PushLent
-lent s w ls os = record { screen = s; words = w; layers = ls; opacities = os }
+abbrev pub push_lent : Screen → Words → List ℕ → List Float → PushLent
+push_lent s w ls os = record { screen = s; words = w; layers = ls; opacities = os }
 
 -- the same, of what is lent
-abbrev pub lent_of : Screen → Rows → Layers → PushLent
-lent_of s r ls = lent s (all-held r) ls.table.now ls.opacities.now
+abbrev pub push_lent_of : Screen → Rows → Layers → PushLent
+push_lent_of s r ls = push_lent s (all-held r) ls.table.now ls.opacities.now
 
 -- the rules' push
 abbrev pub plan-of : LayerProps → Screen → Plan
@@ -62,7 +62,7 @@ top-words (l ∷ ls) nan = layer-words l nan
 unfoldable pub after : LayerProps → PushLent → PushLent
 after p l =
     let s = l.screen in
-    lent (screen-after s (plan-of p s)) (lay (done Words word-ops (plan-of p s) (screen-at (state-of s) l.words)).rows)
+    push_lent (screen-after s (plan-of p s)) (lay (done Words word-ops (plan-of p s) (screen-at (state-of s) l.words)).rows)
     (words-at l.layers (open-layer-size * s.layers) (top-words (plan-of p s).layers p.nan)) (set l.opacities s.layers p.opacity)
 
 -- what is refused alters nothing

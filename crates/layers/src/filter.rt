@@ -1,14 +1,14 @@
 //! A filter fill (rule 11; bucketer.rs, generate_filter_layer_fill). `filter_fill` is a public call; the others are parts of it.
 ghost use Rattle.std.specs.Prelude.{◌≡◌, ◌||◌, ◌≤◌, IfOk, OnOk, OnErr};
 ghost use Rattle.std.proofs.Math.IntN.{sub_ℕ};
-ghost use Rattle.sizes.specs.Sizes.{most-filters, most-records};
+ghost use Rattle.sizes.specs.Sizes.{most-filters, most-records, scene-end};
 ghost use Rattle.sizes.specs.Refusals.{answer_number};
 ghost use Rattle.rules.specs.Answers.{answer};
 ghost use Rattle.rules.specs.Boxes.{meet, to-local, empty-box};
 ghost use Rattle.rules.specs.Lists.{is_none};
 ghost use Rattle.rect.specs.Rects.{box_of};
 ghost use Rattle.row.specs.Rows.{all-held, SameRows};
-ghost use Rattle.layers.specs.Filter.{given_of, good-given, paint-from, attrs-of, lent_of, filter-number, after, filtered, Draws, Drawing};
+ghost use Rattle.layers.specs.Filter.{given_of, good-given, paint-from, attrs-of, filter_lent_of, filter-number, after, filtered, Draws, Drawing};
 
 use crate::rows::{Plain, judge_rows, on_rows};
 use cmd::attrs::{FilterPaint, PaintFillAttrs, put_filter_paint, put_paint_attrs};
@@ -49,8 +49,8 @@ pub fn filter_box(viewport: Rect, clip: Rect, dest: Rect) -> Rect
 
 // Source minus destination, exact.
 fn shift(source: u32, dest: u32) -> i32
-    requires source { source ≤ 32768 }
-    requires dest { dest ≤ 32768 }
+    requires source { source ≤ scene-end }
+    requires dest { dest ≤ scene-end }
     ensures { result ≡ sub_ℕ source dest }
 {
     (source as i32) - (dest as i32)
@@ -65,10 +65,10 @@ pub fn draws_nothing(pixmap: Option<u32>, bbox: Rect) -> bool
 
 // The paint that a filter fill adds. The dest box is the one given, not made local.
 fn filter_paint(dest: Rect, source_x: u32, source_y: u32, pixmap: u32) -> FilterPaint
-    requires across { source_x ≤ 32768 }
-    requires down { source_y ≤ 32768 }
-    requires left { dest.x0 ≤ 32768 }
-    requires top { dest.y0 ≤ 32768 }
+    requires across { source_x ≤ scene-end }
+    requires down { source_y ≤ scene-end }
+    requires left { dest.x0 ≤ scene-end }
+    requires top { dest.y0 ≤ scene-end }
     ensures { result ≡ paint-from dest source_x source_y pixmap }
 {
     FilterPaint {
@@ -106,13 +106,13 @@ fn judge_filter(
     fill: FilterFill,
 ) -> Result<Option<Rect>, Refusal>
     ensures drawn { IfOk result (Draws (given_of fill) screen) }
-    ensures number { answer_number result ≡ filter-number (given_of fill) (lent_of screen rows.now paint_attrs.now filter_paints.now) }
+    ensures number { answer_number result ≡ filter-number (given_of fill) (filter_lent_of screen rows.now paint_attrs.now filter_paints.now) }
 {
     judge_screen(
         screen,
         rows.state.len(),
-        rows.render.len(),
-        rows.fills.len(),
+        rows.render_cmds.len(),
+        rows.depth_cmds.len(),
     )?;
     if paint_attrs.len() != PAINT_TABLE || filter_paints.len() != FILTER_TABLE {
         return Err(Refusal::BadRecord);
@@ -144,10 +144,10 @@ fn draw(
     fill: FilterFill,
     bbox: Rect,
 )
-    requires { Drawing (given_of fill) (lent_of screen.old rows.old paint_attrs.old filter_paints.old) bbox }
+    requires { Drawing (given_of fill) (filter_lent_of screen.old rows.old paint_attrs.old filter_paints.old) bbox }
     ensures same { SameRows rows.old rows.new }
-    ensures drawn { lent_of screen.new rows.new paint_attrs.new filter_paints.new
-        ≡ after (given_of fill) (lent_of screen.old rows.old paint_attrs.old filter_paints.old) }
+    ensures drawn { filter_lent_of screen.new rows.new paint_attrs.new filter_paints.new
+        ≡ after (given_of fill) (filter_lent_of screen.old rows.old paint_attrs.old filter_paints.old) }
 {
     let from = fill.filter;
     let handle = from.pixmap.unwrap_or(0);
@@ -174,13 +174,13 @@ pub fn filter_fill(
     fill: FilterFill,
 ) -> Result<(), Refusal>
     ensures same { SameRows rows.old rows.new }
-    ensures filtered { answer (answer_number result) (lent_of screen.new rows.new paint_attrs.new filter_paints.new)
-        ≡ filtered (given_of fill) (lent_of screen.old rows.old paint_attrs.old filter_paints.old) }
-    ensures refused { answer_number result ≡ filter-number (given_of fill) (lent_of screen.old rows.old paint_attrs.old filter_paints.old) }
-    ensures unchanged { OnErr result (lent_of screen.new rows.new paint_attrs.new filter_paints.new
-        ≡ lent_of screen.old rows.old paint_attrs.old filter_paints.old) }
-    ensures done { OnOk result (lent_of screen.new rows.new paint_attrs.new filter_paints.new
-        ≡ after (given_of fill) (lent_of screen.old rows.old paint_attrs.old filter_paints.old)) }
+    ensures filtered { answer (answer_number result) (filter_lent_of screen.new rows.new paint_attrs.new filter_paints.new)
+        ≡ filtered (given_of fill) (filter_lent_of screen.old rows.old paint_attrs.old filter_paints.old) }
+    ensures refused { answer_number result ≡ filter-number (given_of fill) (filter_lent_of screen.old rows.old paint_attrs.old filter_paints.old) }
+    ensures unchanged { OnErr result (filter_lent_of screen.new rows.new paint_attrs.new filter_paints.new
+        ≡ filter_lent_of screen.old rows.old paint_attrs.old filter_paints.old) }
+    ensures done { OnOk result (filter_lent_of screen.new rows.new paint_attrs.new filter_paints.new
+        ≡ after (given_of fill) (filter_lent_of screen.old rows.old paint_attrs.old filter_paints.old)) }
 {
     match judge_filter(*screen, rows, paint_attrs, filter_paints, fill)? {
         None => screen.take_filter(0),

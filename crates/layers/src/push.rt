@@ -5,7 +5,7 @@ ghost use Rattle.rules.specs.Answers.{answer};
 ghost use Rattle.rect.specs.Rects.{box_of};
 ghost use Rattle.row.specs.Rows.{all-held, SameRows};
 ghost use Rattle.screen.specs.LentLayers.{SameLayers};
-ghost use Rattle.layers.specs.Push.{touch_rows, Opens, lent_of, push-number, after, pushed};
+ghost use Rattle.layers.specs.Push.{touch_rows, Opens, push_lent_of, push-number, after, pushed};
 
 use crate::rows::{Touch, judge_rows, on_rows};
 use cmd::blend::Blend;
@@ -43,13 +43,13 @@ fn judge_push(
     props: LayerProps,
 ) -> Result<Opening, Refusal>
     ensures opening { IfOk result (Opens screen props) }
-    ensures number { answer_number result ≡ push-number props (lent_of screen rows.now layers.now) }
+    ensures number { answer_number result ≡ push-number props (push_lent_of screen rows.now layers.now) }
 {
     judge_screen(
         screen,
         rows.state.len(),
-        rows.render.len(),
-        rows.fills.len(),
+        rows.render_cmds.len(),
+        rows.depth_cmds.len(),
     )?;
     if layers.table.len() != OPEN_TABLE || layers.opacities.len() != OPACITIES {
         return Err(Refusal::BadRecord);
@@ -77,10 +77,10 @@ pub fn push_layer(
 ) -> Result<(), Refusal>
     ensures same_rows { SameRows rows.old rows.new }
     ensures same_layers { SameLayers layers.old layers.new }
-    ensures pushed { answer (answer_number result) (lent_of screen.new rows.new layers.new) ≡ pushed props (lent_of screen.old rows.old layers.old) }
-    ensures refused { answer_number result ≡ push-number props (lent_of screen.old rows.old layers.old) }
-    ensures unchanged { OnErr result (lent_of screen.new rows.new layers.new ≡ lent_of screen.old rows.old layers.old) }
-    ensures done { OnOk result (lent_of screen.new rows.new layers.new ≡ after props (lent_of screen.old rows.old layers.old)) }
+    ensures pushed { answer (answer_number result) (push_lent_of screen.new rows.new layers.new) ≡ pushed props (push_lent_of screen.old rows.old layers.old) }
+    ensures refused { answer_number result ≡ push-number props (push_lent_of screen.old rows.old layers.old) }
+    ensures unchanged { OnErr result (push_lent_of screen.new rows.new layers.new ≡ push_lent_of screen.old rows.old layers.old) }
+    ensures done { OnOk result (push_lent_of screen.new rows.new layers.new ≡ after props (push_lent_of screen.old rows.old layers.old)) }
 {
     let Opening { bbox, band } = judge_push(*screen, rows, layers, props)?;
     layers.put(screen.layers, props, bbox);

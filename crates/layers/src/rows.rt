@@ -63,7 +63,7 @@ impl RowAct for Touch {
 }
 
 /// Rules 5 to 7 for a solid fill that is no depth fill, over a span of tiles, with `layers` layers open.
-#[derive(Clone, Copy)]
+#[derive(Clone, Copy, Debug, PartialEq, Eq)]
 pub struct Plain {
     pub layers: u32,
     pub span: TileSpan,
@@ -92,8 +92,8 @@ pub fn on_rows<A: RowAct>(screen: Screen, rows: &mut Rows<'_>, band: &Range<usiz
     for r in band.start..band.end {
         on_row(
             rows.state,
-            rows.render,
-            rows.fills,
+            rows.render_cmds,
+            rows.depth_cmds,
             screen.c,
             screen.d,
             r,

@@ -8,7 +8,7 @@ use Rattle.rules.specs.Depth.{Summary}
 use Rattle.rules.specs.Rows.{Row}
 use Rattle.rules.specs.Attributes.{PaintAttr, LayerAttr, Attrs, no-paint, no-layer}
 use Rattle.rules.specs.Painting.{Painter, paint-id, paint-panel, layer-id, layer-panel, no-fill, paint-depth, paint-fill-runs, paint-command, paint-when, paint-step}
-use Rattle.paint.specs.Painting.{word, paint-at, layer-at, attrs-at, RowLent, lent, painter-at, good-command, fill-shown, command-shown, depth-step, command-step, depth-fill-at, command-at, bad-row, next-step, painted-row}
+use Rattle.paint.specs.Painting.{word, paint-at, layer-at, attrs-at, RowLent, words_lent, painter-at, good-command, fill-shown, command-shown, depth-step, command-step, depth-fill-at, command-at, bad-row, next-step, painted-row}
 use Rattle.paint.specs.Summaries.{summary-at, Sound, Included}
 use Rattle.paint.specs.Standing.{Stands, PainterReady, Holds}
 use Rattle.paint.proofs.Skips.{same_runs, sound-after}
@@ -122,7 +122,7 @@ module _ (width : Width) (a : Attrs) (r : Row) (s re fi D P l : List ℕ) (g : S
   abbrev v : ℕ
   v = bucket-tiles width
 
-  good : bad-row (lent s re fi D P l) ≡ false
+  good : bad-row (words_lent s re fi D P l) ≡ false
   good =
       rw (g.renders, g.depths, le-ltb _ _ g.few-renders, le-ltb _ _ g.few-depths, le-ltb _ _ q.shallow, le-ltb _ _ q.steps-left, g.summary)
 
@@ -140,7 +140,7 @@ module _ (width : Width) (a : Attrs) (r : Row) (s re fi D P l : List ℕ) (g : S
   unfolding command-step
   command-place m h = rw (g.commands-at _ h, q.good-next m h, by-summary width a (summary-at s) (get_or r.commands (word P 0 - length r.fills) pop-buf) (painter-at D P) o)
 
-  pub next : next-step v a (lent s re fi D P l) ≡ Some (paint-step v a r (painter-at D P))
+  pub next : next-step v a (words_lent s re fi D P l) ≡ Some (paint-step v a r (painter-at D P))
   unfolding next-step paint-step paint-when
   next = rw (good, g.depths, g.renders) (go (ltb (word P 0) (length r.fills)) (ltb (word P 0 - length r.fills) (length r.commands)) refl refl)
     where

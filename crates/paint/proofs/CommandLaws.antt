@@ -11,7 +11,7 @@ use Rattle.rules.specs.Rows.{Row}
 use Rattle.rules.specs.Attributes.{Attrs}
 use Rattle.rules.specs.Painting as rules
 use Rattle.rules.specs.Painting.{paint-depth, paint-command, paint-step}
-use Rattle.paint.specs.Painting.{word, attrs-at, RowLent, lent, StepOut, out, painter-at, good-paint, good-command, fill-shown, command-shown, depth-step, command-step, depth-fill-at, command-at, bad-row, refused, left, next-step, settled, painted-row}
+use Rattle.paint.specs.Painting.{word, attrs-at, RowLent, words_lent, StepOut, out, painter-at, good-paint, good-command, fill-shown, command-shown, depth-step, command-step, depth-fill-at, command-at, bad-row, refused, left, next-step, settled, painted-row}
 use Rattle.paint.specs.Summaries.{summary-at, Sound}
 use Rattle.paint.specs.Standing.{Stands, PainterReady, Holds}
 use Rattle.paint.proofs.ByRules.{held, same_row, next}
@@ -23,12 +23,12 @@ module _ (width : Width) (a : Attrs) (ps : List ℕ) (paints : ℕ) (ls : List �
   abbrev v : ℕ
   v = bucket-tiles width
 
-  stands : painted-row v a (lent s re fi D P l) ≡ settled (Some (paint-step v a r (painter-at D P))) D P l
+  stands : painted-row v a (words_lent s re fi D P l) ≡ settled (Some (paint-step v a r (painter-at D P))) D P l
   unfolding painted-row
   stands = rw (next width a r s re fi D P l g q o)
 
-  pub by-rules : painted-row v (attrs-at ps paints ls layers) (lent s re fi D P l) ≡ settled (Some (paint-step v a r (painter-at D P))) D P l
-  by-rules = same_row v (attrs-at ps paints ls layers) a (held a ps paints ls layers h) (lent s re fi D P l) ∙ stands
+  pub by-rules : painted-row v (attrs-at ps paints ls layers) (words_lent s re fi D P l) ≡ settled (Some (paint-step v a r (painter-at D P))) D P l
+  by-rules = same_row v (attrs-at ps paints ls layers) a (held a ps paints ls layers h) (words_lent s re fi D P l) ∙ stands
 
 -- A step leaves as many depth words as there were, and two painting words.
 length-written : (id : ℕ) (r : Span) (i : ℕ) (bs : List ℕ) → length (written_from i id r bs) ≡ length bs

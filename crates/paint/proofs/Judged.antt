@@ -62,7 +62,7 @@ pub record There (s : Screen) (r : ℕ) (a t : Bool) : Type 0 where
   pub there : r < count s
   pub passed : Passed s a t
 
-there-by : (s : Screen) (r : ℕ) (a t : Bool) → of_row (judged s a t) s r ≡ 0 → There s r a t
+pub there-by : (s : Screen) (r : ℕ) (a t : Bool) → of_row (judged s a t) s r ≡ 0 → There s r a t
 there-by s r a t h = let p = past_row (judged s a t) s r h in record { there = p.1; passed = passed s a t p.0 }
 
 module _ (s : Screen) (r : ℕ) where

@@ -1,3 +1,4 @@
+pub mod StoredCmds
 pub mod Spreading
 pub mod Two
 pub mod Clear

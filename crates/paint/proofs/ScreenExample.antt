@@ -11,7 +11,7 @@ use Rattle.rect.specs.Rects.{box_of}
 use Rattle.screen.specs.declared.Screen.{Screen}
 use Rattle.screen.specs.Screens.{good_clip, good_screen, screen-in}
 use Rattle.paint.specs.Summaries.{shown_runs}
-use Rattle.paint.specs.Painting.{attrs-at, lent, StepOut, out, settled, fill-shown, command-shown, depth-step, command-step, next-step, painted-row}
+use Rattle.paint.specs.Painting.{attrs-at, words_lent, StepOut, out, settled, fill-shown, command-shown, depth-step, command-step, next-step, painted-row}
 use Rattle.paint.specs.Judging.{judged, step_number}
 use Rattle.paint.specs.Stepping.{Attributes, attributes, row_step, stepped}
 
@@ -41,7 +41,7 @@ commands =
 turn : Bool → ℕ → StepOut → StepOut
 turn b r o =
     stepped (screen b) r tables
-    (lent records commands (65538 ∷ 0 ∷ 0 ∷ 0 ∷ []) o.depth o.painting (replicate (piece-size + 1) 9))
+    (words_lent records commands (65538 ∷ 0 ∷ 0 ∷ 0 ∷ []) o.depth o.painting (replicate (piece-size + 1) 9))
 
 start : StepOut
 start = out (record { number = 0; finished = false; pieces = 0 }) (0 ∷ 0 ∷ 0 ∷ 0 ∷ []) (0 ∷ 0 ∷ 0 ∷ 0 ∷ []) []

@@ -28,7 +28,7 @@ pub part_length : (k r : ℕ) (xs : List ℕ) → Within k r xs → length (part
 part_length k r xs w = length-take-le k (drop (r * k) xs) (rw length-drop (omega (arith, w.ends)))
 
 -- a row that is there, of words that have their length
-lies : (n r k : ℕ) (xs : List ℕ) → r < n → n ≤ 512 → k ≤ 4096 → eqb (length xs) (n * k) ≡ true → Within k r xs
+pub lies : (n r k : ℕ) (xs : List ℕ) → r < n → n ≤ 512 → k ≤ 4096 → eqb (length xs) (n * k) ≡ true → Within k r xs
 lies n r k xs h few short e =
     let l : length xs ≡ n * k = eqb-true _ _ e in
     record { ends = rw l (within r n k h); near = small r n k h few short; short = short }

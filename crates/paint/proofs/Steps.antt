@@ -19,7 +19,7 @@ use Rattle.cmd.specs.DepthFills.{depth-fill}
 use Rattle.cmd.specs.Good.{GoodCommand}
 use Rattle.cmd.proofs.BothWays.{depth-reads-good, reads-good}
 use Rattle.paint.specs.Answers.{Painted, Advanced, advanced}
-use Rattle.paint.specs.Painting.{word, RowLent, lent, StepOut, out, painter-at, good-paint, good-layer, fill-shown, command-shown, depth-step, command-step, depth-fill-at, command-at, bad-row, next-step, refused, listed, settled, painted-row}
+use Rattle.paint.specs.Painting.{word, RowLent, words_lent, StepOut, out, painter-at, good-paint, good-layer, fill-shown, command-shown, depth-step, command-step, depth-fill-at, command-at, bad-row, next-step, refused, listed, settled, painted-row}
 use Rattle.paint.specs.declared.command.marks.Mark.{Mark}
 use Rattle.paint.specs.Reading.{paint_mark, layer_mark}
 use Rattle.paint.specs.Summaries.{good-summary, summary-at}
@@ -129,7 +129,7 @@ module _ (wide : ℕ) (attrs : Attrs) (D P l : List ℕ) where
   -- the row, judged
   module _ (s r f : List ℕ) where
     abbrev w : RowLent
-    w = lent s r f D P l
+    w = words_lent s r f D P l
 
     pub row_forged : bad-row w ≡ true → out (refused 4) D P l ≡ painted-row wide attrs w
     unfolding painted-row next-step
@@ -175,7 +175,7 @@ module _ (s r f P : List ℕ) where
     pub depths : 2 * word s 1 ≤ length f
     pub steps : word P 0 ≤ word s 1 + word s 0
 
-  pub counts : bad-row (lent s r f [] P []) ≡ false → Counts
+  pub counts : bad-row (words_lent s r f [] P []) ≡ false → Counts
   counts e = go (ltb (length r) (4 * word s 0)) (ltb (length f) (2 * word s 1)) (ltb 16 (word P 1)) (ltb (word s 1 + word s 0) (word P 0)) refl refl refl e
     where
       go : (a b c d : Bool) → ltb (length r) (4 * word s 0) ≡ a → ltb (length f) (2 * word s 1) ≡ b → ltb (word s 1 + word s 0) (word P 0) ≡ d

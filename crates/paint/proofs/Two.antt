@@ -1,6 +1,17 @@
--- A row's painting words are two. Assumes nothing.
-use Rattle.std.proofs.Common.{◌≡◌, refl, List, [], ◌∷◌, ℕ, arith, length, set}
+-- A row's painting words are two; a canvas that stays the lent one twice stays it. Assumes nothing.
+use Rattle.std.proofs.Common.{◌≡◌, refl, ◌∙◌, List, [], ◌∷◌, ℕ, arith, length, set}
+use Rattle.paint.specs.declared.canvas.stored.Canvas.{Canvas}
 use Rattle.paint.specs.Answers.{word}
+use Rattle.paint.specs.Named.{SameCanvas}
+
+pub same_then : {a b c : Canvas} → SameCanvas a b → SameCanvas b c → SameCanvas a c
+same_then x y =
+    record {
+      depth = y.depth ∙ x.depth;
+      painting = y.painting ∙ x.painting;
+      depth-long = y.depth-long ∙ x.depth-long;
+      painting-long = y.painting-long ∙ x.painting-long;
+    }
 
 pub two_set : (p : List ℕ) (x : ℕ) → length p ≡ 2 → set p 0 x ≡ x ∷ word p 1 ∷ []
 two_set [] x h = absurd (omega arith)

@@ -3,7 +3,7 @@ use Rattle.std.proofs.Common.{◌≡◌, refl, ◌∙◌, Bool, true, false, con
 use Rattle.sizes.specs.Sizes.{piece-size}
 use Rattle.rules.specs.Lists.{times}
 use Rattle.screen.specs.declared.Screen.{Screen}
-use Rattle.paint.specs.Painting.{RowLent, lent, StepOut}
+use Rattle.paint.specs.Painting.{RowLent, words_lent, StepOut}
 use Rattle.paint.specs.Judging.{count, wide}
 use Rattle.paint.specs.Stepping.{part, Attributes}
 use Rattle.paint.proofs.ScreenLaws.{step-alone}
@@ -48,7 +48,7 @@ module _ (s : Screen) (r : ℕ) (a : Attributes) (l : RowLent) where
     one-alone : (g : StepOut) → Alone g → Alone (one_more (call_step s r a l.state l.render l.fills) g)
     unfolding one_more
     one-alone g i =
-        let o = step-alone s r a (lent l.state l.render l.fills g.depth g.painting (drop (piece-size * g.answer.pieces) g.list)) q h d in
+        let o = step-alone s r a (words_lent l.state l.render l.fills g.depth g.painting (drop (piece-size * g.answer.pieces) g.list)) q h d in
         (o.0 ∙ i.0, o.1 ∙ i.1)
 
     times-alone : (n : ℕ) (g : StepOut) → Alone g → Alone (times n (one_more (call_step s r a l.state l.render l.fills)) g)

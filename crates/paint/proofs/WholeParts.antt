@@ -12,7 +12,7 @@ use Rattle.sizes.specs.declared.answers.Refusal.{Refusal}
 use Rattle.sizes.specs.Refusals.{number_of}
 use Rattle.sizes.proofs.Refusals.{not_done}
 use Rattle.paint.specs.Answers.{Painted}
-use Rattle.paint.specs.Painting.{attrs-at, RowLent, lent, StepOut, out, refused, left, settled, painted-row}
+use Rattle.paint.specs.Painting.{attrs-at, RowLent, words_lent, StepOut, out, refused, left, settled, painted-row}
 use Rattle.paint.proofs.CommandLaws.{same-lengths}
 use Rattle.paint.specs.Judging.{wide}
 use Rattle.paint.specs.Stepping.{part, with_part, Within, Attributes, own-parts, put-parts, own, in_place, number, row_step, stepped}
@@ -23,7 +23,7 @@ use Rattle.paint.proofs.WholeRuns.{stops, more}
 -- the steps of the row's own parts, put back in their places
 module _ (v f : ℕ) (a : Attrs) (b c d r : ℕ) (l : RowLent) (o : Painted) (q p t : List ℕ) where
   pub run-back : out o q p t ≡ own-run v f a
-      (lent (part 54 r l.state) (part (4 * c) r l.render) (part (2 * d) r l.fills)
+      (words_lent (part 54 r l.state) (part (4 * c) r l.render) (part (2 * d) r l.fills)
       (take (r * b + b - r * b) (drop (r * b) l.depth))
       (take (r * 2 + 2 - r * 2) (drop (r * 2) l.painting))
       l.list)
@@ -75,7 +75,7 @@ module _ (s : Screen) (r : ℕ) (a : Attributes) (l : RowLent) (z : number s r a
 
   module _ (d p t : List ℕ) (x : length d ≡ wide s) (y : length p ≡ 2) where
     abbrev then : RowLent
-    then = lent l.state l.render l.fills (with_part (wide s) r l.depth d) (with_part 2 r l.painting p) t
+    then = words_lent l.state l.render l.fills (with_part (wide s) r l.depth d) (with_part 2 r l.painting p) t
 
     still : number s r a then ≡ 0
     still =
@@ -86,7 +86,7 @@ module _ (s : Screen) (r : ℕ) (a : Attributes) (l : RowLent) (z : number s r a
     unfolding stepped row_step
     call-mine =
         let g = ready s r a l z in
-        let o = painted-row (bucket-tiles s.width) b (lent (own s r l).state (own s r l).render (own s r l).fills d p t) in
+        let o = painted-row (bucket-tiles s.width) b (words_lent (own s r l).state (own s r l).render (own s r l).fills d p t) in
         rw (
           eq-eqb _ _ still,
           part-there (wide s) r l.depth d g.depth x,
@@ -102,7 +102,7 @@ module _ (s : Screen) (r : ℕ) (a : Attributes) (l : RowLent) (z : number s r a
   one-long : (g : StepOut) → Long g → Long (one_more mine g)
   unfolding one_more
   one-long g h =
-      let o = same-lengths (bucket-tiles s.width) b (lent (own s r l).state (own s r l).render (own s r l).fills g.depth g.painting (drop (piece-size * g.answer.pieces) g.list)) h.1 in
+      let o = same-lengths (bucket-tiles s.width) b (words_lent (own s r l).state (own s r l).render (own s r l).fills g.depth g.painting (drop (piece-size * g.answer.pieces) g.list)) h.1 in
       (o.0 ∙ h.0, o.1)
 
   run-mine : (f k : ℕ) (g : StepOut) → Long g → run called f k (in_place s r l g) ≡ in_place s r l (run mine f k g)

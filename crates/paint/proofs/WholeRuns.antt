@@ -7,7 +7,7 @@ use Rattle.sizes.specs.Sizes.{piece-size}
 use Rattle.rules.specs.Attributes.{Attrs}
 use Rattle.rules.specs.Painting as rules
 use Rattle.paint.specs.Answers.{Painted}
-use Rattle.paint.specs.Painting.{RowLent, lent, StepOut, out, listed, settled, painted-row}
+use Rattle.paint.specs.Painting.{RowLent, words_lent, StepOut, out, listed, settled, painted-row}
 use Rattle.paint.specs.Running.{goes_on, ended, one_more, run, own-step}
 use Rattle.paint.specs.Kinds.{Onward}
 
@@ -38,7 +38,7 @@ module _ (xs : List ℕ) (a : ℕ) (h : a ≤ length xs) where
 
 -- one step more of a row's own words
 module _ (v : ℕ) (a : Attrs) (s re fi d p xs : List ℕ) (n : ℕ) (h : piece-size * n ≤ length xs) (q : Painted) (e g ys : List ℕ)
-    (f : out q e g ys ≡ painted-row v a (lent s re fi d p (take (length xs - piece-size * n) (drop (piece-size * n) xs)))) where
+    (f : out q e g ys ≡ painted-row v a (words_lent s re fi d p (take (length xs - piece-size * n) (drop (piece-size * n) xs)))) where
   same : out q e g ys ≡ own-step v a s re fi d p (drop (piece-size * n) xs)
   same = f ∙ rw (lent-after xs (piece-size * n) h)
 
@@ -52,7 +52,7 @@ module _ (v : ℕ) (a : Attrs) (s re fi d p xs : List ℕ) (n : ℕ) (h : piece-
   pub one-few : piece-size * (n + q.pieces) ≤ length xs
   one-few =
       let i : q.pieces ≡ (own-step v a s re fi d p (drop (piece-size * n) xs)).answer.pieces = ap (λ (o : StepOut). o.answer.pieces) same in
-      let j : piece-size * q.pieces ≤ length (drop (piece-size * n) xs) = rw i (row-few v a (lent s re fi d p (drop (piece-size * n) xs))) in
+      let j : piece-size * q.pieces ≤ length (drop (piece-size * n) xs) = rw i (row-few v a (words_lent s re fi d p (drop (piece-size * n) xs))) in
       omega (arith, j, length-drop (piece-size * n) xs)
 
 -- the steps of a row, from the first to the last

@@ -13,3 +13,4 @@ pub mod Kinds
 pub mod Rows
 pub mod Cuts
 pub mod Named
+pub mod StoredCmds

@@ -10,10 +10,14 @@ use Rattle.cmd.specs.declared.command.Fill.{Fill}
 use Rattle.cmd.specs.declared.depth_fill.DepthFill.{DepthFill}
 use Rattle.screen.specs.declared.Screen.{Screen}
 use Rattle.paint.specs.declared.canvas.stored.Stored.{Stored}
-use Rattle.paint.specs.declared.command.reading.Row.{Row}
+use Rattle.paint.specs.declared.canvas.stored.Canvas.{Canvas}
+use Rattle.paint.specs.Answers.{Painted}
+use Rattle.paint.specs.Beginning as begin
+use Rattle.paint.specs.declared.command.reading.StoredRow.{StoredRow}
 use Rattle.paint.specs.declared.command.marks.Mark.{Mark}
-use Rattle.paint.specs.Summaries.{summary-at}
-use Rattle.paint.specs.Painting.{word, attrs-at, painter-at, fill-shown, RowLent, lent}
+use Rattle.rules.specs.Spans.{Span}
+use Rattle.paint.specs.Summaries.{summary-at, shown_runs}
+use Rattle.paint.specs.Painting.{word, attrs-at, painter-at, fill-shown, RowLent, words_lent, StepOut, out}
 use Rattle.paint.specs.Stepping.{Attributes, attributes, StepReady}
 use Rattle.paint.specs.Judging.{wide}
 
@@ -21,9 +25,23 @@ use Rattle.paint.specs.Judging.{wide}
 abbrev pub CanStep : List ℕ → Type 0
 CanStep p = (length p ≡ 2) × (word p 0 < 4294967295)
 
--- the stored words, with the depth words, painting's words and the list
-abbrev pub row_lent : Stored → List ℕ → List ℕ → List ℕ → RowLent
-row_lent s d p l = lent s.rows.now s.render.now s.fills.now d p l
+-- the same two slices, whatever they hold; their lengths are said too, since no name tells them
+pub record SameCanvas (a b : Canvas) : Type 0 where
+  pub depth : b.depth.ghost_name ≡ a.depth.ghost_name
+  pub painting : b.painting.ghost_name ≡ a.painting.ghost_name
+  pub depth-long : length b.depth.now ≡ length a.depth.now
+  pub painting-long : length b.painting.now ≡ length a.painting.now
+
+-- a screen with a canvas' words; an answer with those and the list
+abbrev pub begun_of : Screen → Canvas → begin.Canvas
+begun_of s c = begin.canvas s c.depth.now c.painting.now
+
+abbrev pub step_out : Painted → Canvas → List ℕ → StepOut
+step_out a c l = out a c.depth.now c.painting.now l
+
+-- the stored words, with the canvas' words and the list
+abbrev pub row_lent : Stored → Canvas → List ℕ → RowLent
+row_lent s c l = words_lent s.rows.now s.render_cmds.now s.depth_cmds.now c.depth.now c.painting.now l
 
 -- the tables of attributes; those of them that are in use
 abbrev pub row_attrs : Stored → Attributes
@@ -33,14 +51,20 @@ abbrev pub used_attrs : Screen → Stored → Attrs
 used_attrs c s = attrs-at s.paint_attrs.now c.paint_attrs s.layer_attrs.now c.layer_attrs
 
 -- the parts of row r lie within the words that are lent, and the tables are whole
-abbrev pub RowReady : Screen → ℕ → Stored → List ℕ → List ℕ → List ℕ → Type 0
-RowReady c r s d p l = StepReady (wide c) c.c c.d c.paint_attrs c.layer_attrs r (row_attrs s) (row_lent s d p l)
+abbrev pub RowReady : Screen → ℕ → Stored → Canvas → List ℕ → Type 0
+RowReady s r t c l = StepReady (wide s) s.c s.d s.paint_attrs s.layer_attrs r (row_attrs t) (row_lent t c l)
+
+-- the runs of tiles that a row shows for an id
+abbrev pub shown_in : StoredRow → Canvas → ℕ → Span → List Span
+shown_in r c id s = shown_runs (bucket-tiles r.width) (summary-at r.state.now) c.depth.now id s
 
 -- what a depth fill gives, and what a paint's or a layer's fill does, in a row
-abbrev pub depth_painted : ℕ → DepthFill → Mark → List ℕ → List ℕ → rules.Painted
-depth_painted v f m d p =
+abbrev pub depth_painted : ℕ → DepthFill → Mark → Canvas → rules.Painted
+depth_painted v f m c =
+    let d = c.depth.now in
+    let p = c.painting.now in
     gives (map (depth-piece v no-attrs f.attrs_idx m.panel) (write-runs d (buckets f.buckets))) (written d m.id (buckets f.buckets)) (word p 0 + 1) (word p 1)
 
-abbrev pub fill_painted : Row → Bool → Fill → Mark → List ℕ → List ℕ → rules.Painted
-fill_painted r l f m d p =
-    fill-shown (bucket-tiles r.width) no-attrs (summary-at r.state.now) l m.id f.attrs_idx m.panel (tiles f.span) f.alpha (painter-at d p)
+abbrev pub fill_painted : StoredRow → Bool → Fill → Mark → Canvas → rules.Painted
+fill_painted r l f m c =
+    fill-shown (bucket-tiles r.width) no-attrs (summary-at r.state.now) l m.id f.attrs_idx m.panel (tiles f.span) f.alpha (painter-at c.depth.now c.painting.now)

@@ -48,8 +48,8 @@ pub record RowLent : Type 0 where
   pub painting : List ℕ
   pub list : List ℕ
 
-abbrev pub lent : List ℕ → List ℕ → List ℕ → List ℕ → List ℕ → List ℕ → RowLent
-lent s r f d p l = record { state = s; render = r; fills = f; depth = d; painting = p; list = l }
+abbrev pub words_lent : List ℕ → List ℕ → List ℕ → List ℕ → List ℕ → List ℕ → RowLent
+words_lent s r f d p l = record { state = s; render = r; fills = f; depth = d; painting = p; list = l }
 
 -- What it gives: its answer, and the words that it may change.
 pub record StepOut : Type 0 where

@@ -5,9 +5,9 @@ use Rattle.rules.specs.Depth.{Summary}
 use Rattle.sizes.specs.Sizes.{most-layers}
 use Rattle.sizes.specs.Widths.{bucket-tiles}
 use Rattle.paint.specs.Summaries.{summary-at}
-use Rattle.paint.specs.declared.command.reading.Row.{Row}
+use Rattle.paint.specs.declared.command.reading.StoredRow.{StoredRow}
 use Rattle.paint.specs.declared.command.marks.Mark.{Mark}
-use Rattle.paint.specs.Painting.{word, lent, StepOut, painter-at, depth-step, command-step, depth-fill-at, settled}
+use Rattle.paint.specs.Painting.{word, words_lent, StepOut, painter-at, depth-step, command-step, depth-fill-at, settled}
 use Rattle.paint.specs.Reading.{attrs_of, paint_mark, layer_mark}
 use Rattle.paint.specs.Running.{own-step, own-run}
 use Rattle.rules.specs.Commands.{Command}
@@ -22,28 +22,28 @@ use Rattle.paint.specs.declared.whole.reading.FillLook.TheVariants as fill
 use Rattle.paint.specs.declared.whole.reading.Look.{Look}
 use Rattle.paint.specs.declared.whole.reading.Look.TheVariants as look
 
-abbrev pub steps_of : Row → List ℕ → List ℕ → List ℕ → StepOut
-steps_of r = own-step (bucket-tiles r.width) (attrs_of r.attrs) r.state.now r.render.now r.fills.now
+abbrev pub steps_of : StoredRow → List ℕ → List ℕ → List ℕ → StepOut
+steps_of r = own-step (bucket-tiles r.width) (attrs_of r.attrs) r.state.now r.render_cmds.now r.depth_cmds.now
 
 -- the step of the depth fill at place k, and of a command
-abbrev pub depth_step_of : Row → ℕ → List ℕ → List ℕ → List ℕ → StepOut
+abbrev pub depth_step_of : StoredRow → ℕ → List ℕ → List ℕ → List ℕ → StepOut
 depth_step_of r k d p l =
-    settled (depth-step (bucket-tiles r.width) (attrs_of r.attrs) (painter-at d p) (depth-fill-at (length d) r.fills.now k)) d p l
+    settled (depth-step (bucket-tiles r.width) (attrs_of r.attrs) (painter-at d p) (depth-fill-at (length d) r.depth_cmds.now k)) d p l
 
-abbrev pub command_step_of : Row → Command → List ℕ → List ℕ → List ℕ → StepOut
+abbrev pub command_step_of : StoredRow → Command → List ℕ → List ℕ → List ℕ → StepOut
 command_step_of r c d p l =
     settled (command-step (bucket-tiles r.width) (attrs_of r.attrs) (summary-at r.state.now) (painter-at d p) (Some c)) d p l
 
 -- at most f steps
-abbrev pub run_of : Row → ℕ → List ℕ → List ℕ → List ℕ → StepOut
-run_of r f d p l = own-run (bucket-tiles r.width) f (attrs_of r.attrs) (lent r.state.now r.render.now r.fills.now d p l)
+abbrev pub run_of : StoredRow → ℕ → List ℕ → List ℕ → List ℕ → StepOut
+run_of r f d p l = own-run (bucket-tiles r.width) f (attrs_of r.attrs) (words_lent r.state.now r.render_cmds.now r.depth_cmds.now d p l)
 
 -- the counts of its record have room, and its summary is in order
-abbrev pub CalmRow : Row → Type 0
-CalmRow r = Calm r.state.now r.render.now r.fills.now
+abbrev pub CalmRow : StoredRow → Type 0
+CalmRow r = Calm r.state.now r.render_cmds.now r.depth_cmds.now
 
 -- its commands from `start` at nesting m, the pieces so far being p, up to where their run ended, with the pieces p'
-abbrev pub Ran : Row → List ℕ → ℕ → ℕ → Pieces → Reached → Pieces → Type 0
+abbrev pub Ran : StoredRow → List ℕ → ℕ → ℕ → Pieces → Reached → Pieces → Type 0
 Ran r D start m p o p' = Reaches (steps_of r) D (word r.state.now 1) (place start p.count m p.list.now) (place o.at p'.count o.nesting p'.list.now)
 
 -- what a fill's attribute says, a paint's or a layer's by the tag
@@ -67,5 +67,5 @@ Says v a u D m c look.Pop = (0 < m) × Gives v a u D m c 0 [] (m - 1)
 Says v a u D m c (look.Partly q) = GivesPart v a u D m c q
 
 -- .. of the command at place k of a row, at nesting m
-abbrev pub SaysAt : Row → List ℕ → ℕ → ℕ → Look → Type 0
-SaysAt r D m k l = Says (bucket-tiles r.width) (attrs_of r.attrs) (summary-at r.state.now) D m (cmd_at r.render.now k) l
+abbrev pub SaysAt : StoredRow → List ℕ → ℕ → ℕ → Look → Type 0
+SaysAt r D m k l = Says (bucket-tiles r.width) (attrs_of r.attrs) (summary-at r.state.now) D m (cmd_at r.render_cmds.now k) l

@@ -8,7 +8,7 @@ use Rattle.sizes.specs.declared.answers.Refusal.{Refusal}
 use Rattle.sizes.specs.Refusals.{number_of}
 use Rattle.paint.specs.declared.pieces.Stepped.{Stepped}
 use Rattle.paint.specs.Answers.{Painted}
-use Rattle.paint.specs.Painting.{RowLent, lent, StepOut, out, listed, painted-row}
+use Rattle.paint.specs.Painting.{RowLent, words_lent, StepOut, out, listed, painted-row}
 use Rattle.paint.specs.Stepping.{Attributes, own-parts, put-parts, stepped}
 
 -- a step's answer after n pieces, which stay if it is refused
@@ -54,7 +54,7 @@ standing d p l = out (listed 0) d p l
 
 -- the steps of one row's own words, at v tiles a bucket
 abbrev pub own-step : ℕ → Attrs → List ℕ → List ℕ → List ℕ → List ℕ → List ℕ → List ℕ → StepOut
-own-step v a s re fi d p l = painted-row v a (lent s re fi d p l)
+own-step v a s re fi d p l = painted-row v a (words_lent s re fi d p l)
 
 -- at most f of them
 unfoldable pub own-run : ℕ → ℕ → Attrs → RowLent → StepOut
@@ -66,7 +66,7 @@ row-run v f a b c d r l = put-parts b r l (own-run v f a (own-parts b c d r l))
 
 -- calls of a painting step of row r of a screen
 abbrev pub call_step : Screen → ℕ → Attributes → List ℕ → List ℕ → List ℕ → List ℕ → List ℕ → List ℕ → StepOut
-call_step s r a rs re fi d p l = stepped s r a (lent rs re fi d p l)
+call_step s r a rs re fi d p l = stepped s r a (words_lent rs re fi d p l)
 
 unfoldable pub row-painted : Screen → ℕ → Attributes → RowLent → StepOut
 row-painted s r a l =

@@ -5,7 +5,7 @@ use Rattle.sizes.specs.Sizes.{most-room, most-attrs, row-size, paint-attr-table,
 use Rattle.sizes.specs.Widths.{bucket-tiles}
 use Rattle.rules.specs.Answers.{Done}
 use Rattle.screen.specs.declared.Screen.{Screen}
-use Rattle.paint.specs.Painting.{attrs-at, RowLent, lent, StepOut, out, refused, painted-row}
+use Rattle.paint.specs.Painting.{attrs-at, RowLent, words_lent, StepOut, out, refused, painted-row}
 use Rattle.paint.specs.Judging.{wide, arenas-long, tables-long, step_number}
 
 -- row r's own part, k words a row, and the words with another part there
@@ -32,7 +32,7 @@ attributes ps ls = record { paints = ps; layers = ls }
 -- rows of b depth words, with room for c commands and d depth fills: the words of row r, and the whole list
 abbrev pub own-parts : ℕ → ℕ → ℕ → ℕ → RowLent → RowLent
 own-parts b c d r l =
-    lent (part row-size r l.state) (part (4 * c) r l.render) (part (2 * d) r l.fills) (part b r l.depth) (part 2 r l.painting) l.list
+    words_lent (part row-size r l.state) (part (4 * c) r l.render) (part (2 * d) r l.fills) (part b r l.depth) (part 2 r l.painting) l.list
 
 -- .. and what its step leaves, in its place
 abbrev pub put-parts : ℕ → ℕ → RowLent → StepOut → StepOut

@@ -5,5 +5,5 @@ pub mod reading;
 pub mod step;
 
 pub use marks::Mark;
-pub use reading::{Attributes, Row};
+pub use reading::{Attributes, StoredRow};
 pub use step::step_row;

@@ -6,49 +6,54 @@ ghost use Rattle.paint.specs.Answers.{painted_of};
 ghost use Rattle.paint.specs.Painting.{out};
 ghost use Rattle.paint.specs.Judging.{wide};
 ghost use Rattle.paint.specs.Stepping.{stepped};
-ghost use Rattle.paint.specs.Named.{RowReady, row_lent, row_attrs, used_attrs};
+ghost use Rattle.paint.specs.Named.{SameCanvas, step_out, RowReady, row_lent, row_attrs, used_attrs};
 ghost use Rattle.paint.specs.Running.{most, row-run, row-painted};
 
 use crate::canvas::judge::judge_step;
-use crate::canvas::{Stepped, Stored};
-use crate::command::{Attributes, Row};
-use crate::whole::run::run_row;
+use crate::canvas::{Canvas, Stepped, Stored};
+use crate::command::{Attributes, StoredRow};
+use crate::whole::run::run_parts;
 use row::part;
 use screen::Screen;
 use sizes::answers::Refusal;
 use sizes::{MOST_ROOM, ROW};
 
 pub mod ends;
+pub mod looks;
 pub mod pieces;
 pub mod plain;
 pub mod reading;
 pub mod run;
 
 /// No row has more steps: C, D and the one that finds nothing left.
-const MOST_STEPS: usize = 2 * MOST_ROOM as usize + 1;
+pub const MOST_STEPS: usize = 2 * MOST_ROOM as usize + 1;
 
-// At most `limit` steps of a row that is there, painting having begun: the row's own parts are handed on.
-fn row_part(
+/// At most `limit` steps of a row that is there, of `b` buckets, painting having begun: the row's own parts are handed on. A part of the calls, and of those
+/// of a host.
+#[inline(always)]
+pub fn row_part(
     screen: Screen,
+    b: usize,
     row: usize,
     stored: &Stored<'_>,
-    depth: &mut [u32],
-    painting: &mut [u32],
+    canvas: &mut Canvas<'_>,
     list: &mut [u32],
     limit: usize,
 ) -> Result<Stepped, Refusal>
     requires limit { limit ≤ most }
-    requires ready { RowReady screen row stored.now depth.old painting.old list.old }
-    ensures { out (painted_of result) depth.new painting.new list.new
-        ≡ row-run (bucket-tiles screen.width) limit (used_attrs screen stored.now) (wide screen) screen.c screen.d row (row_lent stored.now depth.old painting.old list.old) }
+    requires wide { b ≡ wide screen }
+    requires ready { RowReady screen row stored.now canvas.old list.old }
+    ensures same { SameCanvas canvas.old canvas.new }
+    ensures painted { step_out (painted_of result) canvas.new list.new
+        ≡ row-run (bucket-tiles screen.width) limit (used_attrs screen stored.now) (wide screen) screen.c screen.d row
+        (row_lent stored.now canvas.old list.old) }
 {
-    let b = screen.buckets();
     let u = row * b;
     let v = row * 2;
-    let read = Row {
+    let read = StoredRow {
         state: part(stored.rows, ROW, row),
-        render: part(stored.render, 4 * screen.c as usize, row),
-        fills: part(stored.fills, 2 * screen.d as usize, row),
+        render_cmds: part(stored.render_cmds, 4 * screen.c as usize, row),
+        depth_cmds: part(stored.depth_cmds, 2 * screen.d as usize, row),
         attrs: Attributes {
             paint_attrs: stored.paint_attrs,
             paints: screen.paint_attrs,
@@ -57,10 +62,10 @@ fn row_part(
         },
         width: screen.width,
     };
-    run_row(
+    run_parts(
         &read,
-        &mut depth[u..u + b],
-        &mut painting[v..v + 2],
+        &mut canvas.depth[u..u + b],
+        &mut canvas.painting[v..v + 2],
         list,
         limit,
     )
@@ -72,30 +77,44 @@ pub fn paint_step(
     screen: Screen,
     row: usize,
     stored: &Stored<'_>,
-    depth: &mut [u32],
-    painting: &mut [u32],
+    canvas: &mut Canvas<'_>,
     list: &mut [u32],
 ) -> Result<Stepped, Refusal>
-    ensures { out (painted_of result) depth.new painting.new list.new
-        ≡ stepped screen row (row_attrs stored.now) (row_lent stored.now depth.old painting.old list.old) }
+    ensures same { SameCanvas canvas.old canvas.new }
+    ensures step { step_out (painted_of result) canvas.new list.new
+        ≡ stepped screen row (row_attrs stored.now) (row_lent stored.now canvas.old list.old) }
 {
-    judge_step(screen, row, stored, depth.len(), painting.len())?;
-    row_part(screen, row, stored, depth, painting, list, 1)
+    judge_step(
+        screen,
+        row,
+        stored,
+        canvas.depth.len(),
+        canvas.painting.len(),
+    )?;
+    let b = screen.buckets();
+    row_part(screen, b, row, stored, canvas, list, 1)
 }
 
-/// The row's next steps, one after the other, until one is refused or the row is finished; refused where the first step is. The pieces stand one after the other
-/// in the list. finished: no step is left. At most MOST_STEPS, which no row passes.
+/// The row's next steps, one after the other, until one is refused or the row is finished; refused where the first step is. The pieces stand one after the
+/// other in the list. finished: no step is left. At most MOST_STEPS, which no row passes.
 pub fn paint_row(
     screen: Screen,
     row: usize,
     stored: &Stored<'_>,
-    depth: &mut [u32],
-    painting: &mut [u32],
+    canvas: &mut Canvas<'_>,
     list: &mut [u32],
 ) -> Result<Stepped, Refusal>
-    ensures { out (painted_of result) depth.new painting.new list.new
-        ≡ row-painted screen row (row_attrs stored.now) (row_lent stored.now depth.old painting.old list.old) }
+    ensures same { SameCanvas canvas.old canvas.new }
+    ensures painted { step_out (painted_of result) canvas.new list.new
+        ≡ row-painted screen row (row_attrs stored.now) (row_lent stored.now canvas.old list.old) }
 {
-    judge_step(screen, row, stored, depth.len(), painting.len())?;
-    row_part(screen, row, stored, depth, painting, list, MOST_STEPS)
+    judge_step(
+        screen,
+        row,
+        stored,
+        canvas.depth.len(),
+        canvas.painting.len(),
+    )?;
+    let b = screen.buckets();
+    row_part(screen, b, row, stored, canvas, list, MOST_STEPS)
 }

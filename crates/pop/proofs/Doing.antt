@@ -28,7 +28,7 @@ use Rattle.screen.specs.Layers.{layer-at, clip-in, open_at, good_layer, good_own
 use Rattle.screen.proofs.LayersLaws.{without-clip, has-clip}
 use Rattle.pop.specs.Closing.{touched-in, good-pops, full_by, runs-full, done-puts, clip-puts, Roomy, Fillable, Poppable, Each, Clips}
 use Rattle.pop.proofs.Running.{cuts-sorted}
-use Rattle.pop.specs.Pop.{lent, layers-in, state-in, pop-plan, Judged, closing-puts, words-after}
+use Rattle.pop.specs.Pop.{pop_lent, layers-in, state-in, pop-plan, Judged, closing-puts, words-after}
 use Rattle.pop.proofs.Ready.{Closeable, Fits, fits, full-plain, full-clip, ready-fill, ready-puts, ready-pop, closed-words}
 use Rattle.pop.proofs.Numbers.{layers-length, open-first, plan-is, plain-closeable, clip-closeable, number-plain, number-long, number-clip, cuts-is, Cleared, late-zero}
 use Rattle.screen.proofs.ScreenLaws.{bounds}
@@ -90,8 +90,8 @@ module _ {s : code.Screen} {t ws : List ℕ} {w : Words} (j : Judged s t ws w) w
 
     plain-set : Set s t ws w
     plain-set =
-        let p = late-zero _ _ _ _ _ (number-plain s (lent w t [] []) ws j.some seen bottom c ∙ j.rows) in
-        let v = plain-closeable s (lent w t [] []) ws j.some seen bottom p.good (span_of layer.bounds) s.layer_attrs in
+        let p = late-zero _ _ _ _ _ (number-plain s (pop_lent w t [] []) ws j.some seen bottom c ∙ j.rows) in
+        let v = plain-closeable s (pop_lent w t [] []) ws j.some seen bottom p.good (span_of layer.bounds) s.layer_attrs in
         record {
           rows = rw plain-puts v;
           room = rw plain-puts (fits (frame-of s) s.layers (layer.bounds.y0 / 4) ((layer.bounds.y1 + 3) / 4) (map (on (close (span_of layer.bounds) None s.layer_attrs)) xs) w (full-plain v (span_of layer.bounds) s.layer_attrs refl ∙ p.room));
@@ -104,7 +104,7 @@ module _ {s : code.Screen} {t ws : List ℕ} {w : Words} (j : Judged s t ws w) w
     pub clip-within : (clip-in t (s.layers - 1)).end ≤ length ws / 5
     clip-within =
         let f : length ws / 5 < (clip-in t (s.layers - 1)).end → ⊥ =
-        λ h. omega (arith, number-long s (lent w t [] []) ws j.some seen bottom (clip-in t (s.layers - 1)) c ranged.range h ∙ j.rows) in
+        λ h. omega (arith, number-long s (pop_lent w t [] []) ws j.some seen bottom (clip-in t (s.layers - 1)) c ranged.range h ∙ j.rows) in
         omega arith
 
     module _ (d : Scene) (e : SceneOf (box_of s.viewport) (clip-box (box_of s.viewport) (layers-in t (s.layers - 1))) d) where
@@ -115,17 +115,17 @@ module _ {s : code.Screen} {t ws : List ℕ} {w : Words} (j : Judged s t ws w) w
       unfolding closing
       scene-puts =
           rw c
-          (ap (close-puts s.layer_attrs xs) (sym (cuts-is s (lent w t [] []) ws j.some seen bottom (clip-in t (s.layers - 1)) c ranged.range clip-within d e)))
+          (ap (close-puts s.layer_attrs xs) (sym (cuts-is s (pop_lent w t [] []) ws j.some seen bottom (clip-in t (s.layers - 1)) c ranged.range clip-within d e)))
 
       cleared : Cleared (good-pops s.c s.d s.layers (rows_at (frame-of s) w) (rows_in layer.bounds))
           (judge-segments false (segs ws (clip-in t (s.layers - 1)).start ((clip-in t (s.layers - 1)).end - (clip-in t (s.layers - 1)).start))) s.next_draw_id s.layer_attrs
           (full_by s.c 1 (rows_at (frame-of s) w) xs || runs-full s.c xs (rows_at (frame-of s) w) 0 0 ks)
-      cleared = late-zero _ _ _ _ _ (number-clip s (lent w t [] []) ws j.some seen bottom (clip-in t (s.layers - 1)) c ranged.range clip-within d e ∙ j.rows)
+      cleared = late-zero _ _ _ _ _ (number-clip s (pop_lent w t [] []) ws j.some seen bottom (clip-in t (s.layers - 1)) c ranged.range clip-within d e ∙ j.rows)
 
       clip-set : Set s t ws w
       clip-set =
           let p = cleared in
-          let v = clip-closeable s (lent w t [] []) ws j.some seen bottom p.good s.layer_attrs ks in
+          let v = clip-closeable s (pop_lent w t [] []) ws j.some seen bottom p.good s.layer_attrs ks in
           let o = cuts-sorted (origin d) (scene-bounds d) (segs ws (clip-in t (s.layers - 1)).start ((clip-in t (s.layers - 1)).end - (clip-in t (s.layers - 1)).start)) (judged-list _ p.listed).order in
           record {
             rows = rw scene-puts v;
@@ -231,9 +231,9 @@ module _ {s : code.Screen} {t ws : List ℕ} {w : Words} (j : Judged s t ws w) w
       pub pop-requires : Each Poppable (rows_at (frame-of s) u) (touched-in s.layers (rows_at (frame-of s) u) (range a b))
       pop-requires = rw (a-is, b-is) (ready-pop ready.rows ready.room (s.layers - 1) u o h)
 
-      plan-rows : (done Words word-ops (pop-plan s (lent w t [] []) ws) (screen-at (state-in s t) w)).rows ≡ done-puts (bucket-tiles s.width) (s.layers - 1) (closing-puts s t ws w ++ map (on pop) xs) (rows_at (frame-of s) w)
+      plan-rows : (done Words word-ops (pop-plan s (pop_lent w t [] []) ws) (screen-at (state-in s t) w)).rows ≡ done-puts (bucket-tiles s.width) (s.layers - 1) (closing-puts s t ws w ++ map (on pop) xs) (rows_at (frame-of s) w)
       unfolding done
-      plan-rows = rw (plan-is s (lent w t [] []) ws j.some seen, layers-length t (s.layers - 1))
+      plan-rows = rw (plan-is s (pop_lent w t [] []) ws j.some seen, layers-length t (s.layers - 1))
 
       pub pop-done : (v : Words) → Whole (frame-of s) v → rows_at (frame-of s) v ≡ done-puts (bucket-tiles s.width) (s.layers - 1) (map (on pop) (touched-in s.layers (rows_at (frame-of s) u) (range a b))) (rows_at (frame-of s) u)
           → v ≡ words-after s t ws w

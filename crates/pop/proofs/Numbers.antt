@@ -31,7 +31,7 @@ use Rattle.pop.proofs.Closed.{Close, closing as a-closing, members}
 use Rattle.pop.proofs.Running.{cuts-sorted}
 use Rattle.pop.proofs.Rooms.{touched-inside}
 use Rattle.pop.proofs.Clipping.{close-all, close-in}
-use Rattle.pop.specs.Pop.{PopLent, lent, layers-in, own-rows, good-open, good_lengths, late, first, state-in, pop-plan, number-after, number, Judged}
+use Rattle.pop.specs.Pop.{PopLent, pop_lent, layers-in, own-rows, good-open, good_lengths, late, first, state-in, pop-plan, number-after, number, Judged}
 use Rattle.std.proofs.lemmas.Bool.Decides.{nat_tests}
 use Rattle.pop.proofs.Ready.{Closeable, all-fine, full_is, deep_is, full-plain, full-clip}
 
@@ -76,13 +76,13 @@ module _ (s : code.Screen) (l : PopLent) (ws : List ℕ) where
   abbrev numbered : ℕ
   numbered = judged s (length l.words.state) (length l.words.render) (length l.words.fills)
 
-  pub tests : number s l ws ≡ cond (eqb numbered 0) (cond lens (cond opened (number-after s (lent l.words l.layers [] []) ws 0) 4) 4) numbered
+  pub tests : number s l ws ≡ cond (eqb numbered 0) (cond lens (cond opened (number-after s (pop_lent l.words l.layers [] []) ws 0) 4) 4) numbered
   unfolding number-after step_number first
   tests =
       in_order numbered lens opened (good-pops s.c s.d s.layers (rows_at (frame-of s) l.words) (own-rows (layers-in l.layers s.layers)))
       (refusal Words word-ops (pop-plan s l ws) (done Words word-ops (pop-plan s l ws) (screen-at (state-in s l.layers) l.words)))
 
-  pub none-left : s.layers ≡ 0 → (opened ≡ true) × (number-after s (lent l.words l.layers [] []) ws 0 ≡ 7)
+  pub none-left : s.layers ≡ 0 → (opened ≡ true) × (number-after s (pop_lent l.words l.layers [] []) ws 0 ≡ 7)
   unfolding good-open number-after step_number own-rows layers-in plan-pop refusal good-pops
   none-left h = (rw h, rw h)
 
@@ -294,7 +294,7 @@ unfolding good_lengths
 lengths-facts t o a w g = (grind (arith, nat_tests), grind (arith, nat_tests), grind (arith, nat_tests))
 
 module _ (s : code.Screen) (l : PopLent) (ws : List ℕ) (e : number s l ws ≡ 0) where
-  all-zero : (numbered s l ws ≡ 0) × (lens s l ws ≡ true) × (opened s l ws ≡ true) × (number-after s (lent l.words l.layers [] []) ws 0 ≡ 0)
+  all-zero : (numbered s l ws ≡ 0) × (lens s l ws ≡ true) × (opened s l ws ≡ true) × (number-after s (pop_lent l.words l.layers [] []) ws 0 ≡ 0)
   all-zero = all-right (numbered s l ws) (lens s l ws) (opened s l ws) _ (sym (tests s l ws) ∙ e)
 
   pub zero-lengths : (length l.layers ≡ open-layer-table) × (length l.opacities ≡ opacity-count) × (length l.attrs ≡ layer-attr-table)

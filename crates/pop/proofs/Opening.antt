@@ -22,7 +22,7 @@ use Rattle.screen.specs.Layers.{layer-at, box_in, clip-in, open_at, good_layer, 
 use Rattle.screen.proofs.LayersLaws.{without-clip, has-clip}
 use Rattle.pop.specs.Closing.{touched-in, good-pops, full_by, runs-full}
 use Rattle.pop.proofs.Judging.{not-true, not-false}
-use Rattle.pop.specs.Pop.{lent, layers-in, good-open, late, number-after}
+use Rattle.pop.specs.Pop.{pop_lent, layers-in, good-open, late, number-after}
 use Rattle.layers.proofs.Passing.{PassedOn}
 use Rattle.pop.proofs.Numbers.{layers-first, open-first, number-plain, number-long, number-clip}
 
@@ -82,7 +82,7 @@ module _ (s : code.Screen) (w : Words) (t ws : List ℕ) (low : 1 ≤ s.layers) 
   test = good_layer y && good_own_box (box_of s.viewport) (box_of y.bbox) && good_own_box (box_of s.viewport) (box_of q)
 
   abbrev all : ℕ
-  all = cond (good-open (box_of s.viewport) t s.layers) (number-after s (lent w t [] []) ws 0) 4
+  all = cond (good-open (box_of s.viewport) t s.layers) (number-after s (pop_lent w t [] []) ws 0) 4
 
   test-is : test ≡ good-open view t s.layers
   test-is = rw (e, p) (sym (open-first t view s.layers low))
@@ -97,7 +97,7 @@ module _ (s : code.Screen) (w : Words) (t ws : List ℕ) (low : 1 ≤ s.layers) 
     tests : (good_layer y ≡ true) × (good_own_box view (box_of y.bbox) ≡ true) × (good_own_box view (box_of q) ≡ true)
     tests = (grind (arith, nat_tests), grind (arith, nat_tests), grind (arith, nat_tests))
 
-    is_all : number-after s (lent w t [] []) ws 0 ≡ all
+    is_all : number-after s (pop_lent w t [] []) ws 0 ≡ all
     is_all = rw opened
 
     own-box : OwnBox view (box_of y.bbox)
@@ -135,7 +135,7 @@ module _ (s : code.Screen) (w : Words) (t ws : List ℕ) (low : 1 ≤ s.layers) 
           → k ≡ all
       open_plain f h =
           h
-          ∙ rw (a-is, b-is) (number-plain s (lent w t [] []) ws low o bottom-is (without-clip t (s.layers - 1) (ap (λ (z : OpenLayer). z.flag) (sym e) ∙ f)))
+          ∙ rw (a-is, b-is) (number-plain s (pop_lent w t [] []) ws low o bottom-is (without-clip t (s.layers - 1) (ap (λ (z : OpenLayer). z.flag) (sym e) ∙ f)))
           ∙ is_all
 
       flagged : (y.flag ≡ 0 → ⊥) → (open_at t (s.layers - 1)).flag ≡ 1
@@ -153,7 +153,7 @@ module _ (s : code.Screen) (w : Words) (t ws : List ℕ) (low : 1 ≤ s.layers) 
 
         pub open-long : length ws / 5 < z → 4 ≡ all
         open-long h =
-            number-long s (lent w t [] []) ws low o bottom-is (clip-in t (s.layers - 1)) (has-clip t (s.layers - 1) (flagged f)) ranged (rw (← end_is) h)
+            number-long s (pop_lent w t [] []) ws low o bottom-is (clip-in t (s.layers - 1)) (has-clip t (s.layers - 1) (flagged f)) ranged (rw (← end_is) h)
             ∙ is_all
 
         pub open-clip : z ≤ length ws / 5 → (d : Scene) → SceneOf (box_of s.viewport) (box_of q) d → {k : ℕ}
@@ -163,5 +163,5 @@ module _ (s : code.Screen) (w : Words) (t ws : List ℕ) (low : 1 ≤ s.layers) 
         open-clip h d c i =
             i
             ∙ rw (a-is, b-is, start_is, end_is)
-            (number-clip s (lent w t [] []) ws low o bottom-is (clip-in t (s.layers - 1)) (has-clip t (s.layers - 1) (flagged f)) ranged (rw (← end_is) h) d (rw p at c))
+            (number-clip s (pop_lent w t [] []) ws low o bottom-is (clip-in t (s.layers - 1)) (has-clip t (s.layers - 1) (flagged f)) ranged (rw (← end_is) h) d (rw p at c))
             ∙ is_all

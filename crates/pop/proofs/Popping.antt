@@ -11,7 +11,7 @@ use Rattle.cmd.specs.Attrs.{layer-words}
 use Rattle.screen.specs.declared.Screen as code
 use Rattle.screen.specs.Screens.{state-of, closed, screen-after}
 use Rattle.screen.proofs.ScreenLaws.{paint-count, layer-attr-count, filter-count}
-use Rattle.pop.specs.Pop.{PopLent, PopOut, lent, out, after, layers-in, number, pop-plan, new-words, popped, Judged, words-after, attr-of, tables_after}
+use Rattle.pop.specs.Pop.{PopLent, PopOut, pop_lent, out, after, layers-in, number, pop-plan, new-words, popped, Judged, words-after, attr-of, tables_after}
 use Rattle.layers.proofs.Passing.{PassedOn}
 use Rattle.pop.proofs.Numbers.{plan-is, layers-length}
 use Rattle.pop.proofs.Doing.{seen}
@@ -41,9 +41,9 @@ module _ (s : code.Screen) (l : PopLent) (ws : List ℕ) (j : Judged s l.layers 
       rw (plan-is s l ws j.some o, ← p, next-is, paint-count s, filter-count s, length-append, layer-attr-count s, layers-length l.layers (s.layers - 1))
 
   pub pop-out : {r : code.Screen} {w : Words} {t : List ℕ} {x : List Float} {a : List ℕ} → r ≡ screen-after s (pop-plan s l ws) → w ≡ words-after s l.layers ws l.words
-      → lent nowhere t x a ≡ tables_after s (lent nowhere l.layers l.opacities l.attrs) → out 0 r (lent w t x a) ≡ after s l ws
+      → pop_lent nowhere t x a ≡ tables_after s (pop_lent nowhere l.layers l.opacities l.attrs) → out 0 r (pop_lent w t x a) ≡ after s l ws
   pop-out {r} {w} {t} {x} {a} h i k =
-      let y = tables_after s (lent nowhere l.layers l.opacities l.attrs) in
+      let y = tables_after s (pop_lent nowhere l.layers l.opacities l.attrs) in
       let p : t ≡ y.layers = ap (λ (z : PopLent). z.layers) k in
       let q : x ≡ y.opacities = ap (λ (z : PopLent). z.opacities) k in
       let u : a ≡ y.attrs = ap (λ (z : PopLent). z.attrs) k in

@@ -22,7 +22,7 @@ use Rattle.std.specs.declared.ops.Range.{Range}
 use Rattle.layers.specs.Band.{screen_rows}
 use Rattle.pop.specs.declared.rows.ClipPath.{ClipPath}
 use Rattle.pop.specs.Closing.{touched-in, good-pops, full_by, done-puts, runs-full, clip-puts, Clips, Roomy, Fillable, Each}
-use Rattle.pop.specs.Pop.{PopLent, PopOut, lent, out, good-open, late, number-after}
+use Rattle.pop.specs.Pop.{PopLent, PopOut, pop_lent, out, good-open, late, number-after}
 
 -- the slices hold every row of the screen, and no word more
 abbrev pub WholeRows : Screen → Rows → Type 0
@@ -100,15 +100,15 @@ clip_number s b r p ws =
 
 -- .. of a screen with a layer open, by its table: 4 for the layer first
 abbrev pub open_number : Screen → Rows → List ℕ → List ℕ → ℕ
-open_number s r t ws = cond (good-open (box_of s.viewport) t s.layers) (number-after s (lent (all-held r) t [] []) ws 0) 4
+open_number s r t ws = cond (good-open (box_of s.viewport) t s.layers) (number-after s (pop_lent (all-held r) t [] []) ws 0) 4
 
 -- what a pop is lent
-abbrev pub lent_of : Rows → Layers → List ℕ → PopLent
-lent_of r l a = lent (all-held r) l.table.now l.opacities.now a
+abbrev pub pop_lent_of : Rows → Layers → List ℕ → PopLent
+pop_lent_of r l a = pop_lent (all-held r) l.table.now l.opacities.now a
 
 -- .. but for rows
 abbrev pub tables_of : Layers → List ℕ → PopLent
-tables_of l a = lent nowhere l.table.now l.opacities.now a
+tables_of l a = pop_lent nowhere l.table.now l.opacities.now a
 
 -- a screen with what is lent, as it stands
 abbrev pub standing : Screen → PopLent → PopOut

@@ -35,8 +35,8 @@ pub record PopLent : Type 0 where
   pub opacities : List Float
   pub attrs : List ℕ
 
-abbrev pub lent : Words → List ℕ → List Float → List ℕ → PopLent
-lent w t o a = record { words = w; layers = t; opacities = o; attrs = a }
+abbrev pub pop_lent : Words → List ℕ → List Float → List ℕ → PopLent
+pop_lent w t o a = record { words = w; layers = t; opacities = o; attrs = a }
 
 -- a call's answer, the screen and what is lent, afterwards
 pub record PopOut : Type 0 where
@@ -114,7 +114,7 @@ module _ (s : Screen) (l : PopLent) (ws : List ℕ) where
   -- done: the rows of the plan, the layer's words and its opacity 0, its opacity copied
   abbrev pub lent-after : PopLent
   lent-after =
-      lent (lay (done Words word-ops pop-plan (screen-at (state-in s l.layers) l.words)).rows)
+      pop_lent (lay (done Words word-ops pop-plan (screen-at (state-in s l.layers) l.words)).rows)
       (words-at l.layers (open-layer-size * (s.layers - 1)) no_words)
       (set (set l.opacities (most-layers + s.layer_attrs) (get_or l.opacities (s.layers - 1) nan)) (s.layers - 1) float-0)
       (words-at l.attrs (layer-attr-size * s.layer_attrs) new-words)
@@ -132,7 +132,7 @@ pub record Judged (s : Screen) (t ws : List ℕ) (w : Words) : Type 0 where
   pub table : length t ≡ open-layer-table
   pub some : 1 ≤ s.layers
   pub layer : good-open (box_of s.viewport) t s.layers ≡ true
-  pub rows : number-after s (lent w t [] []) ws Done ≡ Done
+  pub rows : number-after s (pop_lent w t [] []) ws Done ≡ Done
 
 -- the clip of a closing layer, as its flag says: the segments of its range, cut to its parent's box
 abbrev pub ClipOf : Screen → OpenLayer → Rect → Option ClipPath → Type 0
@@ -156,7 +156,7 @@ closing-puts s t ws w =
 
 -- the rows' words after it
 abbrev pub words-after : Screen → List ℕ → List ℕ → Words → Words
-words-after s t ws w = lay (done Words word-ops (pop-plan s (lent w t [] []) ws) (screen-at (state-in s t) w)).rows
+words-after s t ws w = lay (done Words word-ops (pop-plan s (pop_lent w t [] []) ws) (screen-at (state-in s t) w)).rows
 
 -- the attribute of the layer y, with the opacity x: the next id, its clip's thread, its own panel
 abbrev pub attr_by : Screen → OpenLayer → Float → LayerFillAttrs
@@ -179,4 +179,4 @@ attr-of s t x = attr_by s (open_at t (s.layers - 1)) x
 abbrev pub tables_after : Screen → PopLent → PopLent
 tables_after s l =
     let u = put-layer (layer-tables l.attrs l.opacities) s.layer_attrs (attr-of s l.layers (get_or l.opacities (s.layers - 1) nan)) in
-    lent l.words (words-at l.layers (open-layer-size * (s.layers - 1)) no_words) (set u.opacities (s.layers - 1) float-0) u.words
+    pop_lent l.words (words-at l.layers (open-layer-size * (s.layers - 1)) no_words) (set u.opacities (s.layers - 1) float-0) u.words

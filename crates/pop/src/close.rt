@@ -41,8 +41,8 @@ fn close_span(screen: Screen, rows: &mut Rows<'_>, r: usize, span: TileSpan)
     };
     on_row(
         rows.state,
-        rows.render,
-        rows.fills,
+        rows.render_cmds,
+        rows.depth_cmds,
         screen.c,
         screen.d,
         r,
@@ -79,8 +79,8 @@ fn pop_row(screen: Screen, rows: &mut Rows<'_>, r: usize)
     }
     on_row(
         rows.state,
-        rows.render,
-        rows.fills,
+        rows.render_cmds,
+        rows.depth_cmds,
         screen.c,
         screen.d,
         r,
@@ -134,8 +134,8 @@ fn close_segment(
     };
     on_row(
         rows.state,
-        rows.render,
-        rows.fills,
+        rows.render_cmds,
+        rows.depth_cmds,
         screen.c,
         screen.d,
         r,

@@ -9,7 +9,7 @@ ghost use Rattle.segments.specs.Segs.{origin, bounds, Starts};
 ghost use Rattle.sizes.specs.Refusals.{answer_number};
 ghost use Rattle.screen.specs.Layers.{good_layer, good_own_box};
 ghost use Rattle.pop.specs.Pop.{layers-in, good_lengths, number, Closes};
-ghost use Rattle.pop.specs.Named.{WholeRows, InScreen, plain_number, clip_number, open_number, lent_of};
+ghost use Rattle.pop.specs.Named.{WholeRows, InScreen, plain_number, clip_number, open_number, pop_lent_of};
 
 use crate::rows::{ClipPath, is_full_clip, judge_pop_rows};
 use rect::Rect;
@@ -117,7 +117,7 @@ fn judge_open(
     layers: &Layers<'_>,
     list: &[u32],
 ) -> Result<Closing, Refusal>
-    requires screen { judged screen (length rows.now.state.now) (length rows.now.render.now) (length rows.now.fills.now) ≡ 0 }
+    requires screen { judged screen (length rows.now.state.now) (length rows.now.render_cmds.now) (length rows.now.depth_cmds.now) ≡ 0 }
     requires table { length layers.now.table.now ≡ open-layer-table }
     requires some { 1 ≤ screen.layers }
     ensures closing { IfOk result (Closes screen layers.now.table.now) }
@@ -164,13 +164,13 @@ pub fn judge_pop(
     list: &[u32],
 ) -> Result<Closing, Refusal>
     ensures closing { IfOk result (Closes screen layers.now.table.now) }
-    ensures number { answer_number result ≡ number screen (lent_of rows.now layers.now layer_attrs.now) list.now }
+    ensures number { answer_number result ≡ number screen (pop_lent_of rows.now layers.now layer_attrs.now) list.now }
 {
     judge_screen(
         screen,
         rows.state.len(),
-        rows.render.len(),
-        rows.fills.len(),
+        rows.render_cmds.len(),
+        rows.depth_cmds.len(),
     )?;
     if !is_good_lengths(
         layers.table.len(),

@@ -10,7 +10,7 @@ ghost use Rattle.sizes.specs.Refusals.{answer_number};
 ghost use Rattle.screen.specs.Layers.{open_at};
 ghost use Rattle.pop.specs.Pop.{out, number, after, popped, Judged, closing-puts, words-after, attr_by, tables_after, Closes};
 ghost use Rattle.layers.specs.Band.{screen_rows};
-ghost use Rattle.pop.specs.Named.{closed_by, lent_of, tables_of, standing};
+ghost use Rattle.pop.specs.Named.{closed_by, pop_lent_of, tables_of, standing};
 
 use crate::close::{close_segments, close_spans, pop_rows};
 use crate::judge::{Closing, judge_pop};
@@ -120,19 +120,19 @@ pub fn pop_layer(
 ) -> Result<(), Refusal>
     ensures same_rows { SameRows rows.old rows.new }
     ensures same_layers { SameLayers layers.old layers.new }
-    ensures popped { out (answer_number result) screen.new (lent_of rows.new layers.new layer_attrs.new)
-        ≡ popped screen.old (lent_of rows.old layers.old layer_attrs.old) list.now }
-    ensures refused { answer_number result ≡ number screen.old (lent_of rows.old layers.old layer_attrs.old) list.now }
-    ensures unchanged { OnErr result (standing screen.new (lent_of rows.new layers.new layer_attrs.new)
-        ≡ standing screen.old (lent_of rows.old layers.old layer_attrs.old)) }
-    ensures done { OnOk result (standing screen.new (lent_of rows.new layers.new layer_attrs.new)
-        ≡ after screen.old (lent_of rows.old layers.old layer_attrs.old) list.now) }
+    ensures popped { out (answer_number result) screen.new (pop_lent_of rows.new layers.new layer_attrs.new)
+        ≡ popped screen.old (pop_lent_of rows.old layers.old layer_attrs.old) list.now }
+    ensures refused { answer_number result ≡ number screen.old (pop_lent_of rows.old layers.old layer_attrs.old) list.now }
+    ensures unchanged { OnErr result (standing screen.new (pop_lent_of rows.new layers.new layer_attrs.new)
+        ≡ standing screen.old (pop_lent_of rows.old layers.old layer_attrs.old)) }
+    ensures done { OnOk result (standing screen.new (pop_lent_of rows.new layers.new layer_attrs.new)
+        ≡ after screen.old (pop_lent_of rows.old layers.old layer_attrs.old) list.now) }
 {
     // Rows by value: behind a reference their slices are loaded again for each segment.
     let mut own = Rows {
         state: rows.state,
-        render: rows.render,
-        fills: rows.fills,
+        render_cmds: rows.render_cmds,
+        depth_cmds: rows.depth_cmds,
     };
     let closing = judge_pop(*screen, &own, layers, layer_attrs, list)?;
     do_rows(*screen, &mut own, layers, &closing, list);

@@ -22,7 +22,7 @@ use sizes::{LEVEL, LEVEL_BASE, LEVELS, ROW};
 use std::ops::Range;
 
 /// The segments of the layer's clip, from start to end of a list, and the scene that they are cut to: the parent's box.
-#[derive(Clone, Copy)]
+#[derive(Clone, Copy, Debug, PartialEq, Eq)]
 pub struct ClipPath {
     pub start: usize,
     pub end: usize,
@@ -42,19 +42,26 @@ fn limits_of(screen: Screen) -> Limits
 }
 
 // A row of the layer's box, by its words (answer 4): its record, and that its innermost level's PushBuf is one.
-fn is_good_pop(state: &[u32], render: &[u32], fills: &[u32], c: u32, d: u32, open: u32) -> bool
+fn is_good_pop(
+    state: &[u32],
+    render_cmds: &[u32],
+    depth_cmds: &[u32],
+    c: u32,
+    d: u32,
+    open: u32,
+) -> bool
     requires state { length state.now ≡ row-size }
-    requires render { length render.now ≡ 4 * c }
+    requires render_cmds { length render_cmds.now ≡ 4 * c }
     requires some { 1 ≤ «open» }
     requires deep { «open» ≤ most-layers }
-    ensures { result ≡ good-pop c d «open» (words state.now render.now fills.now) }
+    ensures { result ≡ good-pop c d «open» (words state.now render_cmds.now depth_cmds.now) }
 {
     let levels = state[LEVELS];
     if levels != open {
         return levels < open;
     }
     is_good_row(state, c, d, open)
-        && render[4 * state[LEVEL_BASE + LEVEL * open as usize] as usize] == 5
+        && render_cmds[4 * state[LEVEL_BASE + LEVEL * open as usize] as usize] == 5
 }
 
 // Row r of the layer's box (answer 4).
@@ -67,8 +74,8 @@ fn judge_pop_row(screen: Screen, rows: &Rows<'_>, r: usize) -> bool
 {
     is_good_pop(
         part(rows.state, ROW, r),
-        part(rows.render, 4 * screen.c as usize, r),
-        part(rows.fills, 2 * screen.d as usize, r),
+        part(rows.render_cmds, 4 * screen.c as usize, r),
+        part(rows.depth_cmds, 2 * screen.d as usize, r),
         screen.c,
         screen.d,
         screen.layers,

@@ -8,6 +8,7 @@ ghost use Rattle.rules.specs.Lists.{range};
 ghost use Rattle.rules.specs.Setups.{snapped, viewport-in};
 ghost use Rattle.span.specs.Spans.{tiles};
 ghost use Rattle.rect.specs.Rects.{box_of, mode_of, seen};
+ghost use Rattle.sizes.specs.Sizes.{scene-end};
 
 use sizes::answers::Refusal;
 use sizes::{MOST_HEIGHT, MOST_WIDTH, SCENE_END, TILE_HEIGHT, TILE_WIDTH};
@@ -115,7 +116,8 @@ impl Rect {
 
     // The tile edges around it. Its ends are no further than a viewport's, so no number overflows.
     fn snap_to_tile_coordinates(self) -> Rect
-        requires { (self.x1 ≤ 32768) × (self.y1 ≤ 32768) }
+        requires right { self.x1 ≤ scene-end }
+        requires bottom { self.y1 ≤ scene-end }
         ensures { box_of result ≡ snapped (box_of self) }
     {
         Rect {

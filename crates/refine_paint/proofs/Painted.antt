@@ -16,7 +16,7 @@ use Rattle.rules.proofs.All.{never, all_replicate}
 use Rattle.screen.specs.Tables.{ScreenLent}
 use Rattle.refine_steps.specs.Lent.{lent_of}
 use Rattle.refine_steps.proofs.Kept.{call-sound, reset-sound}
-use Rattle.paint.specs.Painting.{lent}
+use Rattle.paint.specs.Painting.{words_lent}
 use Rattle.paint.specs.Beginning.{canvas, beginning}
 use Rattle.paint.specs.Stepping.{attributes, stepped}
 use Rattle.rules_picture.proofs.Stepped.{call-frame}
@@ -71,7 +71,7 @@ module _ (k : Canvas) (w : WholeCanvas k) where
 
   pub step-painted : (i : ℕ) (l : List ℕ)
       → stepped words.screen i (attributes words.tables.paint-attrs words.tables.layer-attrs)
-      (lent words.tables.rows words.tables.render words.tables.fills words.tables.depth words.tables.painting l)
+      (words_lent words.tables.rows words.tables.render words.tables.fills words.tables.depth words.tables.painting l)
       ≡ given_out (paint-call i (length l / piece-size) k) l
   unfolding lent_of
   step-painted i l = step_by k w i l

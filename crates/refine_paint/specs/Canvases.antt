@@ -15,7 +15,7 @@ use Rattle.refine_steps.specs.Sound.{Sound}
 use Rattle.refine_steps.specs.Lent.{screen-of, table, attr-words, rows_of}
 use Rattle.depth.specs.Listing.{listing}
 use Rattle.paint.specs.Pieces.{laid}
-use Rattle.paint.specs.Painting.{RowLent, lent, StepOut, out}
+use Rattle.paint.specs.Painting.{RowLent, words_lent, StepOut, out}
 use Rattle.paint.specs.Stepping.{Attributes, attributes}
 use Rattle.paint.specs.Beginning.{Canvas, canvas}
 use Rattle.paint.specs.DirectRuns.{Wrote}
@@ -68,4 +68,4 @@ attributes-of s = attributes (table 0 paint-attr-table (join paint-attr-words s.
 
 abbrev pub words_of : rule.Canvas → List ℕ → RowLent
 words_of k l =
-    lent (rows_of k.screen).state (rows_of k.screen).render (rows_of k.screen).fills (depth-of k.painters) (painting-of k.painters) l
+    words_lent (rows_of k.screen).state (rows_of k.screen).render (rows_of k.screen).fills (depth-of k.painters) (painting-of k.painters) l

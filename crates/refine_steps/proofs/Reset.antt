@@ -14,7 +14,7 @@ use Rattle.row.specs.Arena.{lay}
 use Rattle.refine_row.proofs.Screens.{blank-row, reset-words}
 use Rattle.rules.specs.Plans.{Frame}
 use Rattle.screen.specs.Screens.{fresh-screen}
-use Rattle.screen.specs.declared.Lengths.{Lengths}
+use Rattle.screen.specs.declared.lent.Lengths.{Lengths}
 use Rattle.screen.specs.Judging.{good-tables, arenas, judged_reset}
 use Rattle.screen.specs.Tables.{zeros, lengths, ScreenLent, float-0, reset_to}
 use Rattle.screen.proofs.Passed.{reset-says}
@@ -54,8 +54,8 @@ two-tables z m n xs e =
 
 -- how many words are lent
 pub record Lengthy (l : Lengths) (n c d : ℕ) : Type 0 where
-  pub render : l.render ≡ n * (4 * c)
-  pub fills : l.fills ≡ n * (2 * d)
+  pub render : l.render_cmds ≡ n * (4 * c)
+  pub fills : l.depth_cmds ≡ n * (2 * d)
   pub rows : l.rows ≡ n * 54
   pub layers : l.layers ≡ open-layer-table
   pub opacities : l.opacities ≡ opacity-count

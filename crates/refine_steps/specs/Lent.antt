@@ -17,7 +17,7 @@ use Rattle.refine_row.specs.Encode.{encode}
 use Rattle.screen.specs.declared.Screen.{Screen}
 use Rattle.rect.specs.Rects.{rect-of}
 use Rattle.screen.specs.Screens.{screen-in}
-use Rattle.screen.specs.Tables.{tables, ScreenLent, lent, float-0}
+use Rattle.screen.specs.Tables.{tables, ScreenLent, screen_lent, float-0}
 use Rattle.screen.specs.Layers.{layer-words}
 use Rattle.layers.specs.Filter.{filter-paint-words}
 use Rattle.walk.specs.Reading.{pattern_of}
@@ -59,7 +59,7 @@ rows_of s = lay (map (encode s.state.frame.c s.state.frame.d) s.rows)
 -- a screen and its words: whether painting has begun, the depth words and the painter's are no part of the rules' screen
 unfoldable pub lent_of : rule.Screen Row → Bool → List ℕ → List ℕ → ScreenLent
 lent_of s begun depth painting =
-    lent (screen-of s.state begun)
+    screen_lent (screen-of s.state begun)
     (tables (rows_of s).render (rows_of s).fills depth (rows_of s).state painting (table 0 open-layer-table (layers-words s.state.layers))
     (table float-0 most-layers (layers-opacities s.state.layers) ++ table float-0 most-attrs (map attr-opacity s.state.attrs.layers))
     (table 0 paint-attr-table (join paint-attr-words s.state.attrs.paints))

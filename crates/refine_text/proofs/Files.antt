@@ -17,7 +17,7 @@ use Rattle.rules.specs.Lines.{refused, answer-lines, rowlist-place, rowlist-scre
 use Rattle.rules.proofs.All.{never, and_left, and_right}
 use Rattle.screen.specs.declared.Screen as declared
 use Rattle.screen.specs.Judging.{good-tables, arenas, judged_reset}
-use Rattle.screen.specs.Tables.{Tables, lengths, ScreenLent, lent}
+use Rattle.screen.specs.Tables.{Tables, lengths, ScreenLent, screen_lent}
 use Rattle.refine_steps.specs.Sound.{Fitting}
 use Rattle.refine_steps.proofs.Refined.{Refines}
 use Rattle.refine_steps.proofs.Reset.{fresh-sound}
@@ -240,7 +240,7 @@ module _ (q : Setup) (u : Usual q) (ws : List ℕ) (bs : List ℕ) (room : 26425
 
     module _ (g : good_viewport v ≡ true) (few : rows_of v ≤ 32) (t : Tables) (h : Exact z t) where
       abbrev given : ScreenLent
-      given = lent nothing t
+      given = screen_lent nothing t
 
       tables-good : good-tables (rows_of v) (lengths t) ≡ true
       tables-good =

@@ -29,15 +29,16 @@ pub trait RowAct: Copy {
 }
 
 // An act on one row's words.
-fn on_words<A: RowAct>(state: &mut [u32], render: &mut [u32], fills: &mut [u32], act: A)
-    requires { A.Asks act (words state.old render.old fills.old) × Room (words state.old render.old fills.old) (A.made act (words state.old render.old fills.old)) }
-    ensures row { words state.new render.new fills.new ≡ A.made act (words state.old render.old fills.old) }
-    ensures grown { Grown (words state.old render.old fills.old) (words state.new render.new fills.new) }
+fn on_words<A: RowAct>(state: &mut [u32], render_cmds: &mut [u32], depth_cmds: &mut [u32], act: A)
+    requires asked { A.Asks act (words state.old render_cmds.old depth_cmds.old) }
+    requires room { Room (words state.old render_cmds.old depth_cmds.old) (A.made act (words state.old render_cmds.old depth_cmds.old)) }
+    ensures row { words state.new render_cmds.new depth_cmds.new ≡ A.made act (words state.old render_cmds.old depth_cmds.old) }
+    ensures grown { Grown (words state.old render_cmds.old depth_cmds.old) (words state.new render_cmds.new depth_cmds.new) }
 {
     let mut row = Row {
         state,
-        render,
-        fills,
+        render_cmds,
+        depth_cmds,
     };
     act.on(&mut row);
 }
@@ -45,28 +46,28 @@ fn on_words<A: RowAct>(state: &mut [u32], render: &mut [u32], fills: &mut [u32],
 /// An act on row r, with room for c commands and d depth fills in a row.
 pub fn on_row<A: RowAct>(
     state: &mut [u32],
-    render: &mut [u32],
-    fills: &mut [u32],
+    render_cmds: &mut [u32],
+    depth_cmds: &mut [u32],
     c: u32,
     d: u32,
     r: usize,
     act: A,
 )
-    requires { (n : ℕ) × Ready c d n r (A.Asks act) (A.made act) (words state.old render.old fills.old) }
-    ensures { (n : ℕ) → Ready c d n r (A.Asks act) (A.made act) (words state.old render.old fills.old)
-        → cut (sizes c d) n (words state.new render.new fills.new) ≡ change (A.made act) r (cut (sizes c d) n (words state.old render.old fills.old)) }
+    requires { (n : ℕ) × Ready c d n r (A.Asks act) (A.made act) (words state.old render_cmds.old depth_cmds.old) }
+    ensures { (n : ℕ) → Ready c d n r (A.Asks act) (A.made act) (words state.old render_cmds.old depth_cmds.old)
+        → cut (sizes c d) n (words state.new render_cmds.new depth_cmds.new) ≡ change (A.made act) r (cut (sizes c d) n (words state.old render_cmds.old depth_cmds.old)) }
 {
     let p = place_of(c, d, r);
     on_words(
         &mut state[p.x0..p.x1],
-        &mut render[p.y0..p.y1],
-        &mut fills[p.z0..p.z1],
+        &mut render_cmds[p.y0..p.y1],
+        &mut depth_cmds[p.z0..p.z1],
         act,
     );
 }
 
 /// Rule 9: a closing LayerFill.
-#[derive(Clone, Copy)]
+#[derive(Clone, Copy, Debug, PartialEq, Eq)]
 pub struct Close {
     pub fill: Fill,
 }
@@ -82,7 +83,7 @@ impl RowAct for Close {
 }
 
 /// Rules 9 and 10: a PopBuf.
-#[derive(Clone, Copy)]
+#[derive(Clone, Copy, Debug, PartialEq, Eq)]
 pub struct Pop;
 
 impl RowAct for Pop {

@@ -43,9 +43,10 @@ fn push_edge(row: &mut Row<'_>, edge: Option<TileSpan>, attrs_idx: u32)
 }
 
 // Rule 7: an eligible span, split over buckets. No caller has a span that starts after its end; it would stay whole.
-#[tactic(auto, using(crate::proofs::ActsLaws::refused_is, crate::proofs::ActsLaws::refused_asks, crate::proofs::ActsLaws::whole_is, crate::proofs::ActsLaws::whole_asks, crate::proofs::ActsLaws::before_asks, crate::proofs::ActsLaws::buckets_ask, crate::proofs::ActsLaws::after_asks, crate::proofs::ActsLaws::pieces_done))]
+#[tactic(auto, using(crate::proofs::ActsLaws::whole_is))]
 fn push_opaque(row: &mut Row<'_>, span: TileSpan, attrs_idx: u32, draw_id: u32, width: Width)
-    requires { Short (tiles span) × Room (held row.old) (parted (bucket-tiles width) attrs_idx draw_id (tiles span) (held row.old)) }
+    requires short { Short (tiles span) }
+    requires room { Room (held row.old) (parted (bucket-tiles width) attrs_idx draw_id (tiles span) (held row.old)) }
     ensures same { Same row.old row.new }
     ensures row { held row.new ≡ parted (bucket-tiles width) attrs_idx draw_id (tiles span) (held row.old) }
 {
@@ -75,7 +76,7 @@ pub fn is_unsplit(eligible: bool, alpha: Option<u32>) -> bool
 }
 
 /// Rules 5 to 7 (bucketer.rs, push_fill): what is left of a segment, on its row. `eligible` is rule 6's, for the whole draw; tiles are the screen's.
-#[tactic(auto, using(crate::proofs::ActsLaws::first_room, crate::proofs::ActsLaws::one_asks, crate::proofs::ActsLaws::one_done, crate::proofs::ActsLaws::parts_ask, crate::proofs::ActsLaws::parts_done))]
+#[tactic(auto, using(crate::proofs::ActsLaws::first_room, crate::proofs::ActsLaws::one_done, crate::proofs::ActsLaws::parts_done))]
 pub fn push_fill(
     row: &mut Row<'_>,
     n: u32,
@@ -85,7 +86,9 @@ pub fn push_fill(
     draw_id: u32,
     width: Width,
 )
-    requires { Short (tiles stretch.tiles) × (n ≤ most-layers) × Room (held row.old) (drawn (bucket-tiles width) n eligible (tiles stretch.tiles) stretch.alpha attrs_idx draw_id (held row.old)) }
+    requires short { Short (tiles stretch.tiles) }
+    requires layers { n ≤ most-layers }
+    requires room { Room (held row.old) (drawn (bucket-tiles width) n eligible (tiles stretch.tiles) stretch.alpha attrs_idx draw_id (held row.old)) }
     ensures same { Same row.old row.new }
     ensures row { held row.new ≡ drawn (bucket-tiles width) n eligible (tiles stretch.tiles) stretch.alpha attrs_idx draw_id (held row.old) }
 {

@@ -19,7 +19,8 @@ fn is_good_union(tag: u32, span: u32) -> bool
 
 // Level k's PushBuf stands on the row, and its union is good.
 fn is_good_level(state: &[u32], k: u32) -> bool
-    requires { (length state.now ≡ row-size) × (k ≤ most-layers) }
+    requires long { length state.now ≡ row-size }
+    requires level { k ≤ most-layers }
     ensures { result ≡ good-level k state.now }
 {
     let at = LEVEL_BASE + LEVEL * k as usize;

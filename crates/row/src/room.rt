@@ -12,7 +12,7 @@ use sizes::{DEPTHS, LEVELS, RENDERS, ROW, TILE_END};
 
 /// What a row has room for: c commands and d depth fills. What it gets beside what is added: a PushBuf for each of the `layers` open layers that it lacks, and
 /// `once` commands.
-#[derive(Clone, Copy)]
+#[derive(Clone, Copy, Debug, PartialEq, Eq)]
 pub struct Limits {
     pub c: u32,
     pub d: u32,
@@ -21,7 +21,7 @@ pub struct Limits {
 }
 
 /// Render commands and depth fills that are added to a row.
-#[derive(Clone, Copy)]
+#[derive(Clone, Copy, Debug, PartialEq, Eq)]
 pub struct Counts {
     pub renders: usize,
     pub depths: usize,
@@ -34,7 +34,7 @@ pub const ONE_COMMAND: Counts = Counts {
 };
 
 /// What was found so far: nothing, or what is answered by 5, 10 or 11, of which the smallest counts. A bad record, 4, ends a count at once and has no case.
-#[derive(Clone, Copy)]
+#[derive(Clone, Copy, Debug, PartialEq, Eq)]
 pub enum Fault {
     Nothing,
     BadOrder,
@@ -57,7 +57,7 @@ impl Fault {
 }
 
 /// The row at hand with its counts so far, the PushBufs and `once` commands among them, and what was found so far.
-#[derive(Clone, Copy)]
+#[derive(Clone, Copy, Debug, PartialEq, Eq)]
 pub struct Hand {
     pub renders: usize,
     pub depths: usize,

@@ -9,12 +9,12 @@ use sizes::ROW;
 #[derive(Drop)]
 pub struct Rows<'a> {
     pub state: &'a mut [u32],
-    pub render: &'a mut [u32],
-    pub fills: &'a mut [u32],
+    pub render_cmds: &'a mut [u32],
+    pub depth_cmds: &'a mut [u32],
 }
 
 /// Where row r's words start and end: x in the records, y in the render commands, z in the depth fills.
-#[derive(Clone, Copy)]
+#[derive(Clone, Copy, Debug, PartialEq, Eq)]
 pub struct Place {
     pub x0: usize,
     pub x1: usize,

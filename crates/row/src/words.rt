@@ -1,5 +1,5 @@
-//! One row over its own words (bucketer.rs, RowState). Parts: each function has a `requires`, which its callers have judged. They know one row and not its place
-//! on the screen.
+//! One row over its own words (bucketer.rs, RowState). Parts: each function has a `requires`, which its callers have judged. They know one row and not its
+//! place on the screen.
 ghost use Rattle.std.specs.Prelude.{◌≡◌, ◌≤◌, ◌<◌, length, get_or};
 ghost use Rattle.sizes.specs.Sizes.{tile-end, most-layers, most-room, row-size, renders-at, levels-at};
 ghost use Rattle.rules.specs.Spans.{span};
@@ -23,14 +23,15 @@ use span::TileSpan;
 #[derive(Drop)]
 pub struct Row<'a> {
     pub state: &'a mut [u32],
-    pub render: &'a mut [u32],
-    pub fills: &'a mut [u32],
+    pub render_cmds: &'a mut [u32],
+    pub depth_cmds: &'a mut [u32],
 }
 
 // The span word of a union that grows; the tag 6 says that there is one already.
 #[tactic(auto, unfolding(crate::specs::Words::hull_word))]
 fn hull_word(tag: u32, span: u32, first: u32, end: u32) -> u32
-    requires { (first ≤ tile-end) × («end» ≤ tile-end) }
+    requires first { first ≤ tile-end }
+    requires last { «end» ≤ tile-end }
     ensures { result ≡ hull_word tag span first «end» }
 {
     if tag == 6 {
@@ -43,7 +44,9 @@ fn hull_word(tag: u32, span: u32, first: u32, end: u32) -> u32
 // Rule 10: a fill counts for the innermost level, if the row has one.
 #[tactic(auto, unfolding(crate::specs::Words::include_span))]
 fn include_current_span(state: &mut [u32], first: u32, end: u32)
-    requires { (length state.old ≡ row-size) × (get_or state.old levels-at 0 ≤ most-layers) × (first ≤ tile-end) × («end» ≤ tile-end) }
+    requires long { length state.old ≡ row-size }
+    requires levels { get_or state.old levels-at 0 ≤ most-layers }
+    requires tiles { (first ≤ tile-end) × («end» ≤ tile-end) }
     ensures { state.new ≡ include_span first «end» state.old }
 {
     let k = state[LEVELS] as usize;
@@ -59,7 +62,9 @@ fn include_current_span(state: &mut [u32], first: u32, end: u32)
 
 // Rule 10: a fill's span counts for the innermost level; a buffer has none.
 fn include_fill(state: &mut [u32], cmd: RenderCmd)
-    requires { (length state.old ≡ row-size) × (get_or state.old levels-at 0 ≤ most-layers) × ShortCmd cmd }
+    requires long { length state.old ≡ row-size }
+    requires levels { get_or state.old levels-at 0 ≤ most-layers }
+    requires short { ShortCmd cmd }
     ensures { state.new ≡ include-adds (adds (command cmd)) state.old }
 {
     match cmd {
@@ -74,13 +79,14 @@ impl Row<'_> {
     /// A command (push_cmd); a fill's span counts for the innermost level (rule 10).
     #[tactic(auto, unfolding(crate::specs::Words::put_command))]
     pub fn push_cmd(&mut self, cmd: RenderCmd)
-        requires { ShortCmd cmd × Room (held self.old) (put_command (command cmd) (held self.old)) }
+        requires short { ShortCmd cmd }
+        requires room { Room (held self.old) (put_command (command cmd) (held self.old)) }
         ensures same { Same self.old self.new }
         ensures row { held self.new ≡ put_command (command cmd) (held self.old) }
     {
         let n = self.state[RENDERS];
         include_fill(self.state, cmd);
-        cmd.words().put(self.render, n as usize);
+        cmd.words().put(self.render_cmds, n as usize);
         self.state[RENDERS] = n + 1;
     }
 
@@ -108,7 +114,7 @@ impl Row<'_> {
         let k = self.state[LEVELS] + 1;
         RenderCmd::PushBuf(None)
             .words()
-            .put(self.render, n as usize);
+            .put(self.render_cmds, n as usize);
         let at = LEVEL_BASE + LEVEL * k as usize;
         self.state[at] = n;
         self.state[at + 1] = 5;
@@ -120,7 +126,8 @@ impl Row<'_> {
     /// Rules 9 and 10 (pop_buf): a PopBuf; the innermost level's PushBuf gets its span, and the level's words become 0.
     #[tactic(auto, using(crate::proofs::WordsLaws::end_room), unfolding(crate::specs::Words::end_buf, rules::specs::Commands::command_words))]
     pub fn pop_buf(&mut self)
-        requires { Ends (held self.old) × Room (held self.old) (end_buf (held self.old)) }
+        requires ends { Ends (held self.old) }
+        requires room { Room (held self.old) (end_buf (held self.old)) }
         ensures same { Same self.old self.new }
         ensures row { held self.new ≡ end_buf (held self.old) }
     {
@@ -128,9 +135,9 @@ impl Row<'_> {
         let k = self.state[LEVELS];
         let at = LEVEL_BASE + LEVEL * k as usize;
         let p = 4 * self.state[at] as usize;
-        self.render[p] = self.state[at + 1];
-        self.render[p + 1] = self.state[at + 2];
-        RenderCmd::PopBuf.words().put(self.render, n as usize);
+        self.render_cmds[p] = self.state[at + 1];
+        self.render_cmds[p + 1] = self.state[at + 2];
+        RenderCmd::PopBuf.words().put(self.render_cmds, n as usize);
         self.state[at] = 0;
         self.state[at + 1] = 0;
         self.state[at + 2] = 0;
@@ -162,7 +169,7 @@ impl Row<'_> {
         self.state[LARGEST] = largest;
         self.state[DEPTHS] = n + 1;
         let at = 2 * n as usize;
-        self.fills[at] = two.span.0;
-        self.fills[at + 1] = two.attrs_idx;
+        self.depth_cmds[at] = two.span.0;
+        self.depth_cmds[at + 1] = two.attrs_idx;
     }
 }

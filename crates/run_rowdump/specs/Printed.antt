@@ -1,14 +1,15 @@
 -- What `rowdump` prints.
-use Rattle.std.specs.Prelude.{ℕ, true, List, codes, if◌then◌else◌}
+use Rattle.std.specs.Prelude.{ℕ, true, List, codes}
 use Rattle.text_programs.specs.Programs.{Wanted}
-use Rattle.text_programs.specs.Arguments.{asks_help, read_arguments, wanted_by}
+use Rattle.text_programs.specs.Arguments.{asked_about, read_arguments, wanted_by}
 use Rattle.text_programs.specs.Streams.{Item, stream_printed}
-use Rattle.text_programs.specs.Usages.{usage_text}
+use Rattle.text_programs.specs.declared.about.About.{About}
+use Rattle.text_programs.specs.Abouts.{about_text, said_or}
 use Rattle.text_dump.specs.Rowdump.{rowdump-text, dump-by-width}
 
--- .. where it is asked how it is called
-abbrev pub usage : List ℕ
-usage = usage_text (codes "usage: rowdump [--snap] [--width N] [--panels] < STREAM\noptions, in any order; the last of a repeated one counts:\n") (codes "  --panels   end each line that has a panel with it\n")
+-- .. where it is asked about itself
+abbrev pub about : About → List ℕ
+about = about_text (codes "rowdump") (codes "usage: rowdump [--snap] [--width N] [--panels] < STREAM\noptions, in any order; the last of a repeated one counts:\n") (codes "  --panels   end each line that has a panel with it\n")
 
 -- .. of recording i, a file's bytes
 abbrev pub recording_printed : Wanted → ℕ → List ℕ → List ℕ
@@ -24,4 +25,4 @@ item_of args = item_printed (wanted_by (read_arguments true args).choice)
 
 -- .. of the stream on standard input
 abbrev pub printed : List (List ℕ) → List ℕ → List ℕ
-printed args stream = if asks_help args then usage else stream_printed (item_of args) 4 stream
+printed args stream = said_or (asked_about args) about (stream_printed (item_of args) 4 stream)

@@ -3,28 +3,29 @@
 //! a length past the stream's end takes what is left.
 #![tactic(auto)]
 
-ghost use Rattle.std.specs.Prelude.{◌≡◌, ◌≢◌, ◌↔◌, ◌⊎◌, true, false, [], length, map, string_bytes, IfSome, IfErr, OnOk, IsErrAnd};
+ghost use Rattle.std.specs.Prelude.{◌≡◌, ◌≢◌, ◌↔◌, ◌⊎◌, true, [], length, map, string_bytes, IfSome, IfErr, OnOk, IsErrAnd};
 ghost use Rattle.std.specs.Io.KnownBytes.{Appends};
 ghost use Rattle.screen.specs.Screens.{setup-of};
 ghost use Rattle.text.specs.Files.{Usual};
 ghost use Rattle.text_programs.specs.Programs.{first};
-ghost use Rattle.text_programs.specs.Arguments.{asks_help, read_arguments, wanted_of};
+ghost use Rattle.text_programs.specs.Arguments.{asked_about, read_arguments, wanted_of};
 ghost use Rattle.text_programs.specs.Streams.{stream_printed, PrintsFirst};
 ghost use Rattle.text_programs.specs.Failures.{IsUsage, IsUnwritten, IsOfWriting, Begins};
 ghost use Rattle.text_dump.specs.Dumped.{Ready};
-ghost use Rattle.run_rowdump.specs.Printed.{usage, recording_printed, item_printed, printed, item_of};
+ghost use Rattle.run_rowdump.specs.Printed.{about, recording_printed, item_printed, printed, item_of};
 
 use std::alloc::Global;
 use std::io::{Read, Write};
 use text_dump::{Desk, dump_buffer, no_width_dump, piece_buffer, rowdump_text};
+use text_programs::about::{asked_about, print_about};
 use text_programs::failure::{Failure, Stop};
 use text_programs::options::{Want, read_options};
 use text_programs::stream::{Replies, answer_all};
 use text_programs::tables::{Tables, file_buffer};
-use text_programs::usage::{Usage, Wrong, asks_help, print_usage, wrong_option};
+use text_programs::usage::{Usage, Wrong, wrong_option};
 use text_programs::write_text;
 
-/// What it says where it is asked how it is called.
+/// What it says of itself where it is asked.
 pub const USAGE: Usage = Usage {
     program: "rowdump",
     calls: "usage: rowdump [--snap] [--width N] [--panels] < STREAM\noptions, in any order; the last of a repeated one counts:\n",
@@ -101,7 +102,7 @@ fn print_stream<R: Read, W: Write>(
     answer_all(input, output, &mut head, buffer.as_mut_slice(), &mut dump)
 }
 
-/// Prints what the arguments ask for, over any input and output: the usage, or the recordings of the stream on the input.
+/// Prints what the arguments ask for, over any input and output: its usage, its version, or the recordings of the stream on the input.
 #[tactic(auto, using(crate::proofs::Printing::none_printed))]
 pub fn run<'a, R: Read, W: Write>(
     alloc: Global,
@@ -110,7 +111,7 @@ pub fn run<'a, R: Read, W: Write>(
     output: &mut W,
 ) -> Result<(), Stop<'a>>
     ensures usage { IsErrAnd result IsUsage
-        ↔ ((asks_help (map string_bytes args.now) ≡ false) × ((read_arguments true (map string_bytes args.now)).others ≢ [])) }
+        ↔ ((asked_about (map string_bytes args.now) ≡ None) × ((read_arguments true (map string_bytes args.now)).others ≢ [])) }
     ensures untouched { IfErr result (λ stop. IsUsage stop → (input.new ≡ input.old) × (output.new ≡ output.old)) }
 
     ensures printed { OnOk result (IfSome (R.remaining input.old) (λ stream.
@@ -122,12 +123,12 @@ pub fn run<'a, R: Read, W: Write>(
     ensures whole { IfErr result (λ stop. IsUnwritten stop
         ⊎ PrintsFirst (item_of (map string_bytes args.now)) 4 (R.remaining input.old) (W.contents output.old) (W.contents output.new)) }
 
-    // Asked for its usage, it prints that whatever the input is.
-    ensures help { asks_help (map string_bytes args.now) ≡ true
-        → (input.new ≡ input.old) × OnOk result (Appends (W.contents output.old) (W.contents output.new) usage) }
+    // Asked about itself, it prints that whatever the input is.
+    ensures about { IfSome (asked_about (map string_bytes args.now)) (λ asked.
+        (input.new ≡ input.old) × OnOk result (Appends (W.contents output.old) (W.contents output.new) (about asked))) }
 {
-    if asks_help(args) {
-        print_usage(alloc, output, &USAGE)?;
+    if let Some(about) = asked_about(args) {
+        print_about(alloc, output, &USAGE, about)?;
         return Ok(());
     }
     let options = read_options(args, true);

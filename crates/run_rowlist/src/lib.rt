@@ -1,25 +1,26 @@
 //! What `rowlist` does with its arguments, from its input to its output: it prints the rows of a recording, or the number of its refusal.
 #![tactic(auto)]
 
-ghost use Rattle.std.specs.Prelude.{◌≡◌, ◌≢◌, ◌≤◌, ◌↔◌, ◌⊎◌, true, false, [], length, map, string_bytes, IfSome, IfErr, OnOk, IsErrAnd};
+ghost use Rattle.std.specs.Prelude.{◌≡◌, ◌≢◌, ◌≤◌, ◌↔◌, ◌⊎◌, false, [], length, map, string_bytes, IfSome, IfErr, OnOk, IsErrAnd};
 ghost use Rattle.std.specs.Io.KnownBytes.{Appends};
 ghost use Rattle.screen.specs.Screens.{setup-of};
 ghost use Rattle.text.specs.Files.{Usual};
 ghost use Rattle.text_programs.specs.Programs.{rowlist-text, by_width, first};
-ghost use Rattle.text_programs.specs.Arguments.{asks_help, read_arguments, wanted_of};
+ghost use Rattle.text_programs.specs.Arguments.{asked_about, read_arguments, wanted_of};
 ghost use Rattle.text_programs.specs.Rooms.{file-room, text-room};
 ghost use Rattle.text_programs.specs.Failures.{IsOfReading, IsOfWriting, IsUsage, IsUnwritten, Begins};
-ghost use Rattle.run_rowlist.specs.Printed.{usage, listed, printed};
+ghost use Rattle.run_rowlist.specs.Printed.{about, listed, printed};
 
 use std::alloc::Global;
 use std::io::{Read, Write};
+use text_programs::about::{asked_about, print_about};
 use text_programs::failure::{Failure, Stop};
 use text_programs::options::{Want, read_options};
 use text_programs::tables::{Tables, file_buffer, text_buffer};
-use text_programs::usage::{Usage, Wrong, asks_help, print_usage, wrong_option};
+use text_programs::usage::{Usage, Wrong, wrong_option};
 use text_programs::{no_width_text, read_all, rowlist_text, write_text};
 
-/// What it says where it is asked how it is called.
+/// What it says of itself where it is asked.
 pub const USAGE: Usage = Usage {
     program: "rowlist",
     calls: "usage: rowlist [--snap] [--width N] < FILE\noptions, in any order; the last of a repeated one counts:\n",
@@ -84,7 +85,7 @@ fn list_input<R: Read, W: Write>(
     )
 }
 
-/// Prints what the arguments ask for, over any input and output: the usage, or the list of the recording on the input.
+/// Prints what the arguments ask for, over any input and output: its usage, its version, or the list of the recording on the input.
 pub fn run<'a, R: Read, W: Write>(
     alloc: Global,
     args: &'a [String],
@@ -92,7 +93,7 @@ pub fn run<'a, R: Read, W: Write>(
     output: &mut W,
 ) -> Result<(), Stop<'a>>
     ensures usage { IsErrAnd result IsUsage
-        ↔ ((asks_help (map string_bytes args.now) ≡ false) × ((read_arguments false (map string_bytes args.now)).others ≢ [])) }
+        ↔ ((asked_about (map string_bytes args.now) ≡ None) × ((read_arguments false (map string_bytes args.now)).others ≢ [])) }
     ensures untouched { IfErr result (λ stop. IsUsage stop → (input.new ≡ input.old) × (output.new ≡ output.old)) }
 
     ensures printed { OnOk result (IfSome (R.remaining input.old) (λ file.
@@ -101,12 +102,12 @@ pub fn run<'a, R: Read, W: Write>(
         Begins (W.contents output.old) (W.contents output.new) (printed (map string_bytes args.now) file)) }
     ensures unread { IfErr result (λ stop. IsUnwritten stop ⊎ (output.new ≡ output.old)) }
 
-    // Asked for its usage, it prints that whatever the input is.
-    ensures help { asks_help (map string_bytes args.now) ≡ true
-        → (input.new ≡ input.old) × OnOk result (Appends (W.contents output.old) (W.contents output.new) usage) }
+    // Asked about itself, it prints that whatever the input is.
+    ensures about { IfSome (asked_about (map string_bytes args.now)) (λ asked.
+        (input.new ≡ input.old) × OnOk result (Appends (W.contents output.old) (W.contents output.new) (about asked))) }
 {
-    if asks_help(args) {
-        print_usage(alloc, output, &USAGE)?;
+    if let Some(about) = asked_about(args) {
+        print_about(alloc, output, &USAGE, about)?;
         return Ok(());
     }
     let options = read_options(args, false);

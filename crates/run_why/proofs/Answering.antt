@@ -12,7 +12,7 @@ use Rattle.text_programs.specs.Streams.{Item, short, PrintsFirst}
 use Rattle.text_programs.proofs.Cut.{cut, by_width-cut}
 use Rattle.text_programs.proofs.Streaming.{nothing_first, begins_after}
 use Rattle.text_why.specs.Questions.{question-of}
-use Rattle.run_why.specs.declared.Query.{Query}
+use Rattle.run_why.specs.declared.arguments.Query.{Query}
 use Rattle.run_why.specs.Printed.{answer, query_in, item_answer}
 
 module _ (q : Setup) (row tile : ℕ) (x : Question) where

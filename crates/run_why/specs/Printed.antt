@@ -1,21 +1,23 @@
 -- What `why` prints.
-use Rattle.std.specs.Prelude.{ℕ, false, List, [], ◌++◌, codes, if◌then◌else◌, Some, None}
+use Rattle.std.specs.Prelude.{ℕ, false, List, [], ◌++◌, codes, Some, None}
 use Rattle.rules_reason.specs.Answers.{why-text, question-line}
 use Rattle.text_programs.specs.Programs.{Wanted, by_width}
-use Rattle.text_programs.specs.Arguments.{Arguments, asks_help, read_arguments, wanted_by}
+use Rattle.text_programs.specs.Arguments.{Arguments, asked_about, read_arguments, wanted_by}
 use Rattle.text_programs.specs.Streams.{Item, word_at, stream_printed}
-use Rattle.text_programs.specs.Usages.{usage_text}
+use Rattle.text_programs.specs.declared.about.About.{About}
+use Rattle.text_programs.specs.Abouts.{about_text, said_or}
 use Rattle.text_why.specs.declared.Question.TheVariants.{Every}
 use Rattle.text_why.specs.Questions.{question-of}
-use Rattle.run_why.specs.declared.Query.{Query}
-use Rattle.run_why.specs.declared.Request.{Request}
-use Rattle.run_why.specs.declared.Request.TheVariants.{Stream, File}
+use Rattle.run_why.specs.declared.arguments.Query.{Query}
+use Rattle.run_why.specs.declared.arguments.Request.{Request}
+use Rattle.run_why.specs.declared.arguments.Request.TheVariants.{Stream, File}
 use Rattle.run_why.specs.Requests.{request_of}
 
--- .. where it is asked how it is called
-abbrev pub usage : List ℕ
-usage =
-    usage_text
+-- .. where it is asked about itself
+abbrev pub about : About → List ℕ
+about =
+    about_text
+    (codes "why")
     (codes "usage: why [--snap] [--width N] ROW TILE [draw N | layer N] < FILE\n       why [--snap] [--width N] --stream < STREAM\nROW and TILE count from 0 on the screen; draw N, layer N: the attribute asked about, every one without it\noptions, before the other arguments, in any order; the last of a repeated one counts:\n")
     []
 
@@ -49,4 +51,4 @@ abbrev pub reply_to : Arguments → List ℕ → List ℕ
 reply_to a bytes = elim (request_of a.others) [ Some r ↦ reply (wanted_by a.choice) r bytes | None ↦ [] ]
 
 abbrev pub printed : List (List ℕ) → List ℕ → List ℕ
-printed args bytes = if asks_help args then usage else reply_to (read_arguments false args) bytes
+printed args bytes = said_or (asked_about args) about (reply_to (read_arguments false args) bytes)

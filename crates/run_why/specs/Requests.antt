@@ -3,9 +3,9 @@ use Rattle.std.specs.Prelude.{◌≡◌, ℕ, Bool, true, false, if◌then◌els
 use Rattle.text_programs.specs.Arguments.{number_of, read_arguments}
 use Rattle.text_why.specs.declared.Question.{Question}
 use Rattle.text_why.specs.declared.Question.TheVariants.{Every, One}
-use Rattle.run_why.specs.declared.Query.{Query}
-use Rattle.run_why.specs.declared.Request.{Request}
-use Rattle.run_why.specs.declared.Request.TheVariants.{Stream, File}
+use Rattle.run_why.specs.declared.arguments.Query.{Query}
+use Rattle.run_why.specs.declared.arguments.Request.{Request}
+use Rattle.run_why.specs.declared.arguments.Request.TheVariants.{Stream, File}
 
 -- whether an attribute's kind is that of the layers
 abbrev pub kind_of : List ℕ → Option Bool

@@ -3,35 +3,39 @@
 //! file; a length past the stream's end takes what is left.
 #![tactic(auto)]
 
-ghost use Rattle.std.specs.Prelude.{◌≡◌, ◌≢◌, ◌≤◌, ◌↔◌, ◌⊎◌, true, false, length, map, take, string_bytes, Some, None, IfSome, IfErr, OnOk, IsErrAnd};
-ghost use Rattle.std.specs.Result.{result_ok};
+ghost use Rattle.std.specs.Prelude.{◌≡◌, ◌≤◌, ◌↔◌, ◌⊎◌, false, length, map, take, string_bytes, None, IfSome, IfErr, OnOk, IsErrAnd};
 ghost use Rattle.std.specs.Io.KnownBytes.{Appends};
 ghost use Rattle.rules_reason.specs.Answers.{question-line};
 ghost use Rattle.screen.specs.Screens.{setup-of};
 ghost use Rattle.text.specs.Files.{Usual};
 ghost use Rattle.text_programs.specs.Rooms.{file-room, text-room};
 ghost use Rattle.text_programs.specs.Failures.{IsOfReading, IsOfWriting, IsUsage, IsUnwritten, Begins};
-ghost use Rattle.text_programs.specs.Arguments.{number_of, asks_help, read_arguments, wanted_of};
+ghost use Rattle.text_programs.specs.Arguments.{asked_about, read_arguments, wanted_of};
 ghost use Rattle.text_programs.specs.Streams.{PrintsFirst};
-ghost use Rattle.run_why.specs.Requests.{question_of, query_of, request_of, IsOfFile, AsksOfFile, AsksOfStream};
+ghost use Rattle.run_why.specs.Requests.{request_of, IsOfFile, AsksOfFile, AsksOfStream};
 ghost use Rattle.run_why.specs.Desks.{Ready};
-ghost use Rattle.run_why.specs.Printed.{usage, answer, item_answer, stream_answers, reply, printed, item_of};
+ghost use Rattle.run_why.specs.Printed.{about, answer, item_answer, reply, printed, item_of};
 
+use crate::arguments::{Query, Request, read_request, wrong_after_stream};
 use std::alloc::Global;
 use std::io::{Read, Write};
+use text_programs::about::{asked_about, print_about};
 use text_programs::failure::{Failure, Stop};
-use text_programs::options::{Want, number, read_options};
+use text_programs::options::{Want, read_options};
 use text_programs::stream::{Replies, answer_all, word};
 use text_programs::tables::{Tables, file_buffer, text_buffer};
-use text_programs::usage::{Usage, Wrong, asks_help, print_usage, wrong_option};
+use text_programs::usage::Usage;
 use text_programs::{no_width_text, read_all, write_text};
 use text_why::{Question, question_text, why_text};
-use tile::Asked;
 
-/// What it says where it is asked how it is called.
+mod arguments;
+
+/// What it says of itself where it is asked.
 pub const USAGE: Usage = Usage {
     program: "why",
-    calls: "usage: why [--snap] [--width N] ROW TILE [draw N | layer N] < FILE\n       why [--snap] [--width N] --stream < STREAM\nROW and TILE count from 0 on the screen; draw N, layer N: the attribute asked about, every one without it\noptions, before the other arguments, in any order; the last of a repeated one counts:\n",
+    calls: "usage: why [--snap] [--width N] ROW TILE [draw N | layer N] < FILE\n       why [--snap] [--width N] --stream < STREAM\n\
+        ROW and TILE count from 0 on the screen; draw N, layer N: the attribute asked about, every one without it\n\
+        options, before the other arguments, in any order; the last of a repeated one counts:\n",
     options: "",
 };
 
@@ -41,101 +45,6 @@ const HEAD: usize = 12;
 const ROW: usize = 4;
 
 const TILE: usize = 8;
-
-// A question at a tile.
-#[derive(Clone, Copy)]
-struct Query {
-    row: u32,
-    tile: u32,
-    question: Question,
-}
-
-// What is asked: of each file of a stream, or of one file.
-#[derive(Clone, Copy)]
-enum Request {
-    Stream,
-    File(Query),
-}
-
-// What a word is that is no number.
-fn no_number(text: &str) -> Wrong<'_> {
-    if text.starts_with('-') {
-        return Wrong::NoOption(text);
-    }
-    Wrong::NoNumber(text)
-}
-
-// A number among the arguments.
-fn read_number(text: &str) -> Result<u32, Wrong<'_>>
-    ensures { result_ok result ≡ number_of text.now }
-{
-    number(text).ok_or(no_number(text))
-}
-
-// A question about one attribute.
-fn read_question<'a>(kind: &'a str, attribute: &'a str) -> Result<Question, Wrong<'a>>
-    ensures { result_ok result ≡ question_of kind.now attribute.now }
-{
-    let layer = match kind {
-        "draw" => false,
-        "layer" => true,
-        _ => return Err(Wrong::NoKind(kind)),
-    };
-    let attribute = read_number(attribute)?;
-    Ok(Question::One(Asked { layer, attribute }))
-}
-
-fn read_query<'a>(row: &'a str, tile: &'a str, question: Question) -> Result<Query, Wrong<'a>>
-    ensures { result_ok result ≡ query_of row.now tile.now question }
-{
-    let row = read_number(row)?;
-    let tile = read_number(tile)?;
-    Ok(Query {
-        row,
-        tile,
-        question,
-    })
-}
-
-// What is wrong with arguments of which there are too few or too many.
-fn wrong_count(others: &[String]) -> Wrong<'_> {
-    match others {
-        [] => Wrong::Missing("ROW"),
-        [_] => Wrong::Missing("TILE"),
-        [_, _, kind] => match kind.as_str() {
-            "draw" | "layer" => Wrong::Unfollowed(kind.as_str()),
-            _ => Wrong::NoKind(kind.as_str()),
-        },
-        [_, .., last] => Wrong::TooMany(last.as_str()),
-    }
-}
-
-// What is wrong with arguments that ask for nothing, given what was found first: nothing may stand after `--stream`.
-fn wrong_after_stream<'a>(others: &'a [String], found: Wrong<'a>) -> Wrong<'a> {
-    match others {
-        [first, extra, ..] if first.as_str() == "--stream" => Wrong::TooMany(extra.as_str()),
-        _ => found,
-    }
-}
-
-// What the arguments after the options ask, or what is wrong with them.
-fn read_request(others: &[String]) -> Result<Request, Wrong<'_>>
-    ensures { result_ok result ≡ request_of (map string_bytes others.now) }
-{
-    match others {
-        [word] if word.as_str() == "--stream" => Ok(Request::Stream),
-        [row, tile] => {
-            let query = read_query(row.as_str(), tile.as_str(), Question::Every)?;
-            Ok(Request::File(query))
-        }
-        [row, tile, kind, attribute] => {
-            let question = read_question(kind.as_str(), attribute.as_str())?;
-            let query = read_query(row.as_str(), tile.as_str(), question)?;
-            Ok(Request::File(query))
-        }
-        _ => Err(wrong_option(others).unwrap_or(wrong_count(others))),
-    }
-}
 
 // What is wanted, and what an answer is made in: the tables that take a file's screen, the text.
 #[derive(Drop)]
@@ -147,7 +56,8 @@ struct Desk<'a> {
 
 // What is wanted, put first; how long it is.
 fn wanted_text(file: &[u8], want: Want, query: Query, tables: &mut Tables, out: &mut [u8]) -> usize
-    requires { Usual (setup-of want.setup) × (text-room ≤ length out.old) }
+    requires usual { Usual (setup-of want.setup) }
+    requires room { text-room ≤ length out.old }
     ensures value { result ≡ length (answer (wanted_of want) query file.now) }
     ensures out_after { take result out.new ≡ answer (wanted_of want) query file.now }
 {
@@ -224,7 +134,8 @@ fn answer_file<R: Read, W: Write>(
     buffer: &mut [u8],
     desk: &mut Desk<'_>,
 ) -> Result<(), Failure>
-    requires { Ready desk.old × (length buffer.old ≡ file-room) }
+    requires ready { Ready desk.old }
+    requires long { length buffer.old ≡ file-room }
     ensures ok { OnOk result (IfSome (R.remaining input.old) (λ file.
         Appends (W.contents output.old) (W.contents output.new) (answer (wanted_of desk.old.want) query file))) }
     ensures begun { IfSome (R.remaining input.old) (λ file.
@@ -243,7 +154,8 @@ fn answer_request<R: Read, W: Write>(
     buffer: &mut [u8],
     desk: &mut Desk<'_>,
 ) -> Result<(), Failure>
-    requires { Ready desk.old × (length buffer.old ≡ file-room) }
+    requires ready { Ready desk.old }
+    requires long { length buffer.old ≡ file-room }
     ensures ok { OnOk result (IfSome (R.remaining input.old) (λ bytes.
         Appends (W.contents output.old) (W.contents output.new) (reply (wanted_of desk.old.want) request bytes))) }
     ensures begun { IfSome (R.remaining input.old) (λ bytes.
@@ -291,7 +203,7 @@ fn answer_input<R: Read, W: Write>(
     answer_request(input, output, request, buffer.as_mut_slice(), &mut desk)
 }
 
-/// Prints what the arguments ask for, over any input and output: the usage, the answer about the file on the input, or the answers to its stream.
+/// Prints what the arguments ask for, over any input and output: its usage, its version, the answer about the file on the input, or the answers to its stream.
 #[tactic(auto, using(crate::proofs::Answering::none_answered))]
 pub fn run<'a, R: Read, W: Write>(
     alloc: Global,
@@ -300,7 +212,7 @@ pub fn run<'a, R: Read, W: Write>(
     output: &mut W,
 ) -> Result<(), Stop<'a>>
     ensures usage { IsErrAnd result IsUsage
-        ↔ ((asks_help (map string_bytes args.now) ≡ false) × (request_of (read_arguments false (map string_bytes args.now)).others ≡ None)) }
+        ↔ ((asked_about (map string_bytes args.now) ≡ None) × (request_of (read_arguments false (map string_bytes args.now)).others ≡ None)) }
     ensures untouched { IfErr result (λ stop. IsUsage stop → (input.new ≡ input.old) × (output.new ≡ output.old)) }
 
     ensures printed { OnOk result (IfSome (R.remaining input.old) (λ bytes.
@@ -313,12 +225,12 @@ pub fn run<'a, R: Read, W: Write>(
     ensures whole { AsksOfStream (map string_bytes args.now) → IfErr result (λ stop. IsUnwritten stop
         ⊎ PrintsFirst (item_of (map string_bytes args.now)) 12 (R.remaining input.old) (W.contents output.old) (W.contents output.new)) }
 
-    // Asked for its usage, it prints that whatever the input is.
-    ensures help { asks_help (map string_bytes args.now) ≡ true
-        → (input.new ≡ input.old) × OnOk result (Appends (W.contents output.old) (W.contents output.new) usage) }
+    // Asked about itself, it prints that whatever the input is.
+    ensures about { IfSome (asked_about (map string_bytes args.now)) (λ asked.
+        (input.new ≡ input.old) × OnOk result (Appends (W.contents output.old) (W.contents output.new) (about asked))) }
 {
-    if asks_help(args) {
-        print_usage(alloc, output, &USAGE)?;
+    if let Some(about) = asked_about(args) {
+        print_about(alloc, output, &USAGE, about)?;
         return Ok(());
     }
     let options = read_options(args, false);

@@ -3,3 +3,4 @@ pub mod Judged
 pub mod Resets
 pub mod Passed
 pub mod LayersLaws
+pub mod Zeros

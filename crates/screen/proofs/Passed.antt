@@ -7,7 +7,7 @@ use Rattle.rules.specs.Plans.{Frame}
 use Rattle.rules.specs.Walk.{good-room, good-arenas}
 use Rattle.rect.specs.Rects.{box_of}
 use Rattle.screen.specs.declared.Screen.{Screen}
-use Rattle.screen.specs.declared.Lengths.{Lengths}
+use Rattle.screen.specs.declared.lent.Lengths.{Lengths}
 use Rattle.screen.specs.Screens.{good_screen}
 use Rattle.screen.specs.Judging.{good-rooms, judged, good-tables, arenas, judged_reset}
 use Rattle.rules.proofs.All.{and_left, and_right}

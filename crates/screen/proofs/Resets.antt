@@ -12,10 +12,10 @@ use Rattle.screen.proofs.Judged.{reset-bad-viewport}
 use Rattle.rules.specs.Plans.{Frame}
 use Rattle.screen.specs.declared.Screen.{Screen}
 use Rattle.screen.specs.declared.Setup.{Setup}
-use Rattle.screen.specs.declared.Lengths.{Lengths}
+use Rattle.screen.specs.declared.lent.Lengths.{Lengths}
 use Rattle.screen.specs.Screens.{frame, frame-of, fresh-screen}
 use Rattle.screen.specs.Judging.{judged_reset}
-use Rattle.screen.specs.Tables.{Tables, lengths, zeroed, ScreenLent, lent, reset_to}
+use Rattle.screen.specs.Tables.{Tables, lengths, zeroed, ScreenLent, screen_lent, reset_to}
 
 module _ (f : Frame) (l : ScreenLent) where
   pub refused : (r : Refusal) → number_of r ≡ judged_reset f (lengths l.tables) → answer (number_of r) l ≡ reset_to f l
@@ -23,7 +23,7 @@ module _ (f : Frame) (l : ScreenLent) where
   refused r e = rw (← e, ne_eqb (number_of r) 0 (not_done r))
 
   pub done : 0 ≡ judged_reset f (lengths l.tables) → (s : Screen) (t : Tables) → s ≡ fresh-screen f → t ≡ zeroed l.tables
-      → answer 0 (lent s t) ≡ reset_to f l
+      → answer 0 (screen_lent s t) ≡ reset_to f l
   unfolding reset_to
   done e s t p q = rw (← e, p, q)
 

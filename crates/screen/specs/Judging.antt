@@ -7,7 +7,7 @@ use Rattle.rules.specs.Plans.{Frame}
 use Rattle.rules.specs.Walk.{Arenas, good-room, good-arenas}
 use Rattle.rect.specs.Rects.{box_of}
 use Rattle.screen.specs.declared.Screen.{Screen}
-use Rattle.screen.specs.declared.Lengths.{Lengths}
+use Rattle.screen.specs.declared.lent.Lengths.{Lengths}
 use Rattle.screen.specs.Screens.{good_screen}
 
 -- C and D in range, and the render and depth fill arenas of n rows lent exactly
@@ -38,7 +38,7 @@ abbrev pub good-tables : ℕ → Lengths → Bool
 good-tables n l = eqb l.rows (n * row-size) && eqb l.painting (n * 2) && good-fixed l
 
 abbrev pub arenas : Lengths → Arenas
-arenas l = record { render = l.render; fills = l.fills; depth = l.depth }
+arenas l = record { render = l.render_cmds; fills = l.depth_cmds; depth = l.depth }
 
 -- a reset to a frame
 unfoldable pub judged_reset : Frame → Lengths → ℕ

@@ -1,23 +1,23 @@
 -- What a host lends, as its tables.
-use Rattle.std.specs.Prelude.{◌≡◌, length}
-use Rattle.screen.specs.declared.Lent.{Lent}
+use Rattle.std.specs.Prelude.{◌≡◌}
+use Rattle.screen.specs.declared.lent.Lent.{Lent}
 use Rattle.screen.specs.declared.Screen.{Screen}
-use Rattle.screen.specs.Tables.{Tables, tables, ScreenLent, lent}
+use Rattle.screen.specs.Tables.{Tables, tables, lengths, ScreenLent, screen_lent}
 
 -- what all the slices hold
 abbrev pub tables_in : Lent → Tables
 tables_in l =
-    tables l.render.now l.fills.now l.depth.now l.rows.now l.painting.now l.layers.now l.opacities.now l.paint_attrs.now
+    tables l.render_cmds.now l.depth_cmds.now l.depth.now l.rows.now l.painting.now l.layers.now l.opacities.now l.paint_attrs.now
     l.layer_attrs.now l.filter_paints.now
 
 -- a screen and what all its slices hold
 abbrev pub whole : Screen → Lent → ScreenLent
-whole s l = lent s (tables_in l)
+whole s l = screen_lent s (tables_in l)
 
 -- the same slices, whatever they hold; their lengths are said too, since no name tells them
 pub record SameLent (a b : Lent) : Type 0 where
-  pub render : b.render.ghost_name ≡ a.render.ghost_name
-  pub fills : b.fills.ghost_name ≡ a.fills.ghost_name
+  pub render : b.render_cmds.ghost_name ≡ a.render_cmds.ghost_name
+  pub fills : b.depth_cmds.ghost_name ≡ a.depth_cmds.ghost_name
   pub depth : b.depth.ghost_name ≡ a.depth.ghost_name
   pub rows : b.rows.ghost_name ≡ a.rows.ghost_name
   pub painting : b.painting.ghost_name ≡ a.painting.ghost_name
@@ -26,13 +26,4 @@ pub record SameLent (a b : Lent) : Type 0 where
   pub paint_attrs : b.paint_attrs.ghost_name ≡ a.paint_attrs.ghost_name
   pub layer_attrs : b.layer_attrs.ghost_name ≡ a.layer_attrs.ghost_name
   pub filter_paints : b.filter_paints.ghost_name ≡ a.filter_paints.ghost_name
-  pub render-long : length b.render.now ≡ length a.render.now
-  pub fills-long : length b.fills.now ≡ length a.fills.now
-  pub depth-long : length b.depth.now ≡ length a.depth.now
-  pub rows-long : length b.rows.now ≡ length a.rows.now
-  pub painting-long : length b.painting.now ≡ length a.painting.now
-  pub layers-long : length b.layers.now ≡ length a.layers.now
-  pub opacities-long : length b.opacities.now ≡ length a.opacities.now
-  pub paint_attrs-long : length b.paint_attrs.now ≡ length a.paint_attrs.now
-  pub layer_attrs-long : length b.layer_attrs.now ≡ length a.layer_attrs.now
-  pub filter_paints-long : length b.filter_paints.now ≡ length a.filter_paints.now
+  pub long : lengths (tables_in b) ≡ lengths (tables_in a)

@@ -8,7 +8,7 @@ use Rattle.sizes.specs.Refusals.{answer_number}
 use Rattle.rules.specs.Answers.{Answer, answer, settle}
 use Rattle.rules.specs.Plans.{Frame}
 use Rattle.screen.specs.declared.Screen.{Screen}
-use Rattle.screen.specs.declared.Lengths.{Lengths}
+use Rattle.screen.specs.declared.lent.Lengths.{Lengths}
 use Rattle.screen.specs.Screens.{fresh-screen}
 use Rattle.screen.specs.Judging.{judged_reset}
 
@@ -49,8 +49,8 @@ tables re fi de ro pa la op pas las fps =
 abbrev pub lengths : Tables → Lengths
 lengths t =
     record {
-      render = length t.render;
-      fills = length t.fills;
+      render_cmds = length t.render;
+      depth_cmds = length t.fills;
       depth = length t.depth;
       rows = length t.rows;
       painting = length t.painting;
@@ -71,13 +71,13 @@ pub record ScreenLent : Type 0 where
   pub screen : Screen
   pub tables : Tables
 
-abbrev pub lent : Screen → Tables → ScreenLent
-lent s t = record { screen = s; tables = t }
+abbrev pub screen_lent : Screen → Tables → ScreenLent
+screen_lent s t = record { screen = s; tables = t }
 
 -- what a call answers: the screen that it gives and its words; refused, the screen that was there
 abbrev pub answer_of : Screen → Result Screen Refusal → Tables → Answer ScreenLent
-answer_of s r t = answer (answer_number r) (lent (result_unwrap_or r s) t)
+answer_of s r t = answer (answer_number r) (screen_lent (result_unwrap_or r s) t)
 
 -- a reset to a frame: the fresh screen with every word 0, or what was there before
 unfoldable pub reset_to : Frame → ScreenLent → Answer ScreenLent
-reset_to f l = settle (judged_reset f (lengths l.tables)) l (lent (fresh-screen f) (zeroed l.tables))
+reset_to f l = settle (judged_reset f (lengths l.tables)) l (screen_lent (fresh-screen f) (zeroed l.tables))

@@ -12,9 +12,10 @@ ghost use Rattle.screen.specs.Layers.{clip-of, good-pattern, good-given, layer-o
 use cmd::blend::Blend;
 pub use inputs::Clip;
 use rect::{NOWHERE, Rect};
-use sizes::{HANDLE_END, OPEN_LAYER, PANEL_END, THREAD_END};
+use sizes::{HANDLE_END, OPEN_LAYER, PANEL_END, SCENE_END, THREAD_END, TILE_HEIGHT, TILE_WIDTH};
 
-/// What a push is given (vello_common, LayerProps). A clip's segments are those of the list that the pop is lent. `nan` is the pattern of a NaN opacity, else 0; `mask` a handle, or 0 for none.
+/// What a push is given (vello_common, LayerProps). A clip's segments are those of the list that the pop is lent. `nan` is the pattern of a NaN opacity, else
+/// 0; `mask` a handle, or 0 for none.
 #[derive(Clone, Copy)]
 pub struct LayerProps {
     pub blend: Blend,
@@ -26,7 +27,7 @@ pub struct LayerProps {
 }
 
 /// What a pop reads of an open layer: flag 1 with a clip, 0 without; the clip's range and thread; its own box, in pixels, local to the viewport.
-#[derive(Clone, Copy)]
+#[derive(Clone, Copy, Debug, PartialEq, Eq)]
 pub struct OpenLayer {
     pub blend: Blend,
     pub mask: u32,
@@ -146,19 +147,20 @@ pub fn layer_box(viewport: Rect, parent: Rect, clip: Option<Clip>) -> Rect
 pub fn is_good_own_box(viewport: Rect, bbox: Rect) -> bool
     ensures { result ≡ good_own_box (box_of viewport) (box_of bbox) }
 {
-    bbox.x0 % 4 == 0
-        && bbox.y0 % 4 == 0
-        && bbox.x1 % 4 == 0
-        && bbox.y1 % 4 == 0
-        && bbox.x0 <= 32768
-        && bbox.y0 <= 32768
+    bbox.x0 % TILE_WIDTH == 0
+        && bbox.y0 % TILE_HEIGHT == 0
+        && bbox.x1 % TILE_WIDTH == 0
+        && bbox.y1 % TILE_HEIGHT == 0
+        && bbox.x0 <= SCENE_END
+        && bbox.y0 <= SCENE_END
         && bbox.x1 <= viewport.width()
         && bbox.y1 <= viewport.height()
 }
 
 // The words of layer k.
 fn put_layer(layers: &mut [u32], k: u32, props: LayerProps, bbox: Rect)
-    requires { (k < most-layers) × (length layers.old ≡ open-layer-table) }
+    requires level { k < most-layers }
+    requires long { length layers.old ≡ open-layer-table }
     ensures { layers.new ≡ words-at layers.old (open-layer-size * k) (layer-words (layer-of props bbox) props.nan) }
 {
     let at = OPEN_LAYER * k as usize;
@@ -184,7 +186,8 @@ fn put_layer(layers: &mut [u32], k: u32, props: LayerProps, bbox: Rect)
 
 // Every word of layer k is 0.
 fn drop_layer(layers: &mut [u32], k: u32)
-    requires { (k < most-layers) × (length layers.old ≡ open-layer-table) }
+    requires level { k < most-layers }
+    requires long { length layers.old ≡ open-layer-table }
     ensures { layers.new ≡ words-at layers.old (open-layer-size * k) no_words }
 {
     let at = OPEN_LAYER * k as usize;
@@ -194,7 +197,9 @@ fn drop_layer(layers: &mut [u32], k: u32)
 impl Layers<'_> {
     /// Stores layer k, counted from 0, the outermost; its opacity bit for bit.
     pub fn put(&mut self, k: u32, props: LayerProps, bbox: Rect)
-        requires { (k < most-layers) × (length self.old.table.now ≡ open-layer-table) × (length self.old.opacities.now ≡ opacity-count) }
+        requires level { k < most-layers }
+        requires long { length self.old.table.now ≡ open-layer-table }
+        requires opacities_long { length self.old.opacities.now ≡ opacity-count }
         ensures same { SameLayers self.old self.new }
         ensures table { self.new.table.now ≡ words-at self.old.table.now (open-layer-size * k) (layer-words (layer-of props bbox) props.nan) }
         ensures opacities { self.new.opacities.now ≡ set self.old.opacities.now k props.opacity }
@@ -205,7 +210,9 @@ impl Layers<'_> {
 
     /// Every word in layer k's place, and its opacity, become 0.
     pub fn drop_at(&mut self, k: u32)
-        requires { (k < most-layers) × (length self.old.table.now ≡ open-layer-table) × (length self.old.opacities.now ≡ opacity-count) }
+        requires level { k < most-layers }
+        requires long { length self.old.table.now ≡ open-layer-table }
+        requires opacities_long { length self.old.opacities.now ≡ opacity-count }
         ensures same { SameLayers self.old self.new }
         ensures table { self.new.table.now ≡ words-at self.old.table.now (open-layer-size * k) no_words }
         ensures opacities { self.new.opacities.now ≡ set self.old.opacities.now k no_opacity }
@@ -216,7 +223,8 @@ impl Layers<'_> {
 
     /// The own box of layer k.
     pub fn box_at(&self, k: u32) -> Rect
-        requires { (k < most-layers) × (length self.now.table.now ≡ open-layer-table) }
+        requires level { k < most-layers }
+        requires long { length self.now.table.now ≡ open-layer-table }
         ensures { result ≡ box_in self.now.table.now k }
     {
         let at = OPEN_LAYER * k as usize;
@@ -230,7 +238,8 @@ impl Layers<'_> {
 
     /// Layer k as it stands in the table, without its opacity.
     pub fn open_at(&self, k: u32) -> OpenLayer
-        requires { (k < most-layers) × (length self.now.table.now ≡ open-layer-table) }
+        requires level { k < most-layers }
+        requires long { length self.now.table.now ≡ open-layer-table }
         ensures { result ≡ open_at self.now.table.now k }
     {
         let at = OPEN_LAYER * k as usize;

@@ -1,33 +1,37 @@
-//! A screen: its numbers by value, its words lent (rule 1; bucketer.rs, CommandBucketer). `reset` is a public call; the others are parts of the calls. `layers`
-//! has the table of open layers.
+//! A screen: its numbers by value, its words lent (rule 1; bucketer.rs, CommandBucketer). `reset` is a public call; the others are parts of the calls. `lent`
+//! has the lent words, `layers` the table of open layers.
 #![tactic(auto)]
 
-ghost use Rattle.std.specs.Prelude.{true, ◌≡◌, ◌≤◌, ◌<◌, ◌+◌};
+ghost use Rattle.std.specs.Prelude.{◌≡◌, ◌≤◌, ◌<◌, ◌+◌};
 ghost use Rattle.sizes.specs.Sizes.{most-rows, most-layers, most-attrs, most-filters, last-id};
 ghost use Rattle.sizes.specs.Widths.{bucket-tiles};
 ghost use Rattle.sizes.specs.Refusals.{answer_number};
-ghost use Rattle.rules.specs.Boxes.{good_viewport, rows_of, buckets-of};
+ghost use Rattle.rules.specs.Boxes.{rows_of, buckets-of};
 ghost use Rattle.rules.specs.Walk.{good-room};
 ghost use Rattle.rect.specs.Rects.{box_of};
 ghost use Rattle.screen.specs.declared.Screen.{Screen};
-ghost use Rattle.screen.specs.Screens.{in-tiles, good_clip, good_screen, frame, frame-of, counted, opened, closed, fresh-screen};
-ghost use Rattle.screen.specs.Judging.{good-rooms, judged, good-fixed, judged_reset};
-ghost use Rattle.screen.specs.Tables.{lengths, zeroed, answer_of, reset_to};
+ghost use Rattle.screen.specs.Screens.{in-tiles, good_clip, good_screen, frame, counted, opened, closed, fresh-screen};
+ghost use Rattle.screen.specs.Judging.{good-rooms, judged};
+ghost use Rattle.screen.specs.Tables.{answer_of, reset_to};
 ghost use Rattle.screen.specs.Lent.{tables_in, whole, SameLent};
 ghost use Rattle.screen.specs.ReadBack.{LayerReadBack, OthersStay, PatternReadBack};
 
+use crate::lent::judge_reset;
 use rect::{Mode, Rect};
 use sizes::answers::Refusal;
 use sizes::width::Width;
 use sizes::{
-    FILTER_TABLE, LAST_ID, LAYER_TABLE, MOST_ATTRS, MOST_FILTERS, MOST_LAYERS, MOST_ROOM,
-    OPACITIES, OPEN_TABLE, PAINT_TABLE, ROW,
+    LAST_ID, MOST_ATTRS, MOST_FILTERS, MOST_LAYERS, MOST_ROOM, ROW, SCENE_END, TILE_HEIGHT,
+    TILE_WIDTH,
 };
 
 pub mod layers;
+pub mod lent;
+
+pub use crate::lent::{Lengths, Lent};
 
 /// A screen's numbers, without the words that are lent with it. Any numbers are a `Screen`; `is_good` judges them.
-#[derive(Clone, Copy)]
+#[derive(Clone, Copy, Debug, PartialEq, Eq)]
 pub struct Screen {
     // In pixels of the scene, at the edges of tiles.
     pub viewport: Rect,
@@ -52,43 +56,12 @@ pub struct Screen {
 
 /// What a screen is asked to be, besides its viewport: room for C render commands and D depth fills in each row, how the viewport is read, and how wide a depth
 /// bucket is.
-#[derive(Clone, Copy)]
+#[derive(Clone, Copy, Debug, PartialEq, Eq)]
 pub struct Setup {
     pub c: u32,
     pub d: u32,
     pub mode: Mode,
     pub width: Width,
-}
-
-/// All that a host lends with a screen: the rows' render commands (4 x C words a row), depth fills (2 x D), depth words (one a bucket) and records (ROW), what
-/// painting keeps of each row (two words: steps done, nesting), the open layers and the opacities, and the tables of attributes and filter paints.
-#[derive(Drop)]
-pub struct Lent<'a> {
-    pub render: &'a mut [u32],
-    pub fills: &'a mut [u32],
-    pub depth: &'a mut [u32],
-    pub rows: &'a mut [u32],
-    pub painting: &'a mut [u32],
-    pub layers: &'a mut [u32],
-    pub opacities: &'a mut [f32],
-    pub paint_attrs: &'a mut [u32],
-    pub layer_attrs: &'a mut [u32],
-    pub filter_paints: &'a mut [i32],
-}
-
-/// How many words of each are lent.
-#[derive(Clone, Copy)]
-pub struct Lengths {
-    pub render: usize,
-    pub fills: usize,
-    pub depth: usize,
-    pub rows: usize,
-    pub painting: usize,
-    pub layers: usize,
-    pub opacities: usize,
-    pub paint_attrs: usize,
-    pub layer_attrs: usize,
-    pub filter_paints: usize,
 }
 
 /// Whether n can be C or D: from 1 to 1,024.
@@ -102,7 +75,10 @@ pub fn is_good_room(n: u32) -> bool
 fn is_in_tiles(b: Rect) -> bool
     ensures { result ≡ in-tiles (box_of b) }
 {
-    b.x0 % 4 == 0 && b.y0 % 4 == 0 && b.x1 % 4 == 0 && b.y1 % 4 == 0
+    b.x0 % TILE_WIDTH == 0
+        && b.y0 % TILE_HEIGHT == 0
+        && b.x1 % TILE_WIDTH == 0
+        && b.y1 % TILE_HEIGHT == 0
 }
 
 // The clip box in force: the whole viewport with no layer open, else in whole tiles and within the viewport at its ends.
@@ -114,8 +90,8 @@ fn is_good_clip(viewport: Rect, clip: Rect, layers: u32) -> bool
         return clip == viewport.whole();
     }
     is_in_tiles(clip)
-        && clip.x0 <= 32768
-        && clip.y0 <= 32768
+        && clip.x0 <= SCENE_END
+        && clip.y0 <= SCENE_END
         && clip.x1 <= viewport.width()
         && clip.y1 <= viewport.height()
 }
@@ -125,14 +101,14 @@ impl Screen {
     pub fn rows(self) -> usize
         ensures { result ≡ rows_of (box_of self.viewport) }
     {
-        (self.viewport.height() / 4) as usize
+        (self.viewport.height() / TILE_HEIGHT) as usize
     }
 
     /// Depth buckets in a row, rounded up.
     pub fn buckets(self) -> usize
         ensures { result ≡ buckets-of (bucket-tiles self.width) (box_of self.viewport) }
     {
-        self.width.above(self.viewport.width() / 4) as usize
+        self.width.above(self.viewport.width() / TILE_WIDTH) as usize
     }
 
     /// The screen's own numbers (answer 4), but for viewport, C and D, which are judged before.
@@ -163,7 +139,8 @@ impl Screen {
     pub fn take_filter(&mut self, more: u32)
         requires ids { (self.old.next_draw_id ≤ last-id + 1) × (more ≤ 1) }
         requires attrs { (self.old.paint_attrs ≤ most-attrs) × (self.old.filter_paints ≤ most-filters) }
-        ensures { self.new ≡ counted self.old (self.old.next_draw_id + more) (self.old.paint_attrs + more) self.old.layer_attrs (self.old.filter_paints + more) }
+        ensures { self.new
+            ≡ counted self.old (self.old.next_draw_id + more) (self.old.paint_attrs + more) self.old.layer_attrs (self.old.filter_paints + more) }
     {
         self.next_draw_id += more;
         self.paint_attrs += more;
@@ -197,26 +174,31 @@ impl Screen {
 }
 
 /// C and D are in range, and the arenas of render commands and depth fills are lent exactly for n rows (answer 1).
-pub fn is_good_rooms(n: usize, c: u32, d: u32, render: usize, fills: usize) -> bool
+pub fn is_good_rooms(n: usize, c: u32, d: u32, render_cmds: usize, depth_cmds: usize) -> bool
     requires { n ≤ most-rows }
-    ensures { result ≡ good-rooms n c d render fills }
+    ensures { result ≡ good-rooms n c d render_cmds depth_cmds }
 {
     is_good_room(c)
         && is_good_room(d)
-        && render == n * (4 * c as usize)
-        && fills == n * (2 * d as usize)
+        && render_cmds == n * (4 * c as usize)
+        && depth_cmds == n * (2 * d as usize)
 }
 
 /// 2, then 1, then 4: the screen's numbers, and how many words of records, render commands and depth fills are lent.
 #[tactic(auto, unfolding(crate::specs::Judging::judged))]
-pub fn judge_screen(screen: Screen, rows: usize, render: usize, fills: usize) -> Result<(), Refusal>
-    ensures { answer_number result ≡ judged screen rows render fills }
+pub fn judge_screen(
+    screen: Screen,
+    rows: usize,
+    render_cmds: usize,
+    depth_cmds: usize,
+) -> Result<(), Refusal>
+    ensures { answer_number result ≡ judged screen rows render_cmds depth_cmds }
 {
     if !screen.viewport.is_good_viewport() {
         return Err(Refusal::BadViewport);
     }
     let n = screen.rows();
-    if !is_good_rooms(n, screen.c, screen.d, render, fills) {
+    if !is_good_rooms(n, screen.c, screen.d, render_cmds, depth_cmds) {
         return Err(Refusal::BadArena);
     }
     if rows != n * ROW || !screen.is_good() {
@@ -241,73 +223,6 @@ pub fn fresh(viewport: Rect, c: u32, d: u32, width: Width) -> Screen
         layers: 0,
         painting: false,
         width,
-    }
-}
-
-impl Lengths {
-    // The tables whose length no screen changes.
-    fn is_good_fixed(self) -> bool
-        ensures { result ≡ good-fixed self }
-    {
-        self.layers == OPEN_TABLE
-            && self.opacities == OPACITIES
-            && self.paint_attrs == PAINT_TABLE
-            && self.layer_attrs == LAYER_TABLE
-            && self.filter_paints == FILTER_TABLE
-    }
-}
-
-// 1, then 4: how many words a reset is lent for a screen of a good viewport.
-#[tactic(auto, unfolding(crate::specs::Judging::judged_reset))]
-fn judge_reset(screen: Screen, lent: Lengths) -> Result<(), Refusal>
-    requires { good_viewport (box_of screen.viewport) ≡ true }
-    ensures { answer_number result ≡ judged_reset (frame-of screen) lent }
-{
-    let n = screen.rows();
-    if !is_good_rooms(n, screen.c, screen.d, lent.render, lent.fills)
-        || lent.depth != n * screen.buckets()
-    {
-        return Err(Refusal::BadArena);
-    }
-    if lent.rows != n * ROW || lent.painting != n * 2 || !lent.is_good_fixed() {
-        return Err(Refusal::BadRecord);
-    }
-    Ok(())
-}
-
-impl Lent<'_> {
-    fn lengths(&self) -> Lengths
-        ensures { result ≡ lengths (tables_in self.now) }
-    {
-        Lengths {
-            render: self.render.len(),
-            fills: self.fills.len(),
-            depth: self.depth.len(),
-            rows: self.rows.len(),
-            painting: self.painting.len(),
-            layers: self.layers.len(),
-            opacities: self.opacities.len(),
-            paint_attrs: self.paint_attrs.len(),
-            layer_attrs: self.layer_attrs.len(),
-            filter_paints: self.filter_paints.len(),
-        }
-    }
-
-    /// Every lent word becomes 0, as a reset leaves it.
-    pub fn clear(&mut self)
-        ensures same { SameLent self.old self.new }
-        ensures zeroed { tables_in self.new ≡ zeroed (tables_in self.old) }
-    {
-        self.render.fill(0);
-        self.fills.fill(0);
-        self.depth.fill(0);
-        self.rows.fill(0);
-        self.painting.fill(0);
-        self.layers.fill(0);
-        self.opacities.fill(0.0);
-        self.paint_attrs.fill(0);
-        self.layer_attrs.fill(0);
-        self.filter_paints.fill(0);
     }
 }
 

@@ -12,11 +12,11 @@ ghost use Rattle.segments.specs.Segs.{segment-of, seg-at, segs, placed_of, origi
 
 use rect::Rect;
 use sizes::answers::Refusal;
-use sizes::{TILE_ALPHAS, TILE_END};
+use sizes::{TILE_ALPHAS, TILE_END, TILE_HEIGHT, TILE_WIDTH};
 use span::{Stretch, TileSpan};
 
 /// Tiles of one row, in scene tiles. Kind 0 is solid and has alpha 0; kind 1 has an alpha index, that of its first tile.
-#[derive(Clone, Copy)]
+#[derive(Clone, Copy, Debug, PartialEq, Eq)]
 pub struct Segment {
     pub kind: u32,
     pub row: u32,
@@ -50,7 +50,8 @@ pub fn segment_at(list: &[u32], i: usize) -> Segment
 }
 
 impl Segment {
-    /// Whether every field is in its bounds (answer 4): row below 8,192, at least one tile, up to tile 8,192, an alpha index that can be moved over all of them.
+    /// Whether every field is in its bounds (answer 4): row below 8,192, at least one tile, up to tile 8,192, an alpha index that can be moved over all
+    /// of them.
     pub fn is_good(self) -> bool
         ensures { result ≡ good-segment (segment-of self) }
     {
@@ -98,7 +99,8 @@ fn judge_rest(list: &[u32], start: usize, end: usize) -> Refusal
 
 /// Of the segments from start to end of a list: BadRecord, 4, if one of them is bad, then BadOrder, 5, if their order is broken.
 pub fn judge_segments(list: &[u32], start: usize, end: usize) -> Result<(), Refusal>
-    requires { (start ≤ «end») × (5 * «end» ≤ length list.now) }
+    requires order { start ≤ «end» }
+    requires within { 5 * «end» ≤ length list.now }
     ensures { answer_number result ≡ judge-segments false (segs list.now start («end» - start)) }
 {
     if end <= start {
@@ -122,7 +124,7 @@ pub fn judge_segments(list: &[u32], start: usize, end: usize) -> Result<(), Refu
 }
 
 /// x, y: the viewport's origin in pixels. columns, rows: the clip box in tiles of the scene, from left to right and from top to bottom.
-#[derive(Clone, Copy)]
+#[derive(Clone, Copy, Debug, PartialEq, Eq)]
 pub struct Scene {
     pub x: u32,
     pub y: u32,
@@ -139,18 +141,18 @@ pub fn scene_of(viewport: Rect, clip: Rect) -> Scene
         x: viewport.x0,
         y: viewport.y0,
         columns: TileSpan {
-            first: (viewport.x0 + clip.x0) / 4,
-            end: (viewport.x0 + clip.x1) / 4,
+            first: (viewport.x0 + clip.x0) / TILE_WIDTH,
+            end: (viewport.x0 + clip.x1) / TILE_WIDTH,
         },
         rows: TileSpan {
-            first: (viewport.y0 + clip.y0) / 4,
-            end: (viewport.y0 + clip.y1) / 4,
+            first: (viewport.y0 + clip.y0) / TILE_HEIGHT,
+            end: (viewport.y0 + clip.y1) / TILE_HEIGHT,
         },
     }
 }
 
 /// What is left of a segment, local to the viewport: the row of the screen, and its tiles there.
-#[derive(Clone, Copy)]
+#[derive(Clone, Copy, Debug, PartialEq, Eq)]
 pub struct Placed {
     pub row: u32,
     pub stretch: Stretch,
@@ -172,9 +174,9 @@ pub fn place(segment: Segment, scene: Scene) -> Option<Placed>
         alpha: segment.alpha(),
     };
     let left = stretch.cut_to(scene.columns)?;
-    let x = scene.x / 4;
+    let x = scene.x / TILE_WIDTH;
     Some(Placed {
-        row: segment.row - scene.y / 4,
+        row: segment.row - scene.y / TILE_HEIGHT,
         stretch: Stretch {
             tiles: TileSpan {
                 first: left.tiles.first - x,

@@ -6,7 +6,7 @@ ghost use Rattle.sizes.specs.Widths.{bucket-tiles, width_of};
 use crate::answers::Refusal;
 
 /// A bucket is 64, 128 or 256 pixels wide, which are 16, 32 or 64 tiles. The Rust has the constant DEPTH_BUCKET_WIDTH of depth.rs, 128 pixels, in its place.
-#[derive(Clone, Copy)]
+#[derive(Clone, Copy, Debug, PartialEq, Eq)]
 pub enum Width {
     W64,
     W128,

@@ -1,5 +1,5 @@
-//! Spans of tiles, ranges of depth buckets, and the alpha indices of stretches (span.rs; `BucketRange` of depth.rs). The Rust has pixels; here are tile numbers.
-//! Parts: where a function asks for tile numbers, its callers have judged them.
+//! Spans of tiles, ranges of depth buckets, and the alpha indices of stretches (span.rs; `BucketRange` of depth.rs). The Rust has pixels; here are tile
+//! numbers. Parts: where a function asks for tile numbers, its callers have judged them.
 #![tactic(auto)]
 
 ghost use Rattle.std.specs.Prelude.{◌≡◌, ◌+◌, ◌-◌, ◌*◌, ◌≤◌, option_map};
@@ -107,7 +107,8 @@ impl TileSpan {
 impl BucketRange {
     /// The tiles of the buckets, at so many tiles a bucket.
     pub fn span(self, width: Width) -> TileSpan
-        requires { (self.first ≤ tile-end) × (self.end ≤ tile-end) }
+        requires first { self.first ≤ tile-end }
+        requires last { self.end ≤ tile-end }
         ensures { tiles result ≡ tiles-of (bucket-tiles width) (buckets self) }
     {
         TileSpan {

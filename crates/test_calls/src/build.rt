@@ -39,8 +39,8 @@ impl Step<'_> {
         }
         let mut rows = Rows {
             state: lent.rows,
-            render: lent.render,
-            fills: lent.fills,
+            render_cmds: lent.render_cmds,
+            depth_cmds: lent.depth_cmds,
         };
         let mut layers = Layers {
             table: lent.layers,

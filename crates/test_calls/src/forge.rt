@@ -50,8 +50,8 @@ fn put(words: &mut [u32], at: usize, x: u32) {
 // Opacities and filter paints are no u32 words, and stay.
 fn set_word(tables: &mut Tables, table: Option<Table>, at: usize, x: u32) {
     match table {
-        Some(Table::Render) => put(&mut tables.render, at, x),
-        Some(Table::Fills) => put(&mut tables.fills, at, x),
+        Some(Table::Render) => put(&mut tables.render_cmds, at, x),
+        Some(Table::Fills) => put(&mut tables.depth_cmds, at, x),
         Some(Table::Depth) => put(&mut tables.depth, at, x),
         Some(Table::Rows) => put(&mut tables.rows, at, x),
         Some(Table::Painting) => put(&mut tables.painting, at, x),
@@ -110,8 +110,8 @@ fn sum_screen(screen: Screen) -> u32 {
 /// The sum of a screen's numbers, arenas and tables.
 pub fn sum_all(screen: Screen, tables: &Tables) -> u32 {
     let mut all = sum_screen(screen);
-    all = sum(all, &tables.render);
-    all = sum(all, &tables.fills);
+    all = sum(all, &tables.render_cmds);
+    all = sum(all, &tables.depth_cmds);
     all = sum(all, &tables.depth);
     all = sum(all, &tables.rows);
     all = sum(all, &tables.painting);

@@ -7,6 +7,7 @@ mod build;
 mod call;
 mod forge;
 mod painting;
+mod reading;
 mod sequence;
 mod show;
 mod tables;

@@ -3,8 +3,8 @@ use crate::answers::{Answers, MARK};
 use crate::call::Painting;
 use crate::tables::{Shape, Table, Tables, first};
 use paint::{
-    Stepped, Stored, begin_painting, can_skip, paint_step, unset_runs, unset_runs_and_write,
-    visible_runs,
+    Canvas, Stepped, Stored, begin_painting, can_skip, paint_step, unset_runs,
+    unset_runs_and_write, visible_runs,
 };
 use screen::{Lent, Screen};
 use sizes::answers::{Refusal, answer_number};
@@ -28,7 +28,11 @@ impl Painting {
         let list = &mut marks[..self.room().min(LIST)];
         match self {
             Painting::Begin => {
-                let done = begin_painting(screen, lent.depth, lent.painting);
+                let mut canvas = Canvas {
+                    depth: lent.depth,
+                    painting: lent.painting,
+                };
+                let done = begin_painting(screen, &mut canvas);
                 answers.put(answer_number(done));
             }
             Painting::UnsetRuns { row, tiles, .. } => {
@@ -68,14 +72,16 @@ impl Tables {
         let n = Shape::of_screen(screen).lengths(short);
         let stored = Stored {
             rows: first(&mut self.rows, n.rows),
-            render: first(&mut self.render, n.render),
-            fills: first(&mut self.fills, n.fills),
+            render_cmds: first(&mut self.render_cmds, n.render_cmds),
+            depth_cmds: first(&mut self.depth_cmds, n.depth_cmds),
             paint_attrs: first(&mut self.paint_attrs, n.paint_attrs),
             layer_attrs: first(&mut self.layer_attrs, n.layer_attrs),
         };
-        let depth = first(&mut self.depth, n.depth);
-        let painting = first(&mut self.painting, n.painting);
-        paint_step(screen, row, &stored, depth, painting, list)
+        let mut canvas = Canvas {
+            depth: first(&mut self.depth, n.depth),
+            painting: first(&mut self.painting, n.painting),
+        };
+        paint_step(screen, row, &stored, &mut canvas, list)
     }
 
     /// The same, lent so many words of a list.

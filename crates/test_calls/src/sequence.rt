@@ -1,7 +1,8 @@
 //! A sequence, from its calls to their answers.
 use crate::answers::Answers;
-use crate::call::{Call, Calls};
+use crate::call::Call;
 use crate::forge::sum_all;
+use crate::reading::Calls;
 use crate::show::show;
 use crate::tables::{Shape, Table, Tables};
 use rect::NOWHERE;

@@ -27,10 +27,14 @@ fn show_row(answers: &mut Answers<'_>, i: u32, shape: Shape, lent: &Lent<'_>) {
     let i = i as usize;
     let row = i * ROW;
     let renders = word_at(lent.rows, row) as usize;
-    let fills = word_at(lent.rows, row + 1) as usize;
+    let depths = word_at(lent.rows, row + 1) as usize;
     answers.put_part(lent.rows, row, 6);
-    answers.put_part(lent.render, i * shape.render as usize, 4 * renders);
-    answers.put_part(lent.fills, i * shape.fills as usize, 2 * fills);
+    answers.put_part(
+        lent.render_cmds,
+        i * shape.render_cmds as usize,
+        4 * renders,
+    );
+    answers.put_part(lent.depth_cmds, i * shape.depth_cmds as usize, 2 * depths);
     let buckets = shape.depth as usize;
     answers.put_part(lent.depth, i * buckets, buckets);
     answers.put_part(lent.painting, i * 2, 2);

@@ -48,8 +48,8 @@ impl Table {
 #[derive(Clone, Copy)]
 pub struct Shape {
     pub rows: u32,
-    pub render: u32,
-    pub fills: u32,
+    pub render_cmds: u32,
+    pub depth_cmds: u32,
     pub depth: u32,
 }
 
@@ -65,8 +65,8 @@ impl Shape {
     pub fn new(viewport: Rect, c: u32, d: u32, width: Width) -> Shape {
         Shape {
             rows: viewport.height() / 4,
-            render: 4 * room(c),
-            fills: 2 * room(d),
+            render_cmds: 4 * room(c),
+            depth_cmds: 2 * room(d),
             depth: width.above(viewport.width() / 4),
         }
     }
@@ -80,8 +80,8 @@ impl Shape {
     pub fn lengths(self, short: Option<Table>) -> Lengths {
         let rows = self.rows as usize;
         let mut lengths = Lengths {
-            render: rows * self.render as usize,
-            fills: rows * self.fills as usize,
+            render_cmds: rows * self.render_cmds as usize,
+            depth_cmds: rows * self.depth_cmds as usize,
             depth: rows * self.depth as usize,
             rows: rows * ROW,
             painting: rows * 2,
@@ -100,8 +100,8 @@ impl Shape {
 
 fn shorten(lengths: &mut Lengths, table: Table) {
     match table {
-        Table::Render => lengths.render = lengths.render.saturating_sub(1),
-        Table::Fills => lengths.fills = lengths.fills.saturating_sub(1),
+        Table::Render => lengths.render_cmds = lengths.render_cmds.saturating_sub(1),
+        Table::Fills => lengths.depth_cmds = lengths.depth_cmds.saturating_sub(1),
         Table::Depth => lengths.depth = lengths.depth.saturating_sub(1),
         Table::Rows => lengths.rows = lengths.rows.saturating_sub(1),
         Table::Painting => lengths.painting = lengths.painting.saturating_sub(1),
@@ -116,8 +116,8 @@ fn shorten(lengths: &mut Lengths, table: Table) {
 /// Room for the largest screen of a sequence. Sequences share it: what one leaves there, another's reset clears.
 #[derive(Drop)]
 pub struct Tables {
-    pub render: Vec<u32>,
-    pub fills: Vec<u32>,
+    pub render_cmds: Vec<u32>,
+    pub depth_cmds: Vec<u32>,
     pub depth: Vec<u32>,
     pub rows: Vec<u32>,
     pub painting: Vec<u32>,
@@ -138,8 +138,8 @@ impl Tables {
     /// All of them, zeros.
     pub fn new(alloc: Global) -> Result<Tables, AllocError> {
         Ok(Tables {
-            render: vec![in alloc; 0; 16384]?,
-            fills: vec![in alloc; 0; 8192]?,
+            render_cmds: vec![in alloc; 0; 16384]?,
+            depth_cmds: vec![in alloc; 0; 8192]?,
             depth: vec![in alloc; 0; PROGRAM_DEPTH]?,
             rows: vec![in alloc; 0; 32 * ROW]?,
             painting: vec![in alloc; 0; 64]?,
@@ -155,8 +155,8 @@ impl Tables {
     pub fn lend(&mut self, shape: Shape, short: Option<Table>) -> Lent<'_> {
         let n = shape.lengths(short);
         Lent {
-            render: first(&mut self.render, n.render),
-            fills: first(&mut self.fills, n.fills),
+            render_cmds: first(&mut self.render_cmds, n.render_cmds),
+            depth_cmds: first(&mut self.depth_cmds, n.depth_cmds),
             depth: first(&mut self.depth, n.depth),
             rows: first(&mut self.rows, n.rows),
             painting: first(&mut self.painting, n.painting),

@@ -6,6 +6,10 @@
 #[cfg(test)]
 mod fakes;
 #[cfg(test)]
+mod programs;
+#[cfg(test)]
 mod runs;
 #[cfg(test)]
 mod tests;
+#[cfg(test)]
+mod usages;

@@ -1,5 +1,5 @@
 -- What is shown of a screen, of a file, and of a refusal. Assumes nothing.
-use Rattle.std.proofs.Common.{◌≡◌, refl, sym, ap, ◌∙◌, Option, None, Some, Ok, Err, replicate, pos, ℤ, Float, Bool, true, false, List, ℕ, ◌≤◌, ◌<◌, eqb, le-leb, eq-eqb, ne_eqb}
+use Rattle.std.proofs.Common.{◌≡◌, refl, sym, ap, ◌∙◌, Option, None, Some, Ok, Err, pos, ℤ, Float, Bool, true, false, List, ℕ, ◌≤◌, ◌<◌, eqb, le-leb, eq-eqb, ne_eqb}
 use lib.ListN.{length-replicate}
 use borrow.Author.Tests.{lt-leb}
 use Rattle.sizes.specs.declared.answers.Refusal.{Refusal}
@@ -16,13 +16,14 @@ use Rattle.rect.specs.Rects.{box_of, seen}
 use Rattle.rect.proofs.Snapping.{good-seen, bad-seen}
 use Rattle.row.specs.Words.{Words, words}
 use Rattle.screen.specs.declared.Screen.{Screen}
-use Rattle.screen.specs.declared.Lengths.{Lengths}
-use Rattle.screen.specs.declared.Lent.{Lent}
+use Rattle.screen.specs.declared.lent.Lent.{Lent}
+use Rattle.screen.specs.declared.lent.Lengths.{Lengths}
 use Rattle.screen.specs.Lent.{tables_in, SameLent}
 use Rattle.screen.specs.Screens.{fresh-screen}
 use Rattle.screen.specs.Judging.{judged_reset}
-use Rattle.screen.specs.Tables.{Tables, tables, lengths, float-0, zeroed, ScreenLent, lent, reset_to}
+use Rattle.screen.specs.Tables.{Tables, lengths, float-0, zeroed, ScreenLent, screen_lent, reset_to}
 use Rattle.screen.proofs.ScreenLaws.{few-buckets}
+use Rattle.screen.proofs.Zeros.{same-zeros}
 use Rattle.file.specs.Held.{recording_of}
 use Rattle.file.specs.Words.{words-in}
 use Rattle.walk.specs.Recorded.{played, recorded-in, of-sections, recorded}
@@ -46,8 +47,8 @@ module _ (s : Screen) (w : Words) (bs : List ℕ) {r : Listing} {cs : List ℕ} 
   show-done h = rw (← e, eq-eqb r.number 0 h)
 
 module _ (ws : List ℕ) (q : Setup) (t : Tables) (bs : List ℕ) {o : Screen} (p : o ≡ nothing) {s : Screen} {u : Tables} {n : ℕ}
-    (e : answer n (lent s u) ≡ recorded ws q (lent o t)) where
-  same : answer n (lent s u) ≡ recorded ws q (lent nothing t)
+    (e : answer n (screen_lent s u) ≡ recorded ws q (screen_lent o t)) where
+  same : answer n (screen_lent s u) ≡ recorded ws q (screen_lent nothing t)
   same = rw p at e
 
   module _ {x : Showed} where
@@ -90,35 +91,23 @@ module _ (ws : List ℕ) (q : Setup) where
       few k = rw k (few-buckets (box_of r) is-good q.width)
 
 -- Tables that are as long print the same: no text tells what they held before.
-zeroed-by : Lengths → Tables
-zeroed-by n =
-    tables (replicate n.render 0) (replicate n.fills 0) (replicate n.depth 0) (replicate n.rows 0) (replicate n.painting 0) (replicate n.layers 0)
-    (replicate n.opacities float-0)
-    (replicate n.paint_attrs 0)
-    (replicate n.layer_attrs 0)
-    (replicate n.filter_paints (pos 0))
-
 module _ (ws : List ℕ) (q : Setup) (t u : Tables) (e : lengths t ≡ lengths u) (bs : List ℕ) where
-  same-zeros : zeroed t ≡ zeroed u
-  unfolding zeroed-by
-  same-zeros = ap zeroed-by e
-
   -- after a reset that answers n
   started : ℕ → Tables → ScreenLent → (ScreenLent → Answer ScreenLent) → Answer ScreenLent
-  started n x fresh g = let a = settle n (lent nothing x) fresh in go_on (eqb a.number 0) a g
+  started n x fresh g = let a = settle n (screen_lent nothing x) fresh in go_on (eqb a.number 0) a g
 
   done-start : (n : ℕ) → eqb n 0 ≡ true → (v : Tables) (x : ScreenLent) (g : ScreenLent → Answer ScreenLent) → started n v x g ≡ g x
   unfolding started
   done-start n i v x g =
-      let a : settle n (lent nothing v) x ≡ answer 0 x = rw i in
+      let a : settle n (screen_lent nothing v) x ≡ answer 0 x = rw i in
       ap (λ (y : Answer ScreenLent). go_on (eqb y.number 0) y g) a
 
   refused-start : (n : ℕ) → eqb n 0 ≡ false → (v : Tables) (x : ScreenLent) (g : ScreenLent → Answer ScreenLent) → (answered (started n v x g) bs).showed ≡ refusing n nothing bs
   unfolding started
   refused-start n i v x g =
-      let a : settle n (lent nothing v) x ≡ answer n (lent nothing v) = rw i in
-      let b : go_on (eqb n 0) (answer n (lent nothing v)) g ≡ answer n (lent nothing v) = rw i in
-      let c : (answered (answer n (lent nothing v)) bs).showed ≡ refusing n nothing bs = rw i in
+      let a : settle n (screen_lent nothing v) x ≡ answer n (screen_lent nothing v) = rw i in
+      let b : go_on (eqb n 0) (answer n (screen_lent nothing v)) g ≡ answer n (screen_lent nothing v) = rw i in
+      let c : (answered (answer n (screen_lent nothing v)) bs).showed ≡ refusing n nothing bs = rw i in
       ap (λ (y : Answer ScreenLent). (answered (go_on (eqb y.number 0) y g) bs).showed) a ∙ ap (λ (y : Answer ScreenLent). (answered y bs).showed) b ∙ c
 
   same-start : (n : ℕ) (x y : ScreenLent) (g : ScreenLent → Answer ScreenLent) → x ≡ y → (answered (started n t x g) bs).showed ≡ (answered (started n u y g) bs).showed
@@ -132,12 +121,12 @@ module _ (ws : List ℕ) (q : Setup) (t u : Tables) (e : lengths t ≡ lengths u
   unfolding recording-text recorded recorded-in ◌then◌ reset_to started
   same_text = go (sections shape ws)
     where
-      go : (o : Option (List (List (List ℕ)))) → (answered (of-sections o q (lent nothing t)) bs).showed ≡ (answered (of-sections o q (lent nothing u)) bs).showed
+      go : (o : Option (List (List (List ℕ)))) → (answered (of-sections o q (screen_lent nothing t)) bs).showed ≡ (answered (of-sections o q (screen_lent nothing u)) bs).showed
       go None = refl
       go (Some ss) =
           let r = recording ss in
           let f = frame q r.viewport in
-          rw e (same-start (judged_reset f (lengths u)) (lent (fresh-screen f) (zeroed t)) (lent (fresh-screen f) (zeroed u)) (played r) (ap (lent (fresh-screen f)) same-zeros))
+          rw e (same-start (judged_reset f (lengths u)) (screen_lent (fresh-screen f) (zeroed t)) (screen_lent (fresh-screen f) (zeroed u)) (played r) (ap (screen_lent (fresh-screen f)) (same-zeros t u e)))
 
 -- .. as tables of one size are
 pub exact-same : {z : Size} (t u : Tables) → Exact z t → Exact z u → (ws : List ℕ) (q : Setup) (bs : List ℕ) → (recording-text ws q t bs).showed ≡ (recording-text ws q u bs).showed
@@ -198,14 +187,14 @@ module _ (fs : List ℕ) (q : Setup) (bs : List ℕ) where
 pub exact_kept : {z : Size} (a b : Lent) → SameLent a b → Exact z (tables_in a) → Exact z (tables_in b)
 exact_kept a b s h =
     record {
-      render = s.render-long ∙ h.render;
-      fills = s.fills-long ∙ h.fills;
-      depth = s.depth-long ∙ h.depth;
-      rows = s.rows-long ∙ h.rows;
-      painting = s.painting-long ∙ h.painting;
-      layers = s.layers-long ∙ h.layers;
-      opacities = s.opacities-long ∙ h.opacities;
-      paint-attrs = s.paint_attrs-long ∙ h.paint-attrs;
-      layer-attrs = s.layer_attrs-long ∙ h.layer-attrs;
-      filter-paints = s.filter_paints-long ∙ h.filter-paints;
+      render = ap (λ (n : Lengths). n.render_cmds) s.long ∙ h.render;
+      fills = ap (λ (n : Lengths). n.depth_cmds) s.long ∙ h.fills;
+      depth = ap (λ (n : Lengths). n.depth) s.long ∙ h.depth;
+      rows = ap (λ (n : Lengths). n.rows) s.long ∙ h.rows;
+      painting = ap (λ (n : Lengths). n.painting) s.long ∙ h.painting;
+      layers = ap (λ (n : Lengths). n.layers) s.long ∙ h.layers;
+      opacities = ap (λ (n : Lengths). n.opacities) s.long ∙ h.opacities;
+      paint-attrs = ap (λ (n : Lengths). n.paint_attrs) s.long ∙ h.paint-attrs;
+      layer-attrs = ap (λ (n : Lengths). n.layer_attrs) s.long ∙ h.layer-attrs;
+      filter-paints = ap (λ (n : Lengths). n.filter_paints) s.long ∙ h.filter-paints;
     }

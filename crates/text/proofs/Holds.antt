@@ -4,7 +4,7 @@ use Rattle.sizes.specs.Sizes.{piece-size}
 use Rattle.rules.specs.Answers.{Done}
 use Rattle.rules.specs.Painting as rules
 use Rattle.screen.specs.declared.Screen.{Screen}
-use Rattle.paint.specs.Painting.{RowLent, lent, StepOut, out, refused, left, settled, painted-row}
+use Rattle.paint.specs.Painting.{RowLent, words_lent, StepOut, out, refused, left, settled, painted-row}
 use Rattle.paint.proofs.Spreading.{length-pieces}
 use Rattle.paint.specs.Stepping.{Attributes, number, row_step, stepped}
 use Rattle.paint.specs.Running.{goes_on, ended, one_more, run, most, standing, call_step, row-painted}
@@ -47,6 +47,6 @@ module _ (step : List ℕ → List ℕ → List ℕ → StepOut) (h : (d p l : L
 pub row-holds : (s : Screen) (r : ℕ) (a : Attributes) (l : RowLent) → piece-size * (row-painted s r a l).answer.pieces ≤ length (row-painted s r a l).list
 unfolding row-painted
 row-holds s r a l =
-    run_holds (call_step s r a l.state l.render l.fills) (λ d p ws. step-holds s r a (lent l.state l.render l.fills d p ws)) most 0
+    run_holds (call_step s r a l.state l.render l.fills) (λ d p ws. step-holds s r a (words_lent l.state l.render l.fills d p ws)) most 0
     (standing l.depth l.painting l.list)
     (omega arith)

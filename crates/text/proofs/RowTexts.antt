@@ -6,7 +6,7 @@ use Rattle.text.specs.declared.Out.{Out}
 use Rattle.text.specs.Texts.{Writes}
 use Rattle.text.proofs.Laws.{then}
 use Rattle.paint.specs.Painting as painting
-use Rattle.paint.specs.Painting.{RowLent, lent, out}
+use Rattle.paint.specs.Painting.{RowLent, words_lent, out}
 use Rattle.paint.specs.Answers.{Painted}
 use Rattle.paint.specs.Stepping.{Attributes, stepped}
 use Rattle.paint.specs.Running.{row-painted}
@@ -35,7 +35,7 @@ module _ (v : Bool) (s : Screen) (r : ℕ) (a : Attributes) (l : RowLent) (q : P
   row-few = subst (λ (o : painting.StepOut). piece-size * o.answer.pieces ≤ length o.list) (sym e) (row-holds s r a l)
 
   module _ (h : q.number ≡ 0) where
-    pub row-ended : {z : Listing} {f g : List ℕ} → q.finished ≡ false → stopped-out z f g ≡ stopped s r a (lent l.state l.render l.fills d p [])
+    pub row-ended : {z : Listing} {f g : List ℕ} → q.finished ≡ false → stopped-out z f g ≡ stopped s r a (words_lent l.state l.render l.fills d p [])
         → row_out z f g ws bs ≡ row-dumped v s r a l bs
     unfolding row-dumped
     row-ended k j = ap (λ (o : Stopped). row_out o.answer o.depth o.painting ws bs) j ∙ rw (← e, eq-eqb q.number 0 h, k)

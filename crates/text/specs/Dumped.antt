@@ -3,9 +3,10 @@ use Rattle.std.specs.Prelude.{ℕ, ◌+◌, ◌*◌, Bool, ◌&&◌, cond, List,
 use Rattle.sizes.specs.Sizes.{most-attrs, most-filters, opacity-count, paint-attr-table, layer-attr-table, filter-paint-table}
 use Rattle.rules.specs.Answers.{Done, BadRecord, NoRoom}
 use Rattle.screen.specs.declared.Screen.{Screen}
-use Rattle.paint.specs.Painting.{RowLent, lent, StepOut}
+use Rattle.paint.specs.Painting.{RowLent, words_lent, StepOut}
 use Rattle.paint.specs.Stepping.{Attributes, stepped}
 use Rattle.paint.specs.Running.{row-painted}
+use Rattle.paint.specs.declared.canvas.stored.Canvas.{Canvas}
 use Rattle.text.specs.Listed as list
 use Rattle.text.specs.Listed.{Listing, listing, written, text-out}
 use Rattle.text.specs.Bytes.{detail-room, piece-room, details-text}
@@ -24,6 +25,9 @@ pub record RowOut : Type 0 where
 abbrev pub row_out : Listing → List ℕ → List ℕ → List ℕ → List ℕ → RowOut
 row_out a d p l bs = record { answer = a; depth = d; painting = p; list = l; bytes = bs }
 
+abbrev pub row_in : Listing → Canvas → List ℕ → List ℕ → RowOut
+row_in a c l bs = row_out a c.depth.now c.painting.now l bs
+
 -- the lines of a painted row; 14 for more than 65,536 pieces (a row has at most 2,048 steps, of at most 32 pieces each)
 unfoldable pub pieces-written : Bool → ℕ → List ℕ → ℕ → List ℕ → list.TextOut
 pieces-written v r ws n bs = cond (ltb 65536 n) (text-out (listing NoRoom 0) bs) (written (details-text v (row-lines r ws n)) bs)
@@ -37,13 +41,16 @@ pub record Stopped : Type 0 where
 abbrev pub stopped-out : Listing → List ℕ → List ℕ → Stopped
 stopped-out a d p = record { answer = a; depth = d; painting = p }
 
+abbrev pub stopped_in : Listing → Canvas → Stopped
+stopped_in a c = stopped-out a c.depth.now c.painting.now
+
 unfoldable pub stopped : Screen → ℕ → Attributes → RowLent → Stopped
 stopped s r a l = let o = stepped s r a l in stopped-out (listing o.answer.number 0) o.depth o.painting
 
 -- a row's painting ended by a refusal, and ended whole
 abbrev pub row-stopped : Screen → ℕ → Attributes → RowLent → StepOut → List ℕ → RowOut
 row-stopped s r a l e bs =
-    let o = stopped s r a (lent l.state l.render l.fills e.depth e.painting []) in
+    let o = stopped s r a (words_lent l.state l.render l.fills e.depth e.painting []) in
     row_out o.answer o.depth o.painting e.list bs
 
 abbrev pub with-text : StepOut → list.TextOut → RowOut

@@ -14,7 +14,7 @@ use Rattle.rules.specs.Lines as rule
 use Rattle.row.specs.Words.{Words, words}
 use Rattle.screen.specs.declared.Screen.{Screen}
 use Rattle.screen.specs.Screens.{fresh-screen}
-use Rattle.screen.specs.Tables.{Tables, tables, float-0, ScreenLent, lent}
+use Rattle.screen.specs.Tables.{Tables, tables, float-0, ScreenLent, screen_lent}
 use Rattle.file.specs.Held.{recording_of}
 use Rattle.file.specs.Words.{words-in}
 use Rattle.walk.specs.Recorded.{recorded}
@@ -78,7 +78,7 @@ answered a bs =
 
 -- a file's words, in tables of the lengths that its screen has
 unfoldable pub recording-text : List ℕ → Setup → Tables → List ℕ → FileOut
-recording-text ws q t bs = answered (recorded ws q (lent nothing t)) bs
+recording-text ws q t bs = answered (recorded ws q (screen_lent nothing t)) bs
 
 -- The file's own size: 3 for its form, 2 for its viewport or more than 32 rows.
 abbrev pub size : ℕ → ℕ → Size

@@ -74,7 +74,8 @@ fn opacity_bits(opacity: f32, kept: u32) -> u32
 
 // Mix, compose, opacity, mask, id, thread, panel.
 fn print_layer_attr(out: &mut Out<'_>, table: &[u32], opacities: &[f32], i: usize, panels: bool)
-    requires { (layer-attr-size * i + layer-attr-size ≤ length table.now) × (most-layers + (i + 1) ≤ length opacities.now) }
+    requires words { layer-attr-size * i + layer-attr-size ≤ length table.now }
+    requires opacity { most-layers + (i + 1) ≤ length opacities.now }
     ensures { Writes (detail-bytes panels (layer-attr-line (layer-attr-at table.now opacities.now i))) out.old out.new }
 {
     let k = LAYER_ATTR * i;
@@ -116,7 +117,8 @@ pub fn print_paint_attrs(out: &mut Out<'_>, table: &[u32], n: u32, panels: bool)
 
 /// The heading of n layer attributes, and their lines.
 pub fn print_layer_attrs(out: &mut Out<'_>, table: &[u32], opacities: &[f32], n: u32, panels: bool)
-    requires { (layer-attr-size * n ≤ length table.now) × (most-layers + n ≤ length opacities.now) }
+    requires words { layer-attr-size * n ≤ length table.now }
+    requires opacity { most-layers + n ≤ length opacities.now }
     ensures { Writes (details-text panels (layer-lines table.now opacities.now n)) out.old out.new }
 {
     print_heading(out, b"layer attributes", n);

@@ -15,6 +15,7 @@ pub mod listing;
 pub mod painted;
 /// A file's recording.
 pub mod recording;
+mod rows;
 
 pub use crate::listing::{list_screen, print_first, refusal_line, try_print_first};
 pub use crate::painted::{Tables, attrs_text, row_text};

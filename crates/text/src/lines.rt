@@ -12,7 +12,7 @@ use cmd::depth_fill::DepthFill;
 use span::TileSpan;
 
 /// A screen's: its rows, the buckets in each, the ids that are taken.
-#[derive(Clone, Copy)]
+#[derive(Clone, Copy, Debug, PartialEq, Eq)]
 pub struct Header {
     pub rows: u32,
     pub buckets: u32,
@@ -20,7 +20,7 @@ pub struct Header {
 }
 
 /// A row's: its number, and how many depth fills and commands it has.
-#[derive(Clone, Copy)]
+#[derive(Clone, Copy, Debug, PartialEq, Eq)]
 pub struct RowHead {
     pub row: u32,
     pub depths: u32,
@@ -28,7 +28,7 @@ pub struct RowHead {
 }
 
 /// A refusal's, by its number.
-#[derive(Clone, Copy)]
+#[derive(Clone, Copy, Debug, PartialEq, Eq)]
 pub struct Refused {
     pub number: u32,
 }

@@ -8,15 +8,15 @@ ghost use Rattle.text.specs.Bytes.{detail-bytes, details-text};
 ghost use Rattle.paint.specs.Stepping.{attributes};
 ghost use Rattle.text.specs.Listed.{left, listing_of};
 ghost use Rattle.text.specs.Pieces.{most-pieces, piece-list, alpha-of, letter-of, piece-at, row-lines};
-ghost use Rattle.text.specs.Dumped.{pieces-written, stopped-out, stopped, row_out, row-dumped, tables_of, good-tables, attrs-room, attrs-text, attrs-dumped};
-ghost use Rattle.paint.specs.Named.{row_attrs, row_lent};
+ghost use Rattle.text.specs.Dumped.{pieces-written, stopped_in, stopped, row_in, row-dumped, tables_of, good-tables, attrs-room, attrs-text, attrs-dumped};
+ghost use Rattle.paint.specs.Named.{SameCanvas, row_attrs, row_lent};
 
 use crate::details::{
     DETAIL, PIECE_LINE, print_filter_paints, print_layer_attrs, print_paint_attrs, print_panel,
 };
 use crate::listing::try_print_first;
 use crate::{Out, Print};
-use paint::{Stored, paint_row, paint_step};
+use paint::{Canvas, Stored, paint_row, paint_step};
 use screen::Screen;
 use sizes::answers::Refusal;
 use sizes::{
@@ -137,13 +137,12 @@ fn refused_at(
     screen: Screen,
     row: usize,
     stored: &Stored<'_>,
-    depth: &mut [u32],
-    painting: &mut [u32],
+    canvas: &mut Canvas<'_>,
 ) -> Result<usize, Refusal>
-    ensures { stopped-out (listing_of result) depth.new painting.new
-        ≡ stopped screen row (row_attrs stored.now) (row_lent stored.now depth.old painting.old []) }
+    ensures same { SameCanvas canvas.old canvas.new }
+    ensures stopped { stopped_in (listing_of result) canvas.new ≡ stopped screen row (row_attrs stored.now) (row_lent stored.now canvas.old []) }
 {
-    paint_step(screen, row, stored, depth, painting, &mut [])?;
+    paint_step(screen, row, stored, canvas, &mut [])?;
     Ok(0)
 }
 
@@ -154,17 +153,17 @@ pub fn row_text(
     row: u32,
     panels: bool,
     stored: &Stored<'_>,
-    depth: &mut [u32],
-    painting: &mut [u32],
+    canvas: &mut Canvas<'_>,
     list: &mut [u32],
     out: &mut [u8],
 ) -> Result<usize, Refusal>
-    ensures { row_out (listing_of result) depth.new painting.new list.new out.new
-        ≡ row-dumped panels screen row (row_attrs stored.now) (row_lent stored.now depth.old painting.old list.old) out.old }
+    ensures same { SameCanvas canvas.old canvas.new }
+    ensures dumped { row_in (listing_of result) canvas.new list.new out.new
+        ≡ row-dumped panels screen row (row_attrs stored.now) (row_lent stored.now canvas.old list.old) out.old }
 {
-    let done = paint_row(screen, row as usize, stored, depth, painting, list)?;
+    let done = paint_row(screen, row as usize, stored, canvas, list)?;
     if !done.finished {
-        return refused_at(screen, row as usize, stored, depth, painting);
+        return refused_at(screen, row as usize, stored, canvas);
     }
     write_pieces(row, list, done.pieces, panels, out)
 }

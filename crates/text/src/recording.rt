@@ -30,7 +30,7 @@ pub struct FileText {
 }
 
 /// The rows of a file's screen, and the buckets in each.
-#[derive(Clone, Copy)]
+#[derive(Clone, Copy, Debug, PartialEq, Eq)]
 pub struct Size {
     pub rows: usize,
     pub buckets: usize,
@@ -81,8 +81,8 @@ pub fn recording_text(file: &[u32], setup: Setup, lent: &mut Lent<'_>, out: &mut
     }
     let rows = Rows {
         state: lent.rows,
-        render: lent.render,
-        fills: lent.fills,
+        render_cmds: lent.render_cmds,
+        depth_cmds: lent.depth_cmds,
     };
     show(screen, &rows, out)
 }

@@ -4,7 +4,7 @@ use lib.Seq.{drop-length}
 use borrow.Rule.Slice.PartMut.{put_mid}
 use Rattle.rules.specs.Answers.{answer, Done}
 use Rattle.screen.specs.declared.Screen.{Screen}
-use Rattle.paint.specs.Painting.{RowLent, lent, StepOut}
+use Rattle.paint.specs.Painting.{RowLent, words_lent, StepOut}
 use Rattle.paint.specs.Beginning.{canvas, beginning}
 use Rattle.paint.specs.Stepping.{Attributes, attributes}
 use Rattle.paint.specs.Running.{row-painted}
@@ -65,17 +65,17 @@ module _ (v : Bool) (s : Screen) (n r : ℕ) (a : Attributes) (l : RowLent) (bs 
 
   module _ {q : Listing} {d p ls cs : List ℕ} (e : row_out q d p ls cs ≡ row-dumped v s r a l bs) where
     pub rows_more : r < n → {k m : ℕ} {d' p' ls' ds : List ℕ}
-        → part k d' p' ls' ds ≡ rows-dumped v (n - (r + 1)) (r + 1) s a (lent l.state l.render l.fills d p ls) (take (m - q.bytes) (drop q.bytes cs)) → m ≡ length cs
+        → part k d' p' ls' ds ≡ rows-dumped v (n - (r + 1)) (r + 1) s a (words_lent l.state l.render l.fills d p ls) (take (m - q.bytes) (drop q.bytes cs)) → m ≡ length cs
         → part (q.bytes + k) d' p' ls' (put_mid q.bytes (m - q.bytes) cs ds) ≡ rows-dumped v (n - r) r s a l bs
     unfolding rows-dumped
     rows_more h {k} {m} {d'} {p'} {ls'} {ds} g z =
         let j : n - r ≡ suc (n - suc r) = omega arith in
-        let i : part k d' p' ls' ds ≡ rows-dumped v (n - suc r) (suc r) s a (lent l.state l.render l.fills d p ls) (drop q.bytes cs) = rw (add-one r, z, mid-all q.bytes cs) at g in
+        let i : part k d' p' ls' ds ≡ rows-dumped v (n - suc r) (suc r) s a (words_lent l.state l.render l.fills d p ls) (drop q.bytes cs) = rw (add-one r, z, mid-all q.bytes cs) at g in
         rw (z, put_all q.bytes cs ds) (ap (after q.bytes cs) i ∙ rw (j, ← e))
 
 -- the rows once painting has begun
 pub begun-more : (v : Bool) (s : Screen) (a : Attributes) (l : RowLent) (bs : List ℕ) {n m k : ℕ} {x : Screen} {d p : List ℕ} → n ≡ m → answer k (canvas x d p) ≡ beginning (canvas s l.depth l.painting)
-    → {j : ℕ} {d' p' ls' ds : List ℕ} → part j d' p' ls' ds ≡ rows-dumped v (n - 0) 0 x a (lent l.state l.render l.fills d p l.list) bs → part j d' p' ls' ds ≡ begun-dumped v s m a l bs
+    → {j : ℕ} {d' p' ls' ds : List ℕ} → part j d' p' ls' ds ≡ rows-dumped v (n - 0) 0 x a (words_lent l.state l.render l.fills d p l.list) bs → part j d' p' ls' ds ≡ begun-dumped v s m a l bs
 begun-more v s a l bs {n} {m} h b g = let e : n - 0 ≡ m = omega (arith, h) in rw (← b) (rw e at g)
 
 -- the attributes, then the rows

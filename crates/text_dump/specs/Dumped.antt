@@ -3,8 +3,9 @@ use Rattle.std.specs.Prelude.{ℕ, zero, suc, ◌+◌, ◌*◌, ◌≤◌, ◌�
 use Rattle.sizes.specs.Sizes.{program-rows, program-room}
 use Rattle.screen.specs.declared.Screen.{Screen}
 use Rattle.screen.specs.Tables as screen
-use Rattle.paint.specs.Painting.{RowLent, lent}
+use Rattle.paint.specs.Painting.{RowLent, words_lent}
 use Rattle.paint.specs.Beginning.{canvas, beginning}
+use Rattle.paint.specs.declared.canvas.stored.Canvas.{Canvas}
 use Rattle.paint.specs.Stepping.{Attributes, attributes}
 use Rattle.text.specs.Listed.{row_room}
 use Rattle.text.specs.Pieces.{piece-list}
@@ -35,6 +36,9 @@ pub record Part : Type 0 where
 abbrev pub part : ℕ → List ℕ → List ℕ → List ℕ → List ℕ → Part
 part n d p l bs = record { count = n; depth = d; painting = p; list = l; bytes = bs }
 
+abbrev pub part_in : ℕ → Canvas → List ℕ → List ℕ → Part
+part_in n c l bs = part n c.depth.now c.painting.now l bs
+
 -- its text: n bytes are written, and bs are the bytes
 pub record PartWritten (n : ℕ) (bs : List ℕ) (q : Part) : Type 0 where
   pub count : n ≡ q.count
@@ -50,13 +54,13 @@ rows-dumped v zero r s a l bs = part 0 l.depth l.painting l.list bs
 rows-dumped v (suc k) r s a l bs =
     let o = row-dumped v s r a l bs in
     after o.answer.bytes o.bytes
-    (rows-dumped v k (suc r) s a (lent l.state l.render l.fills o.depth o.painting o.list) (drop o.answer.bytes o.bytes))
+    (rows-dumped v k (suc r) s a (words_lent l.state l.render l.fills o.depth o.painting o.list) (drop o.answer.bytes o.bytes))
 
 -- the n rows once painting has begun
 abbrev pub begun-dumped : Bool → Screen → ℕ → Attributes → RowLent → List ℕ → Part
 begun-dumped v s n a l bs =
     let k = (beginning (canvas s l.depth l.painting)).value in
-    rows-dumped v n 0 k.screen a (lent l.state l.render l.fills k.depth k.painting l.list) bs
+    rows-dumped v n 0 k.screen a (words_lent l.state l.render l.fills k.depth k.painting l.list) bs
 
 -- the attributes, then the rows
 unfoldable pub details-dumped : Bool → Screen → ℕ → AttrTables → RowLent → List ℕ → Part
@@ -69,7 +73,7 @@ abbrev pub heads : screen.Tables → AttrTables
 heads t = tables t.paint-attrs t.layer-attrs t.opacities t.filter-paints
 
 abbrev pub given : screen.Tables → List ℕ → RowLent
-given t list = lent t.rows t.render t.fills t.depth t.painting list
+given t list = words_lent t.rows t.render t.fills t.depth t.painting list
 
 -- a desk has a list for the pieces of any row, and room for the longest text
 pub record Ready (d : Desk) : Type 0 where

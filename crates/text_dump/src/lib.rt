@@ -7,7 +7,7 @@ ghost use Rattle.rules.specs.Boxes.{rows_of};
 ghost use Rattle.rect.specs.Rects.{box_of};
 ghost use Rattle.screen.specs.Screens.{setup-of};
 ghost use Rattle.screen.specs.Lent.{tables_in};
-ghost use Rattle.paint.specs.Painting.{lent};
+ghost use Rattle.paint.specs.Painting.{words_lent};
 ghost use Rattle.paint.specs.Stepping.{attributes};
 ghost use Rattle.text.specs.Files.{Usual};
 ghost use Rattle.text.specs.Pieces.{piece-list};
@@ -15,10 +15,10 @@ ghost use Rattle.text.specs.Listed.{left};
 ghost use Rattle.text.specs.Dumped.{attrs-dumped};
 ghost use Rattle.text_programs.specs.Programs.{first};
 ghost use Rattle.text_dump.specs.Rowdump.{recording-line, file-lines-text, rowdump-text, no-width-dump, Printed};
-ghost use Rattle.text_dump.specs.Dumped.{lines-room, dump-room, part, PartWritten, rows-dumped, begun-dumped, details-dumped, heads, given, Ready};
+ghost use Rattle.text_dump.specs.Dumped.{lines-room, dump-room, part_in, PartWritten, rows-dumped, begun-dumped, details-dumped, heads, given, Ready};
 ghost use Rattle.paint.specs.Named.{row_attrs, row_lent};
 
-use paint::{Stored, begin_painting};
+use paint::{Canvas, Stored, begin_painting};
 use screen::{Lent, Screen, Setup};
 use sizes::answers::Refusal;
 use sizes::{MOST_ATTRS, MOST_FILTERS, PROGRAM_ROOM, PROGRAM_ROWS};
@@ -96,37 +96,41 @@ fn put_recording(out: &mut [u8], i: u64) -> usize
     print_first(&RecordingLine { number: i }, out)
 }
 
+// A screen whose rows are shown, with what is stored of it.
+#[derive(Clone, Copy)]
+struct Shown<'a> {
+    screen: Screen,
+    stored: &'a Stored<'a>,
+    panels: bool,
+}
+
 // The texts of the rows from row r to row n, one after the other, on a screen whose painting has begun.
 fn rows_text(
-    screen: Screen,
+    shown: &Shown<'_>,
     r: u32,
     n: u32,
-    panels: bool,
-    stored: &Stored<'_>,
-    depth: &mut [u32],
-    painting: &mut [u32],
+    canvas: &mut Canvas<'_>,
     list: &mut [u32],
     out: &mut [u8],
 ) -> usize
-    ensures out_after { part result depth.new painting.new list.new out.new
-        ≡ rows-dumped panels (n - r) r screen (row_attrs stored.now) (row_lent stored.now depth.old painting.old list.old) out.old }
+    ensures out_after { part_in result canvas.new list.new out.new
+        ≡ rows-dumped shown.now.panels (n - r) r shown.now.screen (row_attrs shown.now.stored.now) (row_lent shown.now.stored.now canvas.old list.old) out.old }
     ensures upper_bound { result ≤ length out.old }
 {
     if n <= r {
         return 0;
     }
-    let k = row_text(screen, r, panels, stored, depth, painting, list, out).unwrap_or(0);
-    let more = rows_text(
-        screen,
-        r + 1,
-        n,
-        panels,
-        stored,
-        depth,
-        painting,
+    let k = row_text(
+        shown.screen,
+        r,
+        shown.panels,
+        shown.stored,
+        canvas,
         list,
-        &mut out[k..],
-    );
+        out,
+    )
+    .unwrap_or(0);
+    let more = rows_text(shown, r + 1, n, canvas, list, &mut out[k..]);
     k + more
 }
 
@@ -135,21 +139,24 @@ fn begun_text(
     screen: Screen,
     panels: bool,
     stored: &Stored<'_>,
-    depth: &mut [u32],
-    painting: &mut [u32],
+    canvas: &mut Canvas<'_>,
     list: &mut [u32],
     out: &mut [u8],
 ) -> usize
-    ensures out_after { part result depth.new painting.new list.new out.new
-        ≡ begun-dumped panels screen (rows_of (box_of screen.viewport)) (row_attrs stored.now)
-        (row_lent stored.now depth.old painting.old list.old) out.old }
+    ensures out_after { part_in result canvas.new list.new out.new
+        ≡ begun-dumped panels screen (rows_of (box_of screen.viewport)) (row_attrs stored.now) (row_lent stored.now canvas.old list.old) out.old }
     ensures upper_bound { result ≤ length out.old }
 {
     let mut begun = screen;
     // Where it is refused the screen is as it was, and no row gives a text.
-    let _ = begin_painting(&mut begun, depth, painting);
+    let _ = begin_painting(&mut begun, canvas);
     let n = screen.rows() as u32;
-    rows_text(begun, 0, n, panels, stored, depth, painting, list, out)
+    let shown = Shown {
+        screen: begun,
+        stored,
+        panels,
+    };
+    rows_text(&shown, 0, n, canvas, list, out)
 }
 
 // The attributes of the screen in the tables.
@@ -185,8 +192,8 @@ fn screen_text(
     let k = heads_text(screen, panels, &lent, out).unwrap_or(0);
     let Lent {
         rows,
-        render,
-        fills,
+        render_cmds,
+        depth_cmds,
         depth,
         painting,
         paint_attrs,
@@ -195,20 +202,13 @@ fn screen_text(
     } = lent;
     let stored = Stored {
         rows,
-        render,
-        fills,
+        render_cmds,
+        depth_cmds,
         paint_attrs,
         layer_attrs,
     };
-    let more = begun_text(
-        screen,
-        panels,
-        &stored,
-        depth,
-        painting,
-        list,
-        &mut out[k..],
-    );
+    let mut canvas = Canvas { depth, painting };
+    let more = begun_text(screen, panels, &stored, &mut canvas, list, &mut out[k..]);
     k + more
 }
 

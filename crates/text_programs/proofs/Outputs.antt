@@ -1,5 +1,5 @@
 -- What is written of a text where its writing ends early.
-use Rattle.std.proofs.Common.{◌≡◌, Bool, true, if◌then◌else◌, ℕ, ◌+◌, ◌-◌, ◌≤◌, List, ◌++◌, length, take, drop, take_all, length-drop, length-take-le, Option, Some, None, IfSome, sym, ap, ◌∙◌, subst, arith}
+use Rattle.std.proofs.Common.{◌≡◌, ℕ, ◌+◌, ◌-◌, ◌≤◌, List, ◌++◌, length, take, drop, take_all, length-drop, length-take-le, Option, Some, None, IfSome, sym, ap, ◌∙◌, subst, arith}
 use Rattle.std.proofs.Math.Seq.{take-append-add}
 use Rattle.std.proofs.lemmas.List.{take-append-drop}
 use Rattle.std.proofs.KnownBytes.{Appends-trans, Appends-nil}
@@ -29,15 +29,3 @@ write_more a b c k n ts h i p q =
 pub nothing_begun : (known a : Option (List ℕ)) (f : List ℕ → List ℕ) → IfSome known (λ bs. Begins a a (f bs))
 nothing_begun None a f = tt
 nothing_begun (Some bs) a f = (0, Appends-nil a)
-
-for_any : (known : Option (List ℕ)) (P : List ℕ → Type 0) → ((bs : List ℕ) → P bs) → IfSome known P
-for_any None P h = tt
-for_any (Some bs) P h = h bs
-
--- a program that is asked for its usage prints that, whatever its input is
-module _ (b : Bool) (known old new : Option (List ℕ)) (t : List ℕ) (f : List ℕ → List ℕ) where
-  pub usage_printed : b ≡ true → Appends old new t → IfSome known (λ bs. Appends old new (if b then t else f bs))
-  usage_printed e p = for_any known (λ bs. Appends old new (if b then t else f bs)) (λ bs. rw e p)
-
-  pub usage_begun : b ≡ true → Begins old new t → IfSome known (λ bs. Begins old new (if b then t else f bs))
-  usage_begun e p = for_any known (λ bs. Begins old new (if b then t else f bs)) (λ bs. rw e p)

@@ -5,6 +5,8 @@ use Rattle.std.specs.Str.Parse.{digits_value}
 use Rattle.sizes.specs.Widths.{width_of}
 use Rattle.rules.specs.Setups.{Mode, exact, snapping}
 use Rattle.screen.specs.Screens.{setup-of}
+use Rattle.text_programs.specs.declared.about.About.{About}
+use Rattle.text_programs.specs.declared.about.About.TheVariants.{Usage, Version}
 use Rattle.text_programs.specs.declared.options.Want.{Want}
 use Rattle.text_programs.specs.Programs.{Wanted, wanted, want-of}
 
@@ -57,11 +59,12 @@ arguments_after known c (w ∷ n ∷ ws) =
 abbrev pub read_arguments : Bool → List (List ℕ) → Arguments
 read_arguments known ws = arguments_after known no_options ws
 
--- whether a program is asked for its usage
-abbrev pub asks_help : List (List ℕ) → Bool
-asks_help [] = false
-asks_help (w ∷ []) = bytes_eq w (codes "--help") || bytes_eq w (codes "-h")
-asks_help (w ∷ n ∷ ws) = false
+-- what a program is asked to say of itself
+abbrev pub asked_about : List (List ℕ) → Option About
+asked_about [] = None
+asked_about (w ∷ []) =
+    if bytes_eq w (codes "--help") || bytes_eq w (codes "-h") then Some Usage else (if bytes_eq w (codes "--version") then Some Version else None)
+asked_about (w ∷ n ∷ ws) = None
 
 -- what they want of a screen
 abbrev pub wanted_by : Choice → Wanted

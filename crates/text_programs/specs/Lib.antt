@@ -5,3 +5,4 @@ pub mod Failures
 pub mod Tables
 pub mod Rooms
 pub mod Usages
+pub mod Abouts

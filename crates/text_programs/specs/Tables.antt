@@ -5,8 +5,8 @@ use Rattle.screen.specs.Tables.{float-0}
 use Rattle.text_programs.specs.declared.tables.Tables.{Tables}
 
 pub record Zeros (t : Tables) : Type 0 where
-  pub render : t.render.value ≡ replicate program-render 0
-  pub fills : t.fills.value ≡ replicate program-fills 0
+  pub render : t.render_cmds.value ≡ replicate program-render 0
+  pub fills : t.depth_cmds.value ≡ replicate program-fills 0
   pub depth : t.depth.value ≡ replicate program-depth 0
   pub rows : t.rows.value ≡ replicate program-records 0
   pub painting : t.painting.value ≡ replicate program-painting 0

@@ -25,6 +25,7 @@ use text::{
     refuse,
 };
 
+pub mod about;
 pub mod failure;
 pub mod options;
 pub mod stream;
@@ -62,7 +63,8 @@ pub fn file_text(file: &[u8], setup: Setup, tables: &mut Tables, out: &mut [u8])
 /// The text that `rowlist` prints of a file's bytes, put first; how long it is, and the recording's answer. The room is that of the longest text.
 pub fn list_file(file: &[u8], setup: Setup, tables: &mut Tables, out: &mut [u8]) -> Listed
     requires { Usual (setup-of setup) × (text-room ≤ length out.old) }
-    ensures number_value { (answer_number result.answer ≡ rowlist-number (setup-of setup) file.now) × (result.bytes ≡ length (rowlist-text (setup-of setup) file.now)) }
+    ensures number_value { (answer_number result.answer ≡ rowlist-number (setup-of setup) file.now)
+        × (result.bytes ≡ length (rowlist-text (setup-of setup) file.now)) }
     ensures out_after { out.new ≡ first (rowlist-text (setup-of setup) file.now) out.old }
 {
     let text = file_text(file, setup, tables, out);
@@ -74,7 +76,8 @@ pub fn list_file(file: &[u8], setup: Setup, tables: &mut Tables, out: &mut [u8])
 
 /// The same; how long it is.
 pub fn rowlist_text(file: &[u8], setup: Setup, tables: &mut Tables, out: &mut [u8]) -> usize
-    requires { Usual (setup-of setup) × (text-room ≤ length out.old) }
+    requires usual { Usual (setup-of setup) }
+    requires room { text-room ≤ length out.old }
     ensures value { result ≡ length (rowlist-text (setup-of setup) file.now) }
     ensures out_after { out.new ≡ first (rowlist-text (setup-of setup) file.now) out.old }
 {

@@ -122,8 +122,8 @@ fn answer_next<R: Read, W: Write, D: Replies>(
     Ok(true)
 }
 
-/// Answers each file of a stream, from number 0 on. The head is as long as each file's is; the buffer is the programs' own. Nothing says that a stream ends: the
-/// files are counted up to a number that no run reaches.
+/// Answers each file of a stream, from number 0 on. The head is as long as each file's is; the buffer is the programs' own. Nothing says that a stream ends:
+/// the files are counted up to a number that no run reaches.
 pub fn answer_all<R: Read, W: Write, D: Replies>(
     input: &mut R,
     output: &mut W,

@@ -17,8 +17,8 @@ use std::alloc::{AllocError, Global};
 /// All the words that a screen of 32 rows of 64 buckets asks for, with 64 commands and 64 depth fills a row.
 #[derive(Drop)]
 pub struct Tables {
-    render: Box<[u32; PROGRAM_RENDER]>,
-    fills: Box<[u32; PROGRAM_FILLS]>,
+    render_cmds: Box<[u32; PROGRAM_RENDER]>,
+    depth_cmds: Box<[u32; PROGRAM_FILLS]>,
     depth: Box<[u32; PROGRAM_DEPTH]>,
     rows: Box<[u32; PROGRAM_RECORDS]>,
     painting: Box<[u32; PROGRAM_PAINTING]>,
@@ -35,8 +35,8 @@ impl Tables {
         ensures { IfOk result Zeros }
     {
         Ok(Tables {
-            render: Box::new(alloc, [0; PROGRAM_RENDER])?,
-            fills: Box::new(alloc, [0; PROGRAM_FILLS])?,
+            render_cmds: Box::new(alloc, [0; PROGRAM_RENDER])?,
+            depth_cmds: Box::new(alloc, [0; PROGRAM_FILLS])?,
             depth: Box::new(alloc, [0; PROGRAM_DEPTH])?,
             rows: Box::new(alloc, [0; PROGRAM_RECORDS])?,
             painting: Box::new(alloc, [0; PROGRAM_PAINTING])?,
@@ -50,12 +50,13 @@ impl Tables {
 
     /// As many words of each as a screen of so many rows, of so many buckets each, asks for.
     pub fn lend(&mut self, rows: usize, buckets: usize) -> Lent<'_>
-        requires { (rows ≤ program-rows) × (buckets ≤ program-buckets) }
+        requires high { rows ≤ program-rows }
+        requires wide { buckets ≤ program-buckets }
         ensures { Exact (size rows buckets) (tables_in result) }
     {
         Lent {
-            render: &mut self.render[..rows * PROGRAM_RENDERS],
-            fills: &mut self.fills[..rows * PROGRAM_DEPTHS],
+            render_cmds: &mut self.render_cmds[..rows * PROGRAM_RENDERS],
+            depth_cmds: &mut self.depth_cmds[..rows * PROGRAM_DEPTHS],
             depth: &mut self.depth[..rows * buckets],
             rows: &mut self.rows[..rows * ROW],
             painting: &mut self.painting[..rows * 2],

@@ -1,17 +1,9 @@
 //! The programs' usages, and what is wrong with arguments that ask for nothing.
-ghost use Rattle.std.specs.Prelude.{◌≡◌, ◌⊎◌, Some, map, string_bytes, OnOk, IfErr};
-ghost use Rattle.std.specs.Io.KnownBytes.{Appends};
-ghost use Rattle.text_programs.specs.declared.failure.Failure.TheVariants as Failure;
-ghost use Rattle.text_programs.specs.Failures.{IsOfWriting, Begins};
-ghost use Rattle.text_programs.specs.Arguments.{asks_help};
+ghost use Rattle.std.specs.Prelude.{Some};
 ghost use Rattle.text_programs.specs.Usages.{refusal_lines, usage_text};
 
-use crate::failure::Failure;
-use crate::write_text;
 use sizes::answers::Refusal;
-use std::alloc::Global;
 use std::fmt;
-use std::io::Write;
 
 /// What is wrong with a program's arguments: the first word that is, or what is missing.
 #[derive(Clone, Copy, Debug)]
@@ -26,7 +18,7 @@ pub enum Wrong<'a> {
     Unfollowed(&'a str),
     // It stands where `draw` or `layer` has to.
     NoKind(&'a str),
-    // It asks for the usage, and other arguments stand beside it.
+    // It asks what the program says of itself, and other arguments stand beside it.
     NotAlone(&'a str),
     TooMany(&'a str),
 }
@@ -54,25 +46,17 @@ pub fn wrong_option(args: &[String]) -> Option<Wrong<'_>> {
             Some(text) => Some(Wrong::NoNumber(text.as_str())),
             None => Some(Wrong::Unfollowed(first.as_str())),
         },
-        "--help" | "-h" => Some(Wrong::NotAlone(first.as_str())),
+        "--help" | "-h" | "--version" => Some(Wrong::NotAlone(first.as_str())),
         word if word.starts_with('-') => Some(Wrong::NoOption(word)),
         _ => None,
     }
 }
 
-/// Whether a program is asked for its usage: by `--help` or `-h`, its only argument.
-pub fn asks_help(args: &[String]) -> bool
-    ensures { result ≡ asks_help (map string_bytes args.now) }
-{
-    match args {
-        [word] => word.as_str() == "--help" || word.as_str() == "-h",
-        _ => false,
-    }
-}
-
 // The options that every program has, and the line before the refusals.
 const COMMON: &str =
-    "  --snap     read the viewport in snapping mode\n  --width N  N pixels a depth bucket: 64, 128 or 256; without it 128\n  --help     print this; so does -h; no other argument may stand beside it\nwhat `refused N` stands for:\n";
+    "  --snap     read the viewport in snapping mode\n  --width N  N pixels a depth bucket: 64, 128 or 256; without it 128\n  \
+    --help     print this; so does -h; no other argument may stand beside it\n  \
+    --version  print the version, and the kit that it is proved with; likewise alone\nwhat `refused N` stands for:\n";
 
 /// A program's usage: its name, how it is called, up to its options, and a line for each option that not every program has.
 #[derive(Clone, Copy)]
@@ -106,14 +90,4 @@ impl fmt::Display for Usage {
         f.write_str(COMMON)?;
         write!(f, "{}", Numbers)
     }
-}
-
-/// Writes it.
-pub fn print_usage<W: Write>(alloc: Global, output: &mut W, usage: &Usage) -> Result<(), Failure>
-    ensures ok { OnOk result (Appends (W.contents output.old) (W.contents output.new) (usage_text usage.now.calls.now usage.now.options.now)) }
-    ensures begun { Begins (W.contents output.old) (W.contents output.new) (usage_text usage.now.calls.now usage.now.options.now) }
-    ensures unwritten { IfErr result (λ e. IsOfWriting e ⊎ (output.new ≡ output.old)) }
-{
-    let text = usage.to_string(alloc)?;
-    write_text(output, text.as_bytes())
 }

@@ -25,7 +25,7 @@ use text_programs::tables::Tables;
 use tile::{Asked, Reason, Tale, is_off_screen, reason_of, tell_tile};
 
 /// What is asked of a tile: one attribute, or every attribute.
-#[derive(Clone, Copy)]
+#[derive(Clone, Copy, Debug, PartialEq, Eq)]
 pub enum Question {
     Every,
     One(Asked),

@@ -4,6 +4,7 @@ pub mod Border
 pub mod Finishes
 pub mod Recorded
 pub mod Numbers
+pub mod Reading
 pub mod Why
 pub mod Sized
 pub mod Panel

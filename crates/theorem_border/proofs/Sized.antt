@@ -9,7 +9,7 @@ use Rattle.rect.specs.declared.Rect.{Rect}
 use Rattle.rect.specs.Rects.{box_of}
 use Rattle.screen.specs.declared.Screen.{Screen}
 use Rattle.screen.specs.Judging.{judged_reset}
-use Rattle.screen.specs.Tables.{lengths, lent, reset_to}
+use Rattle.screen.specs.Tables.{lengths, screen_lent, reset_to}
 use Rattle.host.specs.declared.state.SetupWords.{SetupWords}
 use Rattle.host.specs.Asked.{asked_setup}
 use Rattle.host.specs.Sizes.{length-words, size-words, size_number, sizes-of, size_call}
@@ -47,7 +47,7 @@ module _ (v : Rect) (w : SetupWords) (old : List ℕ) (h : Host) (s : Screen) (k
     reset-done : (reset-at v w h).number ≡ Done
     unfolding reset_to
     reset-done =
-        let m = lent s h.tables in
+        let m = screen_lent s h.tables in
         let g : h ≡ host-of m = ap (λ (st : List ℕ). host st h.tables) (sym (written_back true h.state s k)) in
         let j = sized f (lengths h.tables) (with-ten _ _ _ tens) lengths-given in
         ap (λ (x : Host). (reset-at v w x).number) g

@@ -3,7 +3,7 @@ use Rattle.std.proofs.Common.{ℕ, ◌≡◌, refl, ◌&&◌, List, Option, None
 use Rattle.sizes.specs.declared.answers.Refusal.{Refusal}
 use Rattle.rules.specs.Setups.{Setup}
 use Rattle.screen.specs.declared.Screen.{Screen}
-use Rattle.screen.specs.Tables.{Tables, lent}
+use Rattle.screen.specs.Tables.{Tables, screen_lent}
 use Rattle.tile.specs.Explained.{explained}
 use Rattle.paint.proofs.Kept.{Refused, unsettled}
 use Rattle.host.specs.State.{screen_of, at_held}
@@ -17,10 +17,10 @@ module _ (file : List ℕ) (row tile layer attribute : ℕ) (st : List ℕ) (t :
   unfolding why_in
   in-one q = go (screen_of (leb layer 1 && eqb (length old) reason-size) st)
     where
-      go : (h : Option Screen) → let a = at_held h st (st, t, old) (λ (s : Screen). why-left old (explained file q row tile (asked layer attribute) (lent s t))) in
+      go : (h : Option Screen) → let a = at_held h st (st, t, old) (λ (s : Screen). why-left old (explained file q row tile (asked layer attribute) (screen_lent s t))) in
           Refused a → a.value.2 ≡ old
       go None e = refl
-      go (Some s) e = let x = explained file q row tile (asked layer attribute) (lent s t) in unsettled x.number old (reason-words x.reason) e
+      go (Some s) e = let x = explained file q row tile (asked layer attribute) (screen_lent s t) in unsettled x.number old (reason-words x.reason) e
 
   in-any : (o : Result Setup Refusal) → let a = in-setup o (unasked_number file) (st, t, old) (λ (q : Setup). why_in file q row tile layer attribute st t old) in
       Refused a → a.value.2 ≡ old

@@ -16,7 +16,7 @@ use Rattle.rect.specs.declared.Rect.{Rect}
 use Rattle.rect.specs.Rects.{box_of}
 use Rattle.row.specs.Words.{Words}
 use Rattle.screen.specs.declared.Screen.{Screen}
-use Rattle.screen.specs.Tables.{Tables, ScreenLent, lent, reset_to}
+use Rattle.screen.specs.Tables.{Tables, ScreenLent, screen_lent, reset_to}
 use Rattle.inputs.specs.declared.Draw.{Draw}
 use Rattle.fill.specs.Fills as fills
 use Rattle.fill.specs.Fills.{filled}
@@ -68,7 +68,7 @@ never_done st f = go (eqb (length st) state-size)
 
 module _ {T : Type 0} (t : T) (f : Screen → Answer T) where
   -- a call on the words of the screen s
-  on-screen : (s : Screen) → on true (screen-words s) t f ≡ f s
+  pub on-screen : (s : Screen) → on true (screen-words s) t f ≡ f s
   on-screen s = ap (λ (h : Option Screen). at_held h (screen-words s) t f) (read_back s)
 
   -- .. done, whatever else is asked
@@ -132,13 +132,13 @@ module _ (w : SetupWords) (q : Setup) (a : Asks w q) where
     unfolding reset_in
     reset-on v =
         reset-is v (host-of l)
-        ∙ ap holding (on-screen (screen-words l.screen, l.tables) (λ (s : Screen). tables-left (reset_to (frame q (box_of v)) (lent s l.tables))) l.screen)
+        ∙ ap holding (on-screen (screen-words l.screen, l.tables) (λ (s : Screen). tables-left (reset_to (frame q (box_of v)) (screen_lent s l.tables))) l.screen)
 
     pub recording_on : (file : List ℕ) → recording-at file w (host-of l) ≡ hosted (recorded file q l)
     unfolding recording_in
     recording_on file =
         recording-is file (host-of l)
-        ∙ ap holding (on-screen (screen-words l.screen, l.tables) (λ (s : Screen). tables-left (recorded file q (lent s l.tables))) l.screen)
+        ∙ ap holding (on-screen (screen-words l.screen, l.tables) (λ (s : Screen). tables-left (recorded file q (screen_lent s l.tables))) l.screen)
 
 -- words that are a screen's, or no call on them is done
 pub data Known (h : Host) : Type 0 where
@@ -150,7 +150,7 @@ known h = go (screen_of true h.state) refl
   where
     go : (k : Option Screen) → k ≡ screen_of true h.state → Known h
     go None q = nothing q
-    go (Some s) q = these (lent s h.tables) (ap (λ (st : List ℕ). host st h.tables) (sym (written_back true h.state s q)))
+    go (Some s) q = these (screen_lent s h.tables) (ap (λ (st : List ℕ). host st h.tables) (sym (written_back true h.state s q)))
 
 -- on words that are no screen's
 module _ (h : Host) (n : None ≡ screen_of true h.state) (w : SetupWords) (q : Setup) (a : Asks w q) where
@@ -182,7 +182,7 @@ module _ (l : ScreenLent) where
   fill_on ps ss d =
       ap (λ (a : Answer (List ℕ × Words × List ℕ)). answer a.number
       (host a.value.0 (with_rows t a.value.1 t.layers t.opacities a.value.2 t.layer-attrs t.filter-paints)))
-      (on-screen (screen-words l.screen, rows_words t, t.paint-attrs) (λ (s : Screen). fill-left (filled (fills.lent s (rows_words t) t.paint-attrs) ps ss d)) l.screen)
+      (on-screen (screen-words l.screen, rows_words t, t.paint-attrs) (λ (s : Screen). fill-left (filled (fills.fill_lent s (rows_words t) t.paint-attrs) ps ss d)) l.screen)
 
   pub push-on : (mix compose opacity mask flag : ℕ) (clip : Clip) (panel : ℕ) → (push_at mix compose opacity mask flag clip panel (host-of l)).number ≡ Done
       → push_at mix compose opacity mask flag clip panel (host-of l) ≡ hosted (calls.push_at (props mix compose opacity mask flag clip panel) l)
@@ -192,7 +192,7 @@ module _ (l : ScreenLent) where
       ap (λ (a : Answer (List ℕ × Words × List ℕ × List Float)). answer a.number
       (host a.value.0 (with_rows t a.value.1 a.value.2 a.value.3 t.paint-attrs t.layer-attrs t.filter-paints)))
       (on-done (screen-words l.screen, rows_words t, t.layers, t.opacities)
-      (λ (s : Screen). push-left (pushed p (push.lent s (rows_words t) t.layers t.opacities))) (leb flag 1) l.screen e)
+      (λ (s : Screen). push-left (pushed p (push.push_lent s (rows_words t) t.layers t.opacities))) (leb flag 1) l.screen e)
 
   pub pop-on : (ss : List ℕ) → pop-at ss (host-of l) ≡ hosted (calls.pop-at ss l)
   unfolding pop-at pop_call calls.pop-at
@@ -209,7 +209,7 @@ module _ (l : ScreenLent) where
       ap (λ (a : Answer (List ℕ × Words × List ℕ × List ℤ)). answer a.number
       (host a.value.0 (with_rows t a.value.1 t.layers t.opacities a.value.2 t.layer-attrs a.value.3)))
       (on-done (screen-words l.screen, rows_words t, t.paint-attrs, t.filter-paints)
-      (λ (s : Screen). filter-left (filtered (given (filter-in dest x y (picture flag m)) n q) (filter.lent s (rows_words t) t.paint-attrs t.filter-paints))) (leb flag 1) l.screen e)
+      (λ (s : Screen). filter-left (filtered (given (filter-in dest x y (picture flag m)) n q) (filter.filter_lent s (rows_words t) t.paint-attrs t.filter-paints))) (leb flag 1) l.screen e)
 
   pub begin-on : begin-at (host-of l) ≡ hosted (reached.begin-at l)
   unfolding begin-at begin_call reached.begin-at

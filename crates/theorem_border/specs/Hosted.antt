@@ -77,7 +77,7 @@ push-said mix compose opacity mask flag clip panel =
 unfoldable pub pop-at : List ℕ → Host → Answer Host
 pop-at ss h =
     let t = h.tables in
-    let a = pop_call ss h.state (pop.lent (rows_words t) t.layers t.opacities t.layer-attrs) in
+    let a = pop_call ss h.state (pop.pop_lent (rows_words t) t.layers t.opacities t.layer-attrs) in
     let l = a.value.1 in
     answer a.number (host a.value.0 (with_rows t l.words l.layers l.opacities t.paint-attrs l.attrs t.filter-paints))
 
@@ -112,7 +112,7 @@ abbrev pub own-attributes : Host → Attributes
 own-attributes h = attributes h.tables.paint-attrs h.tables.layer-attrs
 
 abbrev pub own-words : List ℕ → Host → paint.RowLent
-own-words list h = let t = h.tables in paint.lent t.rows t.render t.fills t.depth t.painting list
+own-words list h = let t = h.tables in paint.words_lent t.rows t.render t.fills t.depth t.painting list
 
 -- its number; the depth and painting words, the list and the result afterwards
 unfoldable pub paint-out : Call → Host → Answer (List ℕ × List ℕ × List ℕ × List ℕ)

@@ -4,5 +4,6 @@ pub mod Refused
 pub mod Numbers
 pub mod Words
 pub mod Held
+pub mod Reading
 pub mod Panel
 pub mod Computing

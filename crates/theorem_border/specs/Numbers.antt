@@ -9,7 +9,7 @@ use Rattle.span.specs.declared.TileSpan.{TileSpan}
 use Rattle.rect.specs.declared.Rect.{Rect}
 use Rattle.rect.specs.Rects.{box_of}
 use Rattle.row.specs.Words.{Words}
-use Rattle.screen.specs.Tables.{Tables, lent, reset_to}
+use Rattle.screen.specs.Tables.{Tables, screen_lent, reset_to}
 use Rattle.screen.specs.declared.layers.LayerProps.{LayerProps}
 use Rattle.inputs.specs.declared.Draw.{Draw}
 use Rattle.fill.specs.Fills as fills
@@ -27,12 +27,14 @@ use Rattle.paint.specs.Beginning.{canvas, beginning}
 use Rattle.paint.specs.Stepping.{Attributes, stepped}
 use Rattle.paint.specs.Running.{row-painted}
 use Rattle.paint.specs.DirectRuns.{unset-of, visible-of, write-of, skip-of-row}
+use Rattle.paint.specs.StoredCmds.{lengths-of-row, command-of-row, depth-of-row, progress-of-row}
 use Rattle.host.specs.declared.state.SetupWords.{SetupWords}
 use Rattle.host.specs.State.{screen-at, before_4}
 use Rattle.host.specs.Reasons.{asked, why_call}
 use Rattle.host.specs.Building.{reset_call, recording_call, fill_call, push_call, pop_call, filter_call}
 use Rattle.host.specs.Painting.{begin_call, step_call, row_call, unset_call, visible_call, write_call, skip_call}
 use Rattle.host.specs.Spans.{runs_of, spans_call}
+use Rattle.host.specs.Reading.{lengths_call, cmd_call, depth_call, progress_call}
 use Rattle.theorem_border.specs.Hosted.{Asks}
 
 -- n: what the border answers on the state's words st; own: the call's own number. `before_4` leaves 1, 2 and 3, and makes a 4 of every other number.
@@ -43,27 +45,27 @@ Keeps st own n = length st ≡ state-size → before_4 own ≡ before_4 n
 abbrev pub ResetKeeps : Type 0
 ResetKeeps =
     (v : Rect) (w : SetupWords) (q : Setup) (st : List ℕ) (t : Tables) → Asks w q
-    → Keeps st (reset_to (frame q (box_of v)) (lent (screen-at st) t)).number (reset_call v w st t).number
+    → Keeps st (reset_to (frame q (box_of v)) (screen_lent (screen-at st) t)).number (reset_call v w st t).number
 
 abbrev pub RecordingKeeps : Type 0
 RecordingKeeps =
     (file : List ℕ) (w : SetupWords) (q : Setup) (st : List ℕ) (t : Tables) → Asks w q
-    → Keeps st (recorded file q (lent (screen-at st) t)).number (recording_call file w st t).number
+    → Keeps st (recorded file q (screen_lent (screen-at st) t)).number (recording_call file w st t).number
 
 abbrev pub WhyKeeps : Type 0
 WhyKeeps =
     (file : List ℕ) (w : SetupWords) (q : Setup) (row tile layer attribute : ℕ) (st : List ℕ) (t : Tables) (res : List ℕ) → Asks w q
-    → Keeps st (explained file q row tile (asked layer attribute) (lent (screen-at st) t)).number (why_call file w row tile layer attribute st t res).number
+    → Keeps st (explained file q row tile (asked layer attribute) (screen_lent (screen-at st) t)).number (why_call file w row tile layer attribute st t res).number
 
 abbrev pub FillKeeps : Type 0
 FillKeeps =
     (ps ss : List ℕ) (d : Draw) (st : List ℕ) (w : Words) (pas : List ℕ)
-    → Keeps st (filled (fills.lent (screen-at st) w pas) ps ss d).number (fill_call ps ss d st w pas).number
+    → Keeps st (filled (fills.fill_lent (screen-at st) w pas) ps ss d).number (fill_call ps ss d st w pas).number
 
 abbrev pub PushKeeps : Type 0
 PushKeeps =
     (flag : ℕ) (p : LayerProps) (st : List ℕ) (w : Words) (ls : List ℕ) (os : List Float)
-    → Keeps st (pushed p (push.lent (screen-at st) w ls os)).number (push_call flag p st w ls os).number
+    → Keeps st (pushed p (push.push_lent (screen-at st) w ls os)).number (push_call flag p st w ls os).number
 
 abbrev pub PopKeeps : Type 0
 PopKeeps = (ss st : List ℕ) (l : pop.PopLent) → Keeps st (popped (screen-at st) l ss).number (pop_call ss st l).number
@@ -71,7 +73,7 @@ PopKeeps = (ss st : List ℕ) (l : pop.PopLent) → Keeps st (popped (screen-at 
 abbrev pub FilterKeeps : Type 0
 FilterKeeps =
     (flag : ℕ) (g : FilterGiven) (st : List ℕ) (w : Words) (pas : List ℕ) (fps : List ℤ)
-    → Keeps st (filtered g (filter.lent (screen-at st) w pas fps)).number (filter_call flag g st w pas fps).number
+    → Keeps st (filtered g (filter.filter_lent (screen-at st) w pas fps)).number (filter_call flag g st w pas fps).number
 
 abbrev pub BeginKeeps : Type 0
 BeginKeeps = (st d p : List ℕ) → Keeps st (beginning (canvas (screen-at st) d p)).number (begin_call st d p).number
@@ -107,3 +109,16 @@ WriteKeeps =
 abbrev pub SkipKeeps : Type 0
 SkipKeeps =
     (r : ℕ) (t : Span) (id : ℕ) (st rows old : List ℕ) → Keeps st (skip-of-row (screen-at st) r rows t id).number (skip_call r t id st rows old).number
+
+abbrev pub LengthsKeeps : Type 0
+LengthsKeeps = (r : ℕ) (t : Words) (st old : List ℕ) → Keeps st (lengths-of-row (screen-at st) r t).number (lengths_call r t st old).number
+
+abbrev pub CmdKeeps : Type 0
+CmdKeeps = (r : ℕ) (t : Words) (i : ℕ) (st old : List ℕ) → Keeps st (command-of-row (screen-at st) r t i).number (cmd_call r t i st old).number
+
+abbrev pub DepthKeeps : Type 0
+DepthKeeps = (r : ℕ) (t : Words) (i : ℕ) (st old : List ℕ) → Keeps st (depth-of-row (screen-at st) r t i).number (depth_call r t i st old).number
+
+abbrev pub ProgressKeeps : Type 0
+ProgressKeeps =
+    (r : ℕ) (painting st old : List ℕ) → Keeps st (progress-of-row (screen-at st) r painting).number (progress_call r painting st old).number

@@ -19,6 +19,7 @@ use Rattle.host.specs.Reasons.{why_call}
 use Rattle.host.specs.Building.{reset_call, fill_call, push_call, pop_call, filter_call}
 use Rattle.host.specs.Painting.{begin_call, step_call, row_call, unset_call, visible_call, write_call, skip_call, split_call}
 use Rattle.host.specs.Spans.{spans_call}
+use Rattle.host.specs.Reading.{lengths_call, cmd_call, depth_call, progress_call}
 
 -- state and all tables
 abbrev pub ResetRefused : Type 0
@@ -81,6 +82,19 @@ WriteRefused =
 abbrev pub SkipRefused : Type 0
 SkipRefused =
     (r : ℕ) (t : Span) (id : ℕ) (st rows old : List ℕ) → Refused (skip_call r t id st rows old) → (skip_call r t id st rows old).value ≡ old
+
+-- the result
+abbrev pub LengthsRefused : Type 0
+LengthsRefused = (r : ℕ) (t : Words) (st old : List ℕ) → Refused (lengths_call r t st old) → (lengths_call r t st old).value ≡ old
+
+abbrev pub CmdRefused : Type 0
+CmdRefused = (r : ℕ) (t : Words) (i : ℕ) (st old : List ℕ) → Refused (cmd_call r t i st old) → (cmd_call r t i st old).value ≡ old
+
+abbrev pub DepthRefused : Type 0
+DepthRefused = (r : ℕ) (t : Words) (i : ℕ) (st old : List ℕ) → Refused (depth_call r t i st old) → (depth_call r t i st old).value ≡ old
+
+abbrev pub ProgressRefused : Type 0
+ProgressRefused = (r : ℕ) (painting st old : List ℕ) → Refused (progress_call r painting st old) → (progress_call r painting st old).value ≡ old
 
 abbrev pub SplitRefused : Type 0
 SplitRefused = (pixels : ℕ) (s : Span) (old : List ℕ) → Refused (split_call pixels s old) → (split_call pixels s old).value ≡ old

@@ -6,10 +6,11 @@ ghost use Rattle.std.specs.Prelude.{List};
 ghost use Rattle.rules.specs.Plans.{Frame, Step};
 ghost use Rattle.theorem_border.specs.Hosted.{Host, Hosted};
 ghost use Rattle.theorem_border.specs.Border.{Picture, Clear, Finishes, RecordingAccepted, RecordingRefused, RecordingEarly, ResetAsks};
-ghost use Rattle.theorem_border.specs.Refused.{BeginRefused, FillRefused, FilterRefused, PopRefused, PushRefused, ResetRefused, RowRefused, SizesRefused, SkipRefused, SpansRefused, SplitRefused, StepRefused, UnsetRefused, VisibleRefused, WhyRefused, WriteRefused};
-ghost use Rattle.theorem_border.specs.Numbers.{BeginKeeps, FillKeeps, FilterKeeps, PopKeeps, PushKeeps, RecordingKeeps, ResetKeeps, RowKeeps, SkipKeeps, SpansKeeps, StepKeeps, UnsetKeeps, VisibleKeeps, WhyKeeps, WriteKeeps};
+ghost use Rattle.theorem_border.specs.Refused.{BeginRefused, FillRefused, FilterRefused, PopRefused, PushRefused, ResetRefused, RowRefused, LengthsRefused, CmdRefused, DepthRefused, ProgressRefused, SizesRefused, SkipRefused, SpansRefused, SplitRefused, StepRefused, UnsetRefused, VisibleRefused, WhyRefused, WriteRefused};
+ghost use Rattle.theorem_border.specs.Numbers.{BeginKeeps, FillKeeps, FilterKeeps, PopKeeps, PushKeeps, RecordingKeeps, ResetKeeps, RowKeeps, SkipKeeps, SpansKeeps, StepKeeps, UnsetKeeps, VisibleKeeps, WhyKeeps, WriteKeeps, LengthsKeeps, CmdKeeps, DepthKeeps, ProgressKeeps};
 ghost use Rattle.theorem_border.specs.Words.{ScreenReadBack, SizesFit, WordsWrittenBack};
 ghost use Rattle.theorem_border.specs.Held.{HostedReached};
+ghost use Rattle.theorem_border.specs.Reading.{HostedStands, LengthsRead, CmdsRead, NoCmdRead, DepthsRead, NoDepthRead, ProgressRead};
 ghost use Rattle.theorem_border.specs.Panel.{CallsDone, EachTile, MixedFinish, PaintsTaken, StepsFinish, Tile10, Tile25, Tile40};
 
 /// What each tile receives, whatever a host calls in between.
@@ -50,6 +51,10 @@ pub fn refusals_at_border()
     ensures visible_spans { SpansRefused }
     ensures unset_runs_and_write { WriteRefused }
     ensures can_skip { SkipRefused }
+    ensures row_lengths { LengthsRefused }
+    ensures render_cmd { CmdRefused }
+    ensures depth_cmd { DepthRefused }
+    ensures progress { ProgressRefused }
     ensures split_opaque_span { SplitRefused }
     ensures sizes { SizesRefused }
     ensures why { WhyRefused }
@@ -72,6 +77,10 @@ pub fn numbers_at_border()
     ensures visible_spans { SpansKeeps }
     ensures unset_runs_and_write { WriteKeeps }
     ensures can_skip { SkipKeeps }
+    ensures row_lengths { LengthsKeeps }
+    ensures render_cmd { CmdKeeps }
+    ensures depth_cmd { DepthKeeps }
+    ensures progress { ProgressKeeps }
 {}
 
 /// The state's words are a screen's, there and back; a host's are those of a screen that calls have reached; and tables of the lengths that
@@ -81,6 +90,17 @@ pub fn words_at_border()
     ensures words_written { WordsWrittenBack }
     ensures reached { HostedReached }
     ensures sizes { SizesFit }
+{}
+
+/// What a host reads of a row without painting it, whatever it has called: the rules' row and its painter.
+pub fn rows_read_at_border()
+    ensures stands { HostedStands }
+    ensures row_lengths { LengthsRead }
+    ensures render_cmds { CmdsRead }
+    ensures no_render_cmd { NoCmdRead }
+    ensures depth_cmds { DepthsRead }
+    ensures no_depth_cmd { NoDepthRead }
+    ensures progress { ProgressRead }
 {}
 
 /// The calls of examples/panel.c, and what its tiles receive.

@@ -1,7 +1,7 @@
 //! Each building call.
 ghost use Rattle.std.specs.Prelude.{◌≡◌};
-ghost use Rattle.row.specs.Rows.{all-held};
 ghost use Rattle.screen.specs.Lent.{tables_in};
+ghost use Rattle.theorem_once.specs.Lent.{fill-words, push-words, pop-words, filter-words};
 
 use crate::Twice;
 use fill::fill;
@@ -28,87 +28,133 @@ pub fn reset_twice(
     (reset(viewport, setup, a), reset(viewport, setup, b))
 }
 
+/// What a fill reads and writes.
+#[derive(Drop)]
+pub struct FillLent<'a> {
+    pub screen: Screen,
+    pub rows: Rows<'a>,
+    pub paint_attrs: &'a mut [u32],
+    pub paints: &'a [u32],
+    pub segments: &'a [u32],
+}
+
 /// Two calls of `fill`.
 pub fn fill_twice(
-    a: &mut Screen,
-    a_rows: &mut Rows<'_>,
-    a_attrs: &mut [u32],
-    a_paints: &[u32],
-    a_segments: &[u32],
-    b: &mut Screen,
-    b_rows: &mut Rows<'_>,
-    b_attrs: &mut [u32],
-    b_paints: &[u32],
-    b_segments: &[u32],
+    a: &mut FillLent<'_>,
+    b: &mut FillLent<'_>,
     draw: Draw,
 ) -> Twice<Result<(), Refusal>>
-    ensures { (a.old ≡ b.old) × (all-held a_rows.old ≡ all-held b_rows.old) × (a_attrs.old ≡ b_attrs.old) × (a_paints.now ≡ b_paints.now) × (a_segments.now ≡ b_segments.now)
-        → (result.0 ≡ result.1) × (a.new ≡ b.new) × (all-held a_rows.new ≡ all-held b_rows.new) × (a_attrs.new ≡ b_attrs.new) }
+    ensures { fill-words a.old ≡ fill-words b.old
+        → (result.0 ≡ result.1) × (fill-words a.new ≡ fill-words b.new) }
 {
     (
-        fill(a, a_rows, a_attrs, a_paints, a_segments, draw),
-        fill(b, b_rows, b_attrs, b_paints, b_segments, draw),
+        fill(
+            &mut a.screen,
+            &mut a.rows,
+            a.paint_attrs,
+            a.paints,
+            a.segments,
+            draw,
+        ),
+        fill(
+            &mut b.screen,
+            &mut b.rows,
+            b.paint_attrs,
+            b.paints,
+            b.segments,
+            draw,
+        ),
     )
+}
+
+/// What a push reads and writes.
+#[derive(Drop)]
+pub struct PushLent<'a> {
+    pub screen: Screen,
+    pub rows: Rows<'a>,
+    pub layers: Layers<'a>,
 }
 
 /// Two calls of `push_layer`.
 pub fn push_twice(
-    a: &mut Screen,
-    a_rows: &mut Rows<'_>,
-    a_layers: &mut Layers<'_>,
-    b: &mut Screen,
-    b_rows: &mut Rows<'_>,
-    b_layers: &mut Layers<'_>,
+    a: &mut PushLent<'_>,
+    b: &mut PushLent<'_>,
     props: LayerProps,
 ) -> Twice<Result<(), Refusal>>
-    ensures { (a.old ≡ b.old) × (all-held a_rows.old ≡ all-held b_rows.old) × (a_layers.old.table.now ≡ b_layers.old.table.now) × (a_layers.old.opacities.now ≡ b_layers.old.opacities.now)
-        → (result.0 ≡ result.1) × (a.new ≡ b.new) × (all-held a_rows.new ≡ all-held b_rows.new) × (a_layers.new.table.now ≡ b_layers.new.table.now) × (a_layers.new.opacities.now ≡ b_layers.new.opacities.now) }
+    ensures { push-words a.old ≡ push-words b.old
+        → (result.0 ≡ result.1) × (push-words a.new ≡ push-words b.new) }
 {
     (
-        push_layer(a, a_rows, a_layers, props),
-        push_layer(b, b_rows, b_layers, props),
+        push_layer(&mut a.screen, &mut a.rows, &mut a.layers, props),
+        push_layer(&mut b.screen, &mut b.rows, &mut b.layers, props),
     )
 }
 
+/// What a pop reads and writes.
+#[derive(Drop)]
+pub struct PopLent<'a> {
+    pub screen: Screen,
+    pub rows: Rows<'a>,
+    pub layers: Layers<'a>,
+    pub layer_attrs: &'a mut [u32],
+    pub segments: &'a [u32],
+}
+
 /// Two calls of `pop_layer`.
-pub fn pop_twice(
-    a: &mut Screen,
-    a_rows: &mut Rows<'_>,
-    a_layers: &mut Layers<'_>,
-    a_attrs: &mut [u32],
-    a_segments: &[u32],
-    b: &mut Screen,
-    b_rows: &mut Rows<'_>,
-    b_layers: &mut Layers<'_>,
-    b_attrs: &mut [u32],
-    b_segments: &[u32],
-) -> Twice<Result<(), Refusal>>
-    ensures { (a.old ≡ b.old) × (all-held a_rows.old ≡ all-held b_rows.old) × (a_layers.old.table.now ≡ b_layers.old.table.now) × (a_layers.old.opacities.now ≡ b_layers.old.opacities.now) × (a_attrs.old ≡ b_attrs.old) × (a_segments.now ≡ b_segments.now)
-        → (result.0 ≡ result.1) × (a.new ≡ b.new) × (all-held a_rows.new ≡ all-held b_rows.new) × (a_layers.new.table.now ≡ b_layers.new.table.now) × (a_layers.new.opacities.now ≡ b_layers.new.opacities.now) × (a_attrs.new ≡ b_attrs.new) }
+pub fn pop_twice(a: &mut PopLent<'_>, b: &mut PopLent<'_>) -> Twice<Result<(), Refusal>>
+    ensures { pop-words a.old ≡ pop-words b.old
+        → (result.0 ≡ result.1) × (pop-words a.new ≡ pop-words b.new) }
 {
     (
-        pop_layer(a, a_rows, a_layers, a_attrs, a_segments),
-        pop_layer(b, b_rows, b_layers, b_attrs, b_segments),
+        pop_layer(
+            &mut a.screen,
+            &mut a.rows,
+            &mut a.layers,
+            a.layer_attrs,
+            a.segments,
+        ),
+        pop_layer(
+            &mut b.screen,
+            &mut b.rows,
+            &mut b.layers,
+            b.layer_attrs,
+            b.segments,
+        ),
     )
+}
+
+/// What a filter fill reads and writes.
+#[derive(Drop)]
+pub struct FilterLent<'a> {
+    pub screen: Screen,
+    pub rows: Rows<'a>,
+    pub paint_attrs: &'a mut [u32],
+    pub filter_paints: &'a mut [i32],
 }
 
 /// Two calls of `filter_fill`.
 pub fn filter_twice(
-    a: &mut Screen,
-    a_rows: &mut Rows<'_>,
-    a_attrs: &mut [u32],
-    a_paints: &mut [i32],
-    b: &mut Screen,
-    b_rows: &mut Rows<'_>,
-    b_attrs: &mut [u32],
-    b_paints: &mut [i32],
+    a: &mut FilterLent<'_>,
+    b: &mut FilterLent<'_>,
     layer: FilterFill,
 ) -> Twice<Result<(), Refusal>>
-    ensures { (a.old ≡ b.old) × (all-held a_rows.old ≡ all-held b_rows.old) × (a_attrs.old ≡ b_attrs.old) × (a_paints.old ≡ b_paints.old)
-        → (result.0 ≡ result.1) × (a.new ≡ b.new) × (all-held a_rows.new ≡ all-held b_rows.new) × (a_attrs.new ≡ b_attrs.new) × (a_paints.new ≡ b_paints.new) }
+    ensures { filter-words a.old ≡ filter-words b.old
+        → (result.0 ≡ result.1) × (filter-words a.new ≡ filter-words b.new) }
 {
     (
-        filter_fill(a, a_rows, a_attrs, a_paints, layer),
-        filter_fill(b, b_rows, b_attrs, b_paints, layer),
+        filter_fill(
+            &mut a.screen,
+            &mut a.rows,
+            a.paint_attrs,
+            a.filter_paints,
+            layer,
+        ),
+        filter_fill(
+            &mut b.screen,
+            &mut b.rows,
+            b.paint_attrs,
+            b.filter_paints,
+            layer,
+        ),
     )
 }

@@ -1,135 +1,139 @@
 //! Each painting call, and the direct runs.
 ghost use Rattle.std.specs.Prelude.{◌≡◌};
-ghost use Rattle.theorem_once.specs.Words.{stored-words};
+ghost use Rattle.theorem_once.specs.Painting.{begin-words, paint-words, write-words};
 
 use crate::Twice;
 use paint::{
-    Stepped, Stored, begin_painting, can_skip, paint_row, paint_step, unset_runs,
+    Canvas, Stepped, Stored, begin_painting, can_skip, paint_row, paint_step, unset_runs,
     unset_runs_and_write, visible_runs,
 };
 use screen::Screen;
 use sizes::answers::Refusal;
 use span::{BucketRange, TileSpan};
 
+/// What beginning to paint reads and writes.
+#[derive(Drop)]
+pub struct BeginLent<'a> {
+    pub screen: Screen,
+    pub canvas: Canvas<'a>,
+}
+
 /// Two calls of `begin_painting`.
-pub fn begin_twice(
-    a: &mut Screen,
-    a_depth: &mut [u32],
-    a_painting: &mut [u32],
-    b: &mut Screen,
-    b_depth: &mut [u32],
-    b_painting: &mut [u32],
-) -> Twice<Result<(), Refusal>>
-    ensures { (a.old ≡ b.old) × (a_depth.old ≡ b_depth.old) × (a_painting.old ≡ b_painting.old)
-        → (result.0 ≡ result.1) × (a.new ≡ b.new) × (a_depth.new ≡ b_depth.new) × (a_painting.new ≡ b_painting.new) }
+pub fn begin_twice(a: &mut BeginLent<'_>, b: &mut BeginLent<'_>) -> Twice<Result<(), Refusal>>
+    ensures { begin-words a.old ≡ begin-words b.old
+        → (result.0 ≡ result.1) × (begin-words a.new ≡ begin-words b.new) }
 {
     (
-        begin_painting(a, a_depth, a_painting),
-        begin_painting(b, b_depth, b_painting),
+        begin_painting(&mut a.screen, &mut a.canvas),
+        begin_painting(&mut b.screen, &mut b.canvas),
     )
+}
+
+/// What a step of a row, or all of them, reads and writes.
+#[derive(Drop)]
+pub struct PaintLent<'a> {
+    pub stored: Stored<'a>,
+    pub canvas: Canvas<'a>,
+    pub list: &'a mut [u32],
 }
 
 /// Two calls of `paint_step`.
 pub fn step_twice(
-    a: &Stored<'_>,
-    a_depth: &mut [u32],
-    a_painting: &mut [u32],
-    a_list: &mut [u32],
-    b: &Stored<'_>,
-    b_depth: &mut [u32],
-    b_painting: &mut [u32],
-    b_list: &mut [u32],
+    a: &mut PaintLent<'_>,
+    b: &mut PaintLent<'_>,
     screen: Screen,
     row: usize,
 ) -> Twice<Result<Stepped, Refusal>>
-    ensures { (stored-words a.now ≡ stored-words b.now) × (a_depth.old ≡ b_depth.old) × (a_painting.old ≡ b_painting.old) × (a_list.old ≡ b_list.old)
-        → (result.0 ≡ result.1) × (a_depth.new ≡ b_depth.new) × (a_painting.new ≡ b_painting.new) × (a_list.new ≡ b_list.new) }
+    ensures { paint-words a.old ≡ paint-words b.old
+        → (result.0 ≡ result.1) × (paint-words a.new ≡ paint-words b.new) }
 {
     (
-        paint_step(screen, row, a, a_depth, a_painting, a_list),
-        paint_step(screen, row, b, b_depth, b_painting, b_list),
+        paint_step(screen, row, &a.stored, &mut a.canvas, a.list),
+        paint_step(screen, row, &b.stored, &mut b.canvas, b.list),
     )
 }
 
 /// Two calls of `paint_row`.
 pub fn row_twice(
-    a: &Stored<'_>,
-    a_depth: &mut [u32],
-    a_painting: &mut [u32],
-    a_list: &mut [u32],
-    b: &Stored<'_>,
-    b_depth: &mut [u32],
-    b_painting: &mut [u32],
-    b_list: &mut [u32],
+    a: &mut PaintLent<'_>,
+    b: &mut PaintLent<'_>,
     screen: Screen,
     row: usize,
 ) -> Twice<Result<Stepped, Refusal>>
-    ensures { (stored-words a.now ≡ stored-words b.now) × (a_depth.old ≡ b_depth.old) × (a_painting.old ≡ b_painting.old) × (a_list.old ≡ b_list.old)
-        → (result.0 ≡ result.1) × (a_depth.new ≡ b_depth.new) × (a_painting.new ≡ b_painting.new) × (a_list.new ≡ b_list.new) }
+    ensures { paint-words a.old ≡ paint-words b.old
+        → (result.0 ≡ result.1) × (paint-words a.new ≡ paint-words b.new) }
 {
     (
-        paint_row(screen, row, a, a_depth, a_painting, a_list),
-        paint_row(screen, row, b, b_depth, b_painting, b_list),
+        paint_row(screen, row, &a.stored, &mut a.canvas, a.list),
+        paint_row(screen, row, &b.stored, &mut b.canvas, b.list),
     )
+}
+
+/// Which runs are asked for: those of a span of tiles, in a row of a screen.
+#[derive(Clone, Copy)]
+pub struct RunsAsked {
+    pub screen: Screen,
+    pub row: usize,
+    pub span: TileSpan,
 }
 
 /// Two calls of `unset_runs`.
 pub fn unset_twice(
-    a: &[u32],
+    a_depth: &[u32],
     a_list: &mut [u32],
-    b: &[u32],
+    b_depth: &[u32],
     b_list: &mut [u32],
-    screen: Screen,
-    row: usize,
-    span: TileSpan,
+    asked: RunsAsked,
 ) -> Twice<Result<usize, Refusal>>
-    ensures { (a.now ≡ b.now) × (a_list.old ≡ b_list.old)
-        → (result.0 ≡ result.1) × (a_list.new ≡ b_list.new) }
+    ensures { (a_depth.now ≡ b_depth.now) × (a_list.old ≡ b_list.old) → (result.0 ≡ result.1) × (a_list.new ≡ b_list.new) }
 {
+    let RunsAsked { screen, row, span } = asked;
     (
-        unset_runs(screen, row, a, span, a_list),
-        unset_runs(screen, row, b, span, b_list),
+        unset_runs(screen, row, a_depth, span, a_list),
+        unset_runs(screen, row, b_depth, span, b_list),
     )
 }
 
 /// Two calls of `visible_runs`.
 pub fn visible_twice(
-    a: &[u32],
+    a_depth: &[u32],
     a_list: &mut [u32],
-    b: &[u32],
+    b_depth: &[u32],
     b_list: &mut [u32],
-    screen: Screen,
-    row: usize,
-    span: TileSpan,
+    asked: RunsAsked,
     draw_id: u32,
 ) -> Twice<Result<usize, Refusal>>
-    ensures { (a.now ≡ b.now) × (a_list.old ≡ b_list.old)
-        → (result.0 ≡ result.1) × (a_list.new ≡ b_list.new) }
+    ensures { (a_depth.now ≡ b_depth.now) × (a_list.old ≡ b_list.old) → (result.0 ≡ result.1) × (a_list.new ≡ b_list.new) }
 {
+    let RunsAsked { screen, row, span } = asked;
     (
-        visible_runs(screen, row, a, span, draw_id, a_list),
-        visible_runs(screen, row, b, span, draw_id, b_list),
+        visible_runs(screen, row, a_depth, span, draw_id, a_list),
+        visible_runs(screen, row, b_depth, span, draw_id, b_list),
     )
+}
+
+/// What a run that writes reads and writes.
+#[derive(Drop)]
+pub struct WriteLent<'a> {
+    pub screen: Screen,
+    pub depth: &'a mut [u32],
+    pub list: &'a mut [u32],
 }
 
 /// Two calls of `unset_runs_and_write`.
 pub fn write_twice(
-    a: &mut Screen,
-    a_depth: &mut [u32],
-    a_list: &mut [u32],
-    b: &mut Screen,
-    b_depth: &mut [u32],
-    b_list: &mut [u32],
+    a: &mut WriteLent<'_>,
+    b: &mut WriteLent<'_>,
     row: usize,
     range: BucketRange,
     draw_id: u32,
 ) -> Twice<Result<usize, Refusal>>
-    ensures { (a.old ≡ b.old) × (a_depth.old ≡ b_depth.old) × (a_list.old ≡ b_list.old)
-        → (result.0 ≡ result.1) × (a.new ≡ b.new) × (a_depth.new ≡ b_depth.new) × (a_list.new ≡ b_list.new) }
+    ensures { write-words a.old ≡ write-words b.old
+        → (result.0 ≡ result.1) × (write-words a.new ≡ write-words b.new) }
 {
     (
-        unset_runs_and_write(a, row, a_depth, range, draw_id, a_list),
-        unset_runs_and_write(b, row, b_depth, range, draw_id, b_list),
+        unset_runs_and_write(&mut a.screen, row, a.depth, range, draw_id, a.list),
+        unset_runs_and_write(&mut b.screen, row, b.depth, range, draw_id, b.list),
     )
 }
 

@@ -1,6 +1,6 @@
 //! A recording, and `why`.
 ghost use Rattle.std.specs.Prelude.{◌≡◌};
-ghost use Rattle.screen.specs.Lent.{tables_in};
+ghost use Rattle.theorem_once.specs.Lent.{recording-words};
 
 use crate::Twice;
 use screen::{Lent, Screen, Setup};
@@ -8,43 +8,43 @@ use sizes::answers::Refusal;
 use tile::{Asked, Reason, why};
 use walk::bucket_recording;
 
+/// What a recording's call reads and writes: the screen, the file's words and all that a host lends with the screen.
+#[derive(Drop)]
+pub struct RecordingLent<'a> {
+    pub screen: Screen,
+    pub file: &'a [u32],
+    pub lent: Lent<'a>,
+}
+
 /// Two calls of `bucket_recording`.
 pub fn recording_twice(
-    a: &mut Screen,
-    a_file: &[u32],
-    a_lent: &mut Lent<'_>,
-    b: &mut Screen,
-    b_file: &[u32],
-    b_lent: &mut Lent<'_>,
+    a: &mut RecordingLent<'_>,
+    b: &mut RecordingLent<'_>,
     setup: Setup,
 ) -> Twice<Result<(), Refusal>>
-    ensures { (a.old ≡ b.old) × (a_file.now ≡ b_file.now) × (tables_in a_lent.old ≡ tables_in b_lent.old)
-        → (result.0 ≡ result.1) × (a.new ≡ b.new) × (tables_in a_lent.new ≡ tables_in b_lent.new) }
+    ensures { recording-words a.old ≡ recording-words b.old
+        → (result.0 ≡ result.1) × (recording-words a.new ≡ recording-words b.new) }
 {
     (
-        bucket_recording(a, a_file, setup, a_lent),
-        bucket_recording(b, b_file, setup, b_lent),
+        bucket_recording(&mut a.screen, a.file, setup, &mut a.lent),
+        bucket_recording(&mut b.screen, b.file, setup, &mut b.lent),
     )
 }
 
 /// Two calls of `why`.
 pub fn why_twice(
-    a: &mut Screen,
-    a_file: &[u32],
-    a_lent: &mut Lent<'_>,
-    b: &mut Screen,
-    b_file: &[u32],
-    b_lent: &mut Lent<'_>,
+    a: &mut RecordingLent<'_>,
+    b: &mut RecordingLent<'_>,
     setup: Setup,
     row: u32,
     tile: u32,
     asked: Asked,
 ) -> Twice<Result<Reason, Refusal>>
-    ensures { (a.old ≡ b.old) × (a_file.now ≡ b_file.now) × (tables_in a_lent.old ≡ tables_in b_lent.old)
-        → (result.0 ≡ result.1) × (a.new ≡ b.new) × (tables_in a_lent.new ≡ tables_in b_lent.new) }
+    ensures { recording-words a.old ≡ recording-words b.old
+        → (result.0 ≡ result.1) × (recording-words a.new ≡ recording-words b.new) }
 {
     (
-        why(a, a_file, setup, row, tile, asked, a_lent),
-        why(b, b_file, setup, row, tile, asked, b_lent),
+        why(&mut a.screen, a.file, setup, row, tile, asked, &mut a.lent),
+        why(&mut b.screen, b.file, setup, row, tile, asked, &mut b.lent),
     )
 }

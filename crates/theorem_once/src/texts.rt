@@ -3,10 +3,10 @@ ghost use Rattle.std.specs.Prelude.{◌≡◌};
 ghost use Rattle.row.specs.Rows.{all-held};
 ghost use Rattle.screen.specs.Lent.{tables_in};
 ghost use Rattle.text.specs.Dumped.{tables_of};
-ghost use Rattle.theorem_once.specs.Words.{stored-words};
+ghost use Rattle.theorem_once.specs.Painting.{row-text-words};
 
 use crate::Twice;
-use paint::Stored;
+use paint::{Canvas, Stored};
 use row::Rows;
 use screen::{Lent, Screen, Setup};
 use sizes::answers::Refusal;
@@ -64,28 +64,45 @@ pub fn attrs_twice(
     )
 }
 
+/// What a row's text reads and writes.
+#[derive(Drop)]
+pub struct RowTextLent<'a> {
+    pub stored: Stored<'a>,
+    pub canvas: Canvas<'a>,
+    pub list: &'a mut [u32],
+    pub bytes: &'a mut [u8],
+}
+
 /// Two calls of `row_text`.
 pub fn row_text_twice(
-    a: &Stored<'_>,
-    a_depth: &mut [u32],
-    a_painting: &mut [u32],
-    a_list: &mut [u32],
-    a_bytes: &mut [u8],
-    b: &Stored<'_>,
-    b_depth: &mut [u32],
-    b_painting: &mut [u32],
-    b_list: &mut [u32],
-    b_bytes: &mut [u8],
+    a: &mut RowTextLent<'_>,
+    b: &mut RowTextLent<'_>,
     screen: Screen,
     row: u32,
     panels: bool,
 ) -> Twice<Result<usize, Refusal>>
-    ensures { (stored-words a.now ≡ stored-words b.now) × (a_depth.old ≡ b_depth.old) × (a_painting.old ≡ b_painting.old) × (a_list.old ≡ b_list.old) × (a_bytes.old ≡ b_bytes.old)
-        → (result.0 ≡ result.1) × (a_depth.new ≡ b_depth.new) × (a_painting.new ≡ b_painting.new) × (a_list.new ≡ b_list.new) × (a_bytes.new ≡ b_bytes.new) }
+    ensures { row-text-words a.old ≡ row-text-words b.old
+        → (result.0 ≡ result.1) × (row-text-words a.new ≡ row-text-words b.new) }
 {
     (
-        row_text(screen, row, panels, a, a_depth, a_painting, a_list, a_bytes),
-        row_text(screen, row, panels, b, b_depth, b_painting, b_list, b_bytes),
+        row_text(
+            screen,
+            row,
+            panels,
+            &a.stored,
+            &mut a.canvas,
+            a.list,
+            a.bytes,
+        ),
+        row_text(
+            screen,
+            row,
+            panels,
+            &b.stored,
+            &mut b.canvas,
+            b.list,
+            b.bytes,
+        ),
     )
 }
 

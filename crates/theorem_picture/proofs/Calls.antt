@@ -20,7 +20,6 @@ use Rattle.screen.specs.Tables.{ScreenLent}
 use Rattle.screen.specs.declared.layers.LayerProps.{LayerProps}
 use Rattle.inputs.specs.declared.Draw.{Draw}
 use Rattle.fill.specs.Fills as fills
-use Rattle.inputs.specs.Inputs.{draw-of}
 use Rattle.fill.specs.Fills.{paints, paints-of, filled, fill_number, fill_done, first_number}
 use Rattle.layers.specs.Push as push
 use Rattle.layers.specs.Push.{pushed, push-number}

@@ -13,5 +13,6 @@ pub mod Rows
 pub mod RowEnds
 pub mod Canvases
 pub mod Answered
+pub mod Stored
 pub mod Refined
 pub mod Bounded

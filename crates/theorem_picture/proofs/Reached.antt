@@ -49,7 +49,7 @@ module _ (f : Frame) (l : ScreenLent) (z : judged_reset f (lengths l.tables) ≡
   depth-long =
       let k = lengths l.tables in
       let a = both (good-room f.c && good-room f.d) _ (judged-facts f l z).1 in
-      eqb-true _ _ (both (eqb k.render (rows * (4 * f.c)) && eqb k.fills (rows * (2 * f.d))) (eqb k.depth (rows * buckets)) a.1).1
+      eqb-true _ _ (both (eqb k.render_cmds (rows * (4 * f.c)) && eqb k.depth_cmds (rows * (2 * f.d))) (eqb k.depth (rows * buckets)) a.1).1
 
   painting-long : length l.tables.painting ≡ rows * 2
   painting-long =

@@ -94,7 +94,7 @@ module _ (i : ℕ) (l : ScreenLent) where
   pub one_holds : (g : StepOut) → Holds g → Holds (one_more step g)
   unfolding one_more
   one_holds g h =
-      let o = step-holds l.screen i (attributes l.tables.paint-attrs l.tables.layer-attrs) (paint.lent l.tables.rows l.tables.render l.tables.fills g.depth g.painting (next g).list) in
+      let o = step-holds l.screen i (attributes l.tables.paint-attrs l.tables.layer-attrs) (paint.words_lent l.tables.rows l.tables.render l.tables.fills g.depth g.painting (next g).list) in
       rw (length-append, length-take-le (piece-size * g.answer.pieces) g.list h) (omega (arith, o))
 
   one-pieces : (g : StepOut) → Holds g

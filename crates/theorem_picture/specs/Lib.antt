@@ -3,6 +3,7 @@ pub mod Reached
 pub mod Standing
 pub mod Said
 pub mod Answered
+pub mod Stored
 pub mod Refined
 pub mod Turns
 pub mod Picture

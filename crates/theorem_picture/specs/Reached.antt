@@ -5,7 +5,7 @@ use Rattle.rules.specs.Spans.{Span}
 use Rattle.rules.specs.Inputs.{Props}
 use Rattle.rules.specs.Plans.{Frame, Step, a-push}
 use Rattle.screen.specs.declared.Screen.{Screen}
-use Rattle.screen.specs.Tables.{tables, ScreenLent, lent, reset_to}
+use Rattle.screen.specs.Tables.{tables, ScreenLent, screen_lent, reset_to}
 use Rattle.screen.specs.declared.layers.LayerProps.{LayerProps}
 use Rattle.inputs.specs.declared.Draw.{Draw}
 use Rattle.layers.specs.Filter.{FilterGiven}
@@ -19,7 +19,7 @@ use Rattle.theorem_picture.specs.Calls.{fill-at, push_at, pop-at, filter-at, fil
 -- the words with another screen, other depth words and other painting words
 abbrev pub with-canvas : ScreenLent → Screen → List ℕ → List ℕ → ScreenLent
 with-canvas l s depth painting =
-    lent s
+    screen_lent s
     (tables l.tables.render l.tables.fills depth l.tables.rows painting l.tables.layers l.tables.opacities l.tables.paint-attrs l.tables.layer-attrs l.tables.filter-paints)
 
 -- `begin_painting`
@@ -32,7 +32,7 @@ begin-at l =
 unfoldable pub paint-out : ℕ → List ℕ → ScreenLent → paint.StepOut
 paint-out i list l =
     stepped l.screen i (attributes l.tables.paint-attrs l.tables.layer-attrs)
-    (paint.lent l.tables.rows l.tables.render l.tables.fills l.tables.depth l.tables.painting list)
+    (paint.words_lent l.tables.rows l.tables.render l.tables.fills l.tables.depth l.tables.painting list)
 
 abbrev pub paint-at : ℕ → List ℕ → ScreenLent → ScreenLent
 paint-at i list l = let o = paint-out i list l in with-canvas l l.screen o.depth o.painting

@@ -18,7 +18,7 @@ use Rattle.theorem_picture.specs.Turns.{Turn, pieces-in, gave-out, turned, log, 
 unfoldable pub row_out : ℕ → List ℕ → ScreenLent → paint.StepOut
 row_out i list l =
     row-painted l.screen i (attributes l.tables.paint-attrs l.tables.layer-attrs)
-    (paint.lent l.tables.rows l.tables.render l.tables.fills l.tables.depth l.tables.painting list)
+    (paint.words_lent l.tables.rows l.tables.render l.tables.fills l.tables.depth l.tables.painting list)
 
 abbrev pub row_at : ℕ → List ℕ → ScreenLent → ScreenLent
 row_at i list l = let o = row_out i list l in with-canvas l l.screen o.depth o.painting

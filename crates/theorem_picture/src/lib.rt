@@ -13,6 +13,7 @@ ghost use Rattle.theorem_picture.specs.Rows.{PictureByRows};
 ghost use Rattle.theorem_picture.specs.Skip.{Clear, FinishedFills, SkippedBuckets, SkippedRuns};
 ghost use Rattle.theorem_picture.specs.Alone.{AllShown, FinishedAlone, RowPicture, SaidFinished};
 ghost use Rattle.theorem_picture.specs.Answered.{CanvasAnswered, ReachedStands, StandsAnswered};
+ghost use Rattle.theorem_picture.specs.Stored.{CanvasStored, StandsStored};
 ghost use Rattle.theorem_picture.specs.Said.{CallsSaid, PropertiesGood, PushReached, RefusedKept, ShiftsFree, StepReached};
 ghost use Rattle.theorem_picture.specs.Kept.{BeginKept, ResetKept, RowKept, StepKept, UnsetKept, VisibleKept, WriteKept};
 ghost use Rattle.theorem_picture.specs.Apart.{RowApart, StepApart};
@@ -26,6 +27,7 @@ ghost use Rattle.theorem_picture.specs.Recorded.{RecordingAccepted, RecordingEar
 pub fn reached_words_are_the_rules_screen()
     ensures stands { ReachedStands }
     ensures answered { StandsAnswered }
+    ensures stored { StandsStored }
     ensures said { CallsSaid }
     ensures refused { RefusedKept }
     ensures steps { StepReached }
@@ -68,6 +70,7 @@ pub fn words_follow_the_rules()
     ensures files { FilePlays }
     ensures recordings { RecordingRules }
     ensures canvases { CanvasAnswered }
+    ensures stored { CanvasStored }
     ensures whole { WholeKept }
 {}
 

@@ -61,7 +61,7 @@ module _ (i : ℕ) (l : ScreenLent) where
   one-long : (g : StepOut) → Holds i l g → length (one_more (step i l) g).list ≡ length g.list
   unfolding one_more
   one-long g h =
-      let o = step-long l.screen i (attributes l.tables.paint-attrs l.tables.layer-attrs) (paint.lent l.tables.rows l.tables.render l.tables.fills g.depth g.painting (next i l g).list) in
+      let o = step-long l.screen i (attributes l.tables.paint-attrs l.tables.layer-attrs) (paint.words_lent l.tables.rows l.tables.render l.tables.fills g.depth g.painting (next i l g).list) in
       rw (length-append, length-take-le (piece-size * g.answer.pieces) g.list h, o, length-drop) (omega arith)
 
   run_long : (f k : ℕ) (g : StepOut) → Holds i l g → length (run (step i l) f k g).list ≡ length g.list
@@ -124,7 +124,7 @@ module _ {s : Screen Row} {r : ℕ} {m : ScreenLent} (h : Waits s r m) (few : le
   -- `row_text` writes it wherever it fits
   pub row_written : (v : Bool) (bs : List ℕ) → length (theirs-text v) ≤ length bs
       → row-dumped v m.screen r (attributes m.tables.paint-attrs m.tables.layer-attrs)
-      (paint.lent m.tables.rows m.tables.render m.tables.fills m.tables.depth m.tables.painting list)
+      (paint.words_lent m.tables.rows m.tables.render m.tables.fills m.tables.depth m.tables.painting list)
       bs
       ≡ with-text (row_out r list m) (begun-with (theirs-text v) bs)
   unfolding written

@@ -111,7 +111,7 @@ module _ (k : Canvas) (w : WholeCanvas k) (r : ℕ) (there : r < length k.screen
   -- The text that `row_text` writes then is that of the rules' own lines.
   pub row-printed : (v : Bool) (bs : List ℕ) → o.answer.number ≡ 0 → o.answer.finished ≡ true → o.answer.pieces ≤ 65536
       → row-dumped v l.screen r (attributes l.tables.paint-attrs l.tables.layer-attrs)
-      (paint.lent l.tables.rows l.tables.render l.tables.fills l.tables.depth l.tables.painting list)
+      (paint.words_lent l.tables.rows l.tables.render l.tables.fills l.tables.depth l.tables.painting list)
       bs
       ≡ with-text o (written (details-text v (painted-row r theirs)) bs)
   unfolding row-dumped row_out pieces-written
@@ -169,7 +169,7 @@ row-waits {s} {r} {m} h i list d =
 pub waiting-printed : (v : Bool) {s : Screen Row} {r : ℕ} {m : ScreenLent} (h : Waits s r m) (list bs : List ℕ) → (row_out r list m).answer.number ≡ 0 → (row_out r list m).answer.finished ≡ true
     → (row_out r list m).answer.pieces ≤ 65536
     → row-dumped v m.screen r (attributes m.tables.paint-attrs m.tables.layer-attrs)
-    (paint.lent m.tables.rows m.tables.render m.tables.fills m.tables.depth m.tables.painting list)
+    (paint.words_lent m.tables.rows m.tables.render m.tables.fills m.tables.depth m.tables.painting list)
     bs
     ≡ with-text (row_out r list m)
     (written (details-text v (painted-row r (paint-row (bucket s.state.frame) s.state.attrs (buckets-across s.state.frame) (get_or s.rows r fresh-row)))) bs)

@@ -157,7 +157,7 @@ row-details s r = painted-row r (paint-row (bucket s.state.frame) s.state.attrs 
 abbrev pub dumped-at : Bool → ℕ → List ℕ → List ℕ → ScreenLent → RowOut
 dumped-at v r list bs m =
     row-dumped v m.screen r (attributes m.tables.paint-attrs m.tables.layer-attrs)
-    (paint.lent m.tables.rows m.tables.render m.tables.fills m.tables.depth m.tables.painting list)
+    (paint.words_lent m.tables.rows m.tables.render m.tables.fills m.tables.depth m.tables.painting list)
     bs
 
 -- The text that `row_text` writes of a row that waits is that of the rules' own lines of the row.

@@ -1,4 +1,5 @@
-//! Why a tile of a recording shows what it shows. `why` is a public call; the others are parts of it, and two of them of a program that asks of many attributes.
+//! Why a tile of a recording shows what it shows. `why` is a public call; the others are parts of it, and two of them of a program that asks of many
+//! attributes.
 ghost use Rattle.std.specs.Prelude.{◌≡◌, true, false, length};
 ghost use Rattle.sizes.specs.Sizes.{line-table};
 ghost use Rattle.sizes.specs.Widths.{bucket-tiles};
@@ -27,18 +28,18 @@ use rect::Rect;
 use screen::{Lent, Screen, Setup};
 use sizes::answers::Refusal;
 use sizes::width::Width;
-use sizes::{LINE_TABLE, MOST_LAYERS};
+use sizes::{LINE_TABLE, MOST_LAYERS, TILE_HEIGHT, TILE_WIDTH};
 use walk::bucket_recording;
 
 /// Whether the screen of this viewport does not have the row, or the tile in a row (answer 12).
 pub fn is_off_screen(viewport: Rect, row: u32, tile: u32) -> bool
     ensures { result ≡ off-screen (box_of viewport) row tile }
 {
-    viewport.height() / 4 <= row || viewport.width() / 4 <= tile
+    viewport.height() / TILE_HEIGHT <= row || viewport.width() / TILE_WIDTH <= tile
 }
 
-/// The story of a tile of the screen, from the root of a recording that was judged, told into the lines; it gives what was counted. Deep, Ids or FullAttrs, as a
-/// step of the walk; the story has no rows, so that none is full.
+/// The story of a tile of the screen, from the root of a recording that was judged, told into the lines; it gives what was counted. Deep, Ids or FullAttrs, as
+/// a step of the walk; the story has no rows, so that none is full.
 pub fn tell_tile(
     file: &Recording<'_>,
     viewport: Rect,

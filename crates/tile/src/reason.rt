@@ -11,7 +11,7 @@ use sizes::LINE;
 
 /// `attribute` is the paint attribute of the newest eligible solid segment over the tile's whole bucket, `hider_panel` its panel; `panel` the asked
 /// attribute's.
-#[derive(Clone, Copy)]
+#[derive(Clone, Copy, Debug, PartialEq, Eq)]
 pub struct Hidden {
     pub attribute: u32,
     pub hider_panel: u32,
@@ -19,14 +19,14 @@ pub struct Hidden {
 }
 
 /// `place` is the entry's place in the tile's list, from 0; `panel` the asked attribute's.
-#[derive(Clone, Copy)]
+#[derive(Clone, Copy, Debug, PartialEq, Eq)]
 pub struct Shown {
     pub place: u32,
     pub panel: u32,
 }
 
 /// The first that holds, in this order; with the asked attribute's panel, where there is such an attribute.
-#[derive(Clone, Copy)]
+#[derive(Clone, Copy, Debug, PartialEq, Eq)]
 pub enum Reason {
     // No step adds it.
     UnknownAttribute,
@@ -43,7 +43,7 @@ pub enum Reason {
 }
 
 /// An attribute that is asked about: a layer's, or a paint's, and its place in their table.
-#[derive(Clone, Copy)]
+#[derive(Clone, Copy, Debug, PartialEq, Eq)]
 pub struct Asked {
     pub layer: bool,
     pub attribute: u32,
@@ -156,7 +156,8 @@ fn reason_by(search: Search) -> Reason
 
 /// The reason that the first n lines give of an attribute.
 pub fn reason_of(lines: &[u32], n: usize, asked: Asked) -> Reason
-    requires { (n ≤ most-attrs + most-attrs) × (line-size * n ≤ length lines.now) }
+    requires few { n ≤ most-attrs + most-attrs }
+    requires long { line-size * n ≤ length lines.now }
     ensures { reason-of result ≡ reason-read (asked_of asked) lines.now n }
 {
     let mut search = Search {

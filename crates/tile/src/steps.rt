@@ -21,13 +21,13 @@ use layers::filter::{draws_nothing, filter_box};
 use rect::Rect;
 use screen::layers::{Clip, LayerProps, layer_box};
 use sizes::answers::Refusal;
-use sizes::{LAST_ID, MOST_ATTRS, MOST_FILTERS, MOST_LAYERS};
+use sizes::{LAST_ID, MOST_ATTRS, MOST_FILTERS, MOST_LAYERS, TILE_HEIGHT, TILE_WIDTH};
 
 pub mod lines;
 pub mod looks;
 
 /// The tile that is told of: a row and a tile of the viewport's screen, at so many tiles a bucket (`width`).
-#[derive(Clone, Copy)]
+#[derive(Clone, Copy, Debug, PartialEq, Eq)]
 pub struct Spot {
     pub viewport: Rect,
     pub row: u32,
@@ -36,7 +36,7 @@ pub struct Spot {
 }
 
 /// The clip box in force, in pixels, local to the viewport, and how many layers are open.
-#[derive(Clone, Copy)]
+#[derive(Clone, Copy, Debug, PartialEq, Eq)]
 pub struct Within {
     pub clip: Rect,
     pub open: u32,
@@ -44,7 +44,7 @@ pub struct Within {
 
 /// What is counted: the next id, the paint attributes, layer attributes and filter paints so far, and for how many of the open layers, from the outermost, the
 /// row is touched.
-#[derive(Clone, Copy)]
+#[derive(Clone, Copy, Debug, PartialEq, Eq)]
 pub struct Tale {
     pub next: u32,
     pub paints: u32,
@@ -54,7 +54,7 @@ pub struct Tale {
 }
 
 /// A draw of this panel with the segments from start to end of a list; `eligible`: those that are solid are (rule 6).
-#[derive(Clone, Copy)]
+#[derive(Clone, Copy, Debug, PartialEq, Eq)]
 pub struct Stroke {
     pub start: usize,
     pub end: usize,
@@ -257,8 +257,8 @@ pub fn tell_filter(
     }
     let covered = is_met(
         dest,
-        spot.row + spot.viewport.y0 / 4,
-        spot.tile + spot.viewport.x0 / 4,
+        spot.row + spot.viewport.y0 / TILE_HEIGHT,
+        spot.tile + spot.viewport.x0 / TILE_WIDTH,
     );
     let kept = is_met(bbox, spot.row, spot.tile);
     let line = Line {

@@ -10,9 +10,8 @@ use Rattle.rules.specs.Walk.{◌then◌, walk-all, walk-nodes, walk-layer}
 use Rattle.rect.specs.declared.Rect.{Rect}
 use Rattle.rect.specs.Rects.{box_of}
 use Rattle.screen.specs.Judging.{judged_reset}
-use Rattle.screen.specs.declared.Lent.{Lent}
-use Rattle.screen.specs.Tables.{Tables, lengths, zeroed, ScreenLent, lent, reset_to}
-use Rattle.screen.specs.Lent.{tables_in, SameLent}
+use Rattle.screen.specs.Tables.{Tables, lengths, zeroed, ScreenLent, screen_lent, reset_to}
+use Rattle.screen.proofs.Zeros.{same-zeros}
 use Rattle.file.specs.Held.{recording_of}
 use Rattle.file.specs.Judging.{judged}
 use Rattle.file.proofs.Laws.{sound, root-range}
@@ -45,37 +44,6 @@ module _ (r : Recording) (fresh : ScreenLent) (m : ℕ) (s : ScreenLent) (e : an
   not-played : (m ≡ 0 → ⊥) → answer m fresh ≡ played r fresh
   unfolding played
   not-played z = rw (← e, ne_eqb m 0 z)
-
--- As many words of each kind: clearing leaves what a reset left, since both go by the lengths alone.
-pub record SameLong (t u : Tables) : Type 0 where
-  pub render : length t.render ≡ length u.render
-  pub fills : length t.fills ≡ length u.fills
-  pub depth : length t.depth ≡ length u.depth
-  pub rows : length t.rows ≡ length u.rows
-  pub painting : length t.painting ≡ length u.painting
-  pub layers : length t.layers ≡ length u.layers
-  pub opacities : length t.opacities ≡ length u.opacities
-  pub paint-attrs : length t.paint-attrs ≡ length u.paint-attrs
-  pub layer-attrs : length t.layer-attrs ≡ length u.layer-attrs
-  pub filter-paints : length t.filter-paints ≡ length u.filter-paints
-
-pub same_lengths : {a b : Lent} → SameLent a b → SameLong (tables_in b) (tables_in a)
-same_lengths e =
-    record {
-      render = e.render-long;
-      fills = e.fills-long;
-      depth = e.depth-long;
-      rows = e.rows-long;
-      painting = e.painting-long;
-      layers = e.layers-long;
-      opacities = e.opacities-long;
-      paint-attrs = e.paint_attrs-long;
-      layer-attrs = e.layer_attrs-long;
-      filter-paints = e.filter_paints-long;
-    }
-
-same_zeros : {t u : Tables} → SameLong t u → zeroed t ≡ zeroed u
-same_zeros e = rw (e.render, e.fills, e.depth, e.rows, e.painting, e.layers, e.opacities, e.paint-attrs, e.layer-attrs, e.filter-paints)
 
 by_number : (n k : ℕ) (t : Bool) → eqb k 0 ≡ t → (a b c : ScreenLent) → n ≡ 0 → answer n a ≡ cond t (answer 0 c) (answer k b) → a ≡ c
 by_number n k true q a b c z e = ap (λ (x : Answer ScreenLent). x.value) e
@@ -122,9 +90,9 @@ module _ (r : Recording) (ws : List ℕ) (g : recording_of (sections shape ws) �
     pub all_done : m ≡ 0 → answer m s ≡ recorded ws q old
     all_done y = all-played r a m s f y ∙ sym then-played
 
-    pub left_fresh : (m ≡ 0 → ⊥) → (t : Tables) → SameLong s.tables a.tables → SameLong a.tables old.tables → t ≡ zeroed s.tables
-        → answer m (lent a.screen t) ≡ recorded ws q old
+    pub left_fresh : (m ≡ 0 → ⊥) → (t : Tables) → lengths s.tables ≡ lengths a.tables → lengths a.tables ≡ lengths old.tables → t ≡ zeroed s.tables
+        → answer m (screen_lent a.screen t) ≡ recorded ws q old
     left_fresh x t p o k =
         let cleared : t ≡ a.tables =
-        k ∙ same_zeros p ∙ same_zeros o ∙ sym (emptied (frame q (box_of v)) old n a e z) in
+        k ∙ same-zeros s.tables a.tables p ∙ same-zeros a.tables old.tables o ∙ sym (emptied (frame q (box_of v)) old n a e z) in
         rw cleared (not-played r a m s f x ∙ sym then-played)

@@ -9,7 +9,7 @@ use Rattle.rules.specs.Words.{paint-words, segment-words}
 use Rattle.rules.specs.Plans.{Step, a-fill, a-push, a-pop, a-filter}
 use Rattle.row.specs.Words.{Words, words}
 use Rattle.rect.specs.Rects.{rect-of}
-use Rattle.screen.specs.Tables.{Tables, tables, ScreenLent, lent}
+use Rattle.screen.specs.Tables.{Tables, tables, ScreenLent, screen_lent}
 use Rattle.fill.specs.Fills as fills
 use Rattle.fill.specs.Fills.{filled}
 use Rattle.layers.specs.Push as push
@@ -30,36 +30,36 @@ rows_words t = words t.rows t.render t.fills
 
 -- what each call is lent, and put back among the others
 abbrev pub fill-part : ScreenLent → fills.FillLent
-fill-part l = fills.lent l.screen (rows_words l.tables) l.tables.paint-attrs
+fill-part l = fills.fill_lent l.screen (rows_words l.tables) l.tables.paint-attrs
 
 abbrev pub fill-into : Tables → fills.FillLent → ScreenLent
 fill-into t f =
-    lent f.screen
+    screen_lent f.screen
     (tables f.words.render f.words.fills t.depth f.words.state t.painting t.layers t.opacities f.paint-attrs t.layer-attrs t.filter-paints)
 
 abbrev pub push-part : ScreenLent → push.PushLent
-push-part l = push.lent l.screen (rows_words l.tables) l.tables.layers l.tables.opacities
+push-part l = push.push_lent l.screen (rows_words l.tables) l.tables.layers l.tables.opacities
 
 abbrev pub push-into : Tables → push.PushLent → ScreenLent
 push-into t p =
-    lent p.screen
+    screen_lent p.screen
     (tables p.words.render p.words.fills t.depth p.words.state t.painting p.layers p.opacities t.paint-attrs t.layer-attrs t.filter-paints)
 
 abbrev pub pop-part : ScreenLent → pop.PopLent
-pop-part l = pop.lent (rows_words l.tables) l.tables.layers l.tables.opacities l.tables.layer-attrs
+pop-part l = pop.pop_lent (rows_words l.tables) l.tables.layers l.tables.opacities l.tables.layer-attrs
 
 abbrev pub pop-into : Tables → pop.PopOut → Answer ScreenLent
 pop-into t o =
     answer o.number
-    (lent o.screen
+    (screen_lent o.screen
     (tables o.lent.words.render o.lent.words.fills t.depth o.lent.words.state t.painting o.lent.layers o.lent.opacities t.paint-attrs o.lent.attrs t.filter-paints))
 
 abbrev pub filter-part : ScreenLent → filter.FilterLent
-filter-part l = filter.lent l.screen (rows_words l.tables) l.tables.paint-attrs l.tables.filter-paints
+filter-part l = filter.filter_lent l.screen (rows_words l.tables) l.tables.paint-attrs l.tables.filter-paints
 
 abbrev pub filter-into : Tables → filter.FilterLent → ScreenLent
 filter-into t f =
-    lent f.screen
+    screen_lent f.screen
     (tables f.words.render f.words.fills t.depth f.words.state t.painting t.layers t.opacities f.paint-attrs t.layer-attrs f.filter-paints)
 
 abbrev pub with_value : {A B : Type 0} → (A → B) → Answer A → Answer B

@@ -53,8 +53,8 @@ fn fill_draw(
 {
     let mut rows = Rows {
         state: lent.rows,
-        render: lent.render,
-        fills: lent.fills,
+        render_cmds: lent.render_cmds,
+        depth_cmds: lent.depth_cmds,
     };
     fill(
         screen,
@@ -95,8 +95,8 @@ pub fn push_at(screen: &mut Screen, props: LayerProps, lent: &mut Lent<'_>) -> R
 {
     let mut rows = Rows {
         state: lent.rows,
-        render: lent.render,
-        fills: lent.fills,
+        render_cmds: lent.render_cmds,
+        depth_cmds: lent.depth_cmds,
     };
     let mut layers = Layers {
         table: lent.layers,
@@ -114,8 +114,8 @@ pub fn pop_at(screen: &mut Screen, file: &Recording<'_>, lent: &mut Lent<'_>) ->
 {
     let mut rows = Rows {
         state: lent.rows,
-        render: lent.render,
-        fills: lent.fills,
+        render_cmds: lent.render_cmds,
+        depth_cmds: lent.depth_cmds,
     };
     let mut layers = Layers {
         table: lent.layers,
@@ -144,8 +144,8 @@ fn fill_filter(
 {
     let mut rows = Rows {
         state: lent.rows,
-        render: lent.render,
-        fills: lent.fills,
+        render_cmds: lent.render_cmds,
+        depth_cmds: lent.depth_cmds,
     };
     filter_fill(
         screen,

@@ -3,7 +3,7 @@ use Rattle.std.proofs.Common.{◌≡◌, sym, ◌∙◌, Bool, ℕ}
 use Rattle.std.proofs.lemmas.Result.{err_from_is_err_and}
 use Rattle.sizes.proofs.Refusals.{not_done}
 use Rattle.row.specs.Rows.{all-held}
-use Rattle.fill.specs.Fills.{lent}
+use Rattle.fill.specs.Fills.{fill_lent}
 use Rattle.fill.proofs.Inputs.{draw-facts, fill-told}
 use Rattle.fill.proofs.Numbers.{by_first, bad-draw, passing, list-asked, list-first, list-no-id, list-empty, list-no-attr, list-rows}
 use Rattle.fill.specs.Tallies.{early}
@@ -27,7 +27,7 @@ job_of-job-requires c =
 
 pub judge_list-requires : goal.judge_list-requires
 judge_list-requires c =
-    let l = lent c.args.screen (all-held c.args.rows.now) c.args.paint_attrs.now in
+    let l = fill_lent c.args.screen (all-held c.args.rows.now) c.args.paint_attrs.now in
     let asked = list-asked l c.args.paints.now c.args.segments.now c.args.draw (sym c.in_ok-judge_lent.ensures) (fill-told c.args.paints.now c.args.segments.now c.args.draw c.is_good_fill.ensures c.if-not-is_good_fill.false) in
     rw c.job_of-job.ensures (record { rows = asked.0; range = asked.1; list = asked.2 })
 

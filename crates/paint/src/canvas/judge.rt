@@ -2,6 +2,7 @@
 ghost use Rattle.std.specs.Prelude.{◌≡◌, true, length};
 ghost use Rattle.sizes.specs.Refusals.{answer_number};
 ghost use Rattle.paint.specs.Judging.{depth-long, arenas-long, tables-long, judged, of_row, begin_number, step_number, runs_number, skip_number};
+ghost use Rattle.paint.specs.StoredCmds.{stored_words, stored_number, progress_number};
 
 use crate::canvas::stored::Stored;
 use screen::{Screen, is_good_room};
@@ -17,11 +18,11 @@ fn is_depth(screen: Screen, depth: usize) -> bool
 
 // All three arenas are.
 fn is_arenas(screen: Screen, stored: &Stored<'_>, depth: usize) -> bool
-    ensures { result ≡ arenas-long screen (length stored.now.render.now) (length stored.now.fills.now) depth }
+    ensures { result ≡ arenas-long screen (length stored.now.render_cmds.now) (length stored.now.depth_cmds.now) depth }
 {
     let n = screen.rows();
-    stored.render.len() == n * (4 * screen.c as usize)
-        && stored.fills.len() == n * (2 * screen.d as usize)
+    stored.render_cmds.len() == n * (4 * screen.c as usize)
+        && stored.depth_cmds.len() == n * (2 * screen.d as usize)
         && is_depth(screen, depth)
 }
 
@@ -92,7 +93,9 @@ pub fn judge_step(
     depth: usize,
     painting: usize,
 ) -> Result<(), Refusal>
-    ensures { answer_number result ≡ step_number screen row (arenas-long screen (length stored.now.render.now) (length stored.now.fills.now) depth) (tables-long screen (length stored.now.rows.now) painting (length stored.now.paint_attrs.now) (length stored.now.layer_attrs.now)) }
+    ensures { answer_number result ≡ step_number screen row
+        (arenas-long screen (length stored.now.render_cmds.now) (length stored.now.depth_cmds.now) depth)
+        (tables-long screen (length stored.now.rows.now) painting (length stored.now.paint_attrs.now) (length stored.now.layer_attrs.now)) }
 {
     let arenas = is_arenas(screen, stored, depth);
     let tables = is_tables(screen, stored, painting);
@@ -117,4 +120,23 @@ pub fn judge_skip(screen: Screen, row: usize, rows: usize) -> Result<(), Refusal
     ensures { answer_number result ≡ skip_number screen row rows }
 {
     judge_row(screen, row, true, rows == screen.rows() * ROW)
+}
+
+/// Before a row's stored commands are read: 2, 1, 4, 12 for no such row.
+#[tactic(auto, unfolding(crate::specs::StoredCmds::stored_number))]
+pub fn judge_stored(screen: Screen, row: usize, stored: &Stored<'_>) -> Result<(), Refusal>
+    ensures { answer_number result ≡ stored_number screen row (stored_words stored.now) }
+{
+    let n = screen.rows();
+    let arenas = stored.render_cmds.len() == n * (4 * screen.c as usize)
+        && stored.depth_cmds.len() == n * (2 * screen.d as usize);
+    judge_row(screen, row, arenas, stored.rows.len() == n * ROW)
+}
+
+/// Before the painting table is read: the same.
+#[tactic(auto, unfolding(crate::specs::StoredCmds::progress_number))]
+pub fn judge_painting(screen: Screen, row: usize, painting: usize) -> Result<(), Refusal>
+    ensures { answer_number result ≡ progress_number screen row painting }
+{
+    judge_row(screen, row, true, painting == screen.rows() * 2)
 }

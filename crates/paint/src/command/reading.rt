@@ -19,13 +19,13 @@ pub struct Attributes<'a> {
 
 /// A row's record, its render commands and its depth fills, the attributes, and how wide a bucket is.
 #[derive(Clone, Copy)]
-pub struct Row<'a> {
+pub struct StoredRow<'a> {
     pub state: &'a [u32],
-    pub render: &'a [u32],
-    pub fills: &'a [u32],
+    pub render_cmds: &'a [u32],
+    pub depth_cmds: &'a [u32],
     pub attrs: Attributes<'a>,
     pub width: Width,
     ghost state_len: { length state.now ≡ row-size },
-    ghost render_len: { length render.now ≤ 4 * most-room },
-    ghost fills_len: { length fills.now ≤ 2 * most-room },
+    ghost render_len: { length render_cmds.now ≤ 4 * most-room },
+    ghost fills_len: { length depth_cmds.now ≤ 2 * most-room },
 }

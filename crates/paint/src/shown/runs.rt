@@ -54,7 +54,8 @@ pub fn shown_runs(
     requires order { span.first ≤ span.«end» }
     requires short { span.«end» ≤ tile-end }
     requires few { length depth.now ≤ 65535 }
-    ensures { out result list.new ≡ listing (listed false (length list.old / 2) (shown_runs (bucket-tiles width) (summary sum) depth.now id (tiles span))) list.old }
+    ensures { out result list.new
+        ≡ listing (listed false (length list.old / 2) (shown_runs (bucket-tiles width) (summary sum) depth.now id (tiles span))) list.old }
 {
     if is_clear(sum, span, id, depth.len(), width) {
         return list_whole(span, list);

@@ -18,7 +18,7 @@ use sizes::TILE_ALPHAS;
 use sizes::width::Width;
 
 /// A fill that becomes pieces, a run each: its words, the nesting, what its attribute says, and how wide a bucket is.
-#[derive(Clone, Copy)]
+#[derive(Clone, Copy, Debug, PartialEq, Eq)]
 pub struct Cut {
     pub words: CmdWords,
     pub nesting: u32,
@@ -82,8 +82,8 @@ impl Cut {
     }
 }
 
-/// A fill that some of its buckets show and some hide. The look has seen its buckets up to `stop`, which are all shown if `seen` and else all hidden, and bucket
-/// `stop`, which is not.
+/// A fill that some of its buckets show and some hide. The look has seen its buckets up to `stop`, which are all shown if `seen` and else all hidden, and
+/// bucket `stop`, which is not.
 pub fn put_fill(depth: &[u32], cut: Cut, seen: bool, stop: usize, pieces: &mut Pieces<'_>)
     requires looked { LookedCut cut depth.now seen stop }
     requires good { FillsCut cut }

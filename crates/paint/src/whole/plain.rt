@@ -1,142 +1,26 @@
-//! Commands that one look at their words and the depth words settles: fills and buffers. Parts: where a function asks something, its callers have judged it.
+//! A run of commands that one look at their words and the depth words settles: fills and buffers. Parts: where a function asks something, its callers have judged it.
 ghost use Rattle.std.specs.Prelude.{◌≡◌, IfSome, List, ℕ, ◌+◌, ◌*◌, ◌≤◌, ◌<◌, length};
 ghost use Rattle.sizes.specs.Sizes.{tile-end, most-layers, piece-size};
 ghost use Rattle.rules.specs.Attributes.{Attrs};
 ghost use Rattle.rules.specs.Spans.{span};
 ghost use Rattle.rules.specs.Depth.{Summary, can_skip};
 ghost use Rattle.sizes.specs.Widths.{bucket-tiles};
-ghost use Rattle.paint.specs.Painting.{word, out, listed};
+ghost use Rattle.paint.specs.Painting.{word, listed};
+ghost use Rattle.paint.specs.Named.{SameCanvas, step_out};
 ghost use Rattle.paint.specs.Reading.{attrs_of};
 ghost use Rattle.paint.specs.Running.{most};
 ghost use Rattle.paint.specs.Rows.{steps_of, CalmRow, Ran, mark_in, FillSays, Says, SaysAt};
 ghost use Rattle.paint.specs.Kinds.{summary-by, good-index, Onward};
 
-use crate::command::{Mark, Row};
+use crate::canvas::Canvas;
+use crate::command::StoredRow;
 use crate::pieces::{PieceWords, Pieces};
-use crate::whole::ends::{hidden_end, seen_end};
+use crate::whole::looks::look_at;
 use crate::whole::pieces::{Cut, most_runs, put_fill};
-use crate::whole::reading::{FillLook, Hull, Look, Partly};
+use crate::whole::reading::{Hull, Look, Partly};
 use cmd::command::CmdWords;
 use row::judge::is_good_summary;
-use sizes::width::Width;
-use sizes::{DEPTHS, END, FIRST, LARGEST, MOST_LAYERS, PIECE, RENDERS, TILE_ALPHAS, TILE_END};
-
-// What a fill's attribute says, a paint's or a layer's by the tag, if it is there and good.
-fn mark_of(row: &Row<'_>, tag: u32, i: u32) -> Option<Mark>
-    ensures { result ≡ mark_in (attrs_of row.now.attrs) tag i }
-{
-    if tag <= 2 {
-        return row.attrs.paint(i);
-    }
-    row.attrs.layer(i)
-}
-
-// A solid fill has no alpha index, another one that can be moved over the whole width.
-fn is_good_index(tag: u32, alpha: u32, width: u32) -> bool
-    requires { width ≤ tile-end }
-    ensures { result ≡ good-index tag alpha width }
-{
-    if alpha == 0 {
-        return true;
-    }
-    if tag % 2 == 1 {
-        return false;
-    }
-    alpha <= u32::MAX - TILE_ALPHAS * width
-}
-
-impl Hull {
-    // By the summary alone, nothing hides the tiles.
-    #[tactic(auto, unfolding(rules::specs::Depth::can_skip))]
-    fn is_apart(self, first: u32, end: u32, id: u32) -> bool
-        ensures { result ≡ can_skip (summary-by self.from self.to self.largest) (span first «end») id }
-    {
-        self.largest <= id || self.to <= first || end <= self.from
-    }
-}
-
-// What one look shows of a fill's words, with its attribute's id.
-fn sure_fill(depth: &[u32], width: Width, words: CmdWords, id: u32, hull: Hull) -> FillLook
-    ensures { FillSays (bucket-tiles width) (summary-by hull.from hull.to hull.largest) depth.now id words result }
-{
-    let first = words.span.first();
-    let end = words.span.end();
-    if end <= first || TILE_END < end || !is_good_index(words.tag, words.alpha, end - first) {
-        return FillLook::Unsure;
-    }
-    let e = width.above(end) as usize;
-    if depth.len() < e {
-        return FillLook::Unsure;
-    }
-    if hull.is_apart(first, end, id) {
-        return FillLook::Whole;
-    }
-    let a = width.below(first) as usize;
-    if depth[a] <= id {
-        if e <= a + 1 {
-            return FillLook::Whole;
-        }
-        let stop = seen_end(depth, a, e, id);
-        if e <= stop {
-            return FillLook::Whole;
-        }
-        return FillLook::Partly(true, stop);
-    }
-    if e <= a + 1 {
-        return FillLook::Hidden;
-    }
-    let end_hidden = hidden_end(depth, a, e, id);
-    if e <= end_hidden {
-        return FillLook::Hidden;
-    }
-    FillLook::Partly(false, end_hidden)
-}
-
-// What a buffer's words show.
-fn sure_buffer(words: CmdWords, nesting: u32) -> Look
-    ensures { (v : ℕ) (a : Attrs) (u : Summary) (D : List ℕ) → Says v a u D nesting words result }
-{
-    if words.alpha != 0 || words.attrs_idx != 0 {
-        return Look::Unsure;
-    }
-    if words.tag == 6 {
-        if words.span.is_good(TILE_END) && nesting < MOST_LAYERS {
-            return Look::Push;
-        }
-        return Look::Unsure;
-    }
-    if words.span.0 != 0 {
-        return Look::Unsure;
-    }
-    if words.tag == 5 && nesting < MOST_LAYERS {
-        return Look::Push;
-    }
-    if words.tag == 7 && 0 < nesting {
-        return Look::Pop;
-    }
-    Look::Unsure
-}
-
-// What one look shows of a command's words.
-fn look_at(row: &Row<'_>, depth: &[u32], words: CmdWords, nesting: u32, hull: Hull) -> Look
-    ensures { Says (bucket-tiles row.now.width) (attrs_of row.now.attrs) (summary-by hull.from hull.to hull.largest) depth.now nesting words result }
-{
-    if 4 < words.tag {
-        return sure_buffer(words, nesting);
-    }
-    if words.tag == 0 {
-        return Look::Unsure;
-    }
-    let Some(mark) = mark_of(row, words.tag, words.attrs_idx) else {
-        return Look::Unsure;
-    };
-    match sure_fill(depth, row.width, words, mark.id, hull) {
-        FillLook::Unsure => Look::Unsure,
-        FillLook::Whole => Look::Whole(mark.panel),
-        FillLook::Hidden => Look::Hidden,
-        FillLook::Partly(seen, stop) => Look::Partly(Partly { seen, stop, mark }),
-    }
-}
+use sizes::{DEPTHS, END, FIRST, LARGEST, MOST_LAYERS, PIECE, RENDERS};
 
 // Where a run of commands ended: the place of the next command, the nesting, and a fill that is shown in part there, if that is why.
 #[derive(Clone, Copy, Debug, PartialEq, Eq)]
@@ -148,7 +32,7 @@ struct Reached {
 
 // The commands from `start` on, up to `stop` or the first that is not shown or hidden whole.
 fn run_sure(
-    row: &Row<'_>,
+    row: &StoredRow<'_>,
     depth: &[u32],
     pieces: &mut Pieces<'_>,
     start: usize,
@@ -170,7 +54,7 @@ fn run_sure(
     let mut at = start;
     let mut level = nesting;
     while at < stop {
-        let words = CmdWords::at(row.render, at);
+        let words = CmdWords::at(row.render_cmds, at);
         match look_at(row, depth, words, level, hull) {
             Look::Whole(panel) => {
                 if pieces.left() < PIECE {
@@ -216,8 +100,8 @@ fn run_sure(
 // The commands from `start` on, up to `stop` or the first that the looks do not settle. A fill that is shown in part is finished from where
 // its look stopped, if the list has room for any result.
 fn run_commands(
-    row: &Row<'_>,
-    depth: &[u32],
+    row: &StoredRow<'_>,
+    canvas: &Canvas<'_>,
     pieces: &mut Pieces<'_>,
     start: usize,
     stop: usize,
@@ -226,18 +110,18 @@ fn run_commands(
     requires calm { CalmRow row.now }
     requires start_le_stop { (start ≤ stop) × (stop ≤ word row.now.state.now 0) × (nesting ≤ most-layers) }
     ensures same { pieces.new.list.ghost_name ≡ pieces.old.list.ghost_name }
-    ensures reaches { Ran row.now depth.now start nesting pieces.old result pieces.new }
+    ensures reaches { Ran row.now canvas.now.depth.now start nesting pieces.old result pieces.new }
     ensures at_le_stop { result.at ≤ stop }
 {
     let mut at = start;
     let mut level = nesting;
     loop {
-        let reached = run_sure(row, depth, pieces, at, stop, level);
+        let reached = run_sure(row, canvas.depth, pieces, at, stop, level);
         let Some(part) = reached.part else {
             return reached;
         };
         let next = reached.at;
-        let words = CmdWords::at(row.render, next);
+        let words = CmdWords::at(row.render_cmds, next);
         if pieces.left() < PIECE * most_runs(words.span, row.width) {
             return reached;
         }
@@ -248,7 +132,7 @@ fn run_commands(
             mark: part.mark,
             width: row.width,
         };
-        put_fill(depth, cut, part.seen, part.stop, pieces);
+        put_fill(canvas.depth, cut, part.seen, part.stop, pieces);
         at = next + 1;
     }
 }
@@ -270,43 +154,44 @@ fn none_done(pieces: usize) -> Gone
 /// The row's next commands, at most `limit`, as far as one look settles each, after `pieces` pieces of the list; none where depth fills are left or the words
 /// are no row's. It refuses nothing: what it leaves is judged step by step.
 pub fn run_plain(
-    row: &Row<'_>,
-    depth: &[u32],
-    painting: &mut [u32],
+    row: &StoredRow<'_>,
+    canvas: &mut Canvas<'_>,
     list: &mut [u32],
     pieces: usize,
     limit: usize,
 ) -> Gone
-    requires lens { (length depth.now ≤ 65535) × (length painting.old ≡ 2) }
+    requires lens { (length canvas.old.depth.now ≤ 65535) × (length canvas.old.painting.now ≡ 2) }
     requires pieces_in_bounds { (piece-size * pieces ≤ length list.old) × (limit ≤ most) }
-    ensures onward { Onward (steps_of row.now) result.steps (out (listed pieces) depth.now painting.old list.old) (out (listed result.pieces) depth.now painting.new list.new) }
+    ensures same { SameCanvas canvas.old canvas.new }
+    ensures onward { Onward (steps_of row.now) result.steps
+        (step_out (listed pieces) canvas.old list.old) (step_out (listed result.pieces) canvas.new list.new) }
     ensures still { result.steps ≡ 0 → result.pieces ≡ pieces }
     ensures steps_le_limit { (result.steps ≤ limit) × (piece-size * result.pieces ≤ length list.old) }
 {
     let depths = row.state[DEPTHS];
-    let done = painting[0];
+    let done = canvas.painting[0];
     if done < depths {
         return none_done(pieces);
     }
     let renders = row.state[RENDERS];
     let next = done - depths;
     if renders <= next
-        || row.render.len() < 4 * renders as usize
-        || row.fills.len() < 2 * depths as usize
+        || row.render_cmds.len() < 4 * renders as usize
+        || row.depth_cmds.len() < 2 * depths as usize
     {
         return none_done(pieces);
     }
-    let nesting = painting[1];
+    let nesting = canvas.painting[1];
     if MOST_LAYERS < nesting || !is_good_summary(row.state) {
         return none_done(pieces);
     }
     let start = next as usize;
     let some = limit.min(renders as usize - start);
     let mut out = Pieces::new(list, pieces);
-    let reached = run_commands(row, depth, &mut out, start, start + some, nesting);
+    let reached = run_commands(row, canvas, &mut out, start, start + some, nesting);
     let steps = reached.at - start;
-    painting[0] = done + steps as u32;
-    painting[1] = reached.nesting;
+    canvas.painting[0] = done + steps as u32;
+    canvas.painting[1] = reached.nesting;
     Gone {
         steps,
         pieces: out.count,

@@ -3,10 +3,12 @@ ghost use Rattle.std.specs.Prelude.{◌≡◌, ◌*◌, ◌≤◌, length};
 ghost use Rattle.sizes.specs.Sizes.{piece-size};
 ghost use Rattle.paint.specs.Answers.{painted_of};
 ghost use Rattle.paint.specs.Painting.{out, listed};
+ghost use Rattle.paint.specs.Named.{SameCanvas, step_out};
 ghost use Rattle.paint.specs.Running.{most, onto, one_more};
 ghost use Rattle.paint.specs.Rows.{steps_of, run_of};
 
-use crate::command::{Row, step_row};
+use crate::canvas::Canvas;
+use crate::command::{StoredRow, step_row};
 use crate::pieces::Stepped;
 use crate::whole::plain::run_plain;
 use sizes::PIECE;
@@ -14,19 +16,19 @@ use sizes::answers::Refusal;
 
 // One step more: its pieces go after those so far, whose number is given.
 fn step_on(
-    row: &Row<'_>,
-    depth: &mut [u32],
-    painting: &mut [u32],
+    row: &StoredRow<'_>,
+    canvas: &mut Canvas<'_>,
     list: &mut [u32],
     pieces: usize,
 ) -> Result<Stepped, Refusal>
-    requires lens { (length depth.old ≤ 65535) × (length painting.old ≡ 2) }
+    requires lens { (length canvas.old.depth.now ≤ 65535) × (length canvas.old.painting.now ≡ 2) }
     requires pieces_in_bounds { piece-size * pieces ≤ length list.old }
-    ensures list_after { out (onto pieces result) depth.new painting.new list.new ≡ one_more (steps_of row.now) (out (listed pieces) depth.old painting.old list.old) }
+    ensures same { SameCanvas canvas.old canvas.new }
+    ensures list_after { step_out (onto pieces result) canvas.new list.new ≡ one_more (steps_of row.now) (step_out (listed pieces) canvas.old list.old) }
     ensures pieces_in_bounds_2 { piece-size * (onto pieces result).pieces ≤ length list.old }
 {
     let at = PIECE * pieces;
-    let step = step_row(row, depth, painting, &mut list[at..])?;
+    let step = step_row(row, canvas, &mut list[at..])?;
     Ok(Stepped {
         finished: step.finished,
         pieces: pieces + step.pieces,
@@ -35,22 +37,22 @@ fn step_on(
 
 /// The row's steps, at most `limit`, until one is refused or the row is finished: commands that one look settles together, every other step by itself. Refused,
 /// 4 or 14, only where the first step is.
-#[inline(never)]
+#[inline(always)]
 pub fn run_row(
-    row: &Row<'_>,
-    depth: &mut [u32],
-    painting: &mut [u32],
+    row: &StoredRow<'_>,
+    canvas: &mut Canvas<'_>,
     list: &mut [u32],
     limit: usize,
 ) -> Result<Stepped, Refusal>
-    requires lens { (length depth.old ≤ 65535) × (length painting.old ≡ 2) }
+    requires lens { (length canvas.old.depth.now ≤ 65535) × (length canvas.old.painting.now ≡ 2) }
     requires limit { limit ≤ most }
-    ensures { out (painted_of result) depth.new painting.new list.new ≡ run_of row.now limit depth.old painting.old list.old }
+    ensures same { SameCanvas canvas.old canvas.new }
+    ensures run { step_out (painted_of result) canvas.new list.new ≡ run_of row.now limit canvas.old.depth.now canvas.old.painting.now list.old }
 {
     let mut pieces: usize = 0;
     let mut steps: usize = 0;
     while steps < limit {
-        let gone = run_plain(row, depth, painting, list, pieces, limit - steps);
+        let gone = run_plain(row, canvas, list, pieces, limit - steps);
         let k = steps + gone.steps;
         if limit <= k {
             return Ok(Stepped {
@@ -58,7 +60,7 @@ pub fn run_row(
                 pieces: gone.pieces,
             });
         }
-        let done = match step_on(row, depth, painting, list, gone.pieces) {
+        let done = match step_on(row, canvas, list, gone.pieces) {
             Ok(done) => done,
             Err(refusal) => {
                 if k == 0 {
@@ -80,4 +82,21 @@ pub fn run_row(
         finished: false,
         pieces,
     })
+}
+
+/// The same, the two parts of the row's canvas lent one by one.
+#[inline(never)]
+pub fn run_parts(
+    row: &StoredRow<'_>,
+    depth: &mut [u32],
+    painting: &mut [u32],
+    list: &mut [u32],
+    limit: usize,
+) -> Result<Stepped, Refusal>
+    requires lens { (length depth.old ≤ 65535) × (length painting.old ≡ 2) }
+    requires limit { limit ≤ most }
+    ensures { out (painted_of result) depth.new painting.new list.new ≡ run_of row.now limit depth.old painting.old list.old }
+{
+    let mut canvas = Canvas { depth, painting };
+    run_row(row, &mut canvas, list, limit)
 }

@@ -3,7 +3,7 @@
 use Rattle.std.proofs.Common.{rules, sym, ◌∙◌}
 use Rattle.std.proofs.lemmas.Result.{err_from_is_err_and}
 use Rattle.sizes.proofs.Refusals.{not_done}
-use Rattle.pop.specs.Named.{lent_of}
+use Rattle.pop.specs.Named.{pop_lent_of}
 use Rattle.pop.proofs.Numbers.{zero-judged, zero-lengths}
 use Rattle.pop.proofs.Doing.{deep, ready}
 use Rattle.pop.proofs.Popping.{screen-is, pop-out, done-out, refused-out}
@@ -30,7 +30,7 @@ close_layer-requires c =
 
 pub returns-clause-done : goal.returns-clause-done
 returns-clause-done c =
-    let l = lent_of c.args.rows.now c.args.layers.now c.args.layer_attrs.now in
+    let l = pop_lent_of c.args.rows.now c.args.layers.now c.args.layer_attrs.now in
     let judged = zero-judged c.args.screen.now l c.args.list.now (sym c.in_ok-closing.ensures.number) in
     let e = pop-out c.args.screen.now l c.args.list.now judged
     (c.close_layer.ensures ∙ screen-is c.args.screen.now l c.args.list.now judged _ c.in_ok-closing.ensures.closing.parent) c.do_rows.ensures.rows

@@ -11,9 +11,9 @@ returns-in_err-n-clause-begun g c = nothing_begun _ _ _
 pub returns-clause-ok : goal.returns-clause-ok
 returns-clause-ok g c =
     let want = wanted_of c.args.desk.now.want in
-    read_done (answer want c.args.query) (answer-cut want c.args.query) _ c.requires.1 _ _ _ c.print_answer.result _ _ c.in_ok-n.ensures.bytes c.print_answer.ensures.ok
+    read_done (answer want c.args.query) (answer-cut want c.args.query) _ c.requires.long _ _ _ c.print_answer.result _ _ c.in_ok-n.ensures.bytes c.print_answer.ensures.ok
 
 pub returns-clause-begun : goal.returns-clause-begun
 returns-clause-begun g c =
     let want = wanted_of c.args.desk.now.want in
-    read_begun (answer want c.args.query) (answer-cut want c.args.query) _ c.requires.1 _ _ _ _ _ c.in_ok-n.ensures.bytes c.print_answer.ensures.begun
+    read_begun (answer want c.args.query) (answer-cut want c.args.query) _ c.requires.long _ _ _ _ _ c.in_ok-n.ensures.bytes c.print_answer.ensures.begun

@@ -16,7 +16,7 @@ slice_bounds-rows_text-start t c = grind (arith, row-few)
 pub returns-clause-out_after : goal.returns-clause-out_after
 returns-clause-out_after t c =
     rw c.unwrap_or-k.ensures
-    (rows_more _ _ _ _ _ _ _ c.row_text.ensures c.if-n-r.false (rw c.unwrap_or-k.ensures at c.rows_text-more.ensures.out_after) (omega arith))
+    (rows_more _ _ _ _ _ _ _ c.row_text.ensures.dumped c.if-n-r.false (rw c.unwrap_or-k.ensures at c.rows_text-more.ensures.out_after) (omega arith))
 
 pub returns-clause-upper_bound : goal.returns-clause-upper_bound
 returns-clause-upper_bound t c = grind (arith, row-few)

@@ -4,7 +4,7 @@ use Rattle.rules.specs.Setups.{Setup, frame}
 use Rattle.rules.proofs.laws.Answers.{settle-number}
 use Rattle.rect.specs.Rects.{box_of}
 use Rattle.screen.specs.declared.Screen.{Screen}
-use Rattle.screen.specs.Tables.{lent, reset_to}
+use Rattle.screen.specs.Tables.{screen_lent, reset_to}
 use Rattle.fill.specs.Fills as fills
 use Rattle.fill.specs.Fills.{filled}
 use Rattle.layers.specs.Push as push
@@ -28,33 +28,34 @@ use Rattle.host.specs.Building.{tables-left, reset_in, reset_call, recording_in,
 use Rattle.host.specs.Painting.{begin-left, begin_call, step_left, step_call, row_call, runs-left, unset_call, visible_call, write-left, write_call, skip_call}
 use Rattle.host.specs.Spans.{runs_of, spans-left, spans_call}
 use Rattle.theorem_border.proofs.Numbers.{kept-on, kept_in}
+use Rattle.theorem_border.proofs.Reading.{lengths-keeps, cmd-keeps, depth-keeps, progress-keeps}
 use Rattle.theorem_border.proofs.numbers_at_border.Goals as goal
 
 pub returns-clause-reset : goal.returns-clause-reset
 unfolding reset_call reset_in
 returns-clause-reset c = λ v w q st t a long. kept_in (asked_setup w) q number_of (st, t) (λ (q : Setup). reset_in v q st t) _ a
-    (kept-on true st (st, t) (λ (s : Screen). tables-left (reset_to (frame q (box_of v)) (lent s t))) long)
+    (kept-on true st (st, t) (λ (s : Screen). tables-left (reset_to (frame q (box_of v)) (screen_lent s t))) long)
 
 pub returns-clause-bucket_recording : goal.returns-clause-bucket_recording
 unfolding recording_call recording_in
 returns-clause-bucket_recording c = λ file w q st t a long. kept_in (asked_setup w) q (unasked_number file) (st, t) (λ (q : Setup). recording_in file q st t) _ a
-    (kept-on true st (st, t) (λ (s : Screen). tables-left (recorded file q (lent s t))) long)
+    (kept-on true st (st, t) (λ (s : Screen). tables-left (recorded file q (screen_lent s t))) long)
 
 pub returns-clause-why : goal.returns-clause-why
 unfolding why_call why_in
 returns-clause-why c = λ file w q row tile layer attribute st t res a long. let z = asked layer attribute in
-    let e = explained file q row tile z (lent (screen-at st) t) in
+    let e = explained file q row tile z (screen_lent (screen-at st) t) in
     kept_in (asked_setup w) q (unasked_number file) (st, t, res) (λ (q : Setup). why_in file q row tile layer attribute st t res) e.number a
     (sym (ap before_4 (settle-number e.number res (reason-words e.reason)))
-    ∙ kept-on (leb layer 1 && eqb (length res) reason-size) st (st, t, res) (λ (s : Screen). why-left res (explained file q row tile z (lent s t))) long)
+    ∙ kept-on (leb layer 1 && eqb (length res) reason-size) st (st, t, res) (λ (s : Screen). why-left res (explained file q row tile z (screen_lent s t))) long)
 
 pub returns-clause-fill : goal.returns-clause-fill
 unfolding fill_call
-returns-clause-fill c = λ ps ss d st w pas long. kept-on true st (st, w, pas) (λ (s : Screen). fill-left (filled (fills.lent s w pas) ps ss d)) long
+returns-clause-fill c = λ ps ss d st w pas long. kept-on true st (st, w, pas) (λ (s : Screen). fill-left (filled (fills.fill_lent s w pas) ps ss d)) long
 
 pub returns-clause-push_layer : goal.returns-clause-push_layer
 unfolding push_call
-returns-clause-push_layer c = λ flag p st w ls os long. kept-on (leb flag 1) st (st, w, ls, os) (λ (s : Screen). push-left (pushed p (push.lent s w ls os))) long
+returns-clause-push_layer c = λ flag p st w ls os long. kept-on (leb flag 1) st (st, w, ls, os) (λ (s : Screen). push-left (pushed p (push.push_lent s w ls os))) long
 
 pub returns-clause-pop_layer : goal.returns-clause-pop_layer
 unfolding pop_call
@@ -62,7 +63,7 @@ returns-clause-pop_layer c = λ ss st l long. kept-on true st (st, l) (λ (s : S
 
 pub returns-clause-filter_fill : goal.returns-clause-filter_fill
 unfolding filter_call
-returns-clause-filter_fill c = λ flag g st w pas fps long. kept-on (leb flag 1) st (st, w, pas, fps) (λ (s : Screen). filter-left (filtered g (filter.lent s w pas fps))) long
+returns-clause-filter_fill c = λ flag g st w pas fps long. kept-on (leb flag 1) st (st, w, pas, fps) (λ (s : Screen). filter-left (filtered g (filter.filter_lent s w pas fps))) long
 
 pub returns-clause-begin_painting : goal.returns-clause-begin_painting
 unfolding begin_call
@@ -95,3 +96,15 @@ returns-clause-unset_runs_and_write c = λ r t id st d l n long. kept-on (eqb (l
 pub returns-clause-can_skip : goal.returns-clause-can_skip
 unfolding skip_call
 returns-clause-can_skip c = λ r t id st rows old long. kept-on (eqb (length old) 1) st old (λ (s : Screen). skip-left old (skip-of-row s r rows t id)) long
+
+pub returns-clause-row_lengths : goal.returns-clause-row_lengths
+returns-clause-row_lengths c = lengths-keeps
+
+pub returns-clause-render_cmd : goal.returns-clause-render_cmd
+returns-clause-render_cmd c = cmd-keeps
+
+pub returns-clause-depth_cmd : goal.returns-clause-depth_cmd
+returns-clause-depth_cmd c = depth-keeps
+
+pub returns-clause-progress : goal.returns-clause-progress
+returns-clause-progress c = progress-keeps

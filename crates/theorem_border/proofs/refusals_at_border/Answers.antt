@@ -2,6 +2,7 @@ use Rattle.host.proofs.Refused.{reset-refused, fill-refused, push-refused, pop-r
 use Rattle.host.proofs.Kept.{step-refused, row-refused, unset-refused, visible-refused, spans-refused, write-refused, skip-refused, split-refused}
 use Rattle.host.proofs.Sized.{size-refused}
 use Rattle.theorem_border.proofs.Why.{why-refused}
+use Rattle.theorem_border.proofs.Reading.{lengths-refused, cmd-refused, depth-refused, progress-refused}
 use Rattle.theorem_border.proofs.refusals_at_border.Goals as goal
 
 pub returns-clause-reset : goal.returns-clause-reset
@@ -42,6 +43,18 @@ returns-clause-unset_runs_and_write c = λ r t id st d l n. write-refused r t st
 
 pub returns-clause-can_skip : goal.returns-clause-can_skip
 returns-clause-can_skip c = skip-refused
+
+pub returns-clause-row_lengths : goal.returns-clause-row_lengths
+returns-clause-row_lengths c = lengths-refused
+
+pub returns-clause-render_cmd : goal.returns-clause-render_cmd
+returns-clause-render_cmd c = cmd-refused
+
+pub returns-clause-depth_cmd : goal.returns-clause-depth_cmd
+returns-clause-depth_cmd c = depth-refused
+
+pub returns-clause-progress : goal.returns-clause-progress
+returns-clause-progress c = progress-refused
 
 pub returns-clause-split_opaque_span : goal.returns-clause-split_opaque_span
 returns-clause-split_opaque_span c = split-refused

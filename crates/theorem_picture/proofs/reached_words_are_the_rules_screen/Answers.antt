@@ -3,6 +3,7 @@ use Rattle.theorem_picture.proofs.Calls.{shifts-free}
 use Rattle.theorem_picture.proofs.Props.{push-reached}
 use Rattle.theorem_picture.proofs.Reached.{reached, step-reached}
 use Rattle.theorem_picture.proofs.Answered.{stands-answered, calls-said, refused-kept}
+use Rattle.theorem_picture.proofs.Stored.{stands-stored}
 use Rattle.theorem_picture.proofs.reached_words_are_the_rules_screen.Goals as goal
 
 pub returns-clause-stands : goal.returns-clause-stands
@@ -10,6 +11,9 @@ returns-clause-stands c = λ f xs l h. reached h
 
 pub returns-clause-answered : goal.returns-clause-answered
 returns-clause-answered c = stands-answered
+
+pub returns-clause-stored : goal.returns-clause-stored
+returns-clause-stored c = stands-stored
 
 pub returns-clause-said : goal.returns-clause-said
 returns-clause-said c = calls-said

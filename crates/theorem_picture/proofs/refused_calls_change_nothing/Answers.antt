@@ -1,7 +1,7 @@
 use Rattle.std.proofs.Common.{true, length}
 use Rattle.screen.specs.Judging.{judged_reset}
 use Rattle.screen.specs.Screens.{fresh-screen}
-use Rattle.screen.specs.Tables.{lengths, zeros, zeroed, lent, reset_to}
+use Rattle.screen.specs.Tables.{lengths, zeros, zeroed, screen_lent, reset_to}
 use Rattle.paint.specs.Judging.{begin_number}
 use Rattle.paint.specs.Beginning.{canvas, begun, beginning}
 use Rattle.paint.proofs.Kept.{unsettled, step-kept, row-kept, unset-kept, visible-kept, write-kept}
@@ -9,7 +9,7 @@ use Rattle.theorem_picture.proofs.refused_calls_change_nothing.Goals as goal
 
 pub returns-clause-resets : goal.returns-clause-resets
 unfolding reset_to
-returns-clause-resets c = λ f l. unsettled (judged_reset f (lengths l.tables)) l (lent (fresh-screen f) (zeroed l.tables))
+returns-clause-resets c = λ f l. unsettled (judged_reset f (lengths l.tables)) l (screen_lent (fresh-screen f) (zeroed l.tables))
 
 pub returns-clause-begins : goal.returns-clause-begins
 unfolding beginning

@@ -1,6 +1,7 @@
 use Rattle.theorem_picture.proofs.Canvases.{recorded-canvas, recorded-whole}
 use Rattle.theorem_picture.proofs.Answered.{canvas-answered}
 use Rattle.theorem_picture.proofs.Refined.{rows-refined, touched-rows, step-refined, reset-refined, steps-agree, walks-agree, file-refined, whole-kept}
+use Rattle.theorem_picture.proofs.Stored.{canvas-stored}
 use Rattle.theorem_picture.proofs.words_follow_the_rules.Goals as goal
 
 pub returns-clause-rows : goal.returns-clause-rows
@@ -29,6 +30,9 @@ returns-clause-recordings c = λ ws q k fit. record { words = recorded-canvas ws
 
 pub returns-clause-canvases : goal.returns-clause-canvases
 returns-clause-canvases c = canvas-answered
+
+pub returns-clause-stored : goal.returns-clause-stored
+returns-clause-stored c = canvas-stored
 
 pub returns-clause-whole : goal.returns-clause-whole
 returns-clause-whole c = whole-kept

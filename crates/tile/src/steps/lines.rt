@@ -76,7 +76,7 @@ impl Standing {
 
 /// One line: a layer's attribute or a paint's, its place in their table, how it stands to the tile, and of what covers the tile the alpha index there, if it
 /// has one.
-#[derive(Clone, Copy)]
+#[derive(Clone, Copy, Debug, PartialEq, Eq)]
 pub struct Line {
     pub layer: bool,
     pub attribute: u32,

@@ -14,11 +14,12 @@ ghost use Rattle.tile.specs.Named.{cover_at, see_at, look_in};
 use crate::steps::Spot;
 use rect::Rect;
 use segments::{Scene, Segment, place, scene_of, segment_at};
+use sizes::{TILE_HEIGHT, TILE_WIDTH};
 use span::{Stretch, TileSpan, moved};
 
 /// covered: a segment covers the tile before the cut; reached: one is left in its row; kept: one that is left covers it, with the tile's own alpha index, and
 /// whether it covers the tile's whole bucket.
-#[derive(Clone, Copy)]
+#[derive(Clone, Copy, Debug, PartialEq, Eq)]
 pub struct Look {
     pub covered: bool,
     pub reached: bool,
@@ -39,7 +40,7 @@ pub fn is_in_row(bbox: Rect, row: u32) -> bool
     requires { Small (box_of bbox) }
     ensures { result ≡ in_row (box_of bbox) row }
 {
-    (bbox.y0 / 4..(bbox.y1 + 3) / 4).contains(&row)
+    bbox.rows().contains(&(row as usize))
 }
 
 /// The box, in pixels, meets the tile of the row.
@@ -90,7 +91,7 @@ fn cover(spot: Spot, look: Look, segment: Segment) -> Look
         end: segment.end,
     };
     Look {
-        covered: look.covered || covers(own, spot.tile + spot.viewport.x0 / 4),
+        covered: look.covered || covers(own, spot.tile + spot.viewport.x0 / TILE_WIDTH),
         ..look
     }
 }
@@ -102,7 +103,7 @@ fn see(spot: Spot, scene: Scene, clip: Rect, look: Look, segment: Segment) -> Lo
     requires scene { SceneOf (box_of spot.viewport) (box_of clip) scene }
     ensures { look-of result ≡ see_at spot clip (look-of look) (segment-of segment) }
 {
-    if segment.row != spot.row + spot.viewport.y0 / 4 {
+    if segment.row != spot.row + spot.viewport.y0 / TILE_HEIGHT {
         return look;
     }
     let next = cover(spot, look, segment);

@@ -2,21 +2,22 @@
 -- the words.
 use Rattle.std.proofs.Common.{rules}
 use Rattle.screen.specs.Screens.{setup-of}
-use Rattle.screen.specs.Tables.{Tables, tables}
+use Rattle.screen.specs.Tables.{Tables}
+use Rattle.screen.specs.Lent.{tables_in}
 use Rattle.host.proofs.HostAsked.{recording_asked}
 use Rattle.host.proofs.Built.{recording_built}
 use Rattle.host.proofs.Unheld.{recording_unheld}
 use Rattle.host.proofs.build.coarse_bucket_recording.Goals as goal
 
-pub returns-in_default : goal.returns-in_default
-returns-in_default c =
-    let t : Tables = tables c.args.render.now c.args.fills.now c.args.depth.now c.args.rows.now c.args.painting.now c.args.layers.now c.args.opacities.now c.args.paint_attrs.now c.args.layer_attrs.now c.args.filter_paints.now in
+pub returns-in_default-clause-recorded : goal.returns-in_default-clause-recorded
+returns-in_default-clause-recorded c =
+    let t : Tables = tables_in c.args.tables.now in
     let e = recording_asked _ (setup-of c.in-Ok.asked) c.in-Ok.ensures _ _ t (recording_unheld _ _ _ _ t c.in_default.ensures c.refuse_recording.ensures) in
     search (rules, e)
 
-pub returns : goal.returns
-returns c =
-    let t : Tables = tables c.args.render.now c.args.fills.now c.args.depth.now c.args.rows.now c.args.painting.now c.args.layers.now c.args.opacities.now c.args.paint_attrs.now c.args.layer_attrs.now c.args.filter_paints.now in
+pub returns-clause-recorded : goal.returns-clause-recorded
+returns-clause-recorded c =
+    let t : Tables = tables_in c.args.tables.now in
     let e = recording_asked _ (setup-of c.in-Ok.asked) c.in-Ok.ensures _ _ t
     (recording_built _ _ _ _ _ _ c.in-Some.ensures c.leave.ensures.0 c.leave.ensures.1 _ _ t _ c.bucket_recording-done.ensures.recorded) in
     search (rules, e)

@@ -3,7 +3,7 @@ use Rattle.std.proofs.Common.{rules}
 use Rattle.host.proofs.Built.{fill_built}
 use Rattle.host.proofs.build.coarse_fill.Goals as goal
 
-pub returns : goal.returns
-returns c =
+pub returns-clause-filled : goal.returns-clause-filled
+returns-clause-filled c =
     let e = fill_built _ _ _ _ _ _ c.in-Some.ensures c.leave.ensures.0 c.leave.ensures.1 _ _ _ _ _ _ _ c.fill-done.ensures.filled in
     search (rules, e)

@@ -5,7 +5,7 @@ use Rattle.rect.proofs.Snapping.{bad-seen}
 use Rattle.screen.specs.declared.Screen.{Screen}
 use Rattle.screen.specs.Screens.{frame, frame-of}
 use Rattle.screen.proofs.Resets.{begun, begun-good}
-use Rattle.host.specs.Sizes.{sizes-of}
+use Rattle.host.specs.Sizes.{length-words, sizes-of}
 use Rattle.host.proofs.Sized.{no-view}
 use Rattle.host.proofs.lengths.put_lengths.Goals as goal
 
@@ -20,4 +20,4 @@ put_lengths_of-requires c = search (rules, begun-good)
 pub returns : goal.returns
 returns c =
     c.put_lengths_of.ensures
-    ∙ ap (λ (s : Screen). sizes-of (frame-of s) c.args.sizes.now) (begun c.args.setup c.args.viewport _ c.in_ok-seen.ensures _ c.fresh.ensures)
+    ∙ ap (λ (s : Screen). sizes-of (frame-of s) (length-words c.args.sizes.now)) (begun c.args.setup c.args.viewport _ c.in_ok-seen.ensures _ c.fresh.ensures)

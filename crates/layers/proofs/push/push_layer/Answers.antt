@@ -17,7 +17,7 @@ returns-in_err-bbox-clause-pushed c =
 pub put-requires : goal.put-requires
 put-requires c =
     let r = ready _ _ _ _ _ (sym c.in_ok-bbox.ensures.number) in
-    (r.free, r.layers, r.opacities)
+    record { level = r.free; long = r.layers; opacities_long = r.opacities }
 
 pub overflow_add-touch : goal.overflow_add-touch
 overflow_add-touch c = omega (arith, (ready _ _ _ _ _ (sym c.in_ok-bbox.ensures.number)).free)

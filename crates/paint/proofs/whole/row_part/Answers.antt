@@ -1,6 +1,6 @@
 -- Row r's parts are cut out of the slices and handed on; what the steps make of them is put back, and every other row stays.
 use Rattle.std.proofs.Common.{ap, ◌∙◌, arith, length}
-use Rattle.paint.specs.Painting.{lent}
+use Rattle.paint.specs.Named.{row_lent}
 use Rattle.paint.proofs.WholeParts.{part-of-length, run-back}
 use Rattle.paint.proofs.whole.row_part.Goals as goal
 
@@ -13,8 +13,8 @@ invariant_of-read-2 c =
       fills_len = omega (arith, ap length c.part-3.ensures ∙ part-of-length _ _ _ ready.fills, ready.few-fills);
     }
 
-pub returns : goal.returns
-returns c =
+pub returns-clause-painted : goal.returns-clause-painted
+returns-clause-painted c =
     let a = c.args in
-    let l = lent a.stored.now.rows.now a.stored.now.render.now a.stored.now.fills.now a.depth.now a.painting.now a.list.now in
-    rw c.buckets-b.ensures (run-back _ _ _ _ _ _ _ l _ _ _ _ (rw (c.part.ensures, c.part-2.ensures, c.part-3.ensures, c.buckets-b.ensures) at c.run_row.ensures))
+    let l = row_lent a.stored.now a.canvas.now a.list.now in
+    rw c.requires.wide (run-back _ _ _ _ _ _ _ l _ _ _ _ (rw (c.part.ensures, c.part-2.ensures, c.part-3.ensures, c.requires.wide) at c.run_parts.ensures))

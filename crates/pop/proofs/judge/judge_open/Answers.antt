@@ -11,7 +11,7 @@ use Rattle.pop.proofs.judge.judge_open.Goals as goal
 pub open_at-layer-requires : goal.open_at-layer-requires
 open_at-layer-requires c =
     let o = passed _ _ _ _ c.requires.screen in
-    (omega (arith, (bounds _ o.screen).deep), c.requires.table)
+    record { level = omega (arith, (bounds _ o.screen).deep); long = c.requires.table }
 
 pub parent_box-parent-requires : goal.parent_box-parent-requires
 parent_box-parent-requires c =

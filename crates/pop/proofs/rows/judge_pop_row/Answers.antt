@@ -7,7 +7,7 @@ is_good_pop-requires c =
     let o = c.requires in
     record {
       state = rw c.part.ensures (at-state _ _ _ _ o.whole.long o.row);
-      render = rw c.part-2.ensures (at-render _ _ _ _ o.whole.long o.row);
+      render_cmds = rw c.part-2.ensures (at-render _ _ _ _ o.whole.long o.row);
       some = o.some;
       deep = o.deep;
     }

@@ -6,7 +6,7 @@ pub on_words-requires : goal.on_words-requires
 on_words-requires g c =
     let o = c.requires.1 in
     let s = c.place_of-p.ensures in
-    (rw (lent o.arenas o.within s) o.asked, roomy o.arenas o.within s (g.A.RowAct.made c.args.act) o.room)
+    record { asked = rw (lent o.arenas o.within s) o.asked; room = roomy o.arenas o.within s (g.A.RowAct.made c.args.act) o.room }
 
 pub returns : goal.returns
 returns g c n o =

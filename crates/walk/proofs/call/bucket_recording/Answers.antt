@@ -5,7 +5,7 @@ use Rattle.std.proofs.lemmas.Result.{err_from_is_err_and}
 use Rattle.sizes.proofs.Refusals.{not_done}
 use Rattle.screen.specs.Screens.{setup-of}
 use Rattle.file.specs.Held.{held}
-use Rattle.walk.proofs.Recordings.{bad-file, not-reset, all_done, left_fresh, same_lengths}
+use Rattle.walk.proofs.Recordings.{bad-file, not-reset, all_done, left_fresh}
 use Rattle.walk.proofs.call.bucket_recording.Goals as goal
 
 pub returns-in_err-recording-clause-recorded : goal.returns-in_err-recording-clause-recorded
@@ -24,7 +24,7 @@ pub returns-in-Err-clause-recorded : goal.returns-in-Err-clause-recorded
 returns-in-Err-clause-recorded c =
     left_fresh (held c.in_ok-recording.recording) _ c.in_ok-recording.ensures.1 _ c.viewport.ensures (setup-of c.args.setup) _ _ _
     (c.in_ok-fresh.ensures.reset c.args.screen.now) refl _ _ c.in-Err.ensures.played (not_done _) _
-    (same_lengths c.in-Err.ensures.same) (same_lengths c.in_ok-fresh.ensures.same) c.clear.ensures.zeroed
+    c.in-Err.ensures.same.long c.in_ok-fresh.ensures.same.long c.clear.ensures.zeroed
 
 pub returns-clause-recorded : goal.returns-clause-recorded
 returns-clause-recorded c =

@@ -13,11 +13,11 @@ use Rattle.paint.proofs.whole.plain.run_commands.Goals.{Else-left-most_runs}
 -- the list has room for the pieces of a fill that is shown in part
 room : (c : Else-left-most_runs)
     → let p = c.run_sure-reached.new.pieces in
-    piece-size * (p.count + length (runs-met (bucket-tiles c.args.row.now.width) c.args.depth.now c.in-Some.part.mark.id c.at-words.result.span.0)) ≤ length p.list.now
+    piece-size * (p.count + length (runs-met (bucket-tiles c.args.row.now.width) c.args.canvas.now.depth.now c.in-Some.part.mark.id c.at-words.result.span.0)) ≤ length p.list.now
 room c = omega (arith, runs-few, c.most_runs.ensures, c.left.ensures, c.if-left-most_runs.false)
 
 ahead : (c : Else-left-most_runs) → (c.run_sure-reached.result.at < c.args.stop)
-    × SaysAt c.args.row.now c.args.depth.now c.run_sure-reached.result.nesting c.run_sure-reached.result.at (look.Partly c.in-Some.part)
+    × SaysAt c.args.row.now c.args.canvas.now.depth.now c.run_sure-reached.result.nesting c.run_sure-reached.result.at (look.Partly c.in-Some.part)
 ahead c = (rw c.in-Some.is at c.run_sure-reached.ensures.at_lt_stop)
 
 pub put_fill-requires-clause-looked : goal.put_fill-requires-clause-looked

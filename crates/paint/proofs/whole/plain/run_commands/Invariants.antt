@@ -8,7 +8,7 @@ use Rattle.paint.proofs.whole.plain.run_commands.Given as goal
 
 abbrev pub invariant-loop-part : goal.invariant-loop-part
 invariant-loop-part l = record {
-  reaches : Reaches (steps_of l.row) l.depth (word l.row.state.now 1)
+  reaches : Reaches (steps_of l.row) l.canvas.depth.now (word l.row.state.now 1)
       (place l.start l.initial.pieces.count l.nesting l.initial.pieces.list.now) (place l.at l.pieces.count l.level l.pieces.list.now);
   at_le_stop : l.at ≤ l.stop;
   same : l.pieces.list.ghost_name ≡ l.initial.pieces.list.ghost_name;

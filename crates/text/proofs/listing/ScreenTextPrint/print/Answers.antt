@@ -20,7 +20,7 @@ loop-r-init c = joined-none _ _
 pub row-requires : goal.row-requires
 row-requires c =
     let o = listable _ (screen_words c.args.self.now) c.requires in
-    (o.whole, omega (arith, c.rows-rows.ensures))
+    record { arenas = o.whole; within = omega (arith, c.rows-rows.ensures) }
 
 pub print-requires-in-loop-r : goal.print-requires-in-loop-r
 print-requires-in-loop-r c =

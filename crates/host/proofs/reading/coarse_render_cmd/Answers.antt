@@ -1,0 +1,11 @@
+-- Words of no screen's: the call's own number at the words' numbers.
+use Rattle.screen.specs.declared.Screen.{Screen}
+use Rattle.paint.specs.StoredCmds.{stored_words, command-of-row}
+use Rattle.host.specs.Reading.{of-some, cmd-parts}
+use Rattle.host.proofs.RowReads.{read_unheld}
+use Rattle.host.proofs.reading.coarse_render_cmd.Goals as goal
+
+pub returns-in_default : goal.returns-in_default
+returns-in_default c =
+    let a = c.args in
+    read_unheld (of-some cmd-parts) (λ (x : Screen). command-of-row x a.row (stored_words a.stored.now) a.number) _ _ _ _ _ _ _ c.in_default.ensures c.screen_at.ensures c.render_cmd.ensures c.before_4.ensures

@@ -1,0 +1,10 @@
+use Rattle.paint.specs.Painting.{words_lent}
+use Rattle.paint.specs.Stepping.{attributes}
+use Rattle.host.specs.Painting.{step_call}
+use Rattle.theorem_once.proofs.Once.{once}
+use Rattle.theorem_once.proofs.border.painting.step_twice.Goals as goal
+
+pub returns : goal.returns
+returns c =
+    let a = c.args in
+    λ same. once same (λ w. step_call a.row (attributes w.4 w.5) w.0 (words_lent w.1 w.2 w.3 w.6 w.7 w.8) w.9) c.coarse_paint_step.ensures.step c.coarse_paint_step-2.ensures.step

@@ -1,0 +1,6 @@
+use Rattle.host.specs.Reading.{depth_call}
+use Rattle.theorem_once.proofs.Once.{once}
+use Rattle.theorem_once.proofs.reading.host_depth_twice.Goals as goal
+
+pub returns : goal.returns
+returns c = λ same. once same (λ w. depth_call c.args.row w.1 c.args.number w.0 w.2) c.coarse_depth_cmd.ensures c.coarse_depth_cmd-2.ensures

@@ -1,0 +1,78 @@
+-- What is held of the words that a call of the border is lent, and of those that it writes.
+use Rattle.std.specs.Prelude.{ℕ, List}
+use Rattle.row.specs.Words.{Words}
+use Rattle.span.specs.declared.TileSpan.{TileSpan}
+use Rattle.screen.specs.declared.lent.Lent.{Lent}
+use Rattle.screen.specs.Tables.{Tables}
+use Rattle.screen.specs.Lent.{tables_in}
+use Rattle.pop.specs.Pop.{PopLent}
+use Rattle.host.specs.declared.state.StateWords.{StateWords}
+use Rattle.paint.specs.declared.canvas.stored.Canvas.{Canvas}
+use Rattle.host.specs.Held.{words_in, painted_in, reason_in, one}
+use Rattle.host.specs.Lent.{rows_in, pop_in}
+use Rattle.host.specs.Called.{canvas_out, write_out}
+use Rattle.theorem_once.specs.declared.border.building.WhyHost.{WhyHost}
+use Rattle.theorem_once.specs.declared.border.building.FillHost.{FillHost}
+use Rattle.theorem_once.specs.declared.border.painting.PaintHost.{PaintHost}
+use Rattle.theorem_once.specs.declared.border.painting.RunsHost.{RunsHost}
+use Rattle.theorem_once.specs.declared.border.painting.SpansHost.{SpansHost}
+use Rattle.theorem_once.specs.declared.border.painting.SkipHost.{SkipHost}
+
+abbrev pub screen-words : StateWords → Lent → List ℕ × Tables
+screen-words w t = (words_in w, tables_in t)
+
+abbrev pub recording-words : List ℕ → StateWords → Lent → List ℕ × List ℕ × Tables
+recording-words file w t = (file, words_in w, tables_in t)
+
+abbrev pub pop-words : List ℕ → StateWords → Lent → List ℕ × List ℕ × PopLent
+pop-words segments w t = (segments, words_in w, pop_in t)
+
+abbrev pub pop-left : StateWords → Lent → List ℕ × PopLent
+pop-left w t = (words_in w, pop_in t)
+
+abbrev pub begin-words : StateWords → Canvas → List ℕ × List ℕ × List ℕ
+begin-words w c = (words_in w, c.depth.now, c.painting.now)
+
+abbrev pub why-words : WhyHost → List ℕ × Tables × List ℕ × List ℕ
+why-words h = (words_in h.state, tables_in h.tables, h.file.now, reason_in h.reason)
+
+abbrev pub fill-words : FillHost → List ℕ × Words × List ℕ × List ℕ × List ℕ
+fill-words h = (words_in h.state, rows_in h.tables, h.tables.paint_attrs.now, h.paints.now, h.segments.now)
+
+-- the state, what is stored, the canvas, the list and the result
+abbrev pub paint-words : PaintHost → List ℕ × List ℕ × List ℕ × List ℕ × List ℕ × List ℕ × List ℕ × List ℕ × List ℕ × List ℕ
+paint-words h =
+    let s = h.stored in (
+      words_in h.state,
+      s.rows.now,
+      s.render_cmds.now,
+      s.depth_cmds.now,
+      s.paint_attrs.now,
+      s.layer_attrs.now,
+      h.canvas.depth.now,
+      h.canvas.painting.now,
+      h.list.now,
+      painted_in h.painted,
+    )
+
+abbrev pub paint-left : PaintHost → List ℕ × List ℕ × List ℕ × List ℕ
+paint-left h = canvas_out h.canvas h.list.now h.painted
+
+abbrev pub runs-words : RunsHost → List ℕ × List ℕ × List ℕ × List ℕ
+runs-words h = (words_in h.state, h.canvas.depth.now, h.list.now, one h.count)
+
+abbrev pub runs-left : RunsHost → List ℕ × List ℕ
+runs-left h = (h.list.now, one h.count)
+
+abbrev pub write-left : RunsHost → List ℕ × List ℕ × List ℕ × List ℕ
+write-left h = write_out h.state h.canvas h.list.now h.count
+
+abbrev pub spans-words : SpansHost → List ℕ × List ℕ × List TileSpan × List ℕ
+spans-words h = (words_in h.state, h.canvas.depth.now, h.list.now, one h.count)
+
+abbrev pub spans-left : SpansHost → List TileSpan × List ℕ
+spans-left h = (h.list.now, one h.count)
+
+-- of what is stored, the rows' records
+abbrev pub skip-words : SkipHost → List ℕ × List ℕ × List ℕ
+skip-words h = (words_in h.state, h.stored.rows.now, one h.yes)

@@ -29,3 +29,5 @@ pub mod Unhidden
 pub mod Walked
 pub mod Recorded
 pub mod Panels
+pub mod Edited
+pub mod EditedFiles

@@ -60,7 +60,7 @@ module _ (n : ℕ) where
       (λ m. rw m ih)
 
 -- the closing fills on a row: all of them in a touched row, and none in any other
-close-acts : (i row : ℕ) (js : List ℕ) (ks : List Cut) → acts-at row (close-puts i js ks) ≡ cond (some_of (eqb row) js) (map (λ (k : Cut). close k.stretch.tiles k.stretch.alpha i) (such (in_row row) ks)) []
+pub close-acts : (i row : ℕ) (js : List ℕ) (ks : List Cut) → acts-at row (close-puts i js ks) ≡ cond (some_of (eqb row) js) (map (λ (k : Cut). close k.stretch.tiles k.stretch.alpha i) (such (in_row row) ks)) []
 unfolding close-puts
 close-acts i row js [] = by (some_of (eqb row) js) (λ y. rw y) (λ n. rw n)
 close-acts i row js (k ∷ ks) = by (eqb k.row row)

@@ -45,7 +45,7 @@ module _ (p : Place) (old : Screen Row) where
       → play-records (Screen Row) (call Row row-ops) (reset fresh-row) p old r ≡ answer (walk r).number (reset fresh-row (frame-of p r))
   play-stopped r y z = play-walked r y ∙ rw z
 
-  records-done : (r : Recording) → (play-records (Screen Row) (call Row row-ops) (reset fresh-row) p old r).number ≡ Done
+  pub records-done : (r : Recording) → (play-records (Screen Row) (call Row row-ops) (reset fresh-row) p old r).number ≡ Done
       → Built (history p r) (reset fresh-row (frame-of p r)) (play-records (Screen Row) (call Row row-ops) (reset fresh-row) p old r).value × ((play-records (Screen Row) (call Row row-ops) (reset fresh-row) p old r).value.state.layers ≡ [])
   records-done r e = by (eqb (judge-records p r) Done)
       (λ y. by (eqb (walk r).number Done)
@@ -54,6 +54,15 @@ module _ (p : Place) (old : Screen Row) where
       let d = k.number ∙ eqb-true (walk r).number Done z in
       let b : Built (history p r) (reset fresh-row (frame-of p r)) (walk-logged Row row-ops fresh-row (frame-of p r) r).value.screen = rw k.log (k.built d) in
       rw (play-done r y z, ← k.screen) (b, k.layers d))
+      (λ z. absurd (not_done z (sym (ap (λ (a : Answer (Screen Row)). a.number) (play-stopped r y z)) ∙ e))))
+      (λ n. absurd (not_done n (sym (ap (λ (a : Answer (Screen Row)). a.number) (play-judged r n)) ∙ e)))
+
+  -- where a recording is played to its end its walk with a log is done
+  pub records-walked : (r : Recording) → (play-records (Screen Row) (call Row row-ops) (reset fresh-row) p old r).number ≡ Done
+      → (walk-logged Row row-ops fresh-row (frame-of p r) r).number ≡ Done
+  records-walked r e = by (eqb (judge-records p r) Done)
+      (λ y. by (eqb (walk r).number Done)
+      (λ z. (walked r).number ∙ eqb-true (walk r).number Done z)
       (λ z. absurd (not_done z (sym (ap (λ (a : Answer (Screen Row)). a.number) (play-stopped r y z)) ∙ e))))
       (λ n. absurd (not_done n (sym (ap (λ (a : Answer (Screen Row)). a.number) (play-judged r n)) ∙ e)))
 
@@ -96,7 +105,7 @@ module _ (p : Place) (old : Screen Row) where
   unfolding play
   play-none ws e = rw (e, play)
 
-  play-some : (ws : List ℕ) (ss : List (List (List ℕ))) → sections shape ws ≡ Some ss → played p old ws ≡ play-records (Screen Row) (call Row row-ops) (reset fresh-row) p old (recording ss)
+  pub play-some : (ws : List ℕ) (ss : List (List (List ℕ))) → sections shape ws ≡ Some ss → played p old ws ≡ play-records (Screen Row) (call Row row-ops) (reset fresh-row) p old (recording ss)
   unfolding play
   play-some ws ss e = rw (e, play)
 

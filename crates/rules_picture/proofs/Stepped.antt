@@ -35,11 +35,11 @@ call-frame {R} ops x s =
     by (eqb (refusal R ops p (done R ops p s)) Done) (λ y. rw y) (λ n. rw n)
 
 -- the plan of a filter by what it draws in the box b
-filter_none : (n : ℕ) (x : Filter) (q : ℕ) (s : State) → (good-filter-fill n x q) ≡ true → draws-nothing x (filter-box s.frame.viewport (box_of s) x) ≡ true → plan-filter n x q s ≡ still Done s
+pub filter_none : (n : ℕ) (x : Filter) (q : ℕ) (s : State) → (good-filter-fill n x q) ≡ true → draws-nothing x (filter-box s.frame.viewport (box_of s) x) ≡ true → plan-filter n x q s ≡ still Done s
 unfolding plan-filter
 filter_none n x q s y z = rw (y, z)
 
-filter-some : (n : ℕ) (x : Filter) (q : ℕ) (s : State) (b : Box) → filter-box s.frame.viewport (box_of s) x ≡ b → (good-filter-fill n x q) ≡ true
+pub filter-some : (n : ℕ) (x : Filter) (q : ℕ) (s : State) (b : Box) → filter-box s.frame.viewport (box_of s) x ≡ b → (good-filter-fill n x q) ≡ true
     → draws-nothing x (filter-box s.frame.viewport (box_of s) x) ≡ false → plan-filter n x q s ≡ plan-filter-in b n x q s
 unfolding plan-filter
 filter-some n x q s b e y z = rw (y, z) (ap (λ (c : Box). plan-filter-in c n x q s) e)

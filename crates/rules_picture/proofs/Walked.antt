@@ -99,7 +99,7 @@ deep-most p t e = by (ltb 16 (length p.layers))
     (λ z. let k : p.refused ≡ Done = rw z at e in never (sym (eq-eqb p.refused Done k) ∙ z)))
     (λ n. ltb-false 16 (length p.layers) n)
 
-call-deep : (x : Step) (s : Screen Row) → (call Row row-ops x s).number ≡ Done → length (call Row row-ops x s).value.state.layers ≤ 16
+pub call-deep : (x : Step) (s : Screen Row) → (call Row row-ops x s).number ≡ Done → length (call Row row-ops x s).value.state.layers ≤ 16
 unfolding call perform done
 call-deep x s e =
     let p = plan x (touched Row row-ops (length s.state.layers) 0 s.rows) s.state in
@@ -117,9 +117,9 @@ call-layers x s e = ap (λ (k : Screen Row). k.state.layers) (call-done x s e).1
 abbrev pub Same : List Layer → List Layer → Type 0
 Same ls x = x ≡ ls
 
-record More (ls x : List Layer) : Type 0 where
-  layer : Layer
-  is : x ≡ layer ∷ ls
+pub record More (ls x : List Layer) : Type 0 where
+  pub layer : Layer
+  pub is : x ≡ layer ∷ ls
 
 -- The walk with a log has answered a, and the walk b, from l on. If it is done, its log has grown by the steps that built the screen after, and the open layers are as B says.
 pub record Walked (B : List Layer → Type 0) (a : Answer (Logged Row)) (b : Answer (Screen Row)) (l : Logged Row) : Type 0 where
@@ -219,10 +219,10 @@ step-walks x k = record {
   };
 }
 
-fill_walks : (ps : List Paint) (ss : List Segment) (d : Draw) (ls : List Layer) → Walks (Same ls) (Same ls) (logged-call Row row-ops (a-fill ps ss d)) (call Row row-ops (a-fill ps ss d))
+pub fill_walks : (ps : List Paint) (ss : List Segment) (d : Draw) (ls : List Layer) → Walks (Same ls) (Same ls) (logged-call Row row-ops (a-fill ps ss d)) (call Row row-ops (a-fill ps ss d))
 fill_walks ps ss d ls = step-walks (a-fill ps ss d) (λ s h z. call-layers (a-fill ps ss d) s z ∙ (unfold plan plan-fill in h))
 
-filter-walks : (n : ℕ) (f : Filter) (q : ℕ) (ls : List Layer) → Walks (Same ls) (Same ls) (logged-call Row row-ops (a-filter n f q)) (call Row row-ops (a-filter n f q))
+pub filter-walks : (n : ℕ) (f : Filter) (q : ℕ) (ls : List Layer) → Walks (Same ls) (Same ls) (logged-call Row row-ops (a-filter n f q)) (call Row row-ops (a-filter n f q))
 filter-walks n f q ls = step-walks (a-filter n f q) (λ s h z. call-layers (a-filter n f q) s z ∙ (unfold plan in (filter-facts n f q s.state).1 ∙ h))
 
 -- what keeps every list of open layers keeps one more than ls
@@ -239,7 +239,7 @@ under ls a = record {
   };
 }
 
-push-walks : (p : Props) (ls : List Layer) → Walks (Same ls) (More ls) (logged-call Row row-ops (a-push p)) (call Row row-ops (a-push p))
+pub push-walks : (p : Props) (ls : List Layer) → Walks (Same ls) (More ls) (logged-call Row row-ops (a-push p)) (call Row row-ops (a-push p))
 push-walks p ls = step-walks (a-push p) (λ s h z. record {
   layer = get_or (call Row row-ops (a-push p) s).value.state.layers 0 (record { props = p; bounds = record { x0 = 0; y0 = 0; x1 = 0; y1 = 0 } });
   is = pushed s h z;
@@ -253,7 +253,7 @@ push-walks p ls = step-walks (a-push p) (λ s h z. record {
 pop-layers : (ms ls : List Layer) (m : Layer) (ss : List Segment) (js : List ℕ) (s : State) → ms ≡ m ∷ ls → (plan-pop ms ss js s).layers ≡ ls
 pop-layers ms ls m ss js s e = rw e (unfold plan-pop in refl)
 
-pop-walks : (ss : List Segment) (ls : List Layer) → Walks (More ls) (Same ls) (logged-call Row row-ops (a-pop ss)) (call Row row-ops (a-pop ss))
+pub pop-walks : (ss : List Segment) (ls : List Layer) → Walks (More ls) (Same ls) (logged-call Row row-ops (a-pop ss)) (call Row row-ops (a-pop ss))
 pop-walks ss ls = step-walks (a-pop ss) (λ s h z. call-layers (a-pop ss) s z ∙ (unfold plan in pop-layers s.state.layers ls h.layer ss _ s.state h.is))
 
 -- with 16 layers open a push is refused

@@ -4,3 +4,5 @@ pub mod Skip
 pub mod Recorded
 pub mod Panels
 pub mod TwoPanels
+pub mod Edited
+pub mod EditedPairs

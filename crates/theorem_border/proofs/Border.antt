@@ -110,19 +110,32 @@ or-either : (a b c : Bool) → (a || b) ≡ true → (b ≡ true → c ≡ true)
 or-either true b c e f = refl
 or-either false b c e f = f e
 
+-- Where row r has finished, picture's calls have given what a host's calls gave of it.
+pub record FinishedCalls (r : ℕ) (cs : List Call) (l : ScreenLent) : Type 0 where
+  pub calls : List rows.Call
+  pub finished : rows.row-finished r calls (reached.begin-at l).value ≡ true
+  pub gave : from r (log cs (begin-at (host-of l)).value) ≡ from r (rows.call-log calls (reached.begin-at l).value)
+
+pub finished-calls : (r : ℕ) (cs : List Call) (l : ScreenLent) → finished r cs (begin-at (host-of l)).value ≡ true → FinishedCalls r cs l
+finished-calls r cs l fin =
+    let v : (begin-at (host-of l)).value ≡ host-of (reached.begin-at l).value = ap (λ (a : Answer Host). a.value) (begin-on l) in
+    let m = (reached.begin-at l).value in
+    let w = runs cs m in
+    let g : finished r cs (host-of m) ≡ true = sym (ap (finished r cs) v) ∙ fin in
+    record {
+      calls = w.calls;
+      finished = or-either (said-finished r (rows.call-log w.calls m)) _ _ (rw (w.said r, w.words) at g) (finished-too (rows.called w.calls m) r);
+      gave = ap (λ (x : Host). from r (log cs x)) v ∙ w.pieces r;
+    }
+
 pub border-picture : Picture
 border-picture f xs h z e cs r t there on fin =
     let y = holds z in
     let l = y.words in
     let q : begin-at h ≡ hosted (reached.begin-at l) = ap begin-at y.same ∙ begin-on l in
     let d : (reached.begin-at l).number ≡ Done = sym (ap (λ (a : Answer Host). a.number) q) ∙ e in
-    let v : (begin-at h).value ≡ host-of (reached.begin-at l).value = ap (λ (a : Answer Host). a.value) q in
-    let m = (reached.begin-at l).value in
-    let w = runs cs m in
-    let g : finished r cs (host-of m) ≡ true = sym (ap (finished r cs) v) ∙ fin in
-    let k : rows.row-finished r w.calls m ≡ true =
-    or-either (said-finished r (rows.call-log w.calls m)) _ _ (rw (w.said r, w.words) at g) (finished-too (rows.called w.calls m) r) in
-    ap (λ (x : Host). received t (from r (log cs x))) v ∙ ap (received t) (w.pieces r) ∙ rows-picture f xs l y.reached d w.calls r t there on k
+    let w = finished-calls r cs l (rw y.same at fin) in
+    ap (λ (x : Host). received t (from r (log cs (begin-at x).value))) y.same ∙ ap (received t) w.gave ∙ rows-picture f xs l y.reached d w.calls r t there on w.finished
 
 -- a word of 1 says yes
 one_bit : (b : Bool) → bit b ≡ 1 → b ≡ true

@@ -3,6 +3,7 @@ pub mod Holds
 pub mod Border
 pub mod Finishes
 pub mod Recorded
+pub mod Edited
 pub mod Numbers
 pub mod Reading
 pub mod Why

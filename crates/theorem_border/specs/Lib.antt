@@ -5,5 +5,6 @@ pub mod Numbers
 pub mod Words
 pub mod Held
 pub mod Reading
+pub mod Edited
 pub mod Panel
 pub mod Computing

@@ -11,6 +11,7 @@ ghost use Rattle.theorem_border.specs.Numbers.{BeginKeeps, FillKeeps, FilterKeep
 ghost use Rattle.theorem_border.specs.Words.{ScreenReadBack, SizesFit, WordsWrittenBack};
 ghost use Rattle.theorem_border.specs.Held.{HostedReached};
 ghost use Rattle.theorem_border.specs.Reading.{HostedStands, LengthsRead, CmdsRead, NoCmdRead, DepthsRead, NoDepthRead, ProgressRead};
+ghost use Rattle.theorem_border.specs.Edited.{LinePieces, LineWords};
 ghost use Rattle.theorem_border.specs.Panel.{CallsDone, EachTile, MixedFinish, PaintsTaken, StepsFinish, Tile10, Tile25, Tile40};
 
 /// What each tile receives, whatever a host calls in between.
@@ -34,6 +35,12 @@ pub fn recordings_at_border()
     ensures refused { RecordingRefused }
     ensures early { RecordingEarly }
     ensures asks { ResetAsks }
+{}
+
+/// Editing one line of the screen leaves the other rows as they were.
+pub fn lines_stay_at_border()
+    ensures words { LineWords }
+    ensures pieces { LinePieces }
 {}
 
 /// A refused call leaves everything that it was lent as it was: one clause a `coarse_` call.

@@ -11,6 +11,7 @@ pub mod Skip
 pub mod Recorded
 pub mod Rows
 pub mod RowEnds
+pub mod Edited
 pub mod Canvases
 pub mod Answered
 pub mod Stored

@@ -32,7 +32,7 @@ finished-words k w r e =
     (λ d. never (sym f ∙ (call-refused r 0 k d).2))
 
 -- a row that has finished at the words has finished by the rules
-finished-rules : (ts : List Turn) (k : Canvas) → WholeCanvas k → (r : ℕ) → r < length k.painters → finished r ts (canvas-words k) ≡ true
+pub finished-rules : (ts : List Turn) (k : Canvas) → WholeCanvas k → (r : ℕ) → r < length k.painters → finished r ts (canvas-words k) ≡ true
     → has-finished (turns (map turn-of ts) k).canvas r ≡ true
 finished-rules ts k w r h e =
     by (said-finished r (log ts (canvas-words k)))

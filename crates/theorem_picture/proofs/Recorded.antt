@@ -98,9 +98,24 @@ module _ (ws : List ℕ) (r : Readable ws) (q : Setup) (l : ScreenLent) where
       let a = (all-walks (said r)).at (record { screen = reset fresh-row f; log = [] }) refl in
       (a.layers, a.late)
 
+  -- accepted: the reset and the walk are done, and the words are those of the walk
+  pub record Taken (m : ScreenLent) : Type 0 where
+    pub resets : fresh.number ≡ Done
+    pub walks : logged.number ≡ Done
+    pub same : m ≡ walk.value
+
+  -- they are reached by its steps, and painting can begin there
+  pub taken-reached : {m : ScreenLent} → Taken m → Reached f logged.value.log m
+  taken-reached t = rw t.same ((walked t.resets).value t.walks).reached
+
+  pub taken-begins : {m : ScreenLent} → Taken m → (begin-at m).number ≡ Done
+  taken-begins t =
+      let h = (walked t.resets).value t.walks in
+      rw t.same (begins (reached h.reached) (open_none logged.value.screen walk.value h.refines (walked-rules.0 t.walks)))
+
   -- by the answer
   abbrev Result : Answer ScreenLent → Type 0
-  Result a = (a.number ≡ Done → Accepted p ws a.value) × ((a.number ≡ Done → ⊥) → Refused q ws l a)
+  Result a = (a.number ≡ Done → Taken a.value) × ((a.number ≡ Done → ⊥) → Refused q ws l a)
 
   reset-refused : eqb fresh.number Done ≡ false → fresh.value ≡ l
   unfolding reset_to
@@ -110,13 +125,8 @@ module _ (ws : List ℕ) (r : Readable ws) (q : Setup) (l : ScreenLent) where
   unfolding recorded-in ◌then◌ played
   result = go (eqb fresh.number Done) refl
     where
-      done : fresh.number ≡ Done → logged.number ≡ Done → Accepted p ws walk.value
-      done e z =
-          let h = (walked e).value z in
-          record { words = r; reached = h.reached; begins = begins (reached h.reached) (open_none logged.value.screen walk.value h.refines (walked-rules.0 z)) }
-
       walks : fresh.number ≡ Done → (b : Bool) → eqb walk.number Done ≡ b → Result (cond b walk (answer walk.number fresh.value))
-      walks e true y = ((λ z. done e (sym (walked e).number ∙ z)), λ z. absurd (z (eqb-true _ _ y)))
+      walks e true y = ((λ z. record { resets = e; walks = sym (walked e).number ∙ z; same = refl }), λ z. absurd (z (eqb-true _ _ y)))
       walks e false q = ((λ z. absurd (eqb-false _ _ q z)), λ z. emptied r (rw (walked e).number (walked-rules.1 (rw (walked e).number at q))) e refl)
 
       plays : fresh.number ≡ Done → (b : Bool) → eqb (judged (said r)) Done ≡ b → Result (or-fresh fresh.value (go_on b (answer (judged (said r)) fresh.value) (walk-all ScreenLent call_at (said r))))
@@ -135,7 +145,15 @@ module _ (ws : List ℕ) (q : Setup) (l : ScreenLent) where
     where
       go : (o : Option (List (List (List ℕ)))) → sections shape ws ≡ o → (of-sections o q l).number ≡ Done → Accepted (place q l) ws (of-sections o q l).value
       go None e z = absurd (omega arith)
-      go (Some ss) e z = (result ws (record { parts = ss; formed = e }) q l).0 z
+      go (Some ss) e z =
+          let r : Readable ws = record { parts = ss; formed = e } in
+          let t = (result ws r q l).0 z in
+          record { words = r; reached = taken-reached ws r q l t; begins = taken-begins ws r q l t }
+
+  -- it has taken what the words say
+  pub recorded-taken : (r : Readable ws) → (recorded ws q l).number ≡ Done → Taken ws r q l (recorded ws q l).value
+  unfolding recorded
+  recorded-taken r z = rw r.formed ((result ws r q l).0 (rw r.formed at z))
 
   -- A refused one leaves the words as they were, or those of the file's reset.
   pub recorded-refused : ((recorded ws q l).number ≡ Done → ⊥) → Refused q ws l (recorded ws q l)

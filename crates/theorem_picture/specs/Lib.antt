@@ -9,6 +9,7 @@ pub mod Turns
 pub mod Picture
 pub mod Skip
 pub mod Recorded
+pub mod Edited
 pub mod Rows
 pub mod Ends
 pub mod Alone

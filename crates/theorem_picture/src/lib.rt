@@ -20,6 +20,7 @@ ghost use Rattle.theorem_picture.specs.Apart.{RowApart, StepApart};
 ghost use Rattle.theorem_picture.specs.Bounded.{FrameKept, RowsFew};
 ghost use Rattle.theorem_picture.specs.Refined.{FilePlays, ResetRefined, RowsRefined, StepRefined, StepsAgree, TouchedOwn, WalksAgree, WholeKept};
 ghost use Rattle.theorem_picture.specs.Ends.{RowReached, RowsAreSteps, RowsFinish, RulesFinish, StepsEnough, WordsFinish};
+ghost use Rattle.theorem_picture.specs.Edited.{LineListed, LinePieces, LineWords};
 ghost use Rattle.theorem_picture.specs.Recorded.{RecordingAccepted, RecordingEarly, RecordingRefused, RecordingRules, RulesPicture, RulesPlayed};
 
 /// Whatever calls were made, the words are those of a screen that the rules have built by the same steps, and every call there answers as the
@@ -111,4 +112,11 @@ pub fn recordings_leave_their_steps()
     ensures accepted { RecordingAccepted }
     ensures refused { RecordingRefused }
     ensures early { RecordingEarly }
+{}
+
+/// Editing one line of the screen leaves the other rows as they were.
+pub fn lines_stay()
+    ensures words { LineWords }
+    ensures pieces { LinePieces }
+    ensures listed { LineListed }
 {}

@@ -207,7 +207,7 @@ fn good_node(r: &Recording, &[start, end, layer]: &[u32; 3]) -> bool {
 }
 
 /// A draw's list and a present clip's list, each by itself.
-fn good_order(r: &Recording) -> bool {
+pub(crate) fn good_order(r: &Recording) -> bool {
     let ordered = |start: u32, end: u32| {
         r.segments[start as usize..end as usize]
             .windows(2)

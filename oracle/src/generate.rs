@@ -5,6 +5,7 @@ pub mod calls;
 mod damage;
 pub mod draft;
 mod edges;
+pub mod edits;
 pub mod forged;
 pub mod questions;
 mod reasons;

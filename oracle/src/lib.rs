@@ -6,6 +6,7 @@ pub mod calls;
 mod coarse;
 mod coarse_256;
 mod coarse_64;
+pub mod edited;
 pub mod file;
 mod filter;
 pub mod generate;

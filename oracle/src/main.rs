@@ -4,7 +4,7 @@ use oracle::questions::{self, Answerer, Question};
 use oracle::viewport::Mode;
 use oracle::why::Kind;
 use oracle::width::Width;
-use oracle::{calls, file, generate, leaves, print, walk};
+use oracle::{calls, edited, file, generate, leaves, print, walk};
 use std::io::{Read, Write};
 
 const USAGE: &str = "usage: oracle rowlist [--snap] [--width N] [--first-id N] < FILE
@@ -12,6 +12,8 @@ const USAGE: &str = "usage: oracle rowlist [--snap] [--width N] [--first-id N] <
        oracle lines [--snap] [--width N] [--first-id N] < STREAM
        oracle generate SEED COUNT [all|edges|scenes|damaged|snapped|wide|heavy|ids] > STREAM
        oracle names SEED COUNT [KIND]
+       oracle edits [--rows|--moved] SEED COUNT > STREAM
+       oracle edited ROWS < DUMP
        oracle why [--snap] [--width N] [--first-id N] [--tally] ROW TILE [draw|layer N] < FILE
        oracle why [--snap] [--width N] [--first-id N] [--tally] --stream < QUESTIONS
        oracle questions [--width N] SEED COUNT [KIND] > QUESTIONS
@@ -45,6 +47,20 @@ fn main() {
         ["generate", seed, count, kind] => generate::stream(&made(seed, count, kind)),
         ["names", seed, count] => generate::names(&made(seed, count, "all")),
         ["names", seed, count, kind] => generate::names(&made(seed, count, kind)),
+        ["edits", seed, count] => {
+            generate::edits::stream(&generate::edits::pairs(number(seed), number(count)))
+        }
+        ["edits", "--rows", seed, count] => {
+            generate::edits::rows(&generate::edits::pairs(number(seed), number(count)))
+        }
+        ["edits", "--moved", seed, count] => {
+            generate::edits::stream(&generate::edits::moved(number(seed), number(count)))
+        }
+        ["edited", rows] => {
+            let report = compared(rows);
+            agreed = report.agreed();
+            report.text().into_bytes()
+        }
         ["leaves", ..] => leaves_of(&words[1..]),
         ["calls", seed, count] => generate::calls::stream(number(seed), number(count), u32::MAX),
         ["calls", seed, count, most] => {
@@ -159,6 +175,19 @@ fn why(player: walk::Player, words: &[&str]) -> (Vec<u8>, Answerer) {
         eprint!("{}", answerer.tally);
     }
     (out.into_bytes(), answerer)
+}
+
+/// The pairs of a dump compared, their rows in a file. What differs goes to standard error.
+fn compared(rows: &str) -> edited::Report {
+    let rows = std::fs::read_to_string(rows).unwrap_or_else(|why| {
+        eprintln!("oracle: {rows}: {why}");
+        std::process::exit(2);
+    });
+    let report = edited::compare(&rows, &String::from_utf8_lossy(&input()));
+    for line in &report.complaints {
+        eprintln!("{line}");
+    }
+    report
 }
 
 fn asked(seed: &str, count: &str, kind: &str, width: u32) -> Vec<u8> {

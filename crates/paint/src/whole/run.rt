@@ -35,6 +35,16 @@ fn step_on(
     })
 }
 
+// So many pieces, the row not finished.
+fn so_far(pieces: usize) -> Result<Stepped, Refusal>
+    ensures { painted_of result ≡ listed pieces }
+{
+    Ok(Stepped {
+        finished: false,
+        pieces,
+    })
+}
+
 /// The row's steps, at most `limit`, until one is refused or the row is finished: commands that one look settles together, every other step by itself. Refused,
 /// 4 or 14, only where the first step is.
 #[inline(always)]
@@ -55,10 +65,7 @@ pub fn run_row(
         let gone = run_plain(row, canvas, list, pieces, limit - steps);
         let k = steps + gone.steps;
         if limit <= k {
-            return Ok(Stepped {
-                finished: false,
-                pieces: gone.pieces,
-            });
+            return so_far(gone.pieces);
         }
         let done = match step_on(row, canvas, list, gone.pieces) {
             Ok(done) => done,
@@ -66,10 +73,7 @@ pub fn run_row(
                 if k == 0 {
                     return Err(refusal);
                 }
-                return Ok(Stepped {
-                    finished: false,
-                    pieces: gone.pieces,
-                });
+                return so_far(gone.pieces);
             }
         };
         if done.finished {
@@ -78,10 +82,7 @@ pub fn run_row(
         pieces = done.pieces;
         steps = k + 1;
     }
-    Ok(Stepped {
-        finished: false,
-        pieces,
-    })
+    so_far(pieces)
 }
 
 /// The same, the two parts of the row's canvas lent one by one.

@@ -9,7 +9,7 @@ pub returns-then-limit-k-clause-run : goal.returns-then-limit-k-clause-run
 unfolding own-run
 returns-then-limit-k-clause-run c =
     let gone = c.run_plain-gone.ensures in
-    rest_end _ _ (rest-far _ _ c.loop-steps.invariant.rest gone.steps_le_limit.0 gone.onward) c.if-limit-k.true
+    rw c.so_far.ensures (rest_end _ _ (rest-far _ _ c.loop-steps.invariant.rest gone.steps_le_limit.0 gone.onward) c.if-limit-k.true)
 
 -- the first step is refused: no command went before it, and no piece is listed
 pub returns-then-k-eq0-clause-run : goal.returns-then-k-eq0-clause-run
@@ -25,7 +25,7 @@ unfolding own-run
 returns-in-Err-clause-run c =
     let gone = c.run_plain-gone.ensures in
     let far = rest-far _ _ c.loop-steps.invariant.rest gone.steps_le_limit.0 gone.onward in
-    rest-stopped _ _ far c.if-limit-k.false _ _ _ _ c.in-Err.ensures.list_after (not_done _) c.if-k-eq0.false false refl
+    rw c.so_far-in-Err.ensures (rest-stopped _ _ far c.if-limit-k.false _ _ _ _ c.in-Err.ensures.list_after (not_done _) c.if-k-eq0.false false refl)
 
 pub returns-then-done-clause-run : goal.returns-then-done-clause-run
 unfolding own-run
@@ -47,4 +47,4 @@ loop-steps-preserved c =
 
 pub returns-clause-run : goal.returns-clause-run
 unfolding own-run
-returns-clause-run c = rest_end _ _ c.loop-steps.invariant.rest c.loop-steps-test.false
+returns-clause-run c = rw c.so_far-2.ensures (rest_end _ _ c.loop-steps.invariant.rest c.loop-steps-test.false)

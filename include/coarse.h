@@ -36,7 +36,8 @@
  *
  * PushBuf and PopBuf give no piece, so the pieces alone do not decide the picture: a buffer that ends with nothing composited, and
  * another that opens after it, look among pieces like one buffer. examples/buffers.c has two scenes with the same pieces and different
- * pictures. A host with layers paints by coarse_paint_step and looks at coarse_progress after each step, or at the commands. */
+ * pictures. A host with layers paints by coarse_paint_step and looks at coarse_progress after each step, or at the commands:
+ * examples/composite.c composites both scenes in colours by either. */
 #ifndef COARSE_H
 #define COARSE_H
 

@@ -50,7 +50,8 @@
 //!
 //! `PushBuf` and `PopBuf` give no piece, so the pieces alone do not decide the picture: a buffer that ends with nothing composited, and another that
 //! opens after it, look among pieces like one buffer. The example `buffers` has two scenes with the same pieces and different pictures. A host with
-//! layers paints by [`paint_step`](CommandBucketer::paint_step) and looks at `progress` after each step, or at the commands.
+//! layers paints by [`paint_step`](CommandBucketer::paint_step) and looks at `progress` after each step, or at the commands: the example `composite`
+//! composites both scenes in colours by either.
 //!
 //! # The archive
 //!

@@ -2,6 +2,7 @@
 
 mod boxes;
 pub mod calls;
+pub mod coloured;
 mod damage;
 pub mod draft;
 mod edges;

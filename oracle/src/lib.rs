@@ -6,6 +6,8 @@ pub mod calls;
 mod coarse;
 mod coarse_256;
 mod coarse_64;
+pub mod colours;
+pub mod composited;
 pub mod edited;
 pub mod file;
 mod filter;
@@ -21,9 +23,10 @@ mod panels;
 mod peniko {
     pub(crate) use vello_common::peniko::*;
 }
+pub mod plain;
 pub mod print;
 pub mod questions;
-mod random;
+pub mod random;
 mod rules;
 mod scene;
 mod screen;

@@ -1,5 +1,6 @@
 //! What `rowlist` prints, and the detail that `rowdump` adds.
 
+use crate::file::{pixmap, Recording};
 use crate::painting::{pieces, Piece};
 use crate::panels::Panels;
 use crate::screen::{Command, Screen};
@@ -12,6 +13,64 @@ use vello_common::paint::ImageSource;
 /// A line of text, ended by a line feed.
 macro_rules! line {
     ($out:expr, $($arg:tt)*) => { writeln!($out, $($arg)*).expect("a line") };
+}
+
+/// A recording as text, a record a line: what `tools/rec.py` makes a file of.
+pub fn recording(of: &Recording) -> String {
+    let mut out = String::new();
+    let words = |words: &[u32]| {
+        let words: Vec<String> = words.iter().map(u32::to_string).collect();
+        words.join(" ")
+    };
+    line!(out, "viewport {}", words(&of.viewport));
+    for &[flag, handle, x, y] in &of.paints {
+        let kind = ["clear", "opaque"][flag as usize];
+        let (x, y) = (x.cast_signed(), y.cast_signed());
+        line!(out, "paint {kind} {handle} shift {x} {y}");
+    }
+    for &[kind, row, first, end, alpha] in &of.segments {
+        let kind = ["solid", "alpha"][kind as usize];
+        line!(
+            out,
+            "segment {kind} row {row} tiles {first} {end} index {alpha}"
+        );
+    }
+    for &[thread, start, end, paint, mix, compose, mask] in &of.draws {
+        line!(
+            out,
+            "draw segments {start} {end} paint {paint} blend {mix} {compose} mask {mask} thread {thread}"
+        );
+    }
+    for layer in &of.layers {
+        let kind = ["regular", "filter"][layer[0] as usize];
+        write!(
+            out,
+            "layer {kind} nodes {} blend {} opacity bits {} mask {}",
+            words(&layer[1..3]),
+            words(&layer[3..5]),
+            layer[5],
+            layer[6]
+        )
+        .expect("a line");
+        if layer[7] == 1 {
+            let (area, range) = (words(&layer[8..12]), words(&layer[12..14]));
+            let thread = layer[14];
+            write!(out, " clip box {area} segments {range} thread {thread}").expect("a line");
+        }
+        if let Some(handle) = pixmap(layer[15]) {
+            write!(out, " pixmap {handle}").expect("a line");
+        }
+        let (dest, source) = (words(&layer[16..20]), words(&layer[20..22]));
+        line!(out, " dest {dest} source {source}");
+    }
+    for &[start, end, layer] in &of.nodes {
+        match layer.checked_sub(1) {
+            Some(layer) => line!(out, "node draws {start} {end} layer {layer}"),
+            None => line!(out, "node draws {start} {end}"),
+        }
+    }
+    line!(out, "root {}", words(&of.root));
+    out
 }
 
 /// The lines of `rowlist`.

@@ -1,9 +1,9 @@
 //! A small generator of numbers: the same seed gives the same numbers everywhere.
 
-pub(crate) struct Random(u64);
+pub struct Random(u64);
 
 impl Random {
-    pub(crate) fn new(seed: u32) -> Self {
+    pub fn new(seed: u32) -> Self {
         Self(u64::from(seed).wrapping_mul(2).wrapping_add(1))
     }
 
@@ -22,7 +22,7 @@ impl Random {
     }
 
     /// A number below n.
-    pub(crate) fn below(&mut self, n: u32) -> u32 {
+    pub fn below(&mut self, n: u32) -> u32 {
         self.next() % n
     }
 

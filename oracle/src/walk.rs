@@ -47,6 +47,11 @@ impl Player {
         }
     }
 
+    /// How it reads viewports.
+    pub(crate) fn mode(&self) -> Mode {
+        self.mode
+    }
+
     /// A bucket's width, where a recording was not refused.
     pub(crate) fn width(&self) -> Width {
         self.width.expect("judged")

@@ -36,7 +36,7 @@ impl Width {
         self.pixels() / 4
     }
 
-    fn stage(self) -> Stage {
+    pub(crate) fn stage(self) -> Stage {
         match self {
             Self::Of64 => coarse_64::stage::STAGE,
             Self::Of128 => coarse::stage::STAGE,

@@ -6,6 +6,7 @@ use Rattle.rules.specs.Blends.{good-blend}
 use Rattle.rules.specs.Spans.{good-range}
 use Rattle.rules.specs.Inputs.{Paint, good-paint, Draw, good-draw, draw-paint, good-thread, good-handle, good-panel}
 use Rattle.rules.specs.Recording.{Recording, recording, good-records, good-layer-rec, good-node}
+use Rattle.sizes.specs.Editions.{draw-size, layer-size}
 use Rattle.file.specs.declared.form.Layout.{Layout}
 use Rattle.file.specs.Each.{each}
 use Rattle.file.specs.Layouts.{Fits, sections_at}
@@ -69,7 +70,7 @@ module _ (l : Layout) (ws : List ℕ) where
   unfolding recorded
   nodes-same =
       by-nodes (recorded l ws)
-      ∙ rw (each-length draw_from 7 ws l.draws.at l.draws.count, each-length layer_from 22 ws l.layers.at l.layers.count)
+      ∙ rw (each-length (draw_from l.edition) (draw-size l.edition) ws l.draws.at l.draws.count, each-length (layer_from l.edition) (layer-size l.edition) ws l.layers.at l.layers.count)
 
   root-same : good-range (recorded l ws).start (recorded l ws).end (length (recorded l ws).nodes) ≡ root-good l ws
   unfolding recorded

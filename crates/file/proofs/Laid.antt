@@ -1,8 +1,10 @@
--- The sections that the rules find are those of the layout; and what the code has found so far.
+-- The sections that the rules find after the head are those of the layout; and what the code has found so far.
 use Rattle.std.proofs.Common.{ℕ, ◌+◌, ◌-◌, ◌*◌, ◌≤◌, ◌<◌, add-one, arith, ◌≡◌, refl, sym, ap, ◌∙◌, Bool, true, false, ◌&&◌, cond, List, [], ◌∷◌, ◌++◌, append_assoc, append-nil, Option, None, Some}
-use Rattle.std.proofs.Common.{option_map, Ok, Err, length, get_or, drop, length-drop, drop-cons, drop-drop, leb, ltb, eqb, lt-ltb, eq-eqb, ne_eqb, ltb-true, ltb-false, leb-true, eqb-true}
+use Rattle.std.proofs.Common.{option_map, Result, Ok, Err, length, get_or, drop, length-drop, drop-cons, drop-drop, leb, ltb, eqb, lt-ltb, eq-eqb, ne_eqb, ltb-true, ltb-false, leb-true, eqb-true}
 use lib.Seq.{drop-length}
-use Rattle.rules.specs.Recording.{shape, good-count, records, sections}
+use Rattle.sizes.specs.Editions.{draw-size, layer-size}
+use Rattle.sizes.specs.declared.edition.Edition.{Edition}
+use Rattle.rules.specs.Recording.{shape, head, starts, good-count, records, sections, in-edition, parsed}
 use Rattle.file.specs.declared.form.Section.{Section}
 use Rattle.file.specs.declared.form.Layout.{Layout}
 use Rattle.sizes.specs.declared.answers.Refusal.{Refusal}
@@ -33,8 +35,8 @@ module _ (k : ℕ) (fixed : Bool) (ss : List (ℕ × Bool)) (ws : List ℕ) (p :
   abbrev count : ℕ
   count = get_or ws p 0
 
-  starts : p < length ws → drop p ws ≡ count ∷ drop (p + 1) ws
-  starts h = rw (add-one p) (drop-cons ws p 0 h)
+  counted : p < length ws → drop p ws ≡ count ∷ drop (p + 1) ws
+  counted h = rw (add-one p) (drop-cons ws p 0 h)
 
   opened : sections ((k, fixed) ∷ ss) (count ∷ drop (p + 1) ws)
       ≡ cond (good-count fixed count && leb (count * k) (length (drop (p + 1) ws)))
@@ -47,7 +49,7 @@ module _ (k : ℕ) (fixed : Bool) (ss : List (ℕ × Bool)) (ws : List ℕ) (p :
       → sections ((k, fixed) ∷ ss) (drop p ws)
       ≡ cond (good-count fixed count && leb (count * k) (length ws - (p + 1)))
       (option_map (λ xs. cut k ws (section_from ws p) ∷ xs) (sections ss (drop (past k (section_from ws p)) ws))) None
-  here h = rw (starts h, opened, length-drop (p + 1) ws, drop-drop (count * k) (p + 1) ws)
+  here h = rw (counted h, opened, length-drop (p + 1) ws, drop-drop (count * k) (p + 1) ws)
 
 -- the sections of a shape from place p on are those laid there, or none
 module _ (ws : List ℕ) where
@@ -55,7 +57,7 @@ module _ (ws : List ℕ) where
   unfolding sections fits cuts
   by_end p true h q =
       let l = ltb-true p (length ws) q in
-      rw (starts 0 true [] ws p l, ne_eqb p (length ws) (λ e. omega arith))
+      rw (counted 0 true [] ws p l, ne_eqb p (length ws) (λ e. omega arith))
   by_end p false h q =
       let e : p ≡ length ws = omega (arith, ltb-false p (length ws) q) in
       rw (e, drop-length ws, eq-eqb (length ws) (length ws) refl)
@@ -96,13 +98,36 @@ module _ (ws : List ℕ) where
   agree [] p h = by_end p _ h refl
   agree (s ∷ ss) p h = by_place s.0 s.1 ss p _ h refl (agree ss (past s.0 (section_from ws p)))
 
-  all : sections shape ws ≡ whole shape ws 0
-  all = agree shape 0 (omega arith)
+starts-long : (hs ws : List ℕ) → starts hs ws ≡ true → length hs ≤ length ws
+starts-long [] ws q = omega arith
+starts-long (h ∷ hs) [] q = absurd (never q)
+  where
+    never : (false ≡ true) → ⊥
+    never z = let y : ◌≡◌ {A = ℕ} 0 1 = ap (λ (b : Bool). cond b 1 0) z in omega arith
+starts-long (h ∷ hs) (w ∷ ws) q = let more = starts-long hs ws (both (eqb w h) (starts hs ws) q).1 in omega arith
 
-  by_fits : (t : Bool) → fits shape ws 0 ≡ t → form_of ws ≡ cond t (Ok (layout ws)) (Err BadForm)
+-- where the words do not start with the head, there are no sections
+module _ (e : Edition) (ws : List ℕ) where
+  abbrev first : ℕ
+  first = length (head e)
+
+  headless : starts (head e) ws ≡ false → parsed (in-edition e ws) ≡ None
+  unfolding parsed
+  headless q = rw q
+
+  pub unheaded : starts (head e) ws ≡ false → Err BadForm ≡ form_of e ws
   unfolding form_of
-  by_fits true q = rw (all, q)
-  by_fits false q = rw (all, q)
+  unheaded q = rw (headless q)
+
+  module _ (h : starts (head e) ws ≡ true) where
+    all : parsed (in-edition e ws) ≡ whole (shape e) ws first
+    unfolding parsed
+    all = rw (h, agree ws (shape e) first (starts-long (head e) ws h))
+
+    by_fits : (t : Bool) → fits (shape e) ws first ≡ t → form_of e ws ≡ cond t (Ok (layout e ws)) (Err BadForm)
+    unfolding form_of
+    by_fits true q = rw (all, q)
+    by_fits false q = rw (all, q)
 
 found-yes : (t : Bool) (s x : Section) (n m : ℕ) → Ok (s, n) ≡ found_if t x m → (t ≡ true) × ((s ≡ x) × (n ≡ m))
 found-yes true s x n m e = let p : (s, n) ≡ (x, m) = cc in (refl, (ap (λ (q : Section × ℕ). q.0) p, ap (λ (q : Section × ℕ). q.1) p))
@@ -113,48 +138,50 @@ found-no true x m e = let z : ◌≡◌ {A = ℕ} 0 1 = cc in absurd (omega arit
 found-no false x m e = (refl, cc)
 
 -- what is found so far: the sections xs; the shape ss is still to come at place n
-pub record Upto (ws : List ℕ) (ss : List (ℕ × Bool)) (xs : List Section) (n : ℕ) : Type 0 where
-  pub same : fits shape ws 0 ≡ fits ss ws n
-  pub places : laid shape ws 0 ≡ xs ++ laid ss ws n
+pub record Upto (e : Edition) (ws : List ℕ) (ss : List (ℕ × Bool)) (xs : List Section) (n : ℕ) : Type 0 where
+  pub headed : starts (head e) ws ≡ true
+  pub same : fits (shape e) ws (length (head e)) ≡ fits ss ws n
+  pub places : laid (shape e) ws (length (head e)) ≡ xs ++ laid ss ws n
 
-pub begin : (ws : List ℕ) → Upto ws shape [] 0
-begin ws = record { same = refl; places = refl }
+pub begin : (e : Edition) (ws : List ℕ) → starts (head e) ws ≡ true → Upto e ws (shape e) [] (length (head e))
+begin e ws h = record { headed = h; same = refl; places = refl }
 
-module _ {ws : List ℕ} {k : ℕ} {fixed : Bool} {ss : List (ℕ × Bool)} {xs : List Section} {p : ℕ} (u : Upto ws ((k, fixed) ∷ ss) xs p) where
-  pub more : {s : Section} {n : ℕ} → Ok (s, n) ≡ section_at k fixed ws p → Upto ws ss (xs ++ (s ∷ [])) n
+module _ {e : Edition} {ws : List ℕ} {k : ℕ} {fixed : Bool} {ss : List (ℕ × Bool)} {xs : List Section} {p : ℕ} (u : Upto e ws ((k, fixed) ∷ ss) xs p) where
+  pub more : {s : Section} {n : ℕ} → Ok (s, n) ≡ section_at k fixed ws p → Upto e ws ss (xs ++ (s ∷ [])) n
   unfolding fits
-  more {s} {n} e =
-      let f = found-yes (stands k fixed ws p) _ _ _ _ e in
+  more {s} {n} g =
+      let f = found-yes (stands k fixed ws p) _ _ _ _ g in
       record {
+        headed = u.headed;
         same = u.same ∙ rw (f.0, ← f.1.1);
         places = u.places ∙ rw (append_assoc, ← f.1.0, ← f.1.1);
       }
 
-  pub lacking : {r : Refusal} → Err r ≡ section_at k fixed ws p → Err r ≡ form_of ws
+  pub lacking : {r : Refusal} → Err r ≡ section_at k fixed ws p → Err r ≡ form_of e ws
   unfolding fits
-  lacking e =
-      let f = found-no (stands k fixed ws p) _ _ e in
-      rw f.1 (sym (by_fits ws false (u.same ∙ rw f.0)))
+  lacking g =
+      let f = found-no (stands k fixed ws p) _ _ g in
+      rw f.1 (sym (by_fits e ws u.headed false (u.same ∙ rw f.0)))
 
-module _ {ws : List ℕ} {xs : List Section} {n : ℕ} (u : Upto ws [] xs n) where
-  pub longer : (length ws ≡ n → ⊥) → Err BadForm ≡ form_of ws
+module _ {e : Edition} {ws : List ℕ} {xs : List Section} {n : ℕ} (u : Upto e ws [] xs n) where
+  pub longer : (length ws ≡ n → ⊥) → Err BadForm ≡ form_of e ws
   unfolding fits
-  longer h = sym (by_fits ws false (u.same ∙ ne_eqb n (length ws) (λ e. h (sym e))))
+  longer h = sym (by_fits e ws u.headed false (u.same ∙ ne_eqb n (length ws) (λ g. h (sym g))))
 
-  pub exact : length ws ≡ n → Ok (layout_of xs) ≡ form_of ws
+  pub exact : length ws ≡ n → Ok (layout_of e xs) ≡ form_of e ws
   unfolding fits layout
   exact h =
       sym
-      (by_fits ws true (u.same ∙ eq-eqb n (length ws) (sym h))
-      ∙ ap (λ (l : List Section). Ok (layout_of l)) (u.places ∙ append-nil xs))
+      (by_fits e ws u.headed true (u.same ∙ eq-eqb n (length ws) (sym h))
+      ∙ ap (λ (l : List Section). Ok (layout_of e l)) (u.places ∙ append-nil xs))
 
 no-sections : {r : Refusal} (o : Option (List (List (List ℕ)))) (l : Layout) → Err r ≡ formed o l → (r ≡ BadForm) × (o ≡ None)
 no-sections None l e = (cc, refl)
 no-sections (Some xs) l e = let z : ◌≡◌ {A = ℕ} 0 1 = cc in absurd (omega arith)
 
 -- what callers learn: the sections are those of the layout, and each lies within the words
-pub record GoodForm (ws : List ℕ) (l : Layout) : Type 0 where
-  pub same : sections shape ws ≡ Some (sections_at l ws)
+pub record GoodForm (e : Edition) (ws : List ℕ) (l : Layout) : Type 0 where
+  pub same : parsed (in-edition e ws) ≡ Some (sections_at l ws)
   pub fits : Fits ws l
 
 few : (fixed : Bool) (n : ℕ) → good-count fixed n ≡ true → n ≤ 4096
@@ -178,40 +205,53 @@ module _ (ws : List ℕ) where
       let g = both (eqb n 1) (leb (n * k) (length ws - (p + 1))) h.1 in
       eqb-true n 1 g.0
 
-  fitting : fits shape ws 0 ≡ true → GoodForm ws (layout ws)
+module _ (e : Edition) (ws : List ℕ) (h : starts (head e) ws ≡ true) where
+  fitting : fits (shape e) ws (first e ws) ≡ true → GoodForm e ws (layout e ws)
   unfolding fits cuts layout sections_at
   fitting q =
-      let v = both (stands 4 true ws 0) _ q in
+      let v = both (stands 4 true ws (first e ws)) _ q in
       let p = both (stands 4 false ws _) _ v.1 in
       let s = both (stands 5 false ws _) _ p.1 in
-      let d = both (stands 7 false ws _) _ s.1 in
-      let y = both (stands 22 false ws _) _ d.1 in
+      let d = both (stands (draw-size e) false ws _) _ s.1 in
+      let y = both (stands (layer-size e) false ws _) _ d.1 in
       let n = both (stands 3 false ws _) _ y.1 in
       let r = both (stands 2 true ws _) _ n.1 in
       record {
-        same = all ws ∙ rw (q, single 4 0 v.0);
+        same = all e ws h ∙ rw q;
         fits =
             record {
-              viewport = rw (single 4 0 v.0) at (within 4 true 0 v.0);
-              paints = within 4 false _ p.0;
-              segments = within 5 false _ s.0;
-              draws = within 7 false _ d.0;
-              layers = within 22 false _ y.0;
-              nodes = within 3 false _ n.0;
-              root = within 2 true _ r.0;
-              one-root = single 2 _ r.0;
+              viewport = within ws 4 true _ v.0;
+              paints = within ws 4 false _ p.0;
+              segments = within ws 5 false _ s.0;
+              draws = within ws (draw-size e) false _ d.0;
+              layers = within ws (layer-size e) false _ y.0;
+              nodes = within ws 3 false _ n.0;
+              root = within ws 2 true _ r.0;
+              one-viewport = single ws 4 _ v.0;
+              one-root = single ws 2 _ r.0;
             };
       }
 
-  by_form : (t : Bool) → fits shape ws 0 ≡ t → (l : Layout) → Ok l ≡ cond t (Ok (layout ws)) (Err BadForm) → GoodForm ws l
-  by_form true q l e =
-      let h : l ≡ layout ws = cc in
-      rw h (fitting q)
-  by_form false q l e = let z : ◌≡◌ {A = ℕ} 0 1 = cc in absurd (omega arith)
+  by_form : (t : Bool) → fits (shape e) ws (first e ws) ≡ t → (l : Layout) → Ok l ≡ cond t (Ok (layout e ws)) (Err BadForm) → GoodForm e ws l
+  by_form true q l g =
+      let same : l ≡ layout e ws = cc in
+      rw same (fitting q)
+  by_form false q l g = let z : ◌≡◌ {A = ℕ} 0 1 = cc in absurd (omega arith)
 
-  pub good-form : (l : Layout) → Ok l ≡ form_of ws → GoodForm ws l
-  good-form l e = by_form _ refl l (e ∙ by_fits ws _ refl)
+  good_headed : (l : Layout) → Ok l ≡ form_of e ws → GoodForm e ws l
+  good_headed l g = by_form _ refl l (g ∙ by_fits e ws h _ refl)
 
-  pub bad-form : {r : Refusal} → Err r ≡ form_of ws → (r ≡ BadForm) × (sections shape ws ≡ None)
+module _ (e : Edition) (ws : List ℕ) where
+  by_head : (t : Bool) → starts (head e) ws ≡ t → (l : Layout) → Ok l ≡ form_of e ws → GoodForm e ws l
+  by_head true q l g = good_headed e ws q l g
+  by_head false q l g =
+      let y : ◌≡◌ {A = Result Layout Refusal} (Ok l) (Err BadForm) = g ∙ sym (unheaded e ws q) in
+      let z : ◌≡◌ {A = ℕ} 0 1 = cc in
+      absurd (omega arith)
+
+  pub good-form : (l : Layout) → Ok l ≡ form_of e ws → GoodForm e ws l
+  good-form l g = by_head _ refl l g
+
+  pub bad-form : {r : Refusal} → Err r ≡ form_of e ws → (r ≡ BadForm) × (parsed (in-edition e ws) ≡ None)
   unfolding form_of
-  bad-form e = no-sections (sections shape ws) (layout ws) e
+  bad-form g = no-sections (parsed (in-edition e ws)) (layout e ws) g

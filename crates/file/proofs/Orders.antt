@@ -9,9 +9,8 @@ use Rattle.rules.specs.Inputs.{Draw, Clip, good-thread, good-handle, good-panel}
 use Rattle.rules.specs.Recording.{LayerRec, recording, good-records, good-order}
 use Rattle.segments.specs.Segs.{segs-of}
 use Rattle.file.specs.declared.form.Layout.{Layout}
-use Rattle.file.specs.Each.{each}
 use Rattle.file.specs.Layouts.{Fits, sections_at}
-use Rattle.file.specs.Places.{draw_from, layer_from, recorded}
+use Rattle.file.specs.Places.{draws-at, layers-at, recorded}
 use Rattle.rules.proofs.All.{both}
 use Rattle.file.proofs.Reading.{reads}
 use Rattle.inputs.specs.Inputs.{draw_fields, clip_fields}
@@ -70,8 +69,8 @@ clip-in nodes segments y e =
 
 -- what good records say of the lent segments xs, the draws and the layers
 pub record OrdersReady (l : Layout) (ws xs : List ℕ) : Type 0 where
-  pub draws : every (draw_range (length xs / 5)) (each draw_from 7 ws l.draws.at l.draws.count) ≡ true
-  pub layers : every (clip_range (length xs / 5)) (each layer_from 22 ws l.layers.at l.layers.count) ≡ true
+  pub draws : every (draw_range (length xs / 5)) (draws-at ws l) ≡ true
+  pub layers : every (clip_range (length xs / 5)) (layers-at ws l) ≡ true
   pub segments : every good-segment (segs-of xs) ≡ true
 
 module _ {l : Layout} {ws : List ℕ} (f : Fits ws l) (g : good-records (recording (sections_at l ws)) ≡ true) where
@@ -84,8 +83,8 @@ module _ {l : Layout} {ws : List ℕ} (f : Fits ws l) (g : good-records (recordi
       let h2 = both (paints-good l ws && segments-good l ws) (draws-good l ws) h3.0 in
       let h1 = both (paints-good l ws) (segments-good l ws) h2.0 in
       record {
-        draws = rw (lent-count ws l.segments.at l.segments.count f.segments.ends) (every-too _ _ (draw-in l.paints.count l.segments.count) (each draw_from 7 ws l.draws.at l.draws.count) h2.1);
-        layers = rw (lent-count ws l.segments.at l.segments.count f.segments.ends) (every-too _ _ (clip-in l.nodes.count l.segments.count) (each layer_from 22 ws l.layers.at l.layers.count) h3.1);
+        draws = rw (lent-count ws l.segments.at l.segments.count f.segments.ends) (every-too _ _ (draw-in l.paints.count l.segments.count) (draws-at ws l) h2.1);
+        layers = rw (lent-count ws l.segments.at l.segments.count f.segments.ends) (every-too _ _ (clip-in l.nodes.count l.segments.count) (layers-at ws l) h3.1);
         segments = rw (lent-segments ws l.segments.at l.segments.count f.segments.ends) h1.1;
       }
 
@@ -97,15 +96,15 @@ module _ {l : Layout} {ws : List ℕ} (f : Fits ws l) where
   by-sections = refl
 
   orders : good-order (recording (sections_at l ws))
-      ≡ (every (draw_ordered (segs-of (lent ws l.segments.at l.segments.count))) (each draw_from 7 ws l.draws.at l.draws.count)
-      && every (clip_ordered (segs-of (lent ws l.segments.at l.segments.count))) (each layer_from 22 ws l.layers.at l.layers.count))
+      ≡ (every (draw_ordered (segs-of (lent ws l.segments.at l.segments.count))) (draws-at ws l)
+      && every (clip_ordered (segs-of (lent ws l.segments.at l.segments.count))) (layers-at ws l))
   unfolding recorded
   orders = rw (reads l ws f, lent-segments ws l.segments.at l.segments.count f.segments.ends) by-sections
 
-  pub bad-draw-order : every (draw_ordered (segs-of (lent ws l.segments.at l.segments.count))) (each draw_from 7 ws l.draws.at l.draws.count) ≡ false
+  pub bad-draw-order : every (draw_ordered (segs-of (lent ws l.segments.at l.segments.count))) (draws-at ws l) ≡ false
       → false ≡ good-order (recording (sections_at l ws))
   bad-draw-order d = rw (orders, d)
 
-  pub clips-left : every (draw_ordered (segs-of (lent ws l.segments.at l.segments.count))) (each draw_from 7 ws l.draws.at l.draws.count) ≡ true
-      → every (clip_ordered (segs-of (lent ws l.segments.at l.segments.count))) (each layer_from 22 ws l.layers.at l.layers.count) ≡ good-order (recording (sections_at l ws))
+  pub clips-left : every (draw_ordered (segs-of (lent ws l.segments.at l.segments.count))) (draws-at ws l) ≡ true
+      → every (clip_ordered (segs-of (lent ws l.segments.at l.segments.count))) (layers-at ws l) ≡ good-order (recording (sections_at l ws))
   clips-left d = rw (orders, d)

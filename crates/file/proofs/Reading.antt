@@ -1,16 +1,26 @@
 -- The recording of a layout's sections, read off the words place by place.
-use Rattle.std.proofs.Common.{ℕ, ◌+◌, ◌-◌, ◌*◌, ◌≤◌, add-zero, add_assoc, arith, ◌≡◌, sym, ap, ◌∙◌, true, List, [], length, get_or, take, drop, length-take, length-drop, get_or-take, get_or-drop, ltb, ltb-true}
+use Rattle.std.proofs.Common.{ℕ, zero, suc, refl, ◌∷◌, ◌+◌, ◌-◌, ◌*◌, ◌≤◌, add-zero, add_assoc, arith, ◌≡◌, sym, ap, ◌∙◌, true, List, [], length, get_or, take, drop, length-take, length-drop, get_or-take, get_or-drop, ltb, ltb-true}
+use Rattle.sizes.specs.Editions.{draw-size, layer-size}
+use Rattle.sizes.specs.declared.edition.Edition.{Edition}
+use Rattle.sizes.specs.declared.edition.Edition.TheVariants.{One, Two}
 use Rattle.rules.specs.Recording.{records, recording, Recording, paint-rec, segment-rec, draw-rec, layer-rec, node-rec}
 use Rattle.rules.specs.Boxes.{box}
 use Rattle.file.specs.declared.form.Layout.{Layout}
 use Rattle.file.specs.Each.{each}
 use Rattle.file.specs.Layouts.{Fits, sections_at}
-use Rattle.file.specs.Places.{paint_from, segment_from, draw_from, clip_from, filter_from, layer_from, node_from, recorded}
+use Rattle.file.specs.Places.{word, paint_from, segment_from, draw_from, clip_from, filter_from, layer_from, node_from, recorded}
 use Rattle.file.proofs.Eaches.{each-record, each_part}
 
 -- word i of a record of k words that stands at place p
 cell : (k p : ℕ) (ws : List ℕ) (i : ℕ) → ltb i k ≡ true → get_or (take k (drop p ws)) i 0 ≡ get_or ws (p + i) 0
 cell k p ws i h = get_or-take k (drop p ws) i 0 (ltb-true i k h) ∙ get_or-drop p ws i 0
+
+-- no word stands behind them
+no-cell : (k : ℕ) (xs : List ℕ) → get_or (take k xs) k 0 ≡ 0
+no-cell zero [] = refl
+no-cell zero (x ∷ xs) = refl
+no-cell (suc k) [] = refl
+no-cell (suc k) (x ∷ xs) = no-cell k xs
 
 module _ (ws : List ℕ) (p : ℕ) where
   paint-cut : paint-rec (take 4 (drop p ws)) ≡ paint_from ws p
@@ -21,13 +31,15 @@ module _ (ws : List ℕ) (p : ℕ) where
   unfolding segment_from
   segment-cut = simp (cell, add-zero)
 
-  draw-cut : draw-rec (take 7 (drop p ws)) ≡ draw_from ws p
+  draw-cut : (e : Edition) → draw-rec (take (draw-size e) (drop p ws)) ≡ draw_from e ws p
   unfolding draw_from
-  draw-cut = simp (get_or-drop, cell, add-zero)
+  draw-cut One = simp (get_or-drop, cell, no-cell, add-zero)
+  draw-cut Two = simp (get_or-drop, cell, add-zero)
 
-  layer-cut : layer-rec (take 22 (drop p ws)) ≡ layer_from ws p
+  layer-cut : (e : Edition) → layer-rec (take (layer-size e) (drop p ws)) ≡ layer_from e ws p
   unfolding layer_from clip_from filter_from
-  layer-cut = simp (get_or-drop, cell, add-zero)
+  layer-cut One = simp (get_or-drop, cell, no-cell, add-zero)
+  layer-cut Two = simp (get_or-drop, cell, add-zero)
 
   node-cut : node-rec (take 3 (drop p ws)) ≡ node_from ws p
   unfolding node_from
@@ -44,9 +56,10 @@ module _ (l : Layout) (ws : List ℕ) (f : Fits ws l) where
       rw (
         each-record paint_from 4 ws paint-rec (paint-cut ws) l.paints.at l.paints.count,
         each-record segment_from 5 ws segment-rec (segment-cut ws) l.segments.at l.segments.count,
-        each-record draw_from 7 ws draw-rec (draw-cut ws) l.draws.at l.draws.count,
-        each-record layer_from 22 ws layer-rec (layer-cut ws) l.layers.at l.layers.count,
+        each-record (draw_from l.edition) (draw-size l.edition) ws draw-rec (λ p. draw-cut ws p l.edition) l.draws.at l.draws.count,
+        each-record (layer_from l.edition) (layer-size l.edition) ws layer-rec (λ p. layer-cut ws p l.edition) l.layers.at l.layers.count,
         each-record node_from 3 ws node-rec (node-cut ws) l.nodes.at l.nodes.count,
+        only-cut 4 l.viewport.at l.viewport.count ws f.one-viewport,
         only-cut 2 l.root.at l.root.count ws f.one-root,
       )
       (simp (cell, add-zero))
@@ -56,7 +69,7 @@ module _ (l : Layout) (ws : List ℕ) (f : Fits ws l) where
   abbrev held : Recording
   held = recording (sections_at l ws)
 
-  pub viewport-is : held.viewport ≡ box (get_or ws 1 0) (get_or ws 2 0) (get_or ws 3 0) (get_or ws 4 0)
+  pub viewport-is : held.viewport ≡ box (get_or ws l.viewport.at 0) (word ws l.viewport.at 1) (word ws l.viewport.at 2) (word ws l.viewport.at 3)
   unfolding recorded
   viewport-is = ap (λ (r : Recording). r.viewport) (reads l ws f)
 

@@ -17,10 +17,10 @@ module _ (l : Layout) (ws : List ℕ) where
   segments-good = every good-segment (segments-at ws l.segments)
 
   abbrev pub draws-good : Bool
-  draws-good = every (draw_fields l.paints.count l.segments.count) (draws-at ws l.draws)
+  draws-good = every (draw_fields l.paints.count l.segments.count) (draws-at ws l)
 
   abbrev pub layers-good : Bool
-  layers-good = every (layer_fields l.nodes.count l.segments.count) (layers-at ws l.layers)
+  layers-good = every (layer_fields l.nodes.count l.segments.count) (layers-at ws l)
 
   abbrev pub nodes-good : Bool
   nodes-good = every (node_fields l.draws.count l.layers.count) (nodes-at ws l.nodes)

@@ -2,9 +2,11 @@
 use Rattle.std.specs.Prelude.{ℕ, ◌+◌, ◌-◌, ◌*◌, ◌≤◌, ◌≡◌, Bool, true, false, ◌&&◌, List, [], ◌∷◌, length, get_or, drop, leb, ltb}
 use Rattle.std.specs.Prelude.{Option, None, Some, Result, Ok, Err}
 use Rattle.sizes.specs.Sizes.{most-records}
+use Rattle.sizes.specs.Editions.{draw-size, layer-size}
+use Rattle.sizes.specs.declared.edition.Edition.{Edition}
 use Rattle.sizes.specs.declared.answers.Refusal.{Refusal}
 use Rattle.sizes.specs.declared.answers.Refusal.TheVariants.{BadForm}
-use Rattle.rules.specs.Recording.{shape, good-count, records, sections}
+use Rattle.rules.specs.Recording.{shape, head, good-count, records, in-edition, parsed}
 use Rattle.file.specs.declared.form.Section.{Section}
 use Rattle.file.specs.declared.form.Layout.{Layout}
 
@@ -36,35 +38,42 @@ laid (s ∷ ss) ws p = section_from ws p ∷ laid ss ws (past s.0 (section_from 
 abbrev pub nth : List Section → ℕ → Section
 nth xs i = get_or xs i (record { at = 0; count = 0 })
 
-abbrev pub layout_of : List Section → Layout
-layout_of xs = record { paints = nth xs 1; segments = nth xs 2; draws = nth xs 3; layers = nth xs 4; nodes = nth xs 5; root = nth xs 6 }
+abbrev pub layout_of : Edition → List Section → Layout
+layout_of e xs =
+    record {
+      edition = e;
+      viewport = nth xs 0;
+      paints = nth xs 1;
+      segments = nth xs 2;
+      draws = nth xs 3;
+      layers = nth xs 4;
+      nodes = nth xs 5;
+      root = nth xs 6;
+    }
 
-unfoldable pub layout : List ℕ → Layout
-layout ws = layout_of (laid shape ws 0)
+-- the sections of a file, after its head
+unfoldable pub layout : Edition → List ℕ → Layout
+layout e ws = layout_of e (laid (shape e) ws (length (head e)))
 
 abbrev pub formed : Option (List (List (List ℕ))) → Layout → Result Layout Refusal
 formed None l = Err BadForm
 formed (Some ss) l = Ok l
 
 -- bad exactly where the rules find no sections
-unfoldable pub form_of : List ℕ → Result Layout Refusal
-form_of ws = formed (sections shape ws) (layout ws)
+unfoldable pub form_of : Edition → List ℕ → Result Layout Refusal
+form_of e ws = formed (parsed (in-edition e ws)) (layout e ws)
 
 -- the records of a section, cut out of the words
 abbrev pub cut : ℕ → List ℕ → Section → List (List ℕ)
 cut k ws s = records k s.count (drop s.at ws)
 
--- the viewport stands at place 1
-abbrev pub viewport : Section
-viewport = record { at = 1; count = 1 }
-
 unfoldable pub sections_at : Layout → List ℕ → List (List (List ℕ))
 sections_at l ws =
-    cut 4 ws viewport
+    cut 4 ws l.viewport
     ∷ cut 4 ws l.paints
     ∷ cut 5 ws l.segments
-    ∷ cut 7 ws l.draws
-    ∷ cut 22 ws l.layers
+    ∷ cut (draw-size l.edition) ws l.draws
+    ∷ cut (layer-size l.edition) ws l.layers
     ∷ cut 3 ws l.nodes
     ∷ cut 2 ws l.root
     ∷ []
@@ -75,11 +84,12 @@ pub record Within (ws : List ℕ) (k : ℕ) (s : Section) : Type 0 where
   pub few : s.count ≤ most-records
 
 pub record Fits (ws : List ℕ) (l : Layout) : Type 0 where
-  pub viewport : Within ws 4 viewport
+  pub viewport : Within ws 4 l.viewport
   pub paints : Within ws 4 l.paints
   pub segments : Within ws 5 l.segments
-  pub draws : Within ws 7 l.draws
-  pub layers : Within ws 22 l.layers
+  pub draws : Within ws (draw-size l.edition) l.draws
+  pub layers : Within ws (layer-size l.edition) l.layers
   pub nodes : Within ws 3 l.nodes
   pub root : Within ws 2 l.root
+  pub one-viewport : l.viewport.count ≡ 1
   pub one-root : l.root.count ≡ 1

@@ -1,11 +1,12 @@
-//! The recording file's form (answer 3): where each section stands. A section is a part of the caller's words, not a copy.
+//! The recording file's form (answer 3): where each section stands, in either edition. A section is a part of the caller's words, not a copy.
 ghost use Rattle.std.specs.Prelude.{◌≡◌, ◌/◌, ◌≤◌, length};
-ghost use Rattle.rules.specs.Recording.{good-count};
+ghost use Rattle.rules.specs.Recording.{good-count, head, starts};
 ghost use Rattle.file.specs.Layouts.{stands, section_at, form_of};
 ghost use Rattle.file.specs.Words.{filled, filled-with};
 
 use sizes::answers::Refusal;
-use sizes::{DRAW, LAYER, MOST_RECORDS, NODE, PAINT, SEGMENT};
+use sizes::edition::Edition;
+use sizes::{MOST_RECORDS, NODE, PAINT, SEGMENT};
 
 /// The place of its first record among the file's words, and how many records it has.
 #[derive(Clone, Copy, Debug, PartialEq, Eq)]
@@ -14,12 +15,11 @@ pub struct Section {
     pub count: usize,
 }
 
-/// Where the viewport's four words stand.
-pub const VIEWPORT: usize = 1;
-
-/// The sections after the viewport. The root has two words.
+/// The edition, and the sections. The viewport has four words, the root two.
 #[derive(Clone, Copy, Debug, PartialEq, Eq)]
 pub struct Layout {
+    pub edition: Edition,
+    pub viewport: Section,
     pub paints: Section,
     pub segments: Section,
     pub draws: Section,
@@ -47,7 +47,7 @@ fn find_section(
     size: usize,
     fixed: bool,
 ) -> Result<(Section, usize), Refusal>
-    requires { size ≤ 22 }
+    requires { size ≤ 23 }
     ensures { result ≡ section_at size fixed words.now at }
 {
     if at < words.len()
@@ -62,21 +62,46 @@ fn find_section(
     }
 }
 
-/// Where the sections of a file stand, or BadForm, 3: the file is not exactly its counted sections.
-pub fn read_form(words: &[u32]) -> Result<Layout, Refusal>
-    ensures { result ≡ form_of words.now }
+// How many words stand before the sections.
+fn head(edition: Edition) -> usize
+    ensures { result ≡ length (head edition) }
 {
-    let (_, a) = find_section(words, 0, 4, true)?;
+    match edition {
+        Edition::One => 0,
+        Edition::Two => 2,
+    }
+}
+
+// The words start with the edition's head: of edition two a section of count 1, which holds a 2.
+fn is_headed(words: &[u32], edition: Edition) -> bool
+    ensures { result ≡ starts (head edition) words.now }
+{
+    match edition {
+        Edition::One => true,
+        Edition::Two => 2 <= words.len() && words[0] == 1 && words[1] == 2,
+    }
+}
+
+/// Where the sections of a file of an edition stand, or BadForm, 3: the words are not exactly its head and its counted sections.
+pub fn read_form(words: &[u32], edition: Edition) -> Result<Layout, Refusal>
+    ensures { result ≡ form_of edition words.now }
+{
+    if !is_headed(words, edition) {
+        return Err(Refusal::BadForm);
+    }
+    let (viewport, a) = find_section(words, head(edition), 4, true)?;
     let (paints, b) = find_section(words, a, PAINT, false)?;
     let (segments, c) = find_section(words, b, SEGMENT, false)?;
-    let (draws, d) = find_section(words, c, DRAW, false)?;
-    let (layers, e) = find_section(words, d, LAYER, false)?;
+    let (draws, d) = find_section(words, c, edition.draw(), false)?;
+    let (layers, e) = find_section(words, d, edition.layer(), false)?;
     let (nodes, f) = find_section(words, e, NODE, false)?;
     let (root, g) = find_section(words, f, 2, true)?;
     if words.len() != g {
         return Err(Refusal::BadForm);
     }
     Ok(Layout {
+        edition,
+        viewport,
         paints,
         segments,
         draws,

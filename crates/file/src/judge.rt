@@ -8,19 +8,19 @@ ghost use Rattle.rules.specs.Spans.{good-range};
 ghost use Rattle.rules.specs.Inputs.{good-paint};
 ghost use Rattle.rules.specs.Recording.{recording, good-records, good-order};
 ghost use Rattle.segments.specs.Segs.{segs-of};
-ghost use Rattle.inputs.specs.Inputs.{draw_fields};
 ghost use Rattle.file.specs.Layouts.{Fits, sections_at};
 ghost use Rattle.file.specs.Places.{paint_from, paints-at, segments-at, draws-at, layers-at, nodes-at};
 ghost use Rattle.file.specs.Records.{layer-of};
-ghost use Rattle.file.specs.Judging.{layer_fields, node_fields, draw_range, clip_range, draw_ordered, clip_ordered, judged};
-ghost use Rattle.file.specs.Counted.{counted};
+ghost use Rattle.file.specs.Judging.{node_fields, draw_range, clip_range, draw_ordered, clip_ordered, judged};
+ghost use Rattle.file.specs.Counted.{draws-good, layers-good, counted};
 
 use crate::form::{Layout, Section};
-use crate::records::{Layer, draw_at, layer_at, node_at, root_at};
+use crate::records::{Layer, layer_at, node_at, root_at};
+use inputs::draws::draw_at;
 use inputs::is_good_range;
 use segments::{judge_segments, segment_at};
 use sizes::answers::Refusal;
-use sizes::{DRAW, HANDLE_END, LAYER, NODE, PAINT, SEGMENT};
+use sizes::{HANDLE_END, NODE, PAINT, SEGMENT};
 
 // The paint at a place.
 #[tactic(auto, unfolding(crate::specs::Places::paint_from))]
@@ -46,18 +46,24 @@ fn good_segments(w: &[u32], segments: Section) -> bool
     (0..segments.count).all(|i| segment_at(list, i).is_good())
 }
 
-fn good_draws(w: &[u32], draws: Section, paints: usize, segments: usize) -> bool
-    requires { draws.at + 7 * draws.count ≤ length w.now }
-    ensures { result ≡ every (draw_fields paints segments) (draws-at w.now draws) }
+fn good_draws(w: &[u32], l: Layout) -> bool
+    requires { Fits w.now l }
+    ensures { result ≡ draws-good l w.now }
 {
-    (0..draws.count).all(|i| draw_at(w, draws.at + DRAW * i).is_good(paints, segments))
+    let size = l.edition.draw();
+    (0..l.draws.count).all(|i| {
+        draw_at(w, l.edition, l.draws.at + size * i).is_good(l.paints.count, l.segments.count)
+    })
 }
 
-fn good_layers(w: &[u32], layers: Section, nodes: usize, segments: usize) -> bool
-    requires { layers.at + 22 * layers.count ≤ length w.now }
-    ensures { result ≡ every (layer_fields nodes segments) (layers-at w.now layers) }
+fn good_layers(w: &[u32], l: Layout) -> bool
+    requires { Fits w.now l }
+    ensures { result ≡ layers-good l w.now }
 {
-    (0..layers.count).all(|i| layer_at(w, layers.at + LAYER * i).is_good(nodes, segments))
+    let size = l.edition.layer();
+    (0..l.layers.count).all(|i| {
+        layer_at(w, l.layers.at + size * i, l.edition).is_good(l.nodes.count, l.segments.count)
+    })
 }
 
 fn good_nodes(w: &[u32], nodes: Section, draws: usize, layers: usize) -> bool
@@ -84,8 +90,8 @@ fn good_records(w: &[u32], l: Layout) -> bool
 {
     good_paints(w, l.paints)
         && good_segments(w, l.segments)
-        && good_draws(w, l.draws, l.paints.count, l.segments.count)
-        && good_layers(w, l.layers, l.nodes.count, l.segments.count)
+        && good_draws(w, l)
+        && good_layers(w, l)
         && good_nodes(w, l.nodes, l.draws.count, l.layers.count)
         && is_good_root(w, l.root.at, l.nodes.count)
 }
@@ -113,26 +119,30 @@ fn is_clip_ordered(layer: Layer, list: &[u32]) -> bool
 }
 
 // Every draw's list, by itself.
-fn draws_ordered(w: &[u32], draws: Section, list: &[u32]) -> bool
-    requires fits { draws.at + 7 * draws.count ≤ length w.now }
-    requires ranges { every (draw_range (length list.now / 5)) (draws-at w.now draws) ≡ true }
+fn draws_ordered(w: &[u32], l: Layout, list: &[u32]) -> bool
+    requires fits { Fits w.now l }
+    requires ranges { every (draw_range (length list.now / 5)) (draws-at w.now l) ≡ true }
     requires good { every good-segment (segs-of list.now) ≡ true }
-    ensures { result ≡ every (draw_ordered (segs-of list.now)) (draws-at w.now draws) }
+    ensures { result ≡ every (draw_ordered (segs-of list.now)) (draws-at w.now l) }
 {
-    (0..draws.count).all(|i| {
-        let draw = draw_at(w, draws.at + DRAW * i);
+    let size = l.edition.draw();
+    (0..l.draws.count).all(|i| {
+        let draw = draw_at(w, l.edition, l.draws.at + size * i);
         is_ordered(list, draw.start, draw.end)
     })
 }
 
 // Every present clip's list, by itself.
-fn clips_ordered(w: &[u32], layers: Section, list: &[u32]) -> bool
-    requires fits { layers.at + 22 * layers.count ≤ length w.now }
-    requires ranges { every (clip_range (length list.now / 5)) (layers-at w.now layers) ≡ true }
+fn clips_ordered(w: &[u32], l: Layout, list: &[u32]) -> bool
+    requires fits { Fits w.now l }
+    requires ranges { every (clip_range (length list.now / 5)) (layers-at w.now l) ≡ true }
     requires good { every good-segment (segs-of list.now) ≡ true }
-    ensures { result ≡ every (clip_ordered (segs-of list.now)) (layers-at w.now layers) }
+    ensures { result ≡ every (clip_ordered (segs-of list.now)) (layers-at w.now l) }
 {
-    (0..layers.count).all(|i| is_clip_ordered(layer_at(w, layers.at + LAYER * i), list))
+    let size = l.edition.layer();
+    (0..l.layers.count).all(|i| {
+        is_clip_ordered(layer_at(w, l.layers.at + size * i, l.edition), list)
+    })
 }
 
 // Every list of good records: a draw's, a present clip's, each by itself.
@@ -142,7 +152,7 @@ fn good_order(w: &[u32], l: Layout) -> bool
     ensures { result ≡ good-order (recording (sections_at l w.now)) }
 {
     let list = &w[l.segments.at..l.segments.at + SEGMENT * l.segments.count];
-    draws_ordered(w, l.draws, list) && clips_ordered(w, l.layers, list)
+    draws_ordered(w, l, list) && clips_ordered(w, l, list)
 }
 
 /// BadRecord, 4, if a record is bad, then BadOrder, 5, if a list is out of order.

@@ -8,5 +8,5 @@ mod recording;
 mod records;
 
 pub use form::words_of_bytes;
-pub use recording::Recording;
+pub use recording::{File, Recording};
 pub use records::{Layer, Node};

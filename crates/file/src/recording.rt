@@ -3,19 +3,42 @@ ghost use Rattle.std.specs.Prelude.{◌≡◌, ◌*◌, ◌≤◌, ◌<◌, leng
 ghost use Rattle.sizes.specs.Refusals.{answer_number};
 ghost use Rattle.rules.specs.Inputs as rule;
 ghost use Rattle.rules.specs.Recording as rules;
+ghost use Rattle.rules.specs.Recording.{in-one};
 ghost use Rattle.rect.specs.Rects.{box_of};
 ghost use Rattle.segments.specs.Segs.{segs-of};
 ghost use Rattle.inputs.specs.Inputs.{draw-of};
+ghost use Rattle.file.specs.Held.{file_of};
 ghost use Rattle.file.specs.Judging.{judged};
 ghost use Rattle.file.specs.Records.{layer-of, node-of};
 
-use crate::form::{Layout, VIEWPORT, read_form};
+use crate::form::{Layout, read_form};
 use crate::judge::judge_records;
-use crate::records::{Layer, Node, box_at, draw_at, layer_at, node_at, root_at};
+use crate::records::{Layer, Node, box_at, layer_at, node_at, root_at};
 use inputs::Draw;
+use inputs::draws::draw_at;
 use rect::Rect;
 use sizes::answers::Refusal;
-use sizes::{DRAW, LAYER, NODE, PAINT, SEGMENT};
+use sizes::edition::Edition;
+use sizes::{NODE, PAINT, SEGMENT};
+
+/// A recording file: the edition that it is told to be of, and its words.
+#[derive(Clone, Copy)]
+pub struct File<'a> {
+    pub edition: Edition,
+    pub words: &'a [u32],
+}
+
+impl File<'_> {
+    /// Words of edition one.
+    pub fn in_one(words: &[u32]) -> File<'_>
+        ensures { file_of result ≡ in-one words.now }
+    {
+        File {
+            edition: Edition::One,
+            words,
+        }
+    }
+}
 
 /// A file's words, and where its sections stand in them.
 #[derive(Clone, Copy)]
@@ -27,12 +50,15 @@ pub struct Recording<'a> {
 impl Recording<'_> {
     ghost use Rattle.file.specs.Held.{held, paints-in, FitsIn, HeldOf};
 
-    /// The recording of a file's words, or BadForm, 3: the words are not exactly a file's counted sections.
-    pub fn read(words: &[u32]) -> Result<Recording<'_>, Refusal>
-        ensures { HeldOf words.now result }
+    /// The recording of a file, or BadForm, 3: its words are not exactly those of a file of its edition.
+    pub fn read(file: File<'_>) -> Result<Recording<'_>, Refusal>
+        ensures { HeldOf (file_of file.entry) result }
     {
-        let layout = read_form(words)?;
-        Ok(Recording { words, layout })
+        let layout = read_form(file.words, file.edition)?;
+        Ok(Recording {
+            words: file.words,
+            layout,
+        })
     }
 
     /// The viewport, in pixels.
@@ -40,7 +66,7 @@ impl Recording<'_> {
         requires { FitsIn self.now }
         ensures { box_of result ≡ (held self.now).viewport }
     {
-        box_at(self.words, VIEWPORT)
+        box_at(self.words, self.layout.viewport.at)
     }
 
     /// The paints' words, four each.
@@ -78,7 +104,12 @@ impl Recording<'_> {
         requires there { i < length (held self.now).draws }
         ensures { (d : rule.Draw) → draw-of result ≡ get_or (held self.now).draws i d }
     {
-        draw_at(self.words, self.layout.draws.at + DRAW * i)
+        let edition = self.layout.edition;
+        draw_at(
+            self.words,
+            edition,
+            self.layout.draws.at + edition.draw() * i,
+        )
     }
 
     /// Layer i, counted from 0.
@@ -87,7 +118,12 @@ impl Recording<'_> {
         requires there { i < length (held self.now).layers }
         ensures { (d : rules.LayerRec) → layer-of result ≡ get_or (held self.now).layers i d }
     {
-        layer_at(self.words, self.layout.layers.at + LAYER * i)
+        let edition = self.layout.edition;
+        layer_at(
+            self.words,
+            self.layout.layers.at + edition.layer() * i,
+            edition,
+        )
     }
 
     /// Node i, counted from 0.

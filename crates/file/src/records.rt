@@ -1,20 +1,19 @@
 //! A recording file's records: which word is which field stands here alone, and each field's bound (answer 4) here and in `inputs`. Parts: `at` is a record's
 //! place among the file's words.
 ghost use Rattle.std.specs.Prelude.{◌≡◌, ◌+◌, ◌≤◌, length, get_or};
+ghost use Rattle.sizes.specs.Editions.{panel-words, layer-size};
 ghost use Rattle.rules.specs.Recording.{pixmap-of};
 ghost use Rattle.rect.specs.Rects.{box_of};
-ghost use Rattle.inputs.specs.Inputs.{draw-of, clip-of, filter-of};
-ghost use Rattle.file.specs.Places.{draw_from, clip_from, filter_from, layer_from, node_from};
+ghost use Rattle.inputs.specs.Inputs.{clip-of, filter-of};
+ghost use Rattle.file.specs.Places.{panel_from, clip_from, filter_from, layer_from, node_from};
 ghost use Rattle.file.specs.Judging.{box_from, clip_part, filter_part, layer_fields, node_fields};
 ghost use Rattle.file.specs.Records.{layer-of, node-of};
 
 use cmd::blend::Blend;
-use inputs::{Clip, Draw, Filter, is_good_range};
+use inputs::{Clip, Filter, is_good_range};
 use rect::Rect;
+use sizes::edition::Edition;
 use sizes::{HANDLE_END, PANEL_END};
-
-// A file has no panel numbers: its draws and layers have this one.
-const NO_PANEL: u32 = 0;
 
 /// A layer: kind 0 is regular, 1 a filter layer; its nodes are places start to end; flag 1 says that the clip is present. The opacity is the bits of an f32;
 /// `mask` is a handle, or 0 for none.
@@ -54,23 +53,14 @@ pub fn box_at(w: &[u32], at: usize) -> Rect
     }
 }
 
-/// The draw at a place, seven words.
-#[tactic(auto, unfolding(crate::specs::Places::draw_from))]
-pub fn draw_at(w: &[u32], at: usize) -> Draw
-    requires { at + 7 ≤ length w.now }
-    ensures { draw-of result ≡ draw_from w.now at }
+// A layer's panel, whose word stands at a place, at the end of the record; edition one has none, and it is 0.
+fn panel_at(w: &[u32], at: usize, edition: Edition) -> u32
+    requires { at + panel-words edition ≤ length w.now }
+    ensures { result ≡ panel_from edition w.now at }
 {
-    Draw {
-        thread: w[at],
-        start: w[at + 1] as usize,
-        end: w[at + 2] as usize,
-        paint: w[at + 3],
-        blend: Blend {
-            mix: w[at + 4],
-            compose: w[at + 5],
-        },
-        mask: w[at + 6],
-        panel: NO_PANEL,
+    match edition {
+        Edition::One => 0,
+        Edition::Two => w[at],
     }
 }
 
@@ -105,11 +95,11 @@ fn filter_at(w: &[u32], at: usize) -> Filter
     }
 }
 
-/// The layer at a place, 22 words.
+/// The layer at a place.
 #[tactic(auto, unfolding(crate::specs::Places::layer_from))]
-pub fn layer_at(w: &[u32], at: usize) -> Layer
-    requires { at + 22 ≤ length w.now }
-    ensures { layer-of result ≡ layer_from w.now at }
+pub fn layer_at(w: &[u32], at: usize, edition: Edition) -> Layer
+    requires { at + layer-size edition ≤ length w.now }
+    ensures { layer-of result ≡ layer_from edition w.now at }
 {
     Layer {
         kind: w[at],
@@ -124,7 +114,7 @@ pub fn layer_at(w: &[u32], at: usize) -> Layer
         flag: w[at + 7],
         clip: clip_at(w, at),
         filter: filter_at(w, at),
-        panel: NO_PANEL,
+        panel: panel_at(w, at + 22, edition),
     }
 }
 

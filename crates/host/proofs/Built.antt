@@ -1,6 +1,7 @@
 -- What a call gives at the screen that a host's words stand for is what it gives at the words.
 use Rattle.std.proofs.Common.{◌≡◌, ap, ◌∙◌, true, List, Option, Some, ℕ, ℤ, leb}
 use lib.Ieee.{Float}
+use Rattle.rules.specs.Recording.{File}
 use Rattle.rules.specs.Answers.{Answer, answer}
 use Rattle.rules.specs.Setups.{Setup, frame}
 use Rattle.rect.specs.declared.Rect.{Rect}
@@ -33,7 +34,7 @@ reset_left st s h v q t a e =
 
 -- st stands for s; afterwards the call has the screen s', and the words st' are its
 module _ (st st' : List ℕ) (s s' : Screen) (r n : ℕ) (h : Some s ≡ screen_of true st) (rn : r ≡ n) (sw : st' ≡ screen-words s') where
-  pub recording_built : (file : List ℕ) (q : Setup) (t t' : Tables) → answer n (screen_lent s' t') ≡ recorded file q (screen_lent s t) → answer r (st', t') ≡ recording_in file q st t
+  pub recording_built : (file : File) (q : Setup) (t t' : Tables) → answer n (screen_lent s' t') ≡ recorded file q (screen_lent s t) → answer r (st', t') ≡ recording_in file q st t
   unfolding recording_in
   recording_built file q t t' e =
       rw (rn, sw) (ap tables-left e ∙ ap (λ (x : Option Screen). at_held x st (st, t) (λ (s : Screen). tables-left (recorded file q (screen_lent s t)))) h)

@@ -9,7 +9,7 @@ use Rattle.rules.specs.Rows.{fresh-row}
 use Rattle.rules.specs.Plans.{Frame, a-fill, a-push, a-pop, a-filter, Plan, plan}
 use Rattle.rules.specs.Steps.{done, reset}
 use Rattle.rules.specs.Steps as rule
-use Rattle.rules.specs.Recording.{Recording, shape, sections, recording, good-records, good-order}
+use Rattle.rules.specs.Recording.{Recording, File, parsed, recording, good-records, good-order}
 use Rattle.rules.specs.Walk.{◌then◌, walk-all}
 use Rattle.rules.specs.Painting as rules
 use Rattle.rules.proofs.All.{nil, cons}
@@ -280,9 +280,9 @@ module _ (r : Recording) (q : Setup) (l : ScreenLent) where
       (λ y. let e = sym reset-number ∙ eqb-true (reset_to f l).number Done y in rw y (zero-4 early e ∙ sym (late-4 _ (played-late e))))
       (λ z. rw z (ap before_4 (sym reset-number)))
 
-pub recorded-is-early : (ws : List ℕ) (q : Setup) (l : ScreenLent) → before_4 (file_number ws q (judging.arenas (lengths l.tables))) ≡ before_4 (recorded ws q l).number
+pub recorded-is-early : (ws : File) (q : Setup) (l : ScreenLent) → before_4 (file_number ws q (judging.arenas (lengths l.tables))) ≡ before_4 (recorded ws q l).number
 unfolding recorded file_number
-recorded-is-early ws q l = go (sections shape ws)
+recorded-is-early ws q l = go (parsed ws)
   where
     go : (o : Option (List (List (List ℕ)))) → before_4 (in-sections o q (judging.arenas (lengths l.tables))) ≡ before_4 (of-sections o q l).number
     go None = refl

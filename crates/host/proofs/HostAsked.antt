@@ -2,6 +2,7 @@
 use Rattle.std.proofs.Common.{ℕ, ◌≡◌, ◌∙◌, List, Ok, Err}
 use Rattle.sizes.specs.declared.answers.Refusal.{Refusal}
 use Rattle.sizes.specs.Refusals.{number_of}
+use Rattle.rules.specs.Recording.{File}
 use Rattle.rules.specs.Answers.{Answer, answer}
 use Rattle.rules.specs.Setups.{Setup, frame}
 use Rattle.rect.specs.declared.Rect.{Rect}
@@ -27,11 +28,11 @@ module _ (w : SetupWords) where
     sizes_unasked v ss = not-asked (asked_setup w) number_of ss (λ (q : Setup). sizes-of (frame q (box_of v)) ss) r e
 
     -- a file's form comes first
-    pub recording_unasked : (file st : List ℕ) (t : Tables) → answer (unasked_number file r) (st, t) ≡ recording_call file w st t
+    pub recording_unasked : (file : File) (st : List ℕ) (t : Tables) → answer (unasked_number file r) (st, t) ≡ recording_call file w st t
     unfolding recording_call
     recording_unasked file st t = not-asked (asked_setup w) (unasked_number file) (st, t) (λ (q : Setup). recording_in file q st t) r e
 
-    pub why_unasked : (file : List ℕ) (row tile layer attribute : ℕ) (st : List ℕ) (t : Tables) (res : List ℕ)
+    pub why_unasked : (file : File) (row tile layer attribute : ℕ) (st : List ℕ) (t : Tables) (res : List ℕ)
         → answer (unasked_number file r) (st, t, res) ≡ why_call file w row tile layer attribute st t res
     unfolding why_call
     why_unasked file row tile layer attribute st t res =
@@ -43,11 +44,11 @@ module _ (w : SetupWords) where
     unfolding reset_call
     reset_asked v st t h = h ∙ as-asked (asked_setup w) number_of (st, t) (λ (q : Setup). reset_in v q st t) q e
 
-    pub recording_asked : (file st : List ℕ) (t : Tables) {a : Answer (List ℕ × Tables)} → a ≡ recording_in file q st t → a ≡ recording_call file w st t
+    pub recording_asked : (file : File) (st : List ℕ) (t : Tables) {a : Answer (List ℕ × Tables)} → a ≡ recording_in file q st t → a ≡ recording_call file w st t
     unfolding recording_call
     recording_asked file st t h = h ∙ as-asked (asked_setup w) (unasked_number file) (st, t) (λ (q : Setup). recording_in file q st t) q e
 
-    pub why_asked : (file : List ℕ) (row tile layer attribute : ℕ) (st : List ℕ) (t : Tables) (res : List ℕ) {a : Answer (List ℕ × Tables × List ℕ)}
+    pub why_asked : (file : File) (row tile layer attribute : ℕ) (st : List ℕ) (t : Tables) (res : List ℕ) {a : Answer (List ℕ × Tables × List ℕ)}
         → a ≡ why_in file q row tile layer attribute st t res → a ≡ why_call file w row tile layer attribute st t res
     unfolding why_call
     why_asked file row tile layer attribute st t res h =

@@ -15,3 +15,4 @@ pub mod Lists
 pub mod Words
 pub mod ScreenAsked
 pub mod OneLook
+pub mod Left

@@ -1,5 +1,6 @@
 -- `coarse_why` on a host's words: where they stand for no screen, what the border answers; else what the call gives at the screen.
 use Rattle.std.proofs.Common.{Option, None, Some, ℕ, ◌≡◌, sym, ap, ◌∙◌, ◌&&◌, List, length, leb, eqb}
+use Rattle.rules.specs.Recording.{File}
 use Rattle.rules.specs.Answers.{Answer, answer}
 use Rattle.rules.specs.Setups.{Setup}
 use Rattle.rules.proofs.laws.Answers.{settle-number}
@@ -14,7 +15,7 @@ use Rattle.host.specs.Border.{file_number}
 use Rattle.host.specs.Reasons.{reason-words, reason-size, result-left, asked, why-left, why_in}
 use Rattle.host.proofs.Stories.{explained-is-early}
 
-module _ (file : List ℕ) (q : Setup) (row tile layer attribute : ℕ) (st : List ℕ) (t : Tables) (res : List ℕ) where
+module _ (file : File) (q : Setup) (row tile layer attribute : ℕ) (st : List ℕ) (t : Tables) (res : List ℕ) where
   -- the call at a screen
   abbrev at-screen : Screen → Answer (List ℕ × Tables × List ℕ)
   at-screen s = why-left res (explained file q row tile (asked layer attribute) (screen_lent s t))

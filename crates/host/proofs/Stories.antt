@@ -8,7 +8,7 @@ use Rattle.rules.specs.Segments.{Segment}
 use Rattle.rules.specs.Setups.{Setup, frame}
 use Rattle.rules.specs.Inputs.{Draw, Props, Filter}
 use Rattle.rules.specs.Plans.{Frame, bucket, Layer, Step, a-fill, a-push, a-pop, a-filter, filter-box, draws-nothing, clip-box}
-use Rattle.rules.specs.Recording.{Recording, LayerRec, Node, shape, sections, recording}
+use Rattle.rules.specs.Recording.{Recording, LayerRec, Node, File, parsed, recording}
 use Rattle.rules.specs.Walk.{◌then◌, go_on, when, each, walk-filter, walk-node, walk-nodes, walk-layer, walk-all}
 use Rattle.rules.proofs.All.{nil, cons}
 use Rattle.rules.proofs.laws.Answers.{settle-number}
@@ -122,10 +122,10 @@ module _ (row tile : ℕ) (a : Asked) (l : ScreenLent) where
       (λ y. rw y (rw y at (after (recorded-in (recording ss) q old).number _ (explained-late (frame q (recording ss).viewport) (recording ss)))))
       (λ n. rw n)
 
-pub explained-is-early : (ws : List ℕ) (q : Setup) (row tile : ℕ) (a : Asked) (l : ScreenLent)
+pub explained-is-early : (ws : File) (q : Setup) (row tile : ℕ) (a : Asked) (l : ScreenLent)
     → before_4 (file_number ws q (judging.arenas (lengths l.tables))) ≡ before_4 (explained ws q row tile a l).number
 unfolding explained recorded
-explained-is-early ws q row tile a l = recorded-is-early ws q l ∙ go (sections shape ws)
+explained-is-early ws q row tile a l = recorded-is-early ws q l ∙ go (parsed ws)
   where
     go : (o : Option (List (List (List ℕ))))
         → let b = of-sections o q l in

@@ -1,6 +1,7 @@
 -- Where the host's words stand for no screen, each call gives what the judge that it asks first says at the border.
 use Rattle.std.proofs.Common.{◌≡◌, true, List, None, ℕ, length, leb, eqb, ℤ}
 use lib.Ieee.{Float}
+use Rattle.rules.specs.Recording.{File}
 use Rattle.rules.specs.Answers.{answer}
 use Rattle.rules.specs.Spans.{Span}
 use Rattle.rules.specs.Setups.{Setup, frame}
@@ -44,7 +45,7 @@ module _ (st : List ℕ) (n : ℕ) where
       (λ (s : Screen). arenas_number (frame q (box_of v)) (arenas (lengths t))) n h e
       (λ (s : Screen). reset-early (frame q (box_of v)) (screen_lent s t))
 
-  pub recording_unheld : (file : List ℕ) (q : Setup) (t : Tables) → None ≡ screen_of true st
+  pub recording_unheld : (file : File) (q : Setup) (t : Tables) → None ≡ screen_of true st
       → n ≡ refused_at st (λ (s : Screen). file_number file q (arenas (lengths t))) → answer n (st, t) ≡ recording_in file q st t
   unfolding recording_in
   recording_unheld file q t h e =

@@ -7,7 +7,7 @@ use Rattle.rules.specs.Answers.{BadForm}
 use Rattle.rules.specs.Boxes.{Box, good_viewport}
 use Rattle.rules.specs.Plans.{Frame}
 use Rattle.rules.specs.Setups.{Setup, frame}
-use Rattle.rules.specs.Recording.{Recording, recording, shape, sections}
+use Rattle.rules.specs.Recording.{Recording, recording, File, parsed}
 use Rattle.rules.specs.Walk.{Arenas}
 use Rattle.rect.specs.declared.Rect.{Rect}
 use Rattle.rect.specs.Rects.{box_of}
@@ -19,7 +19,7 @@ unfolding arenas_number
 bad-view f a r h = rw (h.1, h.0)
 
 -- a file
-pub no-file : (ws : List ℕ) (q : Setup) (a : Arenas) → sections shape ws ≡ None → BadForm ≡ file_number ws q a
+pub no-file : (ws : File) (q : Setup) (a : Arenas) → parsed ws ≡ None → BadForm ≡ file_number ws q a
 unfolding file_number
 no-file ws q a e = rw e
 
@@ -29,13 +29,13 @@ by-sections (Some ss) r g q a =
     rw h
 by-sections None r g q a = let z : ◌≡◌ {A = ℕ} 0 1 = cc in absurd (omega arith)
 
-pub a-file : (ws : List ℕ) (r : Recording) → recording_of (sections shape ws) ≡ Some r → (v : Rect) → box_of v ≡ r.viewport → (q : Setup) (a : Arenas) (n : ℕ)
+pub a-file : (ws : File) (r : Recording) → recording_of (parsed ws) ≡ Some r → (v : Rect) → box_of v ≡ r.viewport → (q : Setup) (a : Arenas) (n : ℕ)
     → n ≡ arenas_number (frame q (box_of v)) a → n ≡ file_number ws q a
 unfolding file_number
-a-file ws r g v b q a n e = e ∙ ap (λ (x : Box). arenas_number (frame q x) a) b ∙ sym (by-sections (sections shape ws) r g q a)
+a-file ws r g v b q a n e = e ∙ ap (λ (x : Box). arenas_number (frame q x) a) b ∙ sym (by-sections (parsed ws) r g q a)
 
 -- .. whose words' setup is refused
-pub unasked-form : (r : Refusal) (ws : List ℕ) → sections shape ws ≡ None → BadForm ≡ unasked_number ws r
+pub unasked-form : (r : Refusal) (ws : File) → parsed ws ≡ None → BadForm ≡ unasked_number ws r
 unfolding unasked_number
 unasked-form r ws e = rw e
 
@@ -43,6 +43,6 @@ by-form : (o : Option (List (List (List ℕ)))) (s : Recording) → recording_of
 by-form (Some ss) s g r = refl
 by-form None s g r = let z : ◌≡◌ {A = ℕ} 0 1 = cc in absurd (omega arith)
 
-pub unasked-file : (r : Refusal) (ws : List ℕ) (s : Recording) → recording_of (sections shape ws) ≡ Some s → number_of r ≡ unasked_number ws r
+pub unasked-file : (r : Refusal) (ws : File) (s : Recording) → recording_of (parsed ws) ≡ Some s → number_of r ≡ unasked_number ws r
 unfolding unasked_number
-unasked-file r ws s g = by-form (sections shape ws) s g r
+unasked-file r ws s g = by-form (parsed ws) s g r

@@ -7,7 +7,7 @@ use Rattle.rules.specs.Answers.{first_of, BadArena, BadViewport, BadForm}
 use Rattle.rules.specs.Boxes.{good_viewport}
 use Rattle.rules.specs.Plans.{Frame}
 use Rattle.rules.specs.Setups.{Setup, frame}
-use Rattle.rules.specs.Recording.{shape, sections, recording}
+use Rattle.rules.specs.Recording.{File, parsed, recording}
 use Rattle.rules.specs.Walk.{Arenas, good-arenas}
 use Rattle.screen.specs.declared.lent.Lent.{Lent}
 use Rattle.row.specs.declared.Rows.{Rows}
@@ -30,16 +30,16 @@ abbrev pub in-sections : Option (List (List (List ℕ))) → Setup → Arenas �
 in-sections None q a = BadForm
 in-sections (Some ss) q a = arenas_number (frame q (recording ss).viewport) a
 
-unfoldable pub file_number : List ℕ → Setup → Arenas → ℕ
-file_number ws = in-sections (sections shape ws)
+unfoldable pub file_number : File → Setup → Arenas → ℕ
+file_number f = in-sections (parsed f)
 
--- a file whose words' setup is refused: its form comes first, and there is no viewport to judge
+-- a file whose setup's words are refused: its form comes first, and there is no viewport to judge
 abbrev pub unasked : Option (List (List (List ℕ))) → Refusal → ℕ
 unasked None r = BadForm
 unasked (Some ss) r = number_of r
 
-unfoldable pub unasked_number : List ℕ → Refusal → ℕ
-unasked_number ws = unasked (sections shape ws)
+unfoldable pub unasked_number : File → Refusal → ℕ
+unasked_number f = unasked (parsed f)
 
 -- what the judges of a building step and of a painting step say of a screen, by the lengths that are lent
 abbrev pub rows-judged : Rows → Screen → ℕ

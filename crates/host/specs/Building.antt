@@ -3,6 +3,7 @@
 use Rattle.std.specs.Prelude.{ℕ, true, cond, List, leb, eqb, Float, ℤ}
 use Rattle.std.specs.Prelude.{Option, None, Some}
 use Rattle.sizes.specs.Refusals.{number_of}
+use Rattle.rules.specs.Recording.{File}
 use Rattle.rules.specs.Answers.{Answer, answer}
 use Rattle.rules.specs.Boxes.{box}
 use Rattle.rules.specs.Setups.{Setup, frame}
@@ -41,10 +42,10 @@ unfoldable pub reset_call : Rect → SetupWords → List ℕ → Tables → Answ
 reset_call v w st t = in-setup (asked_setup w) number_of (st, t) (λ q. reset_in v q st t)
 
 -- a recording, likewise; 3 for the file's form before all
-unfoldable pub recording_in : List ℕ → Setup → List ℕ → Tables → Answer (List ℕ × Tables)
+unfoldable pub recording_in : File → Setup → List ℕ → Tables → Answer (List ℕ × Tables)
 recording_in file q st t = on true st (st, t) (λ s. tables-left (recorded file q (screen_lent s t)))
 
-unfoldable pub recording_call : List ℕ → SetupWords → List ℕ → Tables → Answer (List ℕ × Tables)
+unfoldable pub recording_call : File → SetupWords → List ℕ → Tables → Answer (List ℕ × Tables)
 recording_call file w st t = in-setup (asked_setup w) (unasked_number file) (st, t) (λ q. recording_in file q st t)
 
 -- the rows and the paint attributes

@@ -1,5 +1,6 @@
 -- Why a tile of a recording shows what it shows, on a host's words: the call's own definition at the screen that the words stand for.
 use Rattle.std.specs.Prelude.{ℕ, ◌&&◌, List, [], ◌∷◌, length, leb, eqb}
+use Rattle.rules.specs.Recording.{File}
 use Rattle.rules.specs.Answers.{Answer, answer, settle}
 use Rattle.rules.specs.Setups.{Setup}
 use Rattle.rules_reason.specs.Reasons.{Reason, unknown-attribute, no-segment, cut-away, row-untouched, hidden-by, shown-at, Asked}
@@ -38,12 +39,12 @@ why-left result e =
     answer left.number (screen-words e.lent.screen, e.lent.tables, left.value)
 
 -- In a setup. A word that says neither draw nor layer is refused, and so is a result of another length
-unfoldable pub why_in : List ℕ → Setup → ℕ → ℕ → ℕ → ℕ → List ℕ → Tables → List ℕ → Answer (List ℕ × Tables × List ℕ)
+unfoldable pub why_in : File → Setup → ℕ → ℕ → ℕ → ℕ → List ℕ → Tables → List ℕ → Answer (List ℕ × Tables × List ℕ)
 why_in file q row tile layer attribute st t result =
     on (leb layer 1 && eqb (length result) reason-size) st (st, t, result)
     (λ (s : Screen). why-left result (explained file q row tile (asked layer attribute) (screen_lent s t)))
 
 -- as a host's words ask
-unfoldable pub why_call : List ℕ → SetupWords → ℕ → ℕ → ℕ → ℕ → List ℕ → Tables → List ℕ → Answer (List ℕ × Tables × List ℕ)
+unfoldable pub why_call : File → SetupWords → ℕ → ℕ → ℕ → ℕ → List ℕ → Tables → List ℕ → Answer (List ℕ × Tables × List ℕ)
 why_call file w row tile layer attribute st t result =
     in-setup (asked_setup w) (unasked_number file) (st, t, result) (λ q. why_in file q row tile layer attribute st t result)

@@ -7,12 +7,13 @@ ghost use Rattle.rect.specs.Rects.{box_of};
 ghost use Rattle.screen.specs.declared.Screen.{Screen as Numbers};
 ghost use Rattle.screen.specs.Screens.{setup-of, frame, frame-of};
 ghost use Rattle.paint.specs.Judging.{begin_number, runs_number, skip_number};
+ghost use Rattle.file.specs.Held.{file_of};
 ghost use Rattle.host.specs.State.{refused_at};
 ghost use Rattle.host.specs.Held.{words_in};
 ghost use Rattle.host.specs.Border.{arenas-in, arenas_number, file_number, unasked_number, rows-judged, step-judged};
 
 use crate::state::{StateWords, before_4, screen_at};
-use file::Recording;
+use file::{File, Recording};
 use paint::Stored;
 use paint::canvas::judge::{judge_begin, judge_runs, judge_skip, judge_step};
 use rect::Rect;
@@ -57,8 +58,8 @@ pub fn refuse_reset(state: &StateWords, viewport: Rect, setup: Setup, lent: &Len
 }
 
 // The file's form, then the reset to its viewport.
-fn judge_file(file: &[u32], setup: Setup, lent: &Lent<'_>) -> Result<(), Refusal>
-    ensures { answer_number result ≡ file_number file.now (setup-of setup) (arenas-in lent.now) }
+fn judge_file(file: File<'_>, setup: Setup, lent: &Lent<'_>) -> Result<(), Refusal>
+    ensures { answer_number result ≡ file_number (file_of file.entry) (setup-of setup) (arenas-in lent.now) }
 {
     let recording = Recording::read(file)?;
     judge_arenas(recording.viewport(), setup, lent)
@@ -66,15 +67,15 @@ fn judge_file(file: &[u32], setup: Setup, lent: &Lent<'_>) -> Result<(), Refusal
 
 /// The number of a recording, or of a question about one: 3, 2 or 1 as it would answer, else 4.
 #[tactic(auto, unfolding(crate::specs::State::refused_at))]
-pub fn refuse_recording(state: &StateWords, file: &[u32], setup: Setup, lent: &Lent<'_>) -> u32
-    ensures { result ≡ refused_at (words_in state.now) (λ (s : Numbers). file_number file.now (setup-of setup) (arenas-in lent.now)) }
+pub fn refuse_recording(state: &StateWords, file: File<'_>, setup: Setup, lent: &Lent<'_>) -> u32
+    ensures { result ≡ refused_at (words_in state.now) (λ (s : Numbers). file_number (file_of file.entry) (setup-of setup) (arenas-in lent.now)) }
 {
     before_4(judge_file(file, setup, lent))
 }
 
 /// The number of a recording where the words' setup is refused: 3 for the file's form comes first, and there is no viewport to judge.
-pub fn refuse_setup(file: &[u32], refusal: Refusal) -> u32
-    ensures { result ≡ unasked_number file.now refusal }
+pub fn refuse_setup(file: File<'_>, refusal: Refusal) -> u32
+    ensures { result ≡ unasked_number (file_of file.entry) refusal }
 {
     match Recording::read(file) {
         Ok(_) => refusal.number(),

@@ -1,6 +1,7 @@
 //! The calls of reset, of the building steps and of a recording. A state has a screen's numbers; `screen::Lent` has the ten tables.
 ghost use Rattle.std.specs.Prelude.{◌≡◌};
 ghost use Rattle.rules.specs.Answers.{answer};
+ghost use Rattle.rules.specs.Recording.{in-one};
 ghost use Rattle.screen.specs.Tables.{Tables};
 ghost use Rattle.screen.specs.Tables.{answer_of};
 ghost use Rattle.screen.specs.Lent.{tables_in, SameLent};
@@ -14,6 +15,7 @@ use crate::state::{
     Corners, SetupWords, StateWords, box_of, leave, put_screen, read_setup, screen_of,
 };
 use cmd::blend::Blend;
+use file::File;
 use fill::fill;
 use inputs::{Draw, Filter};
 use layers::{FilterFill, filter_fill, push_layer};
@@ -112,8 +114,9 @@ pub extern "C" fn coarse_bucket_recording(
 ) -> u32
     ensures same { SameLent tables.old tables.new }
     ensures recorded { answer result (words_in state.new, tables_in tables.new)
-        ≡ recording_call file.now setup (words_in state.old) (tables_in tables.old) }
+        ≡ recording_call (in-one file.now) setup (words_in state.old) (tables_in tables.old) }
 {
+    let file = File::in_one(file);
     let asked = match read_setup(setup) {
         Ok(asked) => asked,
         Err(refusal) => return refuse_setup(file, refusal),

@@ -2,6 +2,7 @@
 ghost use Rattle.std.specs.Prelude.{◌≡◌, ◌&&◌, [], ◌∷◌, length, leb, eqb};
 ghost use Rattle.sizes.specs.Refusals.{answer_number};
 ghost use Rattle.rules.specs.Answers.{answer};
+ghost use Rattle.rules.specs.Recording.{in-one};
 ghost use Rattle.tile.specs.Reasons.{reason-of};
 ghost use Rattle.tile.specs.Explained.{reason_said};
 ghost use Rattle.screen.specs.Lent.{SameLent};
@@ -11,6 +12,7 @@ ghost use Rattle.host.specs.Reasons.{reason-words, reason-size, result-left};
 
 use crate::border::{refuse_recording, refuse_setup};
 use crate::state::{SetupWords, StateWords, put_screen, read_setup, screen_of};
+use file::File;
 use screen::Lent;
 use sizes::answers::Refusal;
 use tile::{Asked, Reason, why};
@@ -92,8 +94,9 @@ pub extern "C" fn coarse_why(
     reason: &mut ReasonWords,
 ) -> u32
     ensures same { SameLent tables.old tables.new }
-    ensures explained { answer result (why_out state.new tables.new reason.new) ≡ why_on file.now setup question.now state.old tables.old reason.old }
+    ensures explained { answer result (why_out state.new tables.new reason.new) ≡ why_on (in-one file.now) setup question.now state.old tables.old reason.old }
 {
+    let file = File::in_one(file);
     let wanted = match read_setup(setup) {
         Ok(wanted) => wanted,
         Err(refusal) => return refuse_setup(file, refusal),

@@ -3,7 +3,8 @@ ghost use Rattle.std.specs.Prelude.{◌≡◌};
 ghost use Rattle.sizes.specs.Refusals.{answer_number};
 ghost use Rattle.rect.specs.Rects.{mode_of};
 ghost use Rattle.host.specs.State.{rect, width-at, width_word, screen-words, screen-at, screen_of, before_4};
-ghost use Rattle.host.specs.Held.{words_in};
+ghost use Rattle.host.specs.Held.{words_in, rect_of};
+ghost use Rattle.host.specs.OneLook.{PushLeaves, FilterLeaves};
 ghost use Rattle.host.specs.Asked.{mode-at, asked_setup, asked-for};
 
 use rect::{Mode, Rect};
@@ -154,23 +155,25 @@ pub fn before_4<T: Copy>(judged: Result<T, Refusal>) -> u32
     }
 }
 
+// The words of a box.
+fn corners_of(b: Rect) -> Corners
+    ensures { rect_of result ≡ b }
+{
+    Corners {
+        x0: b.x0,
+        y0: b.y0,
+        x1: b.x1,
+        y1: b.y1,
+    }
+}
+
 /// The words of a screen.
 pub fn put_screen(state: &mut StateWords, screen: Screen)
     ensures { words_in state.new ≡ screen-words screen }
 {
     *state = StateWords {
-        viewport: Corners {
-            x0: screen.viewport.x0,
-            y0: screen.viewport.y0,
-            x1: screen.viewport.x1,
-            y1: screen.viewport.y1,
-        },
-        clip: Corners {
-            x0: screen.clip_bbox.x0,
-            y0: screen.clip_bbox.y0,
-            x1: screen.clip_bbox.x1,
-            y1: screen.clip_bbox.y1,
-        },
+        viewport: corners_of(screen.viewport),
+        clip: corners_of(screen.clip_bbox),
         c: screen.c,
         d: screen.d,
         next_draw_id: screen.next_draw_id,
@@ -188,5 +191,28 @@ pub fn leave(state: &mut StateWords, screen: Screen, done: Result<(), Refusal>) 
     ensures { (result ≡ answer_number done) × (words_in state.new ≡ screen-words screen) }
 {
     put_screen(state, screen);
+    answer_number(done)
+}
+
+/// What a push gave: the words that a push changes are stored, and its number given.
+pub fn leave_push(state: &mut StateWords, screen: Screen, done: Result<(), Refusal>) -> u32
+    requires { PushLeaves state.old screen }
+    ensures { (result ≡ answer_number done) × (words_in state.new ≡ screen-words screen) }
+{
+    state.clip = corners_of(screen.clip_bbox);
+    state.layers = screen.layers;
+    state.painting = u32::from(screen.painting);
+    answer_number(done)
+}
+
+/// .. a filter fill.
+pub fn leave_filter(state: &mut StateWords, screen: Screen, done: Result<(), Refusal>) -> u32
+    requires { FilterLeaves state.old screen }
+    ensures { (result ≡ answer_number done) × (words_in state.new ≡ screen-words screen) }
+{
+    state.next_draw_id = screen.next_draw_id;
+    state.paint_attrs = screen.paint_attrs;
+    state.filter_paints = screen.filter_paints;
+    state.painting = u32::from(screen.painting);
     answer_number(done)
 }

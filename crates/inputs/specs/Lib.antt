@@ -1,1 +1,2 @@
+pub mod Draws
 pub mod Inputs

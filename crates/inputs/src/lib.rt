@@ -9,6 +9,8 @@ ghost use Rattle.rules.specs.Recording.{zero-box, zero-clip, zero-filter};
 ghost use Rattle.rect.specs.Rects.{box_of};
 ghost use Rattle.inputs.specs.Inputs.{draw-of, clip-of, filter-of, draw_fields, clip_fields};
 
+pub mod draws;
+
 use cmd::blend::Blend;
 use rect::Rect;
 use sizes::{HANDLE_END, PANEL_END, SCENE_END, THREAD_END};

@@ -40,7 +40,7 @@ use Rattle.layers.proofs.RowsLaws.{puts-each}
 use Rattle.layers.proofs.Numbers.{band-answer, band-step, band-room, paint-adds, run-told}
 use Rattle.std.proofs.lemmas.Bool.Decides.{nat_tests}
 use Rattle.layers.proofs.Passing.{PassedOn, passed-whole, rows-within, either}
-use Rattle.layers.specs.Filter.{FilterGiven, filter-of, good-given, paint-from, attrs-of, FilterLent, filter_lent, plan-of, filter-number, filter-paint-words, after, filtered, own-box}
+use Rattle.layers.specs.Filter.{FilterGiven, filter-of, good-given, paint-from, attrs-of, FilterLent, filter_lent, plan-of, first-number, filter-number, filter-paint-words, after, filtered, own-box}
 
 frame_is : (s : Screen) → (state-of s).frame ≡ frame-of s
 unfolding state-of
@@ -153,7 +153,18 @@ all-right a b c k e = (grind (arith, nat_tests), grind (arith, nat_tests), grind
 all-free : (k n a f : ℕ) → cond (eqb k 4) 4 (cond (ltb 1048576 n) 8 (cond (leb 1024 a || leb 256 f) 9 k)) ≡ 0 → (n < 1048577) × (a < 1024) × (f < 256) × (k ≡ 0)
 all-free k n a f e = (grind (arith, nat_tests), grind (arith, nat_tests), grind (arith, nat_tests), grind (arith, nat_tests))
 
+-- what a number 0 of all that is lent says
+module _ (s : Screen) (w : Words) (ps : List ℕ) (fs : List ℤ) where
+  pub lent-well : first-number (filter_lent s w ps fs) ≡ 0
+      → (judged-at s w ≡ 0) × (eqb (length ps) paint-attr-table ≡ true) × (eqb (length fs) filter-paint-table ≡ true)
+  lent-well h = (grind (arith, nat_tests), grind (arith, nat_tests), grind (arith, nat_tests))
+
 module _ (g : FilterGiven) (s : Screen) (w : Words) (ps : List ℕ) (fs : List ℤ) where
+  -- a number of what is lent that is not 0 is the filter fill's
+  pub lent-first : {n : ℕ} → n ≡ first-number (filter_lent s w ps fs) → (n ≡ 0 → ⊥) → n ≡ filter-number g (filter_lent s w ps fs)
+  unfolding filter-number step_number
+  lent-first {n} e h = rw (← e, ne_eqb n 0 h)
+
   -- what the rows of a box say
   abbrev pub rows-in : Box → ℕ
   rows-in b = band_number s.c s.d s.layers w.state (range (b.y0 / 4) ((b.y1 + 3) / 4))

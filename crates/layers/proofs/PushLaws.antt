@@ -33,7 +33,7 @@ use Rattle.layers.proofs.Numbers.{Adding, band-answer, band-step, band-room, tou
 use Rattle.std.proofs.lemmas.Bool.Decides.{nat_tests}
 use Rattle.layers.proofs.Passing.{PassedOn, passed-whole, rows-within, either}
 use Rattle.std.specs.declared.ops.Range.{Range}
-use Rattle.layers.specs.Push.{PushLent, push_lent, plan-of, push-number, after, pushed, no_rows, box-rows, touch_rows}
+use Rattle.layers.specs.Push.{PushLent, push_lent, plan-of, lent-number, push-number, after, pushed, no_rows, box-rows, touch_rows}
 
 -- the new layer's box, and the rows that it touches at once
 abbrev pub own-box : LayerProps → Screen → Box
@@ -114,7 +114,18 @@ wrong n a b c g r k z e = grind (arith, nat_tests)
 all-right : (a b c : Bool) (k n : ℕ) → cond (a && b && c) (cond (eqb k 4) 4 (cond (ltb 16 n) 6 k)) 4 ≡ 0 → (a ≡ true) × (b ≡ true) × (n ≤ 16) × (k ≡ 0)
 all-right a b c k n e = (grind (arith, nat_tests), grind (arith, nat_tests), grind (arith, nat_tests), grind (arith, nat_tests))
 
+-- what a number 0 of all that is lent says
+module _ (s : Screen) (w : Words) (ls : List ℕ) (os : List Float) where
+  pub lent-well : lent-number (push_lent s w ls os) ≡ 0
+      → (judged-at s w ≡ 0) × (eqb (length ls) open-layer-table ≡ true) × (eqb (length os) opacity-count ≡ true)
+  lent-well h = (grind (arith, nat_tests), grind (arith, nat_tests), grind (arith, nat_tests))
+
 module _ (p : LayerProps) (s : Screen) (w : Words) (ls : List ℕ) (os : List Float) where
+  -- a number of what is lent that is not 0 is the push's
+  pub lent-first : {n : ℕ} → n ≡ lent-number (push_lent s w ls os) → (n ≡ 0 → ⊥) → n ≡ push-number p (push_lent s w ls os)
+  unfolding push-number step_number
+  lent-first {n} e h = grind (arith, nat_tests, e, h)
+
   abbrev pub rows-number : ℕ
   rows-number = band_number s.c s.d s.layers w.state (range (own-rows p s).start (own-rows p s).end)
 

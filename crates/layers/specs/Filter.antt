@@ -22,7 +22,7 @@ use Rattle.row.specs.Building.{rows_at, screen-at, good_rows, step_number}
 use Rattle.rect.specs.declared.Rect.{Rect}
 use Rattle.rect.specs.Rects.{box_of}
 use Rattle.screen.specs.declared.Screen.{Screen}
-use Rattle.screen.specs.Screens.{frame-of, state-of, screen-after}
+use Rattle.screen.specs.Screens.{frame-of, state-of, screen-after, screen-in}
 use Rattle.screen.specs.Judging.{judged}
 use Rattle.inputs.specs.declared.Filter as code
 use Rattle.inputs.specs.Inputs as inputs
@@ -124,3 +124,8 @@ pub record Drawing (g : FilterGiven) (l : FilterLent) (b : Rect) : Type 0 where
   pub number : filter-number g l ≡ 0
   pub bounds : box_of b ≡ own-box g l.screen
   pub drawn : draws-nothing (filter-of g) (box_of b) ≡ false
+
+-- t is s but for the next id, the paints' counts and whether painting has begun
+abbrev pub OnlyPaints : Screen → Screen → Type 0
+OnlyPaints s t =
+    t ≡ screen-in (frame-of s) s.clip_bbox t.next_draw_id t.paint_attrs s.layer_attrs t.filter_paints s.layers t.painting

@@ -11,7 +11,7 @@ use Rattle.row.specs.Words.{Words, word-ops}
 use Rattle.row.specs.Arena.{lay}
 use Rattle.row.specs.Building.{rows_at, screen-at, good_rows, step_number}
 use Rattle.screen.specs.declared.Screen.{Screen}
-use Rattle.screen.specs.Screens.{frame-of, state-of, screen-after}
+use Rattle.screen.specs.Screens.{frame-of, state-of, screen-after, screen-in}
 use Rattle.screen.specs.Judging.{judged}
 use Rattle.screen.specs.declared.layers.LayerProps.{LayerProps}
 use Rattle.screen.specs.Layers.{clip-of, props-of, good-pattern, layer-words, no_words}
@@ -40,7 +40,13 @@ push_lent_of s r ls = push_lent s (all-held r) ls.table.now ls.opacities.now
 abbrev pub plan-of : LayerProps → Screen → Plan
 plan-of p s = plan-push (props-of p) (state-of s)
 
--- 2, 1 and 4 for the screen's numbers, for how many words are lent, and for a pattern that is not the opacity's
+-- 2, 1 and 4 for the screen's numbers and for how many words are lent
+abbrev pub lent-number : PushLent → ℕ
+lent-number l =
+    let n = judged l.screen (length l.words.state) (length l.words.render) (length l.words.fills) in
+    cond (eqb n Done) (cond (eqb (length l.layers) open-layer-table && eqb (length l.opacities) opacity-count) Done BadRecord) n
+
+-- the same, and 4 for a pattern that is not the opacity's
 abbrev pub first-number : LayerProps → PushLent → ℕ
 first-number p l =
     let n = judged l.screen (length l.words.state) (length l.words.render) (length l.words.fills) in
@@ -83,3 +89,8 @@ touch_rows c b = cond (destructive c && not (empty-box b)) (box-rows b) no_rows
 pub record Opens (s : Screen) (p : LayerProps) (o : Opening) : Type 0 where
   pub bbox : box_of o.bbox ≡ layer-box (box_of s.viewport) (box_of s.clip_bbox) (clip-of p.clip)
   pub band : o.band ≡ touch_rows p.blend.compose (box_of o.bbox)
+
+-- t is s but for the clip box, the open layers and whether painting has begun
+abbrev pub OnlyLayers : Screen → Screen → Type 0
+OnlyLayers s t =
+    t ≡ screen-in (frame-of s) t.clip_bbox s.next_draw_id s.paint_attrs s.layer_attrs s.filter_paints t.layers t.painting

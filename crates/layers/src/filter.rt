@@ -8,7 +8,7 @@ ghost use Rattle.rules.specs.Boxes.{meet, to-local, empty-box};
 ghost use Rattle.rules.specs.Lists.{is_none};
 ghost use Rattle.rect.specs.Rects.{box_of};
 ghost use Rattle.row.specs.Rows.{all-held, SameRows};
-ghost use Rattle.layers.specs.Filter.{given_of, good-given, paint-from, attrs-of, filter_lent_of, filter-number, after, filtered, Draws, Drawing};
+ghost use Rattle.layers.specs.Filter.{given_of, good-given, paint-from, attrs-of, filter_lent_of, first-number, filter-number, after, filtered, Draws, Drawing, OnlyPaints};
 
 use crate::rows::{Plain, judge_rows, on_rows};
 use cmd::attrs::{FilterPaint, PaintFillAttrs, put_filter_paint, put_paint_attrs};
@@ -96,17 +96,14 @@ fn filter_attrs(screen: Screen, paint_count: u32, panel: u32) -> PaintFillAttrs
     }
 }
 
-// A filter fill, before anything is done: BadViewport, BadArena, BadRecord; then done where nothing is drawn; then Ids, FullAttrs, FullRow. It gives the box
-// that is drawn, or none.
-fn judge_filter(
+// What the screen and the lengths of what is lent say: BadViewport, then BadArena, then BadRecord.
+fn judge_lent(
     screen: Screen,
     rows: &Rows<'_>,
     paint_attrs: &[u32],
     filter_paints: &[i32],
-    fill: FilterFill,
-) -> Result<Option<Rect>, Refusal>
-    ensures drawn { IfOk result (Draws (given_of fill) screen) }
-    ensures number { answer_number result ≡ filter-number (given_of fill) (filter_lent_of screen rows.now paint_attrs.now filter_paints.now) }
+) -> Result<(), Refusal>
+    ensures { answer_number result ≡ first-number (filter_lent_of screen rows.now paint_attrs.now filter_paints.now) }
 {
     judge_screen(
         screen,
@@ -117,6 +114,22 @@ fn judge_filter(
     if paint_attrs.len() != PAINT_TABLE || filter_paints.len() != FILTER_TABLE {
         return Err(Refusal::BadRecord);
     }
+    Ok(())
+}
+
+// A filter fill of what `judge_lent` has passed, before anything is done: BadRecord; then done where nothing is drawn; then Ids, FullAttrs, FullRow. It gives
+// the box that is drawn, or none.
+fn judge_filter(
+    screen: Screen,
+    rows: &Rows<'_>,
+    paint_attrs: &[u32],
+    filter_paints: &[i32],
+    fill: FilterFill,
+) -> Result<Option<Rect>, Refusal>
+    requires { first-number (filter_lent_of screen rows.now paint_attrs.now filter_paints.now) ≡ 0 }
+    ensures drawn { IfOk result (Draws (given_of fill) screen) }
+    ensures number { answer_number result ≡ filter-number (given_of fill) (filter_lent_of screen rows.now paint_attrs.now filter_paints.now) }
+{
     if !fill.is_good() {
         return Err(Refusal::BadRecord);
     }
@@ -146,6 +159,7 @@ fn draw(
 )
     requires { Drawing (given_of fill) (filter_lent_of screen.old rows.old paint_attrs.old filter_paints.old) bbox }
     ensures same { SameRows rows.old rows.new }
+    ensures left { OnlyPaints screen.old screen.new }
     ensures drawn { filter_lent_of screen.new rows.new paint_attrs.new filter_paints.new
         ≡ after (given_of fill) (filter_lent_of screen.old rows.old paint_attrs.old filter_paints.old) }
 {
@@ -162,6 +176,33 @@ fn draw(
     };
     on_rows(*screen, rows, &bbox.rows(), plain);
     screen.take_filter(1);
+}
+
+/// A filter fill of what `judge_lent` has passed.
+#[inline(never)]
+pub fn filter_judged(
+    screen: &mut Screen,
+    rows: &mut Rows<'_>,
+    paint_attrs: &mut [u32],
+    filter_paints: &mut [i32],
+    fill: FilterFill,
+) -> Result<(), Refusal>
+    requires { first-number (filter_lent_of screen.old rows.old paint_attrs.old filter_paints.old) ≡ 0 }
+    ensures same { SameRows rows.old rows.new }
+    ensures left { OnlyPaints screen.old screen.new }
+    ensures filtered { answer (answer_number result) (filter_lent_of screen.new rows.new paint_attrs.new filter_paints.new)
+        ≡ filtered (given_of fill) (filter_lent_of screen.old rows.old paint_attrs.old filter_paints.old) }
+    ensures refused { answer_number result ≡ filter-number (given_of fill) (filter_lent_of screen.old rows.old paint_attrs.old filter_paints.old) }
+    ensures unchanged { OnErr result (filter_lent_of screen.new rows.new paint_attrs.new filter_paints.new
+        ≡ filter_lent_of screen.old rows.old paint_attrs.old filter_paints.old) }
+    ensures done { OnOk result (filter_lent_of screen.new rows.new paint_attrs.new filter_paints.new
+        ≡ after (given_of fill) (filter_lent_of screen.old rows.old paint_attrs.old filter_paints.old)) }
+{
+    match judge_filter(*screen, rows, paint_attrs, filter_paints, fill)? {
+        None => screen.take_filter(0),
+        Some(bbox) => draw(screen, rows, paint_attrs, filter_paints, fill, bbox),
+    }
+    Ok(())
 }
 
 /// Rule 11: one id, one filter paint, one attribute, and a fill on each row of the box; or nothing. BadViewport, BadArena, BadRecord, Ids, FullAttrs or
@@ -182,9 +223,6 @@ pub fn filter_fill(
     ensures done { OnOk result (filter_lent_of screen.new rows.new paint_attrs.new filter_paints.new
         ≡ after (given_of fill) (filter_lent_of screen.old rows.old paint_attrs.old filter_paints.old)) }
 {
-    match judge_filter(*screen, rows, paint_attrs, filter_paints, fill)? {
-        None => screen.take_filter(0),
-        Some(bbox) => draw(screen, rows, paint_attrs, filter_paints, fill, bbox),
-    }
-    Ok(())
+    judge_lent(*screen, rows, paint_attrs, filter_paints)?;
+    filter_judged(screen, rows, paint_attrs, filter_paints, fill)
 }

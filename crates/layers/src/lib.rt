@@ -6,5 +6,5 @@ pub mod filter;
 pub mod push;
 pub mod rows;
 
-pub use filter::{FilterFill, filter_fill};
-pub use push::push_layer;
+pub use filter::{FilterFill, filter_fill, filter_judged};
+pub use push::{push_judged, push_layer};

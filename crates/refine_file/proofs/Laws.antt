@@ -5,7 +5,7 @@ use Rattle.rules.specs.Answers.{Answer, answer, settle, Done, BadArena, BadViewp
 use Rattle.rules.specs.Boxes.{Box, good_viewport, rows_of}
 use Rattle.rules.specs.Rows.{Row, fresh-row, row-ops}
 use Rattle.rules.specs.Steps.{Screen, reset, call}
-use Rattle.rules.specs.Recording.{Recording, shape, sections, recording, good-records, good-order}
+use Rattle.rules.specs.Recording.{Recording, File, parsed, recording, good-records, good-order}
 use Rattle.rules.specs.Plans.{Frame, Step}
 use Rattle.rules.specs.Setups.{Setup, frame}
 use Rattle.rules.specs.Walk.{◌then◌, good-arenas, frame-of, judge-records, walk-all, play-records, play}
@@ -160,13 +160,13 @@ module _ (S : Type 0) (step : Step → S → Answer S) (fresh-state : Frame → 
 
   -- A recording call, from a state's words to all words afterwards: it has the rules' number, and leaves words that R relates to the rules'
   -- state, or alters nothing. The tables beside the arenas are as long as the frame asks.
-  pub words-play : (ws : List ℕ) (q : Setup) (l : ScreenLent) (old : S)
-      → ((ss : List (List (List ℕ))) → sections shape ws ≡ Some ss → good-tables (rows_of (frame q (recording ss).viewport).viewport) (lengths l.tables) ≡ true)
+  pub words-play : (ws : File) (q : Setup) (l : ScreenLent) (old : S)
+      → ((ss : List (List (List ℕ))) → parsed ws ≡ Some ss → good-tables (rows_of (frame q (recording ss).viewport).viewport) (lengths l.tables) ≡ true)
       → Plays R old l (play S step fresh-state (place q l) old ws) (recorded ws q l)
   unfolding play recorded
-  words-play ws q l old h = go (sections shape ws) refl
+  words-play ws q l old h = go (parsed ws) refl
     where
-      go : (o : Option (List (List (List ℕ)))) → sections shape ws ≡ o
+      go : (o : Option (List (List (List ℕ)))) → parsed ws ≡ o
           → Plays R old l
           (elim o [
             | None ↦ answer BadForm old
@@ -177,8 +177,8 @@ module _ (S : Type 0) (step : Step → S → Answer S) (fresh-state : Frame → 
       go (Some ss) e = records-play (recording ss) q l old (h ss e)
 
 -- The screens of the rules: the words left are those of the rules' screen.
-pub file-plays : (ws : List ℕ) (q : Setup) (l : ScreenLent) (old : Screen Row)
-    → ((ss : List (List (List ℕ))) → sections shape ws ≡ Some ss → good-tables (rows_of (frame q (recording ss).viewport).viewport) (lengths l.tables) ≡ true)
+pub file-plays : (ws : File) (q : Setup) (l : ScreenLent) (old : Screen Row)
+    → ((ss : List (List (List ℕ))) → parsed ws ≡ Some ss → good-tables (rows_of (frame q (recording ss).viewport).viewport) (lengths l.tables) ≡ true)
     → Plays Refines old l (play (Screen Row) (call Row row-ops) (reset fresh-row) (place q l) old ws) (recorded ws q l)
 file-plays =
     words-play (Screen Row) (call Row row-ops) (reset fresh-row) Refines

@@ -4,13 +4,14 @@ use Rattle.std.proofs.Common.{eqb, length, get_or, drop, get_or-drop, le-ltb, lt
 use Rattle.sizes.specs.declared.answers.Refusal.TheVariants as refusal
 use Rattle.sizes.specs.declared.width.Width.{Width}
 use Rattle.sizes.specs.Widths.{bucket-tiles}
+use Rattle.sizes.specs.declared.edition.Edition.TheVariants.{One}
 use Rattle.rules.specs.Answers.{Answer, answer, settle, Done, BadForm}
 use Rattle.rules.specs.Boxes.{Box, box, good_viewport, rows_of, buckets-of}
 use Rattle.rules.specs.Rows.{Row, fresh-row, row-ops}
 use Rattle.rules.specs.Plans.{Frame, buckets-across}
 use Rattle.rules.specs.Setups.{Setup, frame}
 use Rattle.rules.specs.Steps.{Screen, reset, call}
-use Rattle.rules.specs.Recording.{Recording, shape, sections, recording, box-at}
+use Rattle.rules.specs.Recording.{Recording, in-one, parsed, recording, box-at}
 use Rattle.rules.specs.Walk.{Place, Arenas, needed, good-arenas, frame-of, judge-records, walk-all, play-records, play}
 use Rattle.rules.specs.Lines as rules
 use Rattle.rules.specs.Lines.{refused, answer-lines, rowlist-place, rowlist-screen, rowlist-words, words_of, rowlist, line-bytes}
@@ -206,7 +207,7 @@ module _ (q : Setup) (u : Usual q) (ws : List ℕ) (bs : List ℕ) (room : 26425
   abbrev old : Screen Row
   old = reset fresh-row rules.nothing
 
-  module _ (ss : List (List (List ℕ))) (e : sections shape ws ≡ Some ss) where
+  module _ (ss : List (List (List ℕ))) (e : parsed (in-one ws) ≡ Some ss) where
     abbrev r : Recording
     r = recording ss
 
@@ -219,12 +220,12 @@ module _ (q : Setup) (u : Usual q) (ws : List ℕ) (bs : List ℕ) (room : 26425
 
     -- the file's viewport stands at its words 1 to 4
     at_words : r.viewport ≡ box (get_or ws 1 0) (get_or ws 2 0) (get_or ws 3 0) (get_or ws 4 0)
-    unfolding form_of
+    unfolding form_of layout
     at_words =
-        let y : Ok (layout ws) ≡ form_of ws = rw e in
-        let g = good-form ws (layout ws) y in
-        let x : ss ≡ sections_at (layout ws) ws = some_same (sym e ∙ g.same) in
-        rw x (viewport-is (layout ws) ws g.fits)
+        let y : Ok (layout One ws) ≡ form_of One ws = rw e in
+        let g = good-form One ws (layout One ws) y in
+        let x : ss ≡ sections_at (layout One ws) ws = some_same (sym e ∙ g.same) in
+        rw x (viewport-is (layout One ws) ws g.fits)
 
     place_view : box-at ws 1 ≡ r.viewport
     place_view = rw (get_or-drop 1 ws 0 0, get_or-drop 1 ws 1 0, get_or-drop 1 ws 2 0, get_or-drop 1 ws 3 0) (sym at_words)
@@ -290,7 +291,7 @@ module _ (q : Setup) (u : Usual q) (ws : List ℕ) (bs : List ℕ) (room : 26425
             eq-eqb (n * buckets-across f) (n * buckets-across f) refl,
           )
 
-      at-words-play : play (Screen Row) (call Row row-ops) (reset fresh-row) (place q given) old ws ≡ theirs
+      at-words-play : play (Screen Row) (call Row row-ops) (reset fresh-row) (place q given) old (in-one ws) ≡ theirs
       unfolding play
       at-words-play =
           ap (λ (o : Option (List (List (List ℕ)))). elim o [
@@ -300,21 +301,21 @@ module _ (q : Setup) (u : Usual q) (ws : List ℕ) (bs : List ℕ) (room : 26425
           e
           ∙ sym (same-play 32 512 q (needed (frame q (box-at ws 1))) (arenas (lengths t)) old r (judge-at (box-at ws 1) place_view))
 
-      plays : Plays Refines old given theirs (recorded ws q given)
+      plays : Plays Refines old given theirs (recorded (in-one ws) q given)
       plays =
           rw (← at-words-play)
-          (file-plays ws q given old (λ qs i. let k : qs ≡ ss = some_same (sym i ∙ e) in rw k tables-good))
+          (file-plays (in-one ws) q given old (λ qs i. let k : qs ≡ ss = some_same (sym i ∙ e) in rw k tables-good))
 
-      done-with : theirs.number ≡ 0 → Done-with theirs (recorded ws q given) v q.width
+      done-with : theirs.number ≡ 0 → Done-with theirs (recorded (in-one ws) q given) v q.width
       done-with d = go plays.value
         where
-          go : Outcome Refines theirs.number old given theirs.value (recorded ws q given).value → Done-with theirs (recorded ws q given) v q.width
+          go : Outcome Refines theirs.number old given theirs.value (recorded (in-one ws) q given).value → Done-with theirs (recorded (in-one ws) q given) v q.width
           go (unaltered i x y) = never (sym (eq-eqb _ _ d) ∙ i)
           go (made x) = record { refines = x; kept = play-kept (rowlist-place q ws) old r first start-kept d }
 
-      left_there : Leaves theirs z bs (recording-text ws q t bs)
+      left_there : Leaves theirs z bs (recording-text (in-one ws) q t bs)
       unfolding recording-text
-      left_there = answer-leaves bs room theirs (recorded ws q given) v q.width few plays.number done-with
+      left_there = answer-leaves bs room theirs (recorded (in-one ws) q given) v q.width few plays.number done-with
 
     abbrev rules-answer : Answer (Screen Row)
     rules-answer = play-records (Screen Row) (call Row row-ops) (reset fresh-row) (rowlist-place q ws) old r
@@ -323,13 +324,13 @@ module _ (q : Setup) (u : Usual q) (ws : List ℕ) (bs : List ℕ) (room : 26425
     unfolding judge-records
     refused-number h = refused-view (rowlist-place q ws) old r (rw (not-shown (good_viewport v) (rows_of v) h))
 
-    by_size : (x : Bool) → (good_viewport v && leb (rows_of v) 32) ≡ x → {y : Size} → Ok y ≡ sized-if x f → (t : Tables) → Exact y t → Leaves rules-answer y bs (recording-text ws q t bs)
+    by_size : (x : Bool) → (good_viewport v && leb (rows_of v) 32) ≡ x → {y : Size} → Ok y ≡ sized-if x f → (t : Tables) → Exact y t → Leaves rules-answer y bs (recording-text (in-one ws) q t bs)
     by_size false h i t k = cc
     by_size true h {y} i t k =
         let same : y ≡ z = cc in
         rw same (left_there (and_left (good_viewport v) (leb (rows_of v) 32) h) (leb-true _ _ (and_right (good_viewport v) (leb (rows_of v) 32) h)) t (rw same at k))
 
-    printed-by-size : (x : Bool) → (good_viewport v && leb (rows_of v) 32) ≡ x → Prints rules-answer bs (sized-text (sized-if x f) ws q bs)
+    printed-by-size : (x : Bool) → (good_viewport v && leb (rows_of v) 32) ≡ x → Prints rules-answer bs (sized-text (sized-if x f) (in-one ws) q bs)
     printed-by-size false h = refused-prints bs room rules-answer 2 nothing (refused-number h) (refused-there h)
     printed-by-size true h = (by_size true h refl (blank z) (blank_exact z)).prints
 
@@ -340,20 +341,20 @@ module _ (q : Setup) (u : Usual q) (ws : List ℕ) (bs : List ℕ) (room : 26425
   ]
 
   -- What is printed of a file's words, with room for the longest text: the number and the text of the rules' lines.
-  pub words-print : Prints (rowlist-screen q ws) bs (sized-text (size_of ws q) ws q bs)
+  pub words-print : Prints (rowlist-screen q ws) bs (sized-text (size_of (in-one ws) q) (in-one ws) q bs)
   unfolding size_of play
-  words-print = go (sections shape ws) refl
+  words-print = go (parsed (in-one ws)) refl
     where
-      go : (o : Option (List (List (List ℕ)))) → sections shape ws ≡ o → Prints (played-of o) bs (sized-text (sized (recording_of o) q) ws q bs)
+      go : (o : Option (List (List (List ℕ)))) → parsed (in-one ws) ≡ o → Prints (played-of o) bs (sized-text (sized (recording_of o) q) (in-one ws) q bs)
       go None e = refused-prints bs room (answer BadForm old) 3 nothing refl refl
       go (Some ss) e = printed-by-size ss e _ refl
 
   -- .. and what is left beside it, in tables of its screen's lengths, is the rules' screen, where it is not refused.
-  pub words-leave : {z : Size} → Ok z ≡ size_of ws q → (t : Tables) → Exact z t → Leaves (rowlist-screen q ws) z bs (recording-text ws q t bs)
+  pub words-leave : {z : Size} → Ok z ≡ size_of (in-one ws) q → (t : Tables) → Exact z t → Leaves (rowlist-screen q ws) z bs (recording-text (in-one ws) q t bs)
   unfolding size_of play
-  words-leave {z} i t k = go (sections shape ws) refl i
+  words-leave {z} i t k = go (parsed (in-one ws)) refl i
     where
-      go : (o : Option (List (List (List ℕ)))) → sections shape ws ≡ o → Ok z ≡ sized (recording_of o) q → Leaves (played-of o) z bs (recording-text ws q t bs)
+      go : (o : Option (List (List (List ℕ)))) → parsed (in-one ws) ≡ o → Ok z ≡ sized (recording_of o) q → Leaves (played-of o) z bs (recording-text (in-one ws) q t bs)
       go None e j = cc
       go (Some ss) e j = by_size ss e _ refl j t k
 
@@ -363,7 +364,7 @@ module _ (q : Setup) (u : Usual q) (fs : List ℕ) (bs : List ℕ) (room : 26425
   unfolding bytes-text file-size rowlist rowlist-words
   file-printed = rw (by-file (refused BadForm ∷ []) (rowlist-words q) fs) (go (good-bytes (length fs)))
     where
-      go : (b : Bool) → shows (sized-text (cond b (size_of (words-in fs) q) (Err refusal.BadForm)) (words-in fs) q bs) ≡ text-first (text_of (cond b (rowlist-words q (words-in fs)) (refused BadForm ∷ []))) bs
+      go : (b : Bool) → shows (sized-text (cond b (size_of (in-one (words-in fs)) q) (Err refusal.BadForm)) (in-one (words-in fs)) q bs) ≡ text-first (text_of (cond b (rowlist-words q (words-in fs)) (refused BadForm ∷ []))) bs
       go true = (words-print q u (words-in fs) bs room).shows
       go false = ap shows (refusing-is bs room 3 nothing)
 

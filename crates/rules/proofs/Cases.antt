@@ -1,6 +1,7 @@
 -- Tests: directed cases. A recording, the lines that `rowlist` prints of it, its attributes and its painted pieces, by computation.
 use Rattle.std.proofs.Common.{◌≡◌, refl, true, List, [], ◌∷◌, None, Some, pos}
 use Rattle.sizes.specs.declared.width.Width.TheVariants.{W128}
+use Rattle.sizes.specs.declared.edition.Edition.TheVariants.{One}
 use Rattle.rules.specs.Lists.{every}
 use Rattle.rules.specs.Spans.{span}
 use Rattle.rules.specs.Boxes.{box}
@@ -17,19 +18,19 @@ use Rattle.rules.specs.cases.Samples.{solid, alpha, opaque-paint, any-draw, draw
 abbrev pub left_cut : Recording
 left_cut = rec (box 16 0 144 4) (alpha 0 0 20 160 ∷ []) (draw 0 1 ∷ []) [] (node 0 1 0 ∷ []) 0 1
 
-pub left-cut-lines : listed (file left_cut) ≡ header 1 1 1 ∷ row 0 0 1 ∷ P 0 16 (Some 224) 0 ∷ []
+pub left-cut-lines : listed (file One left_cut) ≡ header 1 1 1 ∷ row 0 0 1 ∷ P 0 16 (Some 224) 0 ∷ []
 unfolding computing
 left-cut-lines = refl
 
 -- In snapping mode the screen is the snapped box: here the one before, and 1,366 pixels are 342 tiles in 11 buckets.
 pub snapped-lines :
-    listed-snapped (file (rec (box 19 3 141 1) (alpha 0 0 20 160 ∷ []) (draw 0 1 ∷ []) [] (node 0 1 0 ∷ []) 0 1)) ≡
+    listed-snapped (file One (rec (box 19 3 141 1) (alpha 0 0 20 160 ∷ []) (draw 0 1 ∷ []) [] (node 0 1 0 ∷ []) 0 1)) ≡
     header 1 1 1 ∷ row 0 0 1 ∷ P 0 16 (Some 224) 0 ∷ []
 unfolding computing
 snapped-lines = refl
 
 pub panel-1366-lines :
-    listed-snapped (file (rec (box 0 0 1366 4) (alpha 0 0 400 0 ∷ []) (draw 0 1 ∷ []) [] (node 0 1 0 ∷ []) 0 1)) ≡
+    listed-snapped (file One (rec (box 0 0 1366 4) (alpha 0 0 400 0 ∷ []) (draw 0 1 ∷ []) [] (node 0 1 0 ∷ []) 0 1)) ≡
     header 1 11 1 ∷ row 0 0 1 ∷ P 0 342 (Some 0) 0 ∷ []
 unfolding computing
 panel-1366-lines = refl
@@ -46,7 +47,7 @@ parent-cut =
     1
 
 pub parent-cut-lines :
-    listed (file parent-cut) ≡
+    listed (file One parent-cut) ≡
     header 1 2 3
     ∷ row 0 0 7
     ∷ B (Some (span 0 40))
@@ -72,7 +73,7 @@ unreached =
     1
 
 pub unreached-lines :
-    listed (file unreached) ≡
+    listed (file One unreached) ≡
     header 2 2 2 ∷ row 0 0 4 ∷ B (Some (span 0 40)) ∷ P 0 40 None 0 ∷ L 4 30 None 0 ∷ E ∷ row 1 0 0 ∷ []
 unfolding computing
 unreached-lines = refl
@@ -89,7 +90,7 @@ no_span =
     1
 
 pub no-span-lines :
-    listed (file no_span) ≡
+    listed (file One no_span) ≡
     header 2 2 3
     ∷ row 0 0 6
     ∷ B None
@@ -108,7 +109,7 @@ abbrev pub destructive-push : Recording
 destructive-push = rec (box 0 0 64 8) [] [] (composed 5 0 0 ∷ []) (node 0 0 1 ∷ []) 0 1
 
 pub destructive-lines :
-    listed (file destructive-push) ≡
+    listed (file One destructive-push) ≡
     header 2 1 1
     ∷ row 0 0 3
     ∷ B (Some (span 0 16))
@@ -127,7 +128,7 @@ abbrev pub shifted : Recording
 shifted = rec (box 0 0 128 16) [] [] (filtered full 0 (filter 5 (box 20 6 60 9) 1 2) ∷ []) (node 0 0 1 ∷ []) 0 1
 
 pub shifted-lines :
-    listed (file shifted) ≡
+    listed (file One shifted) ≡
     header 4 1 1 ∷ row 0 0 0 ∷ row 1 0 1 ∷ P 5 15 None 0 ∷ row 2 0 1 ∷ P 5 15 None 0 ∷ row 3 0 0 ∷ []
 unfolding computing
 shifted-lines = refl
@@ -145,7 +146,7 @@ abbrev pub nan-filter : Recording
 nan-filter = rec (box 0 0 64 4) [] [] (filtered a-nan 0 (filter 5 (box 0 0 32 4) 0 0) ∷ []) (node 0 0 1 ∷ []) 0 1
 
 pub nan-lines :
-    listed (file nan-filter) ≡
+    listed (file One nan-filter) ≡
     header 1 1 2 ∷ row 0 0 4 ∷ B (Some (span 0 16)) ∷ P 0 8 None 0 ∷ L 0 16 None 0 ∷ E ∷ []
 unfolding computing
 nan-lines = refl
@@ -167,7 +168,7 @@ no-picture =
     0
     2
 
-pub no-picture-lines : listed (file no-picture) ≡ header 1 1 1 ∷ row 0 0 0 ∷ []
+pub no-picture-lines : listed (file One no-picture) ≡ header 1 1 1 ∷ row 0 0 0 ∷ []
 unfolding computing
 no-picture-lines = refl
 
@@ -184,7 +185,7 @@ first-picture =
     0
     2
 
-pub first-picture-lines : listed (file first-picture) ≡ header 1 1 2 ∷ row 0 0 2 ∷ P 0 8 None 0 ∷ P 8 16 None 1 ∷ []
+pub first-picture-lines : listed (file One first-picture) ≡ header 1 1 2 ∷ row 0 0 2 ∷ P 0 8 None 0 ∷ P 8 16 None 1 ∷ []
 unfolding computing
 first-picture-lines = refl
 
@@ -209,31 +210,31 @@ filter-nodes =
     0
     1
 
-pub filter-nodes-lines : listed (file filter-nodes) ≡ header 1 1 1 ∷ row 0 0 1 ∷ P 0 8 None 0 ∷ []
+pub filter-nodes-lines : listed (file One filter-nodes) ≡ header 1 1 1 ∷ row 0 0 1 ∷ P 0 8 None 0 ∷ []
 unfolding computing
 filter-nodes-lines = refl
 
 -- A layer that reaches itself: 6 at the 17th push.
-pub cyclic-lines : listed (file (rec (box 0 0 64 4) [] [] (layer 0 1 ∷ []) (node 0 0 1 ∷ []) 0 1)) ≡ refused 6 ∷ []
+pub cyclic-lines : listed (file One (rec (box 0 0 64 4) [] [] (layer 0 1 ∷ []) (node 0 0 1 ∷ []) 0 1)) ≡ refused 6 ∷ []
 unfolding computing
 cyclic-lines = refl
 
 -- A bad order in a draw that no node has: 5.
 pub unreachable-order :
-    listed (file (rec (box 0 0 64 4) (solid 0 0 9 ∷ solid 0 8 12 ∷ []) (draw 0 2 ∷ []) [] [] 0 0)) ≡ refused 5 ∷ []
+    listed (file One (rec (box 0 0 64 4) (solid 0 0 9 ∷ solid 0 8 12 ∷ []) (draw 0 2 ∷ []) [] [] 0 0)) ≡ refused 5 ∷ []
 unfolding computing
 unreachable-order = refl
 
 -- 4 before 5: besides, a segment that no list has is empty.
 pub record-before-order :
-    listed (file (rec (box 0 0 64 4) (solid 0 0 9 ∷ solid 0 8 12 ∷ solid 0 5 5 ∷ []) (draw 0 2 ∷ []) [] [] 0 0)) ≡
+    listed (file One (rec (box 0 0 64 4) (solid 0 0 9 ∷ solid 0 8 12 ∷ solid 0 5 5 ∷ []) (draw 0 2 ∷ []) [] [] 0 0)) ≡
     refused 4 ∷ []
 unfolding computing
 record-before-order = refl
 
 -- Touching is no overlap.
 pub touching-order :
-    listed (file (rec (box 0 0 64 4) (solid 0 0 9 ∷ solid 0 9 12 ∷ []) (draw 0 2 ∷ []) [] [] 0 0)) ≡
+    listed (file One (rec (box 0 0 64 4) (solid 0 0 9 ∷ solid 0 9 12 ∷ []) (draw 0 2 ∷ []) [] [] 0 0)) ≡
     header 1 1 0 ∷ row 0 0 0 ∷ []
 unfolding computing
 touching-order = refl
@@ -244,7 +245,7 @@ last-bucket =
     rec (box 0 0 200 4) (solid 0 0 8192 ∷ alpha 0 20 60 32 ∷ []) (draw 1 2 ∷ draw 0 1 ∷ []) [] (node 0 2 0 ∷ []) 0 1
 
 pub last-bucket-lines :
-    listed (file last-bucket) ≡
+    listed (file One last-bucket) ≡
     header 1 2 2 ∷ row 0 1 2 ∷ D 0 1 1 ∷ P 20 50 (Some 32) 0 ∷ P 32 50 None 1 ∷ []
 unfolding computing
 last-bucket-lines = refl
@@ -269,7 +270,7 @@ away =
     1
 
 pub away-lines :
-    listed (file away) ≡
+    listed (file One away) ≡
     header 2 2 4
     ∷ row 0 1 4
     ∷ D 0 2 0
@@ -303,7 +304,7 @@ panel =
     1
 
 pub panel-lines :
-    listed (file panel) ≡
+    listed (file One panel) ≡
     header 1 4 3 ∷ row 0 2 3 ∷ D 0 4 0 ∷ D 2 3 2 ∷ P 20 90 (Some 320) 1 ∷ P 40 64 None 2 ∷ P 96 100 None 2 ∷ []
 unfolding computing
 panel-lines = refl
@@ -337,7 +338,7 @@ ineligible =
     }
 
 pub ineligible-lines :
-    listed (file ineligible) ≡
+    listed (file One ineligible) ≡
     header 1 4 4 ∷ row 0 1 3 ∷ D 0 4 0 ∷ P 0 128 None 1 ∷ P 0 128 None 2 ∷ P 0 128 None 3 ∷ []
 unfolding computing
 ineligible-lines = refl
@@ -358,7 +359,7 @@ kept =
     }
 
 pub kept-lines :
-    listed (file kept) ≡
+    listed (file One kept) ≡
     header 2 2 2 ∷ row 0 0 4 ∷ B (Some (span 8 28)) ∷ P 8 28 None 0 ∷ L 8 18 None 0 ∷ E ∷ row 1 0 0 ∷ []
 unfolding computing
 kept-lines = refl
@@ -380,7 +381,7 @@ placed =
     3
 
 pub placed-lines :
-    listed (file placed) ≡
+    listed (file One placed) ≡
     header 2 2 3 ∷ row 0 0 2 ∷ P 0 18 None 0 ∷ P 8 12 None 2 ∷ row 1 0 1 ∷ P 8 18 None 1 ∷ []
 unfolding computing
 placed-lines = refl
@@ -403,7 +404,7 @@ empty-push =
     0
     1
 
-pub empty-push-lines : listed (file empty-push) ≡ header 2 1 1 ∷ row 0 0 0 ∷ row 1 0 0 ∷ []
+pub empty-push-lines : listed (file One empty-push) ≡ header 2 1 1 ∷ row 0 0 0 ∷ row 1 0 0 ∷ []
 unfolding computing
 empty-push-lines = refl
 
@@ -419,7 +420,7 @@ clipped-filter =
     1
 
 pub clipped-filter-lines :
-    listed (file clipped-filter) ≡
+    listed (file One clipped-filter) ≡
     header 1 1 2 ∷ row 0 0 4 ∷ B (Some (span 0 9)) ∷ P 0 4 None 0 ∷ L 0 9 None 0 ∷ E ∷ []
 unfolding computing
 clipped-filter-lines = refl
@@ -437,7 +438,7 @@ in-turn =
     2
 
 pub in-turn-lines :
-    listed (file in-turn) ≡
+    listed (file One in-turn) ≡
     header 1 2 8
     ∷ row 0 0 10
     ∷ P 0 8 None 0

@@ -1,6 +1,7 @@
 -- Tests: a recording's file judged. Each answer from 1 to 5, on both sides of its edge and in its order, and what a refused recording leaves.
 use Rattle.std.proofs.Common.{ℕ, ◌+◌, ◌-◌, ◌≡◌, refl, true, List, [], ◌∷◌, ◌++◌, map, None, Some, length, take, replicate, eqb}
 use Rattle.sizes.specs.declared.width.Width.TheVariants.{W128}
+use Rattle.sizes.specs.declared.edition.Edition.TheVariants.{One}
 use Rattle.rules.specs.Lists.{every, join, range}
 use Rattle.rules.specs.Answers.{Answer, answer, Done, BadArena, BadViewport, BadForm, BadRecord, BadOrder, Deep}
 use Rattle.rules.specs.Boxes.{Box, box}
@@ -10,7 +11,7 @@ use Rattle.rules.specs.Segments.{Segment}
 use Rattle.rules.specs.Inputs.{Paint, Draw, Clip, Filter}
 use Rattle.rules.specs.Rows.{Row, fresh-row, row-ops}
 use Rattle.rules.specs.Steps.{Screen, reset, call}
-use Rattle.rules.specs.Recording.{Recording, LayerRec, Node}
+use Rattle.rules.specs.Recording.{Recording, LayerRec, Node, in-one}
 use Rattle.rules.specs.Words.{file}
 use Rattle.rules.specs.Walk.{Place, needed, play}
 use Rattle.rules.specs.Lines.{header, row, P, L, B, E, refused}
@@ -31,7 +32,7 @@ abbrev old : Screen Row
 old = reset fresh-row (record { viewport = box 4 8 12 16; c = 7; d = 9; width = W128 })
 
 abbrev plays : Place → List ℕ → Answer (Screen Row)
-plays p ws = play (Screen Row) (call Row row-ops) (reset fresh-row) p old ws
+plays p ws = play (Screen Row) (call Row row-ops) (reset fresh-row) p old (in-one ws)
 
 abbrev judged : List ℕ → ℕ
 judged ws = (plays (lent 0 0 0) ws).number
@@ -40,7 +41,7 @@ judged ws = (plays (lent 0 0 0) ws).number
 abbrev views-in : Mode → Box → ℕ
 views-in m v =
     let q = asked 1 1 m in
-    (plays (record { limit = 512; setup = q; arenas = needed (frame q v) }) (file (rec v [] [] [] [] 0 0))).number
+    (plays (record { limit = 512; setup = q; arenas = needed (frame q v) }) (file One (rec v [] [] [] [] 0 0))).number
 
 abbrev views : Box → ℕ
 views = views-in exact
@@ -49,7 +50,7 @@ views = views-in exact
 abbrev holds : Paint → Segment → Draw → LayerRec → Node → ℕ → ℕ → ℕ
 holds p s d l n a b =
     judged
-    (file
+    (file One
     (record {
       viewport = box 0 0 256 8;
       paints = opaque-paint ∷ p ∷ [];
@@ -114,9 +115,9 @@ judgements =
     ∷ (plays (lent 1 0 0) worked-words).number is BadArena
     ∷ (plays (lent 0 1 0) worked-words).number is BadArena
     ∷ (plays (lent 0 0 1) worked-words).number is BadArena
-    ∷ (plays (lent 1 0 0) (file (rec (box 2 0 256 8) [] [] [] [] 0 0))).number is BadViewport
-    ∷ (plays (lent 1 0 0) (file (rec (box 0 0 256 8) [] [] [] [] 1 0))).number is BadArena
-    ∷ (plays (lent 0 0 0) (file (rec (box 0 0 256 8) [] [] [] [] 1 0))).number is BadRecord
+    ∷ (plays (lent 1 0 0) (file One (rec (box 2 0 256 8) [] [] [] [] 0 0))).number is BadViewport
+    ∷ (plays (lent 1 0 0) (file One (rec (box 0 0 256 8) [] [] [] [] 1 0))).number is BadArena
+    ∷ (plays (lent 0 0 0) (file One (rec (box 0 0 256 8) [] [] [] [] 1 0))).number is BadRecord
     -- 4: every record, used or not
     ∷ a-draw (draw 0 1) is Done
     ∷ holds (record { opaque = 2; handle = 0 }) (solid 1 0 4) (draw 0 1) (layer 0 0) (node 0 0 0) 0 0 is BadRecord
@@ -184,7 +185,7 @@ pub left-by-3 : plays (lent 0 0 0) (worked-words ++ (0 ∷ [])) ≡ answer BadFo
 unfolding computing
 left-by-3 = refl
 
-pub left-by-2 : plays (lent 0 0 0) (file (rec (box 2 0 256 8) [] [] [] [] 0 0)) ≡ answer BadViewport old
+pub left-by-2 : plays (lent 0 0 0) (file One (rec (box 2 0 256 8) [] [] [] [] 0 0)) ≡ answer BadViewport old
 unfolding computing
 left-by-2 = refl
 
@@ -196,37 +197,37 @@ left-by-1 = refl
 abbrev reset-to : Screen Row
 reset-to = reset fresh-row (record { viewport = box 0 0 256 8; c = 4; d = 5; width = W128 })
 
-pub left-by-4 : plays (lent 0 0 0) (file (rec (box 0 0 256 8) [] [] [] [] 1 0)) ≡ answer BadRecord reset-to
+pub left-by-4 : plays (lent 0 0 0) (file One (rec (box 0 0 256 8) [] [] [] [] 1 0)) ≡ answer BadRecord reset-to
 unfolding computing
 left-by-4 = refl
 
-pub left-by-5 : plays (lent 0 0 0) (file (rec (box 0 0 256 8) (solid 0 0 9 ∷ solid 0 8 12 ∷ []) (draw 0 2 ∷ []) [] [] 0 0)) ≡ answer BadOrder reset-to
+pub left-by-5 : plays (lent 0 0 0) (file One (rec (box 0 0 256 8) (solid 0 0 9 ∷ solid 0 8 12 ∷ []) (draw 0 2 ∷ []) [] [] 0 0)) ≡ answer BadOrder reset-to
 unfolding computing
 left-by-5 = refl
 
 -- A layer that reaches itself, after a draw: 6 at the 17th push, and nothing of the walk is kept.
 pub left-by-6 :
     plays (record { limit = 512; setup = asked 64 5 exact; arenas = record { render = 512; fills = 20; depth = 4 } })
-    (file (rec (box 0 0 256 8) (solid 0 0 4 ∷ []) (draw 0 1 ∷ []) (layer 0 1 ∷ []) (node 0 1 1 ∷ []) 0 1)) ≡
+    (file One (rec (box 0 0 256 8) (solid 0 0 4 ∷ []) (draw 0 1 ∷ []) (layer 0 1 ∷ []) (node 0 1 1 ∷ []) 0 1)) ≡
     answer Deep (reset fresh-row (record { viewport = box 0 0 256 8; c = 64; d = 5; width = W128 }))
 unfolding computing
 left-by-6 = refl
 
 -- `rowlist` takes 32 rows, and refuses 33 by 2, before a 4.
-pub rows-32 : listed (file (rec (box 0 0 4 128) [] [] [] [] 1 0)) ≡ refused 4 ∷ []
+pub rows-32 : listed (file One (rec (box 0 0 4 128) [] [] [] [] 1 0)) ≡ refused 4 ∷ []
 unfolding computing
 rows-32 = refl
 
-pub rows-33 : listed (file (rec (box 0 0 4 132) [] [] [] [] 1 0)) ≡ refused 2 ∷ []
+pub rows-33 : listed (file One (rec (box 0 0 4 132) [] [] [] [] 1 0)) ≡ refused 2 ∷ []
 unfolding computing
 rows-33 = refl
 
 -- .. with `--snap` those of the snapped box: from 3 to 129 there are 33.
-pub snapped-32 : listed-snapped (file (rec (box 3 1 5 126) [] [] [] [] 1 0)) ≡ refused 4 ∷ []
+pub snapped-32 : listed-snapped (file One (rec (box 3 1 5 126) [] [] [] [] 1 0)) ≡ refused 4 ∷ []
 unfolding computing
 snapped-32 = refl
 
-pub snapped-33 : listed-snapped (file (rec (box 3 3 5 129) [] [] [] [] 1 0)) ≡ refused 2 ∷ []
+pub snapped-33 : listed-snapped (file One (rec (box 3 3 5 129) [] [] [] [] 1 0)) ≡ refused 2 ∷ []
 unfolding computing
 snapped-33 = refl
 
@@ -240,13 +241,13 @@ deep l =
     1
 
 -- One that needs no buffer is done with 16 open, and its fill touches the row for each; one that needs a buffer is the 17th: 6.
-pub filter-16-deep : listed (file (deep (filtered full 0 (filter 5 (box 0 0 32 4) 0 0)))) ≡
+pub filter-16-deep : listed (file One (deep (filtered full 0 (filter 5 (box 0 0 32 4) 0 0)))) ≡
     header 1 1 17
     ∷ row 0 0 49
     ∷ (replicate 15 (B (Some (span 0 16))) ++ (B (Some (span 0 16)) ∷ P 0 8 None 0 ∷ join (λ (i : ℕ). L 0 16 None i ∷ E ∷ []) (range 0 16)))
 unfolding computing
 filter-16-deep = refl
 
-pub buffer-17-deep : listed (file (deep (filtered full 2 (filter 5 (box 0 0 32 4) 0 0)))) ≡ refused 6 ∷ []
+pub buffer-17-deep : listed (file One (deep (filtered full 2 (filter 5 (box 0 0 32 4) 0 0)))) ≡ refused 6 ∷ []
 unfolding computing
 buffer-17-deep = refl

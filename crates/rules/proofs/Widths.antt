@@ -4,6 +4,7 @@ use Rattle.sizes.specs.declared.answers.Refusal.TheVariants.{BadViewport}
 use Rattle.sizes.specs.declared.width.Width.{Width}
 use Rattle.sizes.specs.declared.width.Width.TheVariants.{W64, W128, W256}
 use Rattle.sizes.specs.Widths.{bucket-tiles, width_of}
+use Rattle.sizes.specs.declared.edition.Edition.TheVariants.{One}
 use Rattle.rules.specs.Lists.{every}
 use Rattle.rules.specs.Boxes.{box, buckets-of}
 use Rattle.rules.specs.Spans.{span}
@@ -71,7 +72,7 @@ summaries = refl
 
 -- A screen that ends at tile 50: the whole buckets before it are depth fills, those of 64 pixels up to tile 48, none of 256.
 abbrev listed_at : Width → Recording → List Line
-listed_at w r = rowlist-words (usual exact w) (file r)
+listed_at w r = rowlist-words (usual exact w) (file One r)
 
 pub lines-at-64 : listed_at W64 last-bucket ≡ header 1 4 2 ∷ row 0 1 2 ∷ D 0 3 1 ∷ P 20 50 (Some 32) 0 ∷ P 48 50 None 1 ∷ []
 unfolding computing
@@ -83,7 +84,7 @@ lines-at-256 = refl
 
 abbrev pieces-at : Width → Recording → List (List Piece)
 pieces-at w r =
-    let s = (rowlist-screen (usual exact w) (file r)).value in
+    let s = (rowlist-screen (usual exact w) (file One r)).value in
     map (paint-row (bucket-tiles w) s.state.attrs (buckets-of (bucket-tiles w) r.viewport)) s.rows
 
 pub pieces-at-64 : pieces-at W64 last-bucket ≡ (paint-piece 1 0 48 None 0 ∷ paint-piece 0 48 50 (Some 480) 0 ∷ paint-piece 1 48 50 None 0 ∷ []) ∷ []

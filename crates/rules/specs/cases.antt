@@ -4,3 +4,4 @@ pub mod KnownPoints
 pub mod WorkedExample
 pub mod Edges
 pub mod Refusals
+pub mod Editions

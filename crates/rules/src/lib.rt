@@ -6,15 +6,17 @@ ghost use Rattle.rules.specs.Snapping.{SnappedSmallest, ModesSame, ExactSnapped,
 ghost use Rattle.rules.specs.cases.KnownPoints.{KnownPoints};
 ghost use Rattle.rules.specs.cases.WorkedExample.{WorkedExample};
 ghost use Rattle.rules.specs.cases.Edges.{EdgesHold};
+ghost use Rattle.rules.specs.cases.Editions.{EditionsHold};
 ghost use Rattle.rules.specs.cases.Refusals.{AnswersDue, LeftAlone};
 
-/// The rules at known points, their worked example, each answer and each bound on both sides of its edge.
+/// The rules at known points, their worked example, each answer and each bound on both sides of its edge, and a recording file's editions.
 pub fn rules_hold_at_known_points()
     ensures points { KnownPoints }
     ensures worked { WorkedExample }
     ensures answers { AnswersDue }
     ensures left { LeftAlone }
     ensures edges { EdgesHold }
+    ensures editions { EditionsHold }
 {}
 
 /// What the snapping mode makes of a box: the smallest box of tile edges around it.

@@ -59,7 +59,7 @@ module _ (w : ℕ) (attrs : Attrs) (t : ℕ) where
       rw (hit.regular-one, hit.bucket-one) at (adds-both w attrs t e p)
 
   module _ (v : Box) (row : ℕ) where
-    same_whole : (s : Span) → whole-at w (t / w) s ≡ whole-bucket w v row t s
+    pub same_whole : (s : Span) → whole-at w (t / w) s ≡ whole-bucket w v row t s
     same_whole s = rw (suc-mul (t / w) w)
 
     whole_covers : 0 < w → (s : Span) → whole-bucket w v row t s ≡ true → covers s t ≡ true

@@ -28,11 +28,11 @@ use Rattle.rules_picture.proofs.Grown.{Grown, draw-grows}
 abbrev pub layer-in : OpenLayer → Layer
 layer-in l = l.layer
 
-map-empty : (ls : List OpenLayer) → is-empty (map layer-in ls) ≡ is-empty ls
+pub map-empty : (ls : List OpenLayer) → is-empty (map layer-in ls) ≡ is-empty ls
 map-empty [] = refl
 map-empty (l ∷ ls) = refl
 
-empty-length : {A : Type 0} (xs : List A) → is-empty xs ≡ true → length xs ≡ 0
+pub empty-length : {A : Type 0} (xs : List A) → is-empty xs ≡ true → length xs ≡ 0
 empty-length [] e = refl
 empty-length (x ∷ xs) e = let z : ◌≡◌ {A = ℕ} 0 1 = ap (λ (b : Bool). cond b 1 0) e in absurd (omega arith)
 
@@ -96,7 +96,7 @@ module _ (w : ℕ) (attrs : Attrs) (t : ℕ) (v : Box) (row : ℕ) where
         shape = f.grown.shape;
       })
 
-  empty-list : {A : Type 0} (xs : List A) → is-empty xs ≡ true → xs ≡ []
+  pub empty-list : {A : Type 0} (xs : List A) → is-empty xs ≡ true → xs ≡ []
   empty-list [] e = refl
   empty-list (x ∷ xs) e = never (sym e)
 

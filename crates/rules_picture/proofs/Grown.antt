@@ -63,7 +63,7 @@ module _ (w : ℕ) (attrs : Attrs) (t : ℕ) (v : Box) (row : ℕ) where
   abbrev pub close-act : ℕ → Cut → Act
   close-act i k = close k.stretch.tiles k.stretch.alpha i
 
-  closes-add : (n m i q id : ℕ) → LayerHas attrs i id q → (ks : List Cut) (r : Row) → Sound r → length r.levels ≡ m
+  pub closes-add : (n m i q id : ℕ) → LayerHas attrs i id q → (ks : List Cut) (r : Row) → Sound r → length r.levels ≡ m
       → Adds w attrs t (such stays (tell w v row t true i q m id false ks)) (such hides-of (tell w v row t true i q m id false ks)) m r (do-acts Row row-ops w n (map (close-act i) ks) r)
   unfolding do-acts
   closes-add n m i q id has [] r s h = rw h at (adds_none w attrs t r s)

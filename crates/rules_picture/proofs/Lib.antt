@@ -31,3 +31,14 @@ pub mod Recorded
 pub mod Panels
 pub mod Edited
 pub mod EditedFiles
+pub mod Pixels
+pub mod Comes
+pub mod TurnsCome
+pub mod Changes
+pub mod Stacked
+pub mod Restacked
+pub mod StackedSteps
+pub mod SamePicture
+pub mod Inside
+pub mod StoredColours
+pub mod Places

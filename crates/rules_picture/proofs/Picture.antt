@@ -29,7 +29,7 @@ built-frame (then {x = x} {s = s} e b) = built-frame b ∙ call-frame row-ops x 
 
 module _ (w t : ℕ) (v : Box) (row : ℕ) where
   -- the attributes of a built screen begin with those of each screen on the way
-  built-leads : {xs : List Step} {s u : Screen Row} → Built xs s u → Leads w u.state.attrs t v row s.state.attrs
+  pub built-leads : {xs : List Step} {s u : Screen Row} → Built xs s u → Leads w u.state.attrs t v row s.state.attrs
   unfolding done
   built-leads {u = u} no_step =
       record { paints-more = []; paints = sym (append-nil u.state.attrs.paints); layers-more = []; layers = sym (append-nil u.state.attrs.layers) }
@@ -50,7 +50,7 @@ module _ (w t : ℕ) (v : Box) (row : ℕ) where
       built-follows pos b (tell-step w v row t x o) (rw q g)
 
 -- a reset screen and the beginning of the story
-reset-follows : (attrs : Attrs) (t row : ℕ) (f : Frame) → row < rows_of f.viewport → Follows (bucket f) attrs t f.viewport row untold (reset fresh-row f)
+pub reset-follows : (attrs : Attrs) (t row : ℕ) (f : Frame) → row < rows_of f.viewport → Follows (bucket f) attrs t f.viewport row untold (reset fresh-row f)
 unfolding reset
 reset-follows attrs t row f h =
     let e : get_or (replicate (rows_of f.viewport) fresh-row) row fresh-row ≡ fresh-row = get_or-replicate (rows_of f.viewport) row fresh-row fresh-row h in
@@ -70,7 +70,7 @@ reset-follows attrs t row f h =
 -- Take a screen built from its reset by done steps xs.
 module _ (f : Frame) (xs : List Step) (u : Screen Row) (b : Built xs (reset fresh-row f) u) where
   -- it follows the story of each tile, at the frame's own width
-  follows : (row t : ℕ) → row < rows_of f.viewport
+  pub follows : (row t : ℕ) → row < rows_of f.viewport
       → Follows (bucket f) u.state.attrs t f.viewport row (tell-steps (bucket f) f.viewport row t xs untold) u
   follows row t h = built-follows (bucket f) t f.viewport row (bucket-some f.width) b untold (reset-follows u.state.attrs t row f h)
 

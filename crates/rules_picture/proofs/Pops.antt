@@ -74,20 +74,20 @@ close-acts i row js (k ∷ ks) = by (eqb k.row row)
     (λ z. rw (z, n) (close-acts i row js ks)))
 
 module _ (w : ℕ) (attrs : Attrs) (t : ℕ) (v : Box) (row : ℕ) where
-  closing-acts : (c : Option Clip) (own : Box) (ls : List OpenLayer) (i : ℕ) (ss : List Segment) (js : List ℕ) → Rows 0 js
+  pub closing-acts : (c : Option Clip) (own : Box) (ls : List OpenLayer) (i : ℕ) (ss : List Segment) (js : List ℕ) → Rows 0 js
       → acts-at row (closing c v own (box-now v ls) i ss js) ≡ cond (some_of (eqb row) js) (map (close-act w attrs t v row i) (closers w v row t c own ls ss)) []
   unfolding closing
   closing-acts None own ls i ss js r = acts-once (close (span_of own) None i) row r ∙ by (some_of (eqb row) js) (λ y. rw y) (λ n. rw n)
   closing-acts (Some c) own ls i ss js r = close-acts i row js (cuts v (box-now v ls) (clip-segments (Some c) ss))
 
-  closers-single : (c : Option Clip) (own : Box) (ls : List OpenLayer) (ss : List Segment) → judge-segments (not (clip-fits c ss)) (clip-segments c ss) ≡ Done
+  pub closers-single : (c : Option Clip) (own : Box) (ls : List OpenLayer) (ss : List Segment) → judge-segments (not (clip-fits c ss)) (clip-segments c ss) ≡ Done
       → Single (such (λ (k : Cut). covers k.stretch.tiles t) (closers w v row t c own ls ss))
   closers-single None own ls ss j = by (covers (span_of own) t) (λ y. rw y (one _)) (λ n. rw n nothing)
   closers-single (Some c) own ls ss j =
       let (_, good, ord) = judged-facts (not (clip-fits (Some c) ss)) (clip-segments (Some c) ss) j in
       single v (box-now v ls) row t (clip-segments (Some c) ss) good ord
 
-  new-layer : (ps : List LayerAttr) (x : LayerAttr) (more : List LayerAttr) → attrs.layers ≡ (ps ++ (x ∷ [])) ++ more → LayerHas attrs (length ps) x.id x.panel
+  pub new-layer : (ps : List LayerAttr) (x : LayerAttr) (more : List LayerAttr) → attrs.layers ≡ (ps ++ (x ∷ [])) ++ more → LayerHas attrs (length ps) x.id x.panel
   new-layer ps x more e =
       let is : get_or attrs.layers (length ps) no-layer ≡ x =
       ap (λ (l : List LayerAttr). get_or l (length ps) no-layer) (e ∙ append_assoc ps (x ∷ []) more) ∙ get_or-append_seam ps x more no-layer in

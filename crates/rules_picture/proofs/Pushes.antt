@@ -24,10 +24,10 @@ use Rattle.rules_picture.proofs.Follows.{Leads, Follows, new-paint}
 
 module _ (w : ℕ) (attrs : Attrs) (t : ℕ) (v : Box) (row : ℕ) where
   -- an act put on the rows of a box
-  box-acts : (a : Act) (b : Box) → acts-at row (map (on a) (rows_in b)) ≡ keep (in_rows w v row t b) a []
+  pub box-acts : (a : Act) (b : Box) → acts-at row (map (on a) (rows_in b)) ≡ keep (in_rows w v row t b) a []
   box-acts a b = acts-once a row (rows-counted (b.y0 / 4) ((b.y1 + 3) / 4 - b.y0 / 4))
 
-  push-acts : (c : Bool) (b : Box) → acts-at row (cond c (map (on touch) (rows_in b)) []) ≡ keep (c && in_rows w v row t b) touch []
+  pub push-acts : (c : Bool) (b : Box) → acts-at row (cond c (map (on touch) (rows_in b)) []) ≡ keep (c && in_rows w v row t b) touch []
   push-acts true b = box-acts touch b
   push-acts false b = refl
 
@@ -56,16 +56,16 @@ module _ (w : ℕ) (attrs : Attrs) (t : ℕ) (v : Box) (row : ℕ) where
         grown = rw (f.view, f.wide, f.opened, length-map) (rw same at g);
       }
 
-  cut-single : (b : Box) (c : Bool) → Single (such (λ (k : Cut). covers k.stretch.tiles t) (cond c (record { row = row; stretch = solid-tiles (span_of b) } ∷ []) []))
+  pub cut-single : (b : Box) (c : Bool) → Single (such (λ (k : Cut). covers k.stretch.tiles t) (cond c (record { row = row; stretch = solid-tiles (span_of b) } ∷ []) []))
   cut-single b true = by (covers (span_of b) t) (λ y. rw y (one _)) (λ n. rw n nothing)
   cut-single b false = nothing
 
-  cut-acts : (b : Box) (i id : ℕ) (c : Bool) → map (cut-act false i id) (cond c (record { row = row; stretch = solid-tiles (span_of b) } ∷ []) []) ≡ keep c (paint (span_of b) None i) []
+  pub cut-acts : (b : Box) (i id : ℕ) (c : Bool) → map (cut-act false i id) (cond c (record { row = row; stretch = solid-tiles (span_of b) } ∷ []) []) ≡ keep c (paint (span_of b) None i) []
   unfolding draw-act
   cut-acts b i id true = refl
   cut-acts b i id false = refl
 
-  cut-some : (b : Box) (c : Bool) → not (is-empty {A = Cut} (cond c (record { row = row; stretch = solid-tiles (span_of b) } ∷ []) [])) ≡ c
+  pub cut-some : (b : Box) (c : Bool) → not (is-empty {A = Cut} (cond c (record { row = row; stretch = solid-tiles (span_of b) } ∷ []) [])) ≡ c
   cut-some b true = refl
   cut-some b false = refl
 

@@ -6,7 +6,7 @@ use Rattle.rules.specs.Boxes.{width, rows_of}
 use Rattle.rules.specs.Rows.{Row, row-ops, fresh-row}
 use Rattle.rules.specs.Plans.{bucket}
 use Rattle.rules.specs.Steps.{Screen, reset, call}
-use Rattle.rules.specs.Recording.{Recording, shape, sections, recording}
+use Rattle.rules.specs.Recording.{Recording, File, parsed, recording}
 use Rattle.rules.specs.Walk.{Place, frame-of, judge-records, play-records, play, walk-all}
 use Rattle.rules.specs.Logged.{walk-logged}
 use Rattle.rules.specs.Painting.{received}
@@ -101,19 +101,19 @@ module _ (p : Place) (old : Screen Row) where
       ap (λ (x : Answer (Screen Row)). x.value) (play-judged r n) ∙ rw l)
 
   -- the words that say no recording, and those that say one
-  play-none : (ws : List ℕ) → sections shape ws ≡ None → played p old ws ≡ answer BadForm old
+  play-none : (ws : File) → parsed ws ≡ None → played p old ws ≡ answer BadForm old
   unfolding play
   play-none ws e = rw (e, play)
 
-  pub play-some : (ws : List ℕ) (ss : List (List (List ℕ))) → sections shape ws ≡ Some ss → played p old ws ≡ play-records (Screen Row) (call Row row-ops) (reset fresh-row) p old (recording ss)
+  pub play-some : (ws : File) (ss : List (List (List ℕ))) → parsed ws ≡ Some ss → played p old ws ≡ play-records (Screen Row) (call Row row-ops) (reset fresh-row) p old (recording ss)
   unfolding play
   play-some ws ss e = rw (e, play)
 
   -- Rule 2: an accepted recording leaves what its history builds, ..
-  pub accepted : (ws : List ℕ) → (played p old ws).number ≡ Done → Accepted p ws (played p old ws).value
-  accepted ws e = go (sections shape ws) refl
+  pub accepted : (ws : File) → (played p old ws).number ≡ Done → Accepted p ws (played p old ws).value
+  accepted ws e = go (parsed ws) refl
     where
-      go : (o : Option (List (List (List ℕ)))) → sections shape ws ≡ o → Accepted p ws (played p old ws).value
+      go : (o : Option (List (List (List ℕ)))) → parsed ws ≡ o → Accepted p ws (played p old ws).value
       go None n = let z : ◌≡◌ {A = ℕ} BadForm Done = sym (ap (λ (x : Answer (Screen Row)). x.number) (play-none ws n)) ∙ e in absurd (omega arith)
       go (Some ss) y =
           let q = play-some ws ss y in
@@ -121,32 +121,32 @@ module _ (p : Place) (old : Screen Row) where
           record { words = record { parts = ss; formed = y }; built = rw q b; closed = rw q c }
 
   -- .. one refused with 1, 2 or 3 leaves the screen as it was, ..
-  pub refused-early : (ws : List ℕ) → 0 < (played p old ws).number → (played p old ws).number ≤ 3 → (played p old ws).value ≡ old
-  refused-early ws a b = go (sections shape ws) refl
+  pub refused-early : (ws : File) → 0 < (played p old ws).number → (played p old ws).number ≤ 3 → (played p old ws).value ≡ old
+  refused-early ws a b = go (parsed ws) refl
     where
-      go : (o : Option (List (List (List ℕ)))) → sections shape ws ≡ o → (played p old ws).value ≡ old
+      go : (o : Option (List (List (List ℕ)))) → parsed ws ≡ o → (played p old ws).value ≡ old
       go None n = ap (λ (x : Answer (Screen Row)). x.value) (play-none ws n)
       go (Some ss) y =
           let q = play-some ws ss y in
           ap (λ (x : Answer (Screen Row)). x.value) q ∙ records-early (recording ss) (rw q at a) (rw q at b)
 
   -- .. and one refused with any other number leaves it freshly reset.
-  pub refused-late : (ws : List ℕ) → 3 < (played p old ws).number → LeftReset p ws (played p old ws).value
-  refused-late ws a = go (sections shape ws) refl
+  pub refused-late : (ws : File) → 3 < (played p old ws).number → LeftReset p ws (played p old ws).value
+  refused-late ws a = go (parsed ws) refl
     where
-      go : (o : Option (List (List (List ℕ)))) → sections shape ws ≡ o → LeftReset p ws (played p old ws).value
+      go : (o : Option (List (List (List ℕ)))) → parsed ws ≡ o → LeftReset p ws (played p old ws).value
       go None n = let e = ap (λ (x : Answer (Screen Row)). x.number) (play-none ws n) in absurd (omega arith)
       go (Some ss) y =
           let q = play-some ws ss y in
           record { words = record { parts = ss; formed = y }; fresh = ap (λ (x : Answer (Screen Row)). x.value) q ∙ records-reset (recording ss) (rw q at a) }
 
-begin-done : (k : Canvas) → k.screen.state.layers ≡ [] → (begin-call k).number ≡ Done
+pub begin-done : (k : Canvas) → k.screen.state.layers ≡ [] → (begin-call k).number ≡ Done
 unfolding begin-call
 begin-done k e = rw e
 
 -- The screen u of an accepted recording can be painted, and the picture speaks of it: a finished row has given each of its tiles what plain
 -- draw order gives it of the recording's history, on the screen of the frame that its reset made.
-pub recorded-picture : (p : Place) (ws : List ℕ) (u : Screen Row) (a : Accepted p ws u) (k : Canvas) → k.screen ≡ u
+pub recorded-picture : (p : Place) (ws : File) (u : Screen Row) (a : Accepted p ws u) (k : Canvas) → k.screen ≡ u
     → ((begin-call k).number ≡ Done)
     × ((ts : List Turn) (r t : ℕ) → r < rows_of (frame-of p (said a.words)).viewport → t < width (frame-of p (said a.words)).viewport / 4
     → has-finished (painted ts k).canvas r ≡ true

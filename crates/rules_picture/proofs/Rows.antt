@@ -31,7 +31,7 @@ module _ {A : Type 0} where
   cons_head : {x y : A} {xs ys : List A} → (x ∷ xs) ≡ (y ∷ ys) → x ≡ y
   cons_head {x} e = ap (λ (l : List A). get_or l 0 x) e
 
-  cons_tail : {x y : A} {xs ys : List A} → (x ∷ xs) ≡ (y ∷ ys) → xs ≡ ys
+  pub cons_tail : {x y : A} {xs ys : List A} → (x ∷ xs) ≡ (y ∷ ys) → xs ≡ ys
   cons_tail e = ap (λ (l : List A). drop 1 l) e
 
   nil-cons : {x : A} {xs : List A} → [] ≡ (x ∷ xs) → ⊥
@@ -72,7 +72,7 @@ module _ (w : ℕ) (attrs : Attrs) (t : ℕ) where
   Numbered f = 0 < paint-id attrs f.attribute
 
   -- the word of the tile's bucket is the newest told fill's id
-  newest-told : (fs : List DepthFill) → newest (paint-id attrs) fs (t / w) ≡ newest-hide (told-fills fs)
+  pub newest-told : (fs : List DepthFill) → newest (paint-id attrs) fs (t / w) ≡ newest-hide (told-fills fs)
   unfolding newest newest-hide
   newest-told [] = refl
   newest-told (f ∷ fs) = by (covers f.buckets (t / w))
@@ -110,7 +110,7 @@ module _ (w : ℕ) (attrs : Attrs) (t : ℕ) where
 
   module _ (pos : 0 < w) (r : Row) (n : ℕ) (on : t / w < n) where
     -- the pieces of the first k steps
-    unfoldable pieces-after : ℕ → List Piece
+    unfoldable pub pieces-after : ℕ → List Piece
     pieces-after zero = []
     pieces-after (suc k) = pieces-after k ++ (paint-step w attrs r (painter-after w attrs r n k)).pieces
 
@@ -123,7 +123,7 @@ module _ (w : ℕ) (attrs : Attrs) (t : ℕ) where
         ∙ unfold pieces-after painter-after in append_assoc (pieces-after j) _ _
 
     -- the depth fills, newest to oldest: the tile receives the newest that covers its bucket
-    fills-received : All Numbered r.fills → (k : ℕ) → k ≤ length r.fills
+    pub fills-received : All Numbered r.fills → (k : ℕ) → k ≤ length r.fills
         → received t (pieces-after k) ≡ map entry-told (hider (told-fills (drop (length r.fills - k) r.fills)))
     unfolding pieces-after hider fill-at paint-depth
     fills-received a zero h =
@@ -151,7 +151,7 @@ module _ (w : ℕ) (attrs : Attrs) (t : ℕ) where
         ∙ ap (λ (gs : List DepthFill). map entry-told (hider (told-fills gs))) same
 
     -- the commands in order, from the jth on: those that cover the tile and are no older than the word of its bucket
-    drop_head : (j : ℕ) (xs : List Command) (c : Command) (cs : List Command) → drop j xs ≡ c ∷ cs → (get_or xs j pop-buf ≡ c) × (drop (suc j) xs ≡ cs) × (j < length xs)
+    pub drop_head : (j : ℕ) (xs : List Command) (c : Command) (cs : List Command) → drop j xs ≡ c ∷ cs → (get_or xs j pop-buf ≡ c) × (drop (suc j) xs ≡ cs) × (j < length xs)
     drop_head j xs c cs e = by (ltb j (length xs))
         (λ y.
         let h = ltb-true j (length xs) y in
@@ -159,7 +159,7 @@ module _ (w : ℕ) (attrs : Attrs) (t : ℕ) where
         (cons_head q, cons_tail q, h))
         (λ n. absurd (nil-cons (sym (drop_of_length-le xs (ltb-false j (length xs) n)) ∙ e)))
 
-    command-next : (p : Painter) (j : ℕ) → p.steps ≡ length r.fills + j → j < length r.commands
+    pub command-next : (p : Painter) (j : ℕ) → p.steps ≡ length r.fills + j → j < length r.commands
         → paint-step w attrs r p ≡ paint-command w attrs (get_or r.commands j pop-buf) p
     unfolding paint-step paint-when
     command-next p j e h =

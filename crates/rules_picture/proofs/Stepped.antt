@@ -44,7 +44,7 @@ pub filter-some : (n : ℕ) (x : Filter) (q : ℕ) (s : State) (b : Box) → fil
 unfolding plan-filter
 filter-some n x q s b e y z = rw (y, z) (ap (λ (c : Box). plan-filter-in c n x q s) e)
 
-filter-bad : (n : ℕ) (x : Filter) (q : ℕ) (s : State) → (good-filter-fill n x q) ≡ false → (plan-filter n x q s).refused ≡ BadRecord
+pub filter-bad : (n : ℕ) (x : Filter) (q : ℕ) (s : State) → (good-filter-fill n x q) ≡ false → (plan-filter n x q s).refused ≡ BadRecord
 unfolding plan-filter
 filter-bad n x q s z = rw z
 

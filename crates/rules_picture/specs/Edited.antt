@@ -11,7 +11,7 @@ use Rattle.rules.specs.Plans.{Frame, bucket, Step, a-fill, a-push, a-pop, a-filt
 use Rattle.rules.specs.Steps.{Screen, reset}
 use Rattle.rules.specs.Answers.{Done}
 use Rattle.rules.specs.Calls.{Canvas, begin-call}
-use Rattle.rules.specs.Recording.{Recording, LayerRec}
+use Rattle.rules.specs.Recording.{Recording, LayerRec, File}
 use Rattle.rules.specs.Walk.{Place, frame-of}
 use Rattle.rules_picture.specs.Built.{Built}
 use Rattle.rules_picture.specs.Recorded.{Readable, said, played}
@@ -115,7 +115,7 @@ pub record EditedFile (r : ℕ) (a b : Recording) : Type 0 where
 -- Played into the same place, whatever the screen was before, and both accepted: row i of the screen, the next id and every attribute are the same.
 abbrev pub Line-edited : Type 0
 Line-edited =
-    (p : Place) (old new : Screen Row) (ws vs : List ℕ) (x : Readable ws) (y : Readable vs)
+    (p : Place) (old new : Screen Row) (ws vs : File) (x : Readable ws) (y : Readable vs)
     → (played p old ws).number ≡ Done → (played p new vs).number ≡ Done
     → (i : ℕ) → i < rows_of (frame-of p (said x)).viewport
     → EditedFile (i + (frame-of p (said x)).viewport.y0 / 4) (said x) (said y)

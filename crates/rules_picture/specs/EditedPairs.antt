@@ -1,6 +1,7 @@
 -- Pairs of recordings to be computed: two that are edits of one another outside row 0, and three of which the row is not the same.
 use Rattle.std.specs.Prelude.{ℕ, ◌+◌, ◌≡◌, List, [], ◌∷◌, ◌++◌, length, get_or, None, Some}
 use Rattle.sizes.specs.declared.width.Width.TheVariants.{W128}
+use Rattle.sizes.specs.declared.edition.Edition.TheVariants.{One}
 use Rattle.rules.specs.Answers.{Answer}
 use Rattle.rules.specs.Spans.{span}
 use Rattle.rules.specs.Boxes.{box}
@@ -17,7 +18,7 @@ use Rattle.rules_picture.specs.Edited.{on-row, EditedFile, SameRow}
 
 -- what is left of a recording that is played at 64 commands and depth fills a row
 abbrev pub left : Recording → Answer (Screen Row)
-left r = rowlist-screen (usual exact W128) (file r)
+left r = rowlist-screen (usual exact W128) (file One r)
 
 -- .. and row i of it, as its lines
 abbrev pub lines : ℕ → Answer (Screen Row) → List Line
@@ -64,7 +65,7 @@ abbrev pub crowded : Recording
 crowded = drawn (alpha 0 0 1 0 ∷ alpha 1 0 1 16 ∷ alpha 1 2 3 32 ∷ []) (draw 0 3 ∷ [])
 
 abbrev pub narrow : Recording → Answer (Screen Row)
-narrow r = rowlist-screen (record { c = 1; d = 1; mode = exact; width = W128 }) (file r)
+narrow r = rowlist-screen (record { c = 1; d = 1; mode = exact; width = W128 }) (file One r)
 
 pub record EditedPairs : Type 0 where
   -- row 0 is the same, word for word, and row 1 is not

@@ -6,3 +6,8 @@ pub mod Panels
 pub mod TwoPanels
 pub mod Edited
 pub mod EditedPairs
+pub mod Colours
+pub mod StoredColours
+pub mod Places
+pub mod Pixels
+pub mod ColourScenes

@@ -5,34 +5,34 @@ use Rattle.rules.specs.Answers.{Answer}
 use Rattle.rules.specs.Rows.{Row, row-ops, fresh-row}
 use Rattle.rules.specs.Plans.{Step}
 use Rattle.rules.specs.Steps.{Screen, reset, call}
-use Rattle.rules.specs.Recording.{Recording, shape, sections, recording}
+use Rattle.rules.specs.Recording.{Recording, File, parsed, recording}
 use Rattle.rules.specs.Walk.{Place, frame-of, play}
 use Rattle.rules.specs.Logged.{walk-logged}
 use Rattle.rules_picture.specs.Built.{Built}
 
--- the file's words ws played, where the screen was `old`
-abbrev pub played : Place → Screen Row → List ℕ → Answer (Screen Row)
+-- the file ws played, where the screen was `old`
+abbrev pub played : Place → Screen Row → File → Answer (Screen Row)
 played p old ws = play (Screen Row) (call Row row-ops) (reset fresh-row) p old ws
 
 -- the steps of a recording's walk from the reset, each that was called
 abbrev pub history : Place → Recording → List Step
 history p r = (walk-logged Row row-ops fresh-row (frame-of p r) r).value.log
 
--- the words are well formed: the file's parts, and the recording that they say
-pub record Readable (ws : List ℕ) : Type 0 where
+-- the file is well formed: its parts, and the recording that they say
+pub record Readable (ws : File) : Type 0 where
   pub parts : List (List (List ℕ))
-  pub formed : sections shape ws ≡ Some parts
+  pub formed : parsed ws ≡ Some parts
 
-abbrev pub said : {ws : List ℕ} → Readable ws → Recording
+abbrev pub said : {ws : File} → Readable ws → Recording
 said s = recording s.parts
 
 -- an accepted recording has left the screen u: built from its reset by its history, with no layer open
-pub record Accepted (p : Place) (ws : List ℕ) (u : Screen Row) : Type 0 where
+pub record Accepted (p : Place) (ws : File) (u : Screen Row) : Type 0 where
   pub words : Readable ws
   pub built : Built (history p (said words)) (reset fresh-row (frame-of p (said words))) u
   pub closed : u.state.layers ≡ []
 
 -- one refused for its records or its steps has left its screen freshly reset
-pub record LeftReset (p : Place) (ws : List ℕ) (u : Screen Row) : Type 0 where
+pub record LeftReset (p : Place) (ws : File) (u : Screen Row) : Type 0 where
   pub words : Readable ws
   pub fresh : u ≡ reset fresh-row (frame-of p (said words))

@@ -2,9 +2,12 @@
 //! theorem about the rules, and it does nothing else.
 #![tactic(auto)]
 
+ghost use Rattle.rules_picture.specs.ColourScenes.{AllNeeded, TwoScenes, WrongRows};
 ghost use Rattle.rules_picture.specs.Edited.{Line-edited, Line-listed, Line-painted, Row-unchanged};
 ghost use Rattle.rules_picture.specs.EditedPairs.{EditedPairs};
 ghost use Rattle.rules_picture.specs.Panels.{Answered-alike, Built-alike, Panel-blind, Painted-alike, Told-alike};
+ghost use Rattle.rules_picture.specs.Pixels.{LogGentle, LogHides, PixelsGentle, PixelsHide};
+ghost use Rattle.rules_picture.specs.Places.{AttributesPlaced};
 ghost use Rattle.rules_picture.specs.TwoPanels.{TwoPanels};
 
 /// Who draws decides nothing.
@@ -24,4 +27,24 @@ pub fn lines_stay()
     ensures recordings { Line-edited }
     ensures painted { Line-painted }
     ensures pairs { EditedPairs }
+{}
+
+/// What each step said of a paint or a layer stands at its place among the attributes to the end.
+pub fn attributes_keep_their_places()
+    ensures { AttributesPlaced }
+{}
+
+/// Pixels composited by source-over, and a log that forgets, keep both laws that are asked of colours.
+pub fn pixels_and_logs_keep_the_laws()
+    ensures pixels_hide { PixelsHide }
+    ensures pixels_gentle { PixelsGentle }
+    ensures log_hides { LogHides }
+    ensures log_gentle { LogGentle }
+{}
+
+/// What colours tell apart, and that each law and each layer's own box are needed.
+pub fn colours_tell_scenes_apart()
+    ensures scenes { TwoScenes }
+    ensures needed { AllNeeded }
+    ensures rows { WrongRows }
 {}

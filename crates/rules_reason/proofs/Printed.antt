@@ -1,6 +1,7 @@
 -- Tests: what `why` prints, by computation, each text as the program's description has it.
 use Rattle.std.proofs.Common.{◌≡◌, refl, codes, [], ◌∷◌}
 use Rattle.sizes.specs.declared.width.Width.TheVariants.{W64, W128, W256}
+use Rattle.sizes.specs.declared.edition.Edition.TheVariants.{One}
 use Rattle.rules.specs.Boxes.{box}
 use Rattle.rules.specs.Setups.{exact, snapping}
 use Rattle.rules.specs.Lines.{usual}
@@ -19,26 +20,26 @@ computing-answers = tt
 
 -- the panel hides what came before it
 pub panel-text :
-    why-words (usual exact W128) (file panel) 0 70 every ≡
+    why-words (usual exact W128) (file One panel) 0 70 every ≡
     codes "draw 0: hidden by a newer depth fill, attribute 2 of panel 0, panel 0\ndraw 1: hidden by a newer depth fill, attribute 2 of panel 0, panel 0\ndraw 2: shown, place 0, panel 0\n"
 unfolding computing-answers
 panel-text = refl
 
 -- a bucket of 16 tiles lies in the panel where one of 32 does not, and none of 64 does
 pub narrow-text :
-    why-words (usual exact W64) (file panel) 0 50 (one (draw-of 0)) ≡
+    why-words (usual exact W64) (file One panel) 0 50 (one (draw-of 0)) ≡
     codes "hidden by a newer depth fill, attribute 2 of panel 0, panel 0\n"
 unfolding computing-answers
 narrow-text = refl
 
 pub middle-text :
-    why-words (usual exact W128) (file panel) 0 50 (one (draw-of 0)) ≡
+    why-words (usual exact W128) (file One panel) 0 50 (one (draw-of 0)) ≡
     codes "shown, place 0, panel 0\n"
 unfolding computing-answers
 middle-text = refl
 
 pub wide-text :
-    why-words (usual exact W256) (file panel) 0 70 (one (draw-of 2)) ≡
+    why-words (usual exact W256) (file One panel) 0 70 (one (draw-of 2)) ≡
     codes "shown, place 2, panel 0\n"
 unfolding computing-answers
 wide-text = refl
@@ -64,7 +65,7 @@ unfolding computing-answers
 worked-unknown = refl
 
 pub parent-text :
-    why-words (usual exact W128) (file parent-cut) 0 20 (one (draw-of 0)) ≡
+    why-words (usual exact W128) (file One parent-cut) 0 20 (one (draw-of 0)) ≡
     codes "cut away by a clip box, panel 0\n"
 unfolding computing-answers
 parent-text = refl
@@ -90,7 +91,7 @@ row-off = refl
 
 -- a refused recording's own number comes first
 pub cyclic-off :
-    why-words (usual exact W128) (file (rec (box 0 0 64 4) [] [] (layer 0 1 ∷ []) (node 0 0 1 ∷ []) 0 1)) 9 9 every ≡
+    why-words (usual exact W128) (file One (rec (box 0 0 64 4) [] [] (layer 0 1 ∷ []) (node 0 0 1 ∷ []) 0 1)) 9 9 every ≡
     codes "refused 6\n"
 unfolding computing-answers
 cyclic-off = refl
@@ -103,13 +104,13 @@ bytes_left = refl
 
 -- in snapping mode the screen is the snapped box: 16 tiles, the last of them number 15
 pub snapped-tile :
-    why-words (usual snapping W128) (file (rec (box 3 1 61 3) [] [] [] [] 0 0)) 0 15 (one (draw-of 0)) ≡
+    why-words (usual snapping W128) (file One (rec (box 3 1 61 3) [] [] [] [] 0 0)) 0 15 (one (draw-of 0)) ≡
     codes "unknown attribute\n"
 unfolding computing-answers
 snapped-tile = refl
 
 pub snapped-off :
-    why-words (usual snapping W128) (file (rec (box 3 1 61 3) [] [] [] [] 0 0)) 0 16 (one (draw-of 0)) ≡
+    why-words (usual snapping W128) (file One (rec (box 3 1 61 3) [] [] [] [] 0 0)) 0 16 (one (draw-of 0)) ≡
     codes "refused 12\n"
 unfolding computing-answers
 snapped-off = refl

@@ -6,7 +6,7 @@ use Rattle.rules.specs.Boxes.{Box, width, rows_of}
 use Rattle.rules.specs.Rows.{Row, row-ops, fresh-row}
 use Rattle.rules.specs.Plans.{Frame, bucket, Step}
 use Rattle.rules.specs.Setups.{Setup, frame}
-use Rattle.rules.specs.Recording.{Recording, shape, sections, recording}
+use Rattle.rules.specs.Recording.{Recording, in-one, parsed, recording}
 use Rattle.rules.specs.Lines.{refused, rowlist-screen, words_of, too_long, digits, number, line-bytes}
 use Rattle.rules.specs.Plain.{untold, tell-steps}
 use Rattle.rules.specs.Logged.{walk-logged}
@@ -126,7 +126,7 @@ answer-in u (Some ss) row tile q = let r = recording ss in recording-answer (fra
 unfoldable pub why-words : Setup → List ℕ → ℕ → ℕ → Question → List ℕ
 why-words u ws row tile q =
     let n = (rowlist-screen u ws).number in
-    let answer = answer-in u (sections shape ws) row tile q in
+    let answer = answer-in u (parsed (in-one ws)) row tile q in
     cond (eqb n Done) answer (refused-bytes n)
 
 -- a file's bytes, as `rowlist` takes them

@@ -1,8 +1,9 @@
 //! Sizes, limits, table lengths and places of fields by name, for code; `specs/Sizes` has the same for contracts, and `constants_hold` ties the two.
-//! `answers` has the refusals with their numbers, `width` the widths of a depth bucket.
+//! `answers` has the refusals with their numbers, `width` the widths of a depth bucket, `edition` the editions of a recording file.
 #![tactic(auto)]
 
 pub mod answers;
+pub mod edition;
 pub mod width;
 
 ghost use Rattle.std.specs.Prelude.{◌≡◌, ◌+◌, ◌*◌, ℕ};
@@ -79,13 +80,7 @@ pub const PAINT: usize = 4;
 /// .. a segment's,
 pub const SEGMENT: usize = 5;
 
-/// .. a draw's,
-pub const DRAW: usize = 7;
-
-/// .. a layer's,
-pub const LAYER: usize = 22;
-
-/// .. a node's.
+/// .. a node's. How long a draw's and a layer's are the edition says.
 pub const NODE: usize = 3;
 
 /// A row's record, by word: how many render commands it has.
@@ -207,7 +202,7 @@ fn constants_hold()
     ensures screens { (MOST_WIDTH ≡ most-width) × (MOST_HEIGHT ≡ most-height) × (MOST_ROWS ≡ most-rows) × (MOST_ROOM ≡ most-room) }
     ensures counts { (MOST_LAYERS ≡ most-layers) × (MOST_ATTRS ≡ most-attrs) × (MOST_FILTERS ≡ most-filters) × (MOST_RECORDS ≡ most-records) }
     ensures ends { (THREAD_END ≡ thread-end) × (HANDLE_END ≡ handle-end) × (PANEL_END ≡ panel-end) × (LAST_ID ≡ last-id) }
-    ensures file { (FILE_BYTES ≡ file-bytes) × (PAINT ≡ 4) × (SEGMENT ≡ 5) × (DRAW ≡ 7) × (LAYER ≡ 22) × (NODE ≡ 3) }
+    ensures file { (FILE_BYTES ≡ file-bytes) × (PAINT ≡ 4) × (SEGMENT ≡ 5) × (NODE ≡ 3) }
     ensures row { (RENDERS ≡ renders-at) × (DEPTHS ≡ depths-at) × (LEVELS ≡ levels-at) × (ROW ≡ row-size) }
     ensures summary { (FIRST ≡ first-at) × (END ≡ end-at) × (LARGEST ≡ largest-at) }
     ensures levels { (k : ℕ) → LEVEL_BASE + LEVEL * k ≡ level-at k }

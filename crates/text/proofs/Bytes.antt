@@ -5,7 +5,7 @@ use Rattle.sizes.specs.declared.answers.Refusal.TheVariants as refusal
 use Rattle.sizes.specs.Refusals.{number_of}
 use Rattle.rules.specs.Lists.{is_none}
 use Rattle.rules.specs.Setups.{Setup}
-use Rattle.rules.specs.Recording.{Recording, shape, sections}
+use Rattle.rules.specs.Recording.{Recording, File, in-one, parsed}
 use Rattle.rules.specs.Lines.{words_of}
 use Rattle.rules.specs.Lines as rules
 use Rattle.file.specs.Held.{recording_of}
@@ -41,18 +41,18 @@ module _ (fs ws : List ℕ) (g : good-bytes (length fs) ≡ true) {n : ℕ} {vs 
   pub words-read : take n vs ≡ words-in fs
   words-read = rw (words, count) (first-words fs ws)
 
-  pub size-read : (q : Setup) {r : Result Size Refusal} → r ≡ size_of (take n vs) q → r ≡ file-size fs q
+  pub size-read : (q : Setup) {r : Result Size Refusal} → r ≡ size_of (in-one (take n vs)) q → r ≡ file-size fs q
   unfolding file-size
   size-read q e = rw g (rw words-read at e)
 
 -- Where the width asked for is none: the number of the words' form, and of the bytes.
-pub formless : (ws : List ℕ) {r : Refusal} → (r ≡ refusal.BadForm) × (sections shape ws ≡ None) → number_of r ≡ no-width-of ws
+pub formless : (ws : File) {r : Refusal} → (r ≡ refusal.BadForm) × (parsed ws ≡ None) → number_of r ≡ no-width-of ws
 unfolding no-width-of
 formless ws e = rw (e.0, e.1)
 
-pub well-formed : (ws : List ℕ) {y : Recording} → recording_of (sections shape ws) ≡ Some y → 2 ≡ no-width-of ws
+pub well-formed : (ws : File) {y : Recording} → recording_of (parsed ws) ≡ Some y → 2 ≡ no-width-of ws
 unfolding no-width-of
-well-formed ws {y} e = go (sections shape ws) e
+well-formed ws {y} e = go (parsed ws) e
   where
     go : (o : Option (List (List (List ℕ)))) → recording_of o ≡ Some y → ◌≡◌ {A = ℕ} 2 (cond (is_none o) 3 2)
     go None i = cc
@@ -63,19 +63,19 @@ either : (a b : Bool) → (a || b) ≡ elim a [ true ↦ true | false ↦ b ]
 either true b = refl
 either false b = refl
 
-by-form : (fs : List ℕ) → rules.bad-form fs ≡ cond (good-bytes (length fs)) (is_none (sections shape (words-in fs))) true
+by-form : (fs : List ℕ) → rules.bad-form fs ≡ cond (good-bytes (length fs)) (is_none (parsed (in-one (words-in fs)))) true
 by-form fs =
-    either (ltb 65536 (length fs)) (elim (words_of fs) [ None ↦ true | Some ws ↦ is_none (sections shape ws) ])
-    ∙ by-file true (λ ws. is_none (sections shape ws)) fs
+    either (ltb 65536 (length fs)) (elim (words_of fs) [ None ↦ true | Some ws ↦ is_none (parsed (in-one ws)) ])
+    ∙ by-file true (λ ws. is_none (parsed (in-one ws))) fs
 
 pub no-width-bad : (fs : List ℕ) → good-bytes (length fs) ≡ false → 3 ≡ no-width-number fs
 unfolding no-width-number
 no-width-bad fs g = rw (by-form fs, g)
 
-no-width-words : (fs : List ℕ) → good-bytes (length fs) ≡ true → no-width-of (words-in fs) ≡ no-width-number fs
+no-width-words : (fs : List ℕ) → good-bytes (length fs) ≡ true → no-width-of (in-one (words-in fs)) ≡ no-width-number fs
 unfolding no-width-of no-width-number
 no-width-words fs g = rw (by-form fs, g)
 
 module _ (fs ws : List ℕ) (g : good-bytes (length fs) ≡ true) {n : ℕ} {vs : List ℕ} (f : filled n vs ≡ filled-with fs ws) where
-  pub no-width-read : {m : ℕ} → m ≡ no-width-of (take n vs) → m ≡ no-width-number fs
+  pub no-width-read : {m : ℕ} → m ≡ no-width-of (in-one (take n vs)) → m ≡ no-width-number fs
   no-width-read e = (rw (words-read fs ws g f) at e) ∙ no-width-words fs g

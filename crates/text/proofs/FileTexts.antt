@@ -9,7 +9,7 @@ use Rattle.sizes.specs.Widths.{bucket-tiles}
 use Rattle.rules.specs.Answers.{Answer, answer, settle}
 use Rattle.rules.specs.Boxes.{Box, good_viewport, rows_of, buckets-of}
 use Rattle.rules.specs.Setups.{Setup, frame, viewport-in}
-use Rattle.rules.specs.Recording.{Recording, shape, sections, recording}
+use Rattle.rules.specs.Recording.{Recording, File, in-one, parsed, recording}
 use Rattle.rules.specs.Walk.{go_on, ◌then◌}
 use Rattle.rect.specs.declared.Rect.{Rect}
 use Rattle.rect.specs.Rects.{box_of, seen}
@@ -46,7 +46,7 @@ module _ (s : Screen) (w : Words) (bs : List ℕ) {r : Listing} {cs : List ℕ} 
   unfolding showing
   show-done h = rw (← e, eq-eqb r.number 0 h)
 
-module _ (ws : List ℕ) (q : Setup) (t : Tables) (bs : List ℕ) {o : Screen} (p : o ≡ nothing) {s : Screen} {u : Tables} {n : ℕ}
+module _ (ws : File) (q : Setup) (t : Tables) (bs : List ℕ) {o : Screen} (p : o ≡ nothing) {s : Screen} {u : Tables} {n : ℕ}
     (e : answer n (screen_lent s u) ≡ recorded ws q (screen_lent o t)) where
   same : answer n (screen_lent s u) ≡ recorded ws q (screen_lent nothing t)
   same = rw p at e
@@ -61,12 +61,12 @@ module _ (ws : List ℕ) (q : Setup) (t : Tables) (bs : List ℕ) {o : Screen} (
     text-shown h g = rw (← same, eq-eqb n 0 h) (ap (λ (y : Showed). file-out y u) g)
 
 -- a file's size
-module _ (ws : List ℕ) (q : Setup) where
-  pub bad-form : {r : Refusal} → (r ≡ refusal.BadForm) × (sections shape ws ≡ None) → Err r ≡ size_of ws q
+module _ (ws : File) (q : Setup) where
+  pub bad-form : {r : Refusal} → (r ≡ refusal.BadForm) × (parsed ws ≡ None) → Err r ≡ size_of ws q
   unfolding size_of
   bad-form e = rw (e.0, e.1)
 
-  module _ {y : Recording} (e : recording_of (sections shape ws) ≡ Some y) {b : Box} (i : b ≡ y.viewport) where
+  module _ {y : Recording} (e : recording_of (parsed ws) ≡ Some y) {b : Box} (i : b ≡ y.viewport) where
     pub bad-viewport : {r : Refusal} → Err r ≡ seen (viewport-in q.mode b) → Err r ≡ size_of ws q
     unfolding size_of
     bad-viewport h = let p = bad-seen _ _ h in rw (e, ← i, p.0, p.1)
@@ -91,7 +91,7 @@ module _ (ws : List ℕ) (q : Setup) where
       few k = rw k (few-buckets (box_of r) is-good q.width)
 
 -- Tables that are as long print the same: no text tells what they held before.
-module _ (ws : List ℕ) (q : Setup) (t u : Tables) (e : lengths t ≡ lengths u) (bs : List ℕ) where
+module _ (ws : File) (q : Setup) (t u : Tables) (e : lengths t ≡ lengths u) (bs : List ℕ) where
   -- after a reset that answers n
   started : ℕ → Tables → ScreenLent → (ScreenLent → Answer ScreenLent) → Answer ScreenLent
   started n x fresh g = let a = settle n (screen_lent nothing x) fresh in go_on (eqb a.number 0) a g
@@ -119,7 +119,7 @@ module _ (ws : List ℕ) (q : Setup) (t u : Tables) (e : lengths t ≡ lengths u
 
   pub same_text : (recording-text ws q t bs).showed ≡ (recording-text ws q u bs).showed
   unfolding recording-text recorded recorded-in ◌then◌ reset_to started
-  same_text = go (sections shape ws)
+  same_text = go (parsed ws)
     where
       go : (o : Option (List (List (List ℕ)))) → (answered (of-sections o q (screen_lent nothing t)) bs).showed ≡ (answered (of-sections o q (screen_lent nothing u)) bs).showed
       go None = refl
@@ -129,7 +129,7 @@ module _ (ws : List ℕ) (q : Setup) (t u : Tables) (e : lengths t ≡ lengths u
           rw e (same-start (judged_reset f (lengths u)) (screen_lent (fresh-screen f) (zeroed t)) (screen_lent (fresh-screen f) (zeroed u)) (played r) (ap (screen_lent (fresh-screen f)) (same-zeros t u e)))
 
 -- .. as tables of one size are
-pub exact-same : {z : Size} (t u : Tables) → Exact z t → Exact z u → (ws : List ℕ) (q : Setup) (bs : List ℕ) → (recording-text ws q t bs).showed ≡ (recording-text ws q u bs).showed
+pub exact-same : {z : Size} (t u : Tables) → Exact z t → Exact z u → (ws : File) (q : Setup) (bs : List ℕ) → (recording-text ws q t bs).showed ≡ (recording-text ws q u bs).showed
 exact-same t u h g ws q bs =
     same_text ws q t u
     (rw (
@@ -174,10 +174,10 @@ blank_exact z =
 
 -- a file's bytes, by the size of its screen
 module _ (fs : List ℕ) (q : Setup) (bs : List ℕ) where
-  pub sized-shown : {z : Size} {t : Tables} {x : Showed} {u : Tables} → Ok z ≡ file-size fs q → Exact z t → file-out x u ≡ recording-text (words-in fs) q t bs → x ≡ bytes-text fs q bs
+  pub sized-shown : {z : Size} {t : Tables} {x : Showed} {u : Tables} → Ok z ≡ file-size fs q → Exact z t → file-out x u ≡ recording-text (in-one (words-in fs)) q t bs → x ≡ bytes-text fs q bs
   unfolding bytes-text
   sized-shown {z} {t} e h g =
-      rw (← e) (ap (λ (o : FileOut). o.showed) g ∙ exact-same t (blank z) h (blank_exact z) (words-in fs) q bs)
+      rw (← e) (ap (λ (o : FileOut). o.showed) g ∙ exact-same t (blank z) h (blank_exact z) (in-one (words-in fs)) q bs)
 
   pub refused-shown : {r : Refusal} {s : Screen} {x : Showed} → Err r ≡ file-size fs q → s ≡ nothing → x ≡ refusing (number_of r) s bs → x ≡ bytes-text fs q bs
   unfolding bytes-text

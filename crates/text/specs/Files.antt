@@ -9,7 +9,7 @@ use Rattle.rules.specs.Lists.{is_none}
 use Rattle.rules.specs.Boxes.{good_viewport, rows_of}
 use Rattle.rules.specs.Plans.{Frame, buckets-across}
 use Rattle.rules.specs.Setups.{Setup, frame}
-use Rattle.rules.specs.Recording.{Recording, shape, sections}
+use Rattle.rules.specs.Recording.{Recording, File, in-one, parsed}
 use Rattle.rules.specs.Lines as rule
 use Rattle.row.specs.Words.{Words, words}
 use Rattle.screen.specs.declared.Screen.{Screen}
@@ -76,9 +76,9 @@ answered a bs =
     let t = a.value.tables in
     file-out (cond (eqb a.number Done) (showing s (words t.rows t.render t.fills) bs) (refusing a.number s bs)) t
 
--- a file's words, in tables of the lengths that its screen has
-unfoldable pub recording-text : List ℕ → Setup → Tables → List ℕ → FileOut
-recording-text ws q t bs = answered (recorded ws q (screen_lent nothing t)) bs
+-- a file, in tables of the lengths that its screen has
+unfoldable pub recording-text : File → Setup → Tables → List ℕ → FileOut
+recording-text f q t bs = answered (recorded f q (screen_lent nothing t)) bs
 
 -- The file's own size: 3 for its form, 2 for its viewport or more than 32 rows.
 abbrev pub size : ℕ → ℕ → Size
@@ -95,8 +95,8 @@ abbrev pub sized : Option Recording → Setup → Result Size Refusal
 sized None q = Err refusal.BadForm
 sized (Some r) q = let f = frame q r.viewport in sized-if (is-shown f) f
 
-unfoldable pub size_of : List ℕ → Setup → Result Size Refusal
-size_of ws q = sized (recording_of (sections shape ws)) q
+unfoldable pub size_of : File → Setup → Result Size Refusal
+size_of f q = sized (recording_of (parsed f)) q
 
 -- with 64 commands and 64 depth fills a row: what the programs ask
 pub record Usual (q : Setup) : Type 0 where
@@ -109,7 +109,7 @@ good-bytes n = leb n file-bytes && eqb (n % 4) 0
 
 -- the size of a file's screen: 3 for its bytes, then 3 and 2 of its words
 unfoldable pub file-size : List ℕ → Setup → Result Size Refusal
-file-size fs q = cond (good-bytes (length fs)) (size_of (words-in fs) q) (Err refusal.BadForm)
+file-size fs q = cond (good-bytes (length fs)) (size_of (in-one (words-in fs)) q) (Err refusal.BadForm)
 
 -- tables as long as a screen of such a size asks, with 64 commands and 64 depth fills a row
 pub record Exact (z : Size) (t : Tables) : Type 0 where
@@ -137,16 +137,16 @@ blank z =
     (replicate filter-paint-table (pos 0))
 
 -- what is printed of a file, by the size of its screen
-abbrev pub sized-text : Result Size Refusal → List ℕ → Setup → List ℕ → Showed
+abbrev pub sized-text : Result Size Refusal → File → Setup → List ℕ → Showed
 sized-text (Ok z) ws q bs = (recording-text ws q (blank z) bs).showed
 sized-text (Err r) ws q bs = refusing (number_of r) nothing bs
 
 unfoldable pub bytes-text : List ℕ → Setup → List ℕ → Showed
-bytes-text fs q bs = sized-text (file-size fs q) (words-in fs) q bs
+bytes-text fs q bs = sized-text (file-size fs q) (in-one (words-in fs)) q bs
 
 -- the number of a file that is refused because the width asked for is none: 3 for its words' form, then 2
-unfoldable pub no-width-of : List ℕ → ℕ
-no-width-of ws = cond (is_none (sections shape ws)) BadForm BadViewport
+unfoldable pub no-width-of : File → ℕ
+no-width-of f = cond (is_none (parsed f)) BadForm BadViewport
 
 -- .. and 3 for its bytes, as the rules say
 unfoldable pub no-width-number : List ℕ → ℕ

@@ -5,11 +5,12 @@ ghost use Rattle.sizes.specs.Refusals.{number_of};
 ghost use Rattle.row.specs.Rows.{all-held};
 ghost use Rattle.screen.specs.Screens.{setup-of};
 ghost use Rattle.screen.specs.Lent.{tables_in, SameLent};
+ghost use Rattle.file.specs.Held.{file_of};
 ghost use Rattle.file.specs.Words.{words-in};
 ghost use Rattle.text.specs.Files.{nothing, showed, file-out, refusing, showing, recording-text, size_of, file-size, good-bytes, no-width-of, no-width-number};
 
 use crate::listing::{list_screen, refusal_line};
-use file::{Recording, words_of_bytes};
+use file::{File, Recording, words_of_bytes};
 use rect::NOWHERE;
 use row::Rows;
 use screen::{Lent, Screen, Setup, fresh};
@@ -68,12 +69,12 @@ fn show(screen: Screen, rows: &Rows<'_>, out: &mut [u8]) -> FileText
     }
 }
 
-/// A file's words, walked into what the screen is asked to be, and its lines, or the number of its refusal. The lent tables have the lengths of
+/// A file, walked into what the screen is asked to be, and its lines, or the number of its refusal. The lent tables have the lengths of
 /// its screen, or the refusal is 4.
-pub fn recording_text(file: &[u32], setup: Setup, lent: &mut Lent<'_>, out: &mut [u8]) -> FileText
+pub fn recording_text(file: File<'_>, setup: Setup, lent: &mut Lent<'_>, out: &mut [u8]) -> FileText
     ensures same { SameLent lent.old lent.new }
     ensures text { file-out (showed result out.new) (tables_in lent.new)
-        ≡ recording-text file.now (setup-of setup) (tables_in lent.old) out.old }
+        ≡ recording-text (file_of file.entry) (setup-of setup) (tables_in lent.old) out.old }
 {
     let mut screen = no_screen();
     if let Err(refusal) = bucket_recording(&mut screen, file, setup, lent) {
@@ -87,9 +88,9 @@ pub fn recording_text(file: &[u32], setup: Setup, lent: &mut Lent<'_>, out: &mut
     show(screen, &rows, out)
 }
 
-/// The rows and buckets that a file's words ask for: 3 for their form, 2 for their viewport or more than 32 rows.
-pub fn size_of(file: &[u32], setup: Setup) -> Result<Size, Refusal>
-    ensures value { result ≡ size_of file.now (setup-of setup) }
+/// The rows and buckets that a file asks for: 3 for its form, 2 for its viewport or more than 32 rows.
+pub fn size_of(file: File<'_>, setup: Setup) -> Result<Size, Refusal>
+    ensures value { result ≡ size_of (file_of file.entry) (setup-of setup) }
     ensures rows_le_program_rows { IfOk result (λ size. (size.rows ≤ program-rows) × (size.buckets ≤ program-buckets)) }
 {
     let recording = Recording::read(file)?;
@@ -112,11 +113,11 @@ fn is_good_bytes(n: usize) -> bool
     n <= FILE_BYTES && n % 4 == 0
 }
 
-// How a file's words are refused where the width asked for is none: 3 for their form, then 2.
-fn no_width_of(words: &[u32]) -> Refusal
-    ensures { number_of result ≡ no-width-of words.now }
+// How a file is refused where the width asked for is none: 3 for its form, then 2.
+fn no_width_of(file: File<'_>) -> Refusal
+    ensures { number_of result ≡ no-width-of (file_of file.entry) }
 {
-    match Recording::read(words) {
+    match Recording::read(file) {
         Ok(_) => Refusal::BadViewport,
         Err(refusal) => refusal,
     }
@@ -131,7 +132,7 @@ pub fn no_width_refusal(file: &[u8]) -> Refusal
     }
     let mut words = [0; FILE_WORDS];
     let n = words_of_bytes(file, &mut words);
-    no_width_of(&words[..n])
+    no_width_of(File::in_one(&words[..n]))
 }
 
 /// A file's words, put first in `words`, and the rows and buckets that its screen has: 3 for more than 65,536 bytes or no whole words, then as `size_of`.
@@ -145,5 +146,5 @@ pub fn read_file(file: &[u8], setup: Setup, words: &mut [u32; FILE_WORDS]) -> Re
         return Err(Refusal::BadForm);
     }
     let n = words_of_bytes(file, words);
-    size_of(&words[..n], setup)
+    size_of(File::in_one(&words[..n]), setup)
 }

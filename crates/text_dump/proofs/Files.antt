@@ -1,6 +1,7 @@
 -- A file's bytes: where its call refuses them there are no details, and where it does not the tables hold the rules' screen, so that the details are the rules'. Assumes nothing.
 use Rattle.std.proofs.Common.{◌≡◌, refl, sym, ap, ◌∙◌, Bool, true, false, cond, List, [], ◌∷◌, ◌++◌, append-nil, ℕ, ◌+◌, ◌-◌, ◌*◌, ◌≤◌, ◌<◌, arith, eqb, length, get_or, take, drop, length-append, length-drop, eq-eqb, ne_eqb, Ok, Err}
 use borrow.Rule.Slice.PartMut.{put_mid}
+use Rattle.rules.specs.Recording.{in-one}
 use Rattle.rules.specs.Answers.{Answer, Done}
 use Rattle.rules.specs.Boxes.{Box, rows_of}
 use Rattle.rules.specs.Rows.{Row, fresh-row}
@@ -116,7 +117,7 @@ module _ (q : Setup) (usual : Usual q) (fs : List ℕ) where
   unfolding file-size rowdump-words
   sizeless {r} h bs room = rw by-lines (go (good-bytes (length fs)) h)
     where
-      go : (b : Bool) → Err r ≡ cond b (size_of (words-in fs) q) (Err refusal.BadForm) → cond b (rowdump-words q (words-in fs)) [] ≡ []
+      go : (b : Bool) → Err r ≡ cond b (size_of (in-one (words-in fs)) q) (Err refusal.BadForm) → cond b (rowdump-words q (words-in fs)) [] ≡ []
       go true i =
           let p = (words-print q usual (words-in fs) bs room).number in
           let e : number_of r ≡ (rowlist-screen q (words-in fs)).number = unfold refusing in (rw (← i) at p) in
@@ -126,13 +127,13 @@ module _ (q : Setup) (usual : Usual q) (fs : List ℕ) where
   -- .. another has the words' details, and their size
   pub record Accepted (z : Size) : Type 0 where
     pub lines : rowdump-lines q fs ≡ rowdump-words q (words-in fs)
-    pub size : Ok z ≡ size_of (words-in fs) q
+    pub size : Ok z ≡ size_of (in-one (words-in fs)) q
 
   pub sized_file : {z : Size} → Ok z ≡ file-size fs q → Accepted z
   unfolding file-size
   sized_file {z} h = go (good-bytes (length fs)) by-lines h
     where
-      go : (b : Bool) → rowdump-lines q fs ≡ cond b (rowdump-words q (words-in fs)) [] → Ok z ≡ cond b (size_of (words-in fs) q) (Err refusal.BadForm) → Accepted z
+      go : (b : Bool) → rowdump-lines q fs ≡ cond b (rowdump-words q (words-in fs)) [] → Ok z ≡ cond b (size_of (in-one (words-in fs)) q) (Err refusal.BadForm) → Accepted z
       go true e i = record { lines = e; size = i }
       go false e i = cc
 
@@ -162,17 +163,17 @@ module _ (v : Bool) (q : Setup) (usual : Usual q) (fs : List ℕ) (bs : List ℕ
 
   -- in tables t of its screen's size
   module _ {z : Size} (sized : Ok z ≡ file-size fs q) {t : Tables} (exact : Exact z t) {ws : List ℕ} (words : ws ≡ words-in fs)
-      {x : FileText} {cs : List ℕ} {u : Tables} (e : file-out (shows-as x cs) u ≡ recording-text ws q t bs) where
+      {x : FileText} {cs : List ℕ} {u : Tables} (e : file-out (shows-as x cs) u ≡ recording-text (in-one ws) q t bs) where
     abbrev answer-of : Answer (Screen Row)
     answer-of = rowlist-screen q (words-in fs)
 
     abbrev accepted : Accepted q usual fs z
     accepted = sized_file q usual fs sized
 
-    there : file-out (shows-as x cs) u ≡ recording-text (words-in fs) q t bs
+    there : file-out (shows-as x cs) u ≡ recording-text (in-one (words-in fs)) q t bs
     there = rw words at e
 
-    leaves : Leaves answer-of z bs (recording-text (words-in fs) q t bs)
+    leaves : Leaves answer-of z bs (recording-text (in-one (words-in fs)) q t bs)
     leaves = words-leave q usual (words-in fs) bs enough accepted.size t exact
 
     shown : shows-as x cs ≡ bytes-text fs q bs
@@ -199,8 +200,8 @@ module _ (v : Bool) (q : Setup) (usual : Usual q) (fs : List ℕ) (bs : List ℕ
         let same_rest : rest ≡ drop (length rs) (first rs bs) = rw (count-is, bytes-are) in
         let roomy-rest : details-room ≤ length rest = rw (same_rest, first-dropped rs bs, length-drop) (omega (arith, few, count-is)) in
         let i : PartWritten j ds (details-dumped v x.screen (rows_of (box_of x.screen.viewport)) (heads u) (given u list) rest) = rw (k, mid-all x.bytes cs) at g in
-        let ended : Ended answer-of.value = play-ended (rowlist-place q (words-in fs)) (reset fresh-row rules.nothing) (words-in fs) (words_small fs byte) done in
-        let says = screen-says v answer-of.value z u hu x.screen (recording-text (words-in fs) q t bs) (leaves.left done) (ap (λ (o : FileOut). o.showed.text.screen) there) (ap (λ (o : FileOut). o.tables) there) ended list (omega arith) rest roomy-rest in
+        let ended : Ended answer-of.value = play-ended (rowlist-place q (words-in fs)) (reset fresh-row rules.nothing) (in-one (words-in fs)) (words_small fs byte) done in
+        let says = screen-says v answer-of.value z u hu x.screen (recording-text (in-one (words-in fs)) q t bs) (leaves.left done) (ap (λ (o : FileOut). o.showed.text.screen) there) (ap (λ (o : FileOut). o.tables) there) ended list (omega arith) rest roomy-rest in
         let own : rowdump-lines q fs ≡ detail-lines answer-of.value = accepted.lines ∙ dumped-lines q (words-in fs) done in
         let count : j ≡ length (details-text v (rowdump-lines q fs)) = i.count ∙ says.count ∙ rw own in
         let bytes : ds ≡ first (details-text v (rowdump-lines q fs)) rest = i.bytes ∙ says.bytes ∙ rw own in

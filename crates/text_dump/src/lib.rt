@@ -18,6 +18,7 @@ ghost use Rattle.text_dump.specs.Rowdump.{recording-line, file-lines-text, rowdu
 ghost use Rattle.text_dump.specs.Dumped.{lines-room, dump-room, part_in, PartWritten, rows-dumped, begun-dumped, details-dumped, heads, given, Ready};
 ghost use Rattle.paint.specs.Named.{row_attrs, row_lent};
 
+use file::File;
 use paint::{Canvas, Stored, begin_painting};
 use screen::{Lent, Screen, Setup};
 use sizes::answers::Refusal;
@@ -232,7 +233,12 @@ fn lines_text(
         Err(refusal) => return refuse(refusal, no_screen(), out).bytes,
     };
     let mut lent = tables.lend(size.rows, size.buckets);
-    let text = recording_text(&words[..file.len() / 4], setup, &mut lent, out);
+    let text = recording_text(
+        File::in_one(&words[..file.len() / 4]),
+        setup,
+        &mut lent,
+        out,
+    );
     let k = text.bytes;
     if text.answer.is_err() {
         return k;

@@ -5,6 +5,7 @@ use Rattle.sizes.specs.declared.answers.Refusal.{Refusal}
 use Rattle.sizes.specs.declared.answers.Refusal.TheVariants as refusal
 use Rattle.sizes.specs.Refusals.{answer_number}
 use Rattle.sizes.proofs.Refusals.{not_done}
+use Rattle.rules.specs.Recording.{in-one}
 use Rattle.rules.specs.Answers.{BadForm}
 use Rattle.rules.proofs.All.{never}
 use Rattle.rules.specs.Setups.{Setup}
@@ -27,7 +28,7 @@ module _ (q : Setup) (u : Usual q) (fs bs : List ℕ) (room : 264256 ≤ length 
   unfolding bytes-text file-size refusing rowlist-number
   number-there = rw (by-file BadForm (λ ws. (rowlist-screen q ws).number) fs) (go (good-bytes (length fs)))
     where
-      go : (b : Bool) → (sized-text (cond b (size_of (words-in fs) q) (Err refusal.BadForm)) (words-in fs) q bs).text.number ≡ cond b (rowlist-screen q (words-in fs)).number BadForm
+      go : (b : Bool) → (sized-text (cond b (size_of (in-one (words-in fs)) q) (Err refusal.BadForm)) (in-one (words-in fs)) q bs).text.number ≡ cond b (rowlist-screen q (words-in fs)).number BadForm
       go true = (words-print q u (words-in fs) bs room).number
       go false = refl
 

@@ -1,12 +1,14 @@
 -- What a program's arguments say, each a text: the options stand first, in any order, and of a repeated one the last counts.
-use Rattle.std.specs.Prelude.{ℕ, ◌^◌, Bool, true, false, ◌&&◌, ◌||◌, if◌then◌else◌, List, [], ◌∷◌, length, codes, Option, Some, None, nat_lt, bytes_eq, option_map}
+use Rattle.std.specs.Prelude.{◌≡◌, ℕ, ◌^◌, Bool, true, false, ◌&&◌, ◌||◌, if◌then◌else◌, List, [], ◌∷◌, length, codes, Option, Some, None, nat_lt, bytes_eq, option_map}
 use Rattle.std.specs.Str.{all_ascii_digits}
 use Rattle.std.specs.Str.Parse.{digits_value}
 use Rattle.sizes.specs.Widths.{width_of}
 use Rattle.rules.specs.Setups.{Mode, exact, snapping}
+use Rattle.rect.specs.Rects.{mode_of}
 use Rattle.screen.specs.Screens.{setup-of}
 use Rattle.text_programs.specs.declared.about.About.{About}
 use Rattle.text_programs.specs.declared.about.About.TheVariants.{Usage, Version}
+use Rattle.text_programs.specs.declared.options.ReadSoFar.{ReadSoFar}
 use Rattle.text_programs.specs.declared.options.Want.{Want}
 use Rattle.text_programs.specs.Programs.{Wanted, wanted, want-of}
 
@@ -56,6 +58,14 @@ arguments_after known c (w ∷ n ∷ ws) =
       | None ↦ elim (with_width c w n) [ Some d ↦ arguments_after known d ws | None ↦ arguments c (w ∷ n ∷ ws) ]
     ]
 
+-- no option stands first in the arguments ws, after the choice c
+abbrev pub NoOption : Bool → Choice → List (List ℕ) → Type 0
+NoOption known c ws = arguments_after known c ws ≡ arguments c ws
+
+-- one does: what it makes of the choice is d, and vs are left
+abbrev pub OneOption : Bool → Choice → List (List ℕ) → Choice → List (List ℕ) → Type 0
+OneOption known c ws d vs = arguments_after known c ws ≡ arguments_after known d vs
+
 abbrev pub read_arguments : Bool → List (List ℕ) → Arguments
 read_arguments known ws = arguments_after known no_options ws
 
@@ -65,6 +75,10 @@ asked_about [] = None
 asked_about (w ∷ []) =
     if bytes_eq w (codes "--help") || bytes_eq w (codes "-h") then Some Usage else (if bytes_eq w (codes "--version") then Some Version else None)
 asked_about (w ∷ n ∷ ws) = None
+
+-- a choice, as the code has it
+abbrev pub chosen_of : ReadSoFar → Choice
+chosen_of c = choice (mode_of c.mode) c.pixels c.panels
 
 -- what they want of a screen
 abbrev pub wanted_by : Choice → Wanted

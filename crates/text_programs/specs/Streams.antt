@@ -1,5 +1,5 @@
 -- What is read of an input whose bytes are known, and the files of a stream.
-use Rattle.std.specs.Prelude.{◌≡◌, ℕ, zero, suc, ◌+◌, ◌-◌, ◌^◌, if◌then◌else◌, List, [], ◌∷◌, ◌++◌, length, take, drop, slice_index, Option, Some, None, IfSome, ⊤, nat_lt, nat_le}
+use Rattle.std.specs.Prelude.{◌≡◌, ℕ, zero, suc, ◌+◌, ◌-◌, ◌^◌, ◌≤◌, if◌then◌else◌, List, [], ◌∷◌, ◌++◌, length, take, drop, slice_index, Option, Some, None, IfSome, ⊤, nat_lt, nat_le}
 use Rattle.std.specs.Io.KnownBytes.{Appends}
 use Rattle.rules.specs.Lines.{word_of}
 use Rattle.text_programs.specs.Rooms.{file-room}
@@ -53,6 +53,10 @@ short x = record { head = x.head; file = take file-room x.file }
 -- what is printed of the file at the front of a stream, as file i; of less than a head, nothing
 abbrev pub front_printed : (ℕ → Item → List ℕ) → ℕ → ℕ → List ℕ → List ℕ
 front_printed one k i bs = if nat_lt (length bs) k then [] else one i (first_item k bs)
+
+-- a whole head stood at the front of the stream bs: its file was answered as file i, and rest stands after it
+abbrev pub Answered : (ℕ → Item → List ℕ) → ℕ → ℕ → List ℕ → Option (List ℕ) → Option (List ℕ) → Option (List ℕ) → Type 0
+Answered one k i bs rest old new = (k ≤ length bs) × (rest ≡ Some (after_item k bs)) × Appends old new (one i (first_item k bs))
 
 -- what was appended is what is printed of a known stream's first files, however many, each whole
 abbrev pub PrintsFirst : (ℕ → Item → List ℕ) → ℕ → Option (List ℕ) → Option (List ℕ) → Option (List ℕ) → Type 0

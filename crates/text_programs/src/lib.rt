@@ -15,6 +15,7 @@ ghost use Rattle.text_programs.specs.Failures.{IsOfReading, IsOfWriting, Begins,
 
 use crate::failure::Failure;
 use crate::tables::Tables;
+use file::File;
 use screen::Setup;
 use sizes::answers::Refusal;
 use sizes::{FILE_BYTES, PROGRAM_ROOM, PROGRAM_ROWS};
@@ -54,7 +55,12 @@ pub fn file_text(file: &[u8], setup: Setup, tables: &mut Tables, out: &mut [u8])
     match read_file(file, setup, &mut words) {
         Ok(size) => {
             let mut lent = tables.lend(size.rows, size.buckets);
-            recording_text(&words[..file.len() / 4], setup, &mut lent, out)
+            recording_text(
+                File::in_one(&words[..file.len() / 4]),
+                setup,
+                &mut lent,
+                out,
+            )
         }
         Err(refusal) => refuse(refusal, no_screen(), out),
     }

@@ -1,5 +1,5 @@
 //! The programs' arguments. Options stand before the others, in any order, and of a repeated one the last counts.
-ghost use Rattle.std.specs.Prelude.{◌≡◌, ◌<◌, ◌⊎◌, IfErr, length, map, string_bytes, MatchOption};
+ghost use Rattle.std.specs.Prelude.{◌≡◌, ◌<◌, ◌⊎◌, IfErr, IfSome, length, map, string_bytes, MatchOption};
 ghost use Rattle.text_programs.specs.declared.failure.Failure.TheVariants as Failure;
 ghost use Rattle.text_programs.specs.declared.failure.Stop.TheVariants as Stop;
 ghost use Rattle.sizes.specs.Widths.{width_of};
@@ -9,7 +9,7 @@ ghost use Rattle.screen.specs.Screens.{setup-of};
 ghost use Rattle.text.specs.Files.{Usual};
 ghost use Rattle.text_programs.specs.Programs.{want-of};
 ghost use Rattle.text_programs.specs.Failures.{IsUsage};
-ghost use Rattle.text_programs.specs.Arguments.{number_of, arguments, arguments_after, choice, wanted_by, wanted_of, read_arguments};
+ghost use Rattle.text_programs.specs.Arguments.{number_of, chosen_of, NoOption, OneOption, wanted_by, wanted_of, read_arguments};
 
 use crate::failure::{Failure, Stop};
 use crate::usage::Wrong;
@@ -39,7 +39,7 @@ pub struct Options<'a> {
 
 // What the options read so far have chosen.
 #[derive(Clone, Copy)]
-struct Choice {
+struct ReadSoFar {
     mode: Mode,
     pixels: u32,
     panels: bool,
@@ -87,28 +87,25 @@ pub fn number(text: &str) -> Option<u32>
 
 // The choice after the option that stands first, and the arguments after it; none where no option stands there.
 fn next_option<'a>(
-    chosen: Choice,
+    chosen: ReadSoFar,
     panels_known: bool,
     args: &'a [String],
-) -> Option<(Choice, &'a [String])>
-    ensures { MatchOption result
-        (arguments_after panels_known (choice (mode_of chosen.mode) chosen.pixels chosen.panels) (map string_bytes args.now)
-        ≡ arguments (choice (mode_of chosen.mode) chosen.pixels chosen.panels) (map string_bytes args.now))
-        (λ r. (length r.1.now < length args.now)
-        × (arguments_after panels_known (choice (mode_of chosen.mode) chosen.pixels chosen.panels) (map string_bytes args.now)
-        ≡ arguments_after panels_known (choice (mode_of r.0.mode) r.0.pixels r.0.panels) (map string_bytes r.1.now))) }
+) -> Option<(ReadSoFar, &'a [String])>
+    ensures shorter { IfSome result (λ r. length r.1.now < length args.now) }
+    ensures left { MatchOption result (NoOption panels_known (chosen_of chosen) (map string_bytes args.now))
+        (λ r. OneOption panels_known (chosen_of chosen) (map string_bytes args.now) (chosen_of r.0) (map string_bytes r.1.now)) }
 {
     let (word, rest) = args.split_first()?;
     match word.as_str() {
         "--snap" => Some((
-            Choice {
+            ReadSoFar {
                 mode: Mode::Snapping,
                 ..chosen
             },
             rest,
         )),
         "--panels" if panels_known => Some((
-            Choice {
+            ReadSoFar {
                 panels: true,
                 ..chosen
             },
@@ -117,7 +114,7 @@ fn next_option<'a>(
         "--width" => {
             let (text, rest) = rest.split_first()?;
             let pixels = number(text.as_str())?;
-            Some((Choice { pixels, ..chosen }, rest))
+            Some((ReadSoFar { pixels, ..chosen }, rest))
         }
         _ => None,
     }
@@ -130,7 +127,7 @@ pub fn read_options(args: &[String], panels_known: bool) -> Options<'_>
     ensures wanted { wanted_of result.want ≡ wanted_by (read_arguments panels_known (map string_bytes args.now)).choice }
     ensures others { map string_bytes result.others.now ≡ (read_arguments panels_known (map string_bytes args.now)).others }
 {
-    let mut chosen = Choice {
+    let mut chosen = ReadSoFar {
         mode: Mode::Exact,
         pixels: 128,
         panels: false,

@@ -1,9 +1,9 @@
 //! Streams: files one after the other, each after a head of little-endian u32s, its length in bytes first. They are answered in their order, whatever it is
 //! that answers them.
-ghost use Rattle.std.specs.Prelude.{◌≡◌, ◌-◌, ◌≤◌, ◌<◌, ◌⊎◌, ℕ, List, ⊤, length, take, min, Ok, Some, IfSome, IfOk, IfErr, IsOk, OnOk, MatchBool};
+ghost use Rattle.std.specs.Prelude.{◌≡◌, ◌-◌, ◌≤◌, ◌<◌, ◌⊎◌, ℕ, List, ⊤, length, take, min, Ok, IfSome, IfOk, IfErr, IsOk, OnOk, MatchBool};
 ghost use Rattle.std.specs.Io.KnownBytes.{Appends};
 ghost use Rattle.text_programs.specs.Rooms.{file-room};
-ghost use Rattle.text_programs.specs.Streams.{Takes, Skips, word_at, Item, short, first_item, after_item, front_printed, stream_printed, PrintsFirst};
+ghost use Rattle.text_programs.specs.Streams.{Takes, Skips, word_at, Item, Answered, short, front_printed, stream_printed, PrintsFirst};
 ghost use Rattle.text_programs.specs.Failures.{IsOfReading, IsOfWriting, Begins, Loses};
 
 use crate::failure::Failure;
@@ -104,8 +104,7 @@ fn answer_next<R: Read, W: Write, D: Replies>(
     ensures ready { D.ready desk.new }
     ensures same { (j : ℕ) (x : Item) → D.reply desk.new j x ≡ D.reply desk.old j x }
     ensures ok { IfOk result (λ more. IfSome (R.remaining input.old) (λ bs. MatchBool more
-        ((length head.old ≤ length bs) × (R.remaining input.new ≡ Some (after_item (length head.old) bs))
-        × Appends (W.contents output.old) (W.contents output.new) (D.reply desk.old i (first_item (length head.old) bs)))
+        (Answered (D.reply desk.old) (length head.old) i bs (R.remaining input.new) (W.contents output.old) (W.contents output.new))
         ((length bs < length head.old) × (output.new ≡ output.old)))) }
     ensures begun { IfErr result (λ _. IfSome (R.remaining input.old) (λ bs.
         Begins (W.contents output.old) (W.contents output.new) (front_printed (D.reply desk.old) (length head.old) i bs))) }

@@ -10,7 +10,7 @@ use Rattle.rules.specs.Rows.{Row, fresh-row, row-ops}
 use Rattle.rules.specs.Plans.{Frame, bucket}
 use Rattle.rules.specs.Setups.{Setup, frame}
 use Rattle.rules.specs.Steps.{Screen, reset, call}
-use Rattle.rules.specs.Recording.{Recording, shape, sections, recording, good-records, good-order}
+use Rattle.rules.specs.Recording.{Recording, in-one, parsed, recording, good-records, good-order}
 use Rattle.rules.specs.Walk.{Place, frame-of, good-arenas, judge-records, walk-all, play-records, play}
 use Rattle.rules.specs.Lines.{nothing, rowlist-place, rowlist-screen}
 use Rattle.rules.specs.Plain.{untold, tell-steps}
@@ -118,28 +118,28 @@ done-answer : (u : Setup) (a : Answer (Screen Row)) (o : Option (List (List (Lis
 done-answer u a o row tile q z = rw (eq-eqb a.number 0 z)
 
 module _ (u : Setup) (ws : List ℕ) (accepted : (rowlist-screen u ws).number ≡ 0) (row tile : ℕ) where
-  words-answer : (q : Question) → why-words u ws row tile q ≡ answer-in u (sections shape ws) row tile q
+  words-answer : (q : Question) → why-words u ws row tile q ≡ answer-in u (parsed (in-one ws)) row tile q
   unfolding why-words
-  words-answer q = done-answer u (rowlist-screen u ws) (sections shape ws) row tile q accepted
+  words-answer q = done-answer u (rowlist-screen u ws) (parsed (in-one ws)) row tile q accepted
 
   -- where there is no form the call has refused
-  pub formless : {x : Refusal} → (x ≡ refusal.BadForm) × (sections shape ws ≡ None) → (q : Question) → why-words u ws row tile q ≡ refused-bytes (number_of x)
+  pub formless : {x : Refusal} → (x ≡ refusal.BadForm) × (parsed (in-one ws) ≡ None) → (q : Question) → why-words u ws row tile q ≡ refused-bytes (number_of x)
   formless b q = rw b.0 (words-answer q ∙ ap (λ (o : Option (List (List (List ℕ)))). answer-in u o row tile q) b.1)
 
-  module _ (r : Recording) (e : recording_of (sections shape ws) ≡ Some r) where
+  module _ (r : Recording) (e : recording_of (parsed (in-one ws)) ≡ Some r) where
     -- the screen's frame
     abbrev f : Frame
     f = frame u r.viewport
 
     recording-there : (q : Question) → why-words u ws row tile q ≡ recording-answer f r row tile q
-    recording-there q = words-answer q ∙ go (sections shape ws) e
+    recording-there q = words-answer q ∙ go (parsed (in-one ws)) e
       where
         go : (o : Option (List (List (List ℕ)))) → recording_of o ≡ Some r → answer-in u o row tile q ≡ recording-answer f r row tile q
         go None i = cc
         go (Some ss) i = let same : recording ss ≡ r = cc in rw same
 
     played : (play-records (Screen Row) (call Row row-ops) (reset fresh-row) (rowlist-place u ws) (reset fresh-row nothing) r).number ≡ 0
-    played = by (sections shape ws) e accepted-play
+    played = by (parsed (in-one ws)) e accepted-play
       where
         old : Screen Row
         old = reset fresh-row nothing
@@ -150,7 +150,7 @@ module _ (u : Setup) (ws : List ℕ) (accepted : (rowlist-screen u ws).number �
           | Some ss ↦ play-records (Screen Row) (call Row row-ops) (reset fresh-row) (rowlist-place u ws) old (recording ss)
         ]
 
-        accepted-play : (by-sections (sections shape ws)).number ≡ 0
+        accepted-play : (by-sections (parsed (in-one ws))).number ≡ 0
         accepted-play = unfold play in accepted
 
         by : (o : Option (List (List (List ℕ)))) → recording_of o ≡ Some r → (by-sections o).number ≡ 0

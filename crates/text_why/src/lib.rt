@@ -14,7 +14,7 @@ ghost use Rattle.text.specs.Files.{Usual};
 ghost use Rattle.text_programs.specs.Programs.{first};
 ghost use Rattle.text_why.specs.Questions.{question-of, read_by, ToldOf, answer-most};
 
-use file::{Recording, words_of_bytes};
+use file::{File, Recording, words_of_bytes};
 use screen::Setup;
 use sizes::LINE_TABLE;
 use sizes::answers::Refusal;
@@ -151,7 +151,7 @@ fn tell_words(
     requires room { length lines.old ≡ line-table }
     ensures { ToldOf (setup-of setup) words.now row tile result lines.new }
 {
-    let file = Recording::read(words)?;
+    let file = Recording::read(File::in_one(words))?;
     let viewport = file.viewport().viewport_in(setup.mode)?;
     if is_off_screen(viewport, row, tile) {
         return Err(Refusal::BadRun);

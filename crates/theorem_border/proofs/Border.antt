@@ -40,7 +40,7 @@ same_row : (c : Call) → (turn_in c).row ≡ (rows.turn_in (call-of c)).row
 same_row (one-step t) = refl
 same_row (whole_row t) = refl
 
-gave-done : (c : Call) (l : ScreenLent) → (paint-out c (host-of l)).number ≡ Done
+pub gave-done : (c : Call) (l : ScreenLent) → (paint-out c (host-of l)).number ≡ Done
     → gave-words (turn_in c).row (paint-out c (host-of l)) ≡ turns.gave-out (rows.turn_in (call-of c)).row (rows.call-out (call-of c) l)
 gave-done c l e =
     let q = paint-on c l e in
@@ -55,7 +55,7 @@ module _ (g k : Gave) (gs ks : List Gave) (r : ℕ) (e : g ≡ k) where
   unfolding from
   first_pieces h = rw (e, h)
 
-  first_said : said-finished r gs ≡ said-finished r ks → said-finished r (g ∷ gs) ≡ said-finished r (k ∷ ks)
+  pub first_said : said-finished r gs ≡ said-finished r ks → said-finished r (g ∷ gs) ≡ said-finished r (k ∷ ks)
   unfolding said-finished
   first_said h = rw e (ap (λ (b : Bool). (eqb k.row r && k.finished) || b) h)
 
@@ -100,19 +100,20 @@ runs (c ∷ cs) l =
     (λ n. refused-first c cs l (eqb-false _ _ n) (runs cs l))
 
 -- a row that has finished by the words that a host reads has
-finished-too : (l : ScreenLent) (r : ℕ) → finished-at (host-of l) r ≡ true → turns.finished-at l r ≡ true
+pub finished-too : (l : ScreenLent) (r : ℕ) → finished-at (host-of l) r ≡ true → turns.finished-at l r ≡ true
 finished-too l r e =
     let c = one-step (record { row = r; list = []; result = 0 ∷ 0 ∷ [] }) in
     let d = eqb-true (paint-out c (host-of l)).number Done (both _ _ e).0 in
     sym (ap (λ (g : Gave). g.finished) (gave-done c l d)) ∙ e
 
-or-either : (a b c : Bool) → (a || b) ≡ true → (b ≡ true → c ≡ true) → (a || c) ≡ true
+pub or-either : (a b c : Bool) → (a || b) ≡ true → (b ≡ true → c ≡ true) → (a || c) ≡ true
 or-either true b c e f = refl
 or-either false b c e f = f e
 
 -- Where row r has finished, picture's calls have given what a host's calls gave of it.
 pub record FinishedCalls (r : ℕ) (cs : List Call) (l : ScreenLent) : Type 0 where
   pub calls : List rows.Call
+  pub words : painted cs (begin-at (host-of l)).value ≡ host-of (rows.called calls (reached.begin-at l).value)
   pub finished : rows.row-finished r calls (reached.begin-at l).value ≡ true
   pub gave : from r (log cs (begin-at (host-of l)).value) ≡ from r (rows.call-log calls (reached.begin-at l).value)
 
@@ -124,6 +125,7 @@ finished-calls r cs l fin =
     let g : finished r cs (host-of m) ≡ true = sym (ap (finished r cs) v) ∙ fin in
     record {
       calls = w.calls;
+      words = ap (painted cs) v ∙ w.words;
       finished = or-either (said-finished r (rows.call-log w.calls m)) _ _ (rw (w.said r, w.words) at g) (finished-too (rows.called w.calls m) r);
       gave = ap (λ (x : Host). from r (log cs x)) v ∙ w.pieces r;
     }
@@ -151,7 +153,7 @@ said-yes a old e =
     f
 
 -- the word of a width stands for it
-width_read : (w : Width) → width-at (width_word w) ≡ w
+pub width_read : (w : Width) → width-at (width_word w) ≡ w
 width_read W64 = refl
 width_read W128 = refl
 width_read W256 = refl

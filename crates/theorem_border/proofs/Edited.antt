@@ -1,5 +1,6 @@
 -- Editing one line of the screen at the border, from the same about the call at the words. Assumes nothing.
 use Rattle.std.proofs.Common.{ℕ, ◌≡◌, sym, ap, ◌∙◌, true, List}
+use Rattle.rules.specs.Recording.{File}
 use Rattle.rules.specs.Answers.{Answer, Done}
 use Rattle.rules.specs.Setups.{Setup}
 use Rattle.screen.specs.Tables.{ScreenLent}
@@ -17,18 +18,18 @@ use Rattle.theorem_border.proofs.Words.{Known, nothing, these, known, recording_
 use Rattle.theorem_border.proofs.Border.{finished-calls}
 
 -- a done recording at a host's words is one at a screen's
-record Lends (file : List ℕ) (w : SetupWords) (q : Setup) (h : Host) : Type 0 where
+record Lends (file : File) (w : SetupWords) (q : Setup) (h : Host) : Type 0 where
   words : ScreenLent
   done : (recorded file q words).number ≡ Done
   left : (recording-at file w h).value ≡ host-of (recorded file q words).value
 
-lends : (file : List ℕ) (w : SetupWords) (q : Setup) (h : Host) → Asks w q → (recording-at file w h).number ≡ Done → Known h → Lends file w q h
+lends : (file : File) (w : SetupWords) (q : Setup) (h : Host) → Asks w q → (recording-at file w h).number ≡ Done → Known h → Lends file w q h
 lends file w q h a e (nothing n) = absurd (recording-never h n w q a file e)
 lends file w q h a e (these l s) =
     let k = ap (recording-at file w) s ∙ recording_on w q a l file in
     record { words = l; done = sym (ap (λ (x : Answer Host). x.number) k) ∙ e; left = ap (λ (x : Answer Host). x.value) k }
 
-module _ (file edit : List ℕ) (w : SetupWords) (q : Setup) (i : ℕ) (h k : Host) (e : EditedPair file edit w q i h k) where
+module _ (file edit : File) (w : SetupWords) (q : Setup) (i : ℕ) (h k : Host) (e : EditedPair file edit w q i h k) where
   abbrev own : Lends file w q h
   own = lends file w q h e.asks e.one_done (known h)
 

@@ -5,7 +5,7 @@ use Rattle.rules.specs.Answers.{Answer, Done}
 use Rattle.rules.specs.Spans.{Span}
 use Rattle.rules.specs.Plans.{Frame, Step}
 use Rattle.rules.specs.Setups.{Setup, frame}
-use Rattle.rules.specs.Recording.{recording}
+use Rattle.rules.specs.Recording.{recording, File}
 use Rattle.rules.specs.Walk.{frame-of}
 use Rattle.rect.specs.declared.Rect.{Rect}
 use Rattle.rect.specs.Rects.{box_of}
@@ -41,7 +41,7 @@ parts_in : Option (List (List (List ℕ))) → List (List (List ℕ))
 parts_in None = []
 parts_in (Some ss) = ss
 
-pub said-once : {ws : List ℕ} (w v : Readable ws) → said w ≡ said v
+pub said-once : {ws : File} (w v : Readable ws) → said w ≡ said v
 unfolding parts_in
 said-once w v = ap (λ (o : Option (List (List (List ℕ)))). recording (parts_in o)) (sym w.formed ∙ v.formed)
 
@@ -78,7 +78,7 @@ reset-holds v w q h a e (these l s) =
     let f = frame q (box_of v) in
     made _ (reset_to f l) k (reached.by-reset f l (number_of _ (reset_to f l) k e))
 
-recording-holds : (file : List ℕ) (w : SetupWords) (q : Setup) (h : Host) (r : Readable file) → Asks w q → (recording-at file w h).number ≡ Done → Known h
+recording-holds : (file : File) (w : SetupWords) (q : Setup) (h : Host) (r : Readable file) → Asks w q → (recording-at file w h).number ≡ Done → Known h
     → Holds (frame-of (place q h) (said r)) (history (place q h) (said r)) (recording-at file w h).value
 recording-holds file w q h r a e (nothing n) = absurd (recording-never h n w q a file e)
 recording-holds file w q h r a e (these l s) =

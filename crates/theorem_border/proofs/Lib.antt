@@ -6,6 +6,7 @@ pub mod Recorded
 pub mod Edited
 pub mod Numbers
 pub mod Reading
+pub mod Colours
 pub mod Why
 pub mod Sized
 pub mod Panel

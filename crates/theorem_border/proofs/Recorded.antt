@@ -1,5 +1,6 @@
 -- What `coarse_bucket_recording` leaves, and what a done `coarse_reset` was asked for, from the same about the call at the words. Assumes nothing.
 use Rattle.std.proofs.Common.{ℕ, ◌≤◌, ◌<◌, arith, ◌≡◌, sym, ap, ◌∙◌, List}
+use Rattle.rules.specs.Recording.{File}
 use Rattle.rules.specs.Answers.{Answer, Done}
 use Rattle.rules.specs.Setups.{Setup}
 use Rattle.rect.specs.declared.Rect.{Rect}
@@ -22,7 +23,7 @@ reset-asks v w h e = go (asking w)
     go (for-none r n) = let z = sym (ap (λ (a : Answer Host). a.number) (reset-none w r n h v)) ∙ e in absurd (not_done r z)
     go (for_some q a) = (q, a)
 
-module _ (file : List ℕ) (w : SetupWords) where
+module _ (file : File) (w : SetupWords) where
   -- in the setup that is asked for
   module _ (q : Setup) (a : Asks w q) where
     accepted-in : (h : Host) → Known h → (recording-at file w h).number ≡ Done → Accepted file w h

@@ -1,6 +1,7 @@
 -- A refused `coarse_why` leaves its result words. Assumes nothing.
 use Rattle.std.proofs.Common.{ℕ, ◌≡◌, refl, ◌&&◌, List, Option, None, Some, Result, Ok, Err, leb, eqb, length}
 use Rattle.sizes.specs.declared.answers.Refusal.{Refusal}
+use Rattle.rules.specs.Recording.{File}
 use Rattle.rules.specs.Setups.{Setup}
 use Rattle.screen.specs.declared.Screen.{Screen}
 use Rattle.screen.specs.Tables.{Tables, screen_lent}
@@ -12,7 +13,7 @@ use Rattle.host.specs.Border.{unasked_number}
 use Rattle.host.specs.Reasons.{reason-words, reason-size, asked, why-left, why_in, why_call}
 use Rattle.theorem_border.specs.Refused.{WhyRefused}
 
-module _ (file : List ℕ) (row tile layer attribute : ℕ) (st : List ℕ) (t : Tables) (old : List ℕ) where
+module _ (file : File) (row tile layer attribute : ℕ) (st : List ℕ) (t : Tables) (old : List ℕ) where
   in-one : (q : Setup) → Refused (why_in file q row tile layer attribute st t old) → (why_in file q row tile layer attribute st t old).value.2 ≡ old
   unfolding why_in
   in-one q = go (screen_of (leb layer 1 && eqb (length old) reason-size) st)

@@ -9,7 +9,7 @@ use Rattle.sizes.specs.Sizes.{state-size}
 use Rattle.rules.specs.Answers.{Answer, answer, Done, BadRecord}
 use Rattle.rules.specs.Spans.{Span}
 use Rattle.rules.specs.Inputs.{Clip}
-use Rattle.rules.specs.Recording.{shape, sections}
+use Rattle.rules.specs.Recording.{parsed, File}
 use Rattle.rules.specs.Setups.{Setup, frame}
 use Rattle.rules.proofs.All.{both}
 use Rattle.rect.specs.declared.Rect.{Rect}
@@ -105,13 +105,13 @@ module _ (w : SetupWords) (r : Refusal) (e : Err r ≡ asked_setup w) (h : Host)
   unfolding reset-at
   reset-none v = sym (ap holding (reset_unasked w r e v h.state h.tables))
 
-  pub recording-none : (file : List ℕ) → recording-at file w h ≡ answer (unasked_number file r) h
+  pub recording-none : (file : File) → recording-at file w h ≡ answer (unasked_number file r) h
   unfolding recording-at
   recording-none file = sym (ap holding (recording_unasked w r e file h.state h.tables))
 
-pub unasked-late : (r : Refusal) (file : List ℕ) → unasked_number file r ≡ Done → ⊥
+pub unasked-late : (r : Refusal) (file : File) → unasked_number file r ≡ Done → ⊥
 unfolding unasked_number
-unasked-late r file = go (sections shape file)
+unasked-late r file = go (parsed file)
   where
     go : (o : Option (List (List (List ℕ)))) → unasked o r ≡ Done → ⊥
     go None e = omega arith
@@ -123,7 +123,7 @@ module _ (w : SetupWords) (q : Setup) (a : Asks w q) where
   unfolding reset-at
   reset-is v h = sym (ap holding (reset_asked w q a v h.state h.tables refl))
 
-  recording-is : (file : List ℕ) (h : Host) → recording-at file w h ≡ holding (recording_in file q h.state h.tables)
+  recording-is : (file : File) (h : Host) → recording-at file w h ≡ holding (recording_in file q h.state h.tables)
   unfolding recording-at
   recording-is file h = sym (ap holding (recording_asked w q a file h.state h.tables refl))
 
@@ -134,7 +134,7 @@ module _ (w : SetupWords) (q : Setup) (a : Asks w q) where
         reset-is v (host-of l)
         ∙ ap holding (on-screen (screen-words l.screen, l.tables) (λ (s : Screen). tables-left (reset_to (frame q (box_of v)) (screen_lent s l.tables))) l.screen)
 
-    pub recording_on : (file : List ℕ) → recording-at file w (host-of l) ≡ hosted (recorded file q l)
+    pub recording_on : (file : File) → recording-at file w (host-of l) ≡ hosted (recorded file q l)
     unfolding recording_in
     recording_on file =
         recording-is file (host-of l)
@@ -160,13 +160,13 @@ module _ (h : Host) (n : None ≡ screen_of true h.state) (w : SetupWords) (q : 
       let d : (reset_in v q h.state h.tables).number ≡ Done = sym (ap (λ (x : Answer Host). x.number) (reset-is w q a v h)) ∙ e in
       never_done h.state _ (rw (← n) at d)
 
-  pub recording-never : (file : List ℕ) → (recording-at file w h).number ≡ Done → ⊥
+  pub recording-never : (file : File) → (recording-at file w h).number ≡ Done → ⊥
   unfolding recording_in
   recording-never file e =
       let d : (recording_in file q h.state h.tables).number ≡ Done = sym (ap (λ (x : Answer Host). x.number) (recording-is w q a file h)) ∙ e in
       never_done h.state _ (rw (← n) at d)
 
-  pub recording-left : (file : List ℕ) → (recording-at file w h).value ≡ h
+  pub recording-left : (file : File) → (recording-at file w h).value ≡ h
   unfolding recording_in
   recording-left file =
       let d : (holding (recording_in file q h.state h.tables)).value ≡ h = rw (← n) in

@@ -1,6 +1,7 @@
 -- The picture, `can_skip` and recordings about the calls that a host links, by the words that it reads.
 use Rattle.std.specs.Prelude.{ℕ, ◌/◌, ◌≤◌, ◌<◌, ◌≡◌, Bool, true, ◌&&◌, ◌||◌, cond, List, [], ◌∷◌, get_or, eqb}
 use Rattle.sizes.specs.Widths.{bucket-tiles}
+use Rattle.rules.specs.Recording.{File}
 use Rattle.rules.specs.Answers.{Answer, answer, Done, BadForm}
 use Rattle.rules.specs.Boxes.{width, rows_of}
 use Rattle.rules.specs.Spans.{Span}
@@ -72,7 +73,7 @@ Clear h =
     → get_or (part (wide (screen-at h.state)) r h.tables.depth) (x / bucket-tiles (screen-at h.state).width) 0 ≤ id
 
 -- What a recording leaves. Accepted: its words asked for a setup; words that are `Hosted` by the steps of its walk, and painting can begin there.
-pub record Accepted (file : List ℕ) (w : SetupWords) (h : Host) : Type 0 where
+pub record Accepted (file : File) (w : SetupWords) (h : Host) : Type 0 where
   pub setup : Setup
   pub asks : Asks w setup
   pub words : Readable file
@@ -80,7 +81,7 @@ pub record Accepted (file : List ℕ) (w : SetupWords) (h : Host) : Type 0 where
   pub begins : (begin-at (recording-at file w h).value).number ≡ Done
 
 -- Refused: every word as it was; or, with a number past 3, what a reset to the file's viewport leaves.
-pub data Refused (file : List ℕ) (w : SetupWords) (h : Host) : Type 0 where
+pub data Refused (file : File) (w : SetupWords) (h : Host) : Type 0 where
   kept : (recording-at file w h).value ≡ h → Refused file w h
   emptied : (words : Readable file) → BadForm < (recording-at file w h).number → (reset-at (rect-of (said words).viewport) w h).number ≡ Done
       → (recording-at file w h).value ≡ (reset-at (rect-of (said words).viewport) w h).value → Refused file w h
@@ -93,16 +94,16 @@ Finishes =
 
 -- An accepted recording leaves hosted words, reached by the steps of its walk, and painting can begin there: the picture speaks of it.
 abbrev pub RecordingAccepted : Type 0
-RecordingAccepted = (file : List ℕ) (w : SetupWords) (h : Host) → (recording-at file w h).number ≡ Done → Accepted file w h
+RecordingAccepted = (file : File) (w : SetupWords) (h : Host) → (recording-at file w h).number ≡ Done → Accepted file w h
 
 -- A refused one leaves every word as it was, or what a reset to the file's viewport leaves.
 abbrev pub RecordingRefused : Type 0
-RecordingRefused = (file : List ℕ) (w : SetupWords) (h : Host) → ((recording-at file w h).number ≡ Done → ⊥) → Refused file w h
+RecordingRefused = (file : File) (w : SetupWords) (h : Host) → ((recording-at file w h).number ≡ Done → ⊥) → Refused file w h
 
 -- With 1, 2 or 3 it leaves them as they were.
 abbrev pub RecordingEarly : Type 0
 RecordingEarly =
-    (file : List ℕ) (w : SetupWords) (h : Host) → 0 < (recording-at file w h).number → (recording-at file w h).number ≤ 3
+    (file : File) (w : SetupWords) (h : Host) → 0 < (recording-at file w h).number → (recording-at file w h).number ≤ 3
     → (recording-at file w h).value ≡ h
 
 -- A done reset was asked for a setup.

@@ -1,5 +1,6 @@
 -- Editing one line of the screen, by the words that a host lends: what two recordings that differ in segments outside one row leave of that row.
 use Rattle.std.specs.Prelude.{ℕ, ◌+◌, ◌/◌, ◌<◌, ◌≡◌, true, List}
+use Rattle.rules.specs.Recording.{File}
 use Rattle.rules.specs.Answers.{Done}
 use Rattle.rules.specs.Boxes.{rows_of}
 use Rattle.rules.specs.Plans.{Frame}
@@ -27,7 +28,7 @@ pub record SameLine (f : Frame) (i : ℕ) (h k : Host) : Type 0 where
 
 -- `coarse_bucket_recording` of two files into any words, asked for one setup, answers 0 both times. They are edits of one another outside row i of the screen:
 -- outside that row of the scene, which is so many rows further on as the viewport's first row says.
-pub record EditedPair (file edit : List ℕ) (w : SetupWords) (q : Setup) (i : ℕ) (h k : Host) : Type 0 where
+pub record EditedPair (file edit : File) (w : SetupWords) (q : Setup) (i : ℕ) (h k : Host) : Type 0 where
   pub asks : Asks w q
   pub one : Readable file
   pub other : Readable edit
@@ -39,13 +40,13 @@ pub record EditedPair (file edit : List ℕ) (w : SetupWords) (q : Setup) (i : �
 -- Then that row is the same, ..
 abbrev pub LineWords : Type 0
 LineWords =
-    (file edit : List ℕ) (w : SetupWords) (q : Setup) (i : ℕ) (h k : Host) (e : EditedPair file edit w q i h k)
+    (file edit : File) (w : SetupWords) (q : Setup) (i : ℕ) (h k : Host) (e : EditedPair file edit w q i h k)
     → SameLine (frame-in q e.one) i (recording-at file w h).value (recording-at edit w k).value
 
 -- .. and painting gives the same pieces of it, by any painting calls after which it has finished, on either side its own.
 abbrev pub LinePieces : Type 0
 LinePieces =
-    (file edit : List ℕ) (w : SetupWords) (q : Setup) (i : ℕ) (h k : Host) → EditedPair file edit w q i h k
+    (file edit : File) (w : SetupWords) (q : Setup) (i : ℕ) (h k : Host) → EditedPair file edit w q i h k
     → (cs ds : List Call)
     → finished i cs (begin-at (recording-at file w h).value).value ≡ true
     → finished i ds (begin-at (recording-at edit w k).value).value ≡ true

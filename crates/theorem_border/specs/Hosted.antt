@@ -2,6 +2,7 @@
 use Rattle.std.specs.Prelude.{ℕ, ◌≡◌, List, [], ◌∷◌, ◌++◌, Float, ℤ}
 use Rattle.std.specs.Prelude.{Ok}
 use Rattle.sizes.specs.Sizes.{most-rows}
+use Rattle.rules.specs.Recording.{File}
 use Rattle.rules.specs.Answers.{Answer, answer, Done}
 use Rattle.rules.specs.Spans.{Span}
 use Rattle.rules.specs.Inputs.{Clip}
@@ -52,7 +53,7 @@ unfoldable pub reset-at : Rect → SetupWords → Host → Answer Host
 reset-at v w h = let a = reset_call v w h.state h.tables in answer a.number (host a.value.0 a.value.1)
 
 -- `coarse_bucket_recording`
-unfoldable pub recording-at : List ℕ → SetupWords → Host → Answer Host
+unfoldable pub recording-at : File → SetupWords → Host → Answer Host
 recording-at file w h = let a = recording_call file w h.state h.tables in answer a.number (host a.value.0 a.value.1)
 
 -- `coarse_fill`: any words as paints and as segments
@@ -139,7 +140,7 @@ place q h = record { limit = most-rows; setup = q; arenas = arenas (lengths h.ta
 -- it is a reset (`recording-refused`): they need no case. A done reset or recording was asked for some setup (`reset-asks`, `recording-accepted`).
 pub data Hosted : Frame → List Step → Host → Type 0 where
   by-reset : (v : Rect) (w : SetupWords) (q : Setup) (h : Host) → Asks w q → (reset-at v w h).number ≡ Done → Hosted (frame q (box_of v)) [] (reset-at v w h).value
-  by-recording : (file : List ℕ) (w : SetupWords) (q : Setup) (h : Host) (r : Readable file) → Asks w q → (recording-at file w h).number ≡ Done
+  by-recording : (file : File) (w : SetupWords) (q : Setup) (h : Host) (r : Readable file) → Asks w q → (recording-at file w h).number ≡ Done
       → Hosted (frame-of (place q h) (said r)) (history (place q h) (said r)) (recording-at file w h).value
   by-fill : {f : Frame} {xs : List Step} {h : Host} (ps ss : List ℕ) (d : Draw) → Hosted f xs h → (fill-at ps ss d h).number ≡ Done
       → Hosted f (xs ++ (fill-said ps ss d ∷ [])) (fill-at ps ss d h).value

@@ -5,6 +5,7 @@ pub mod Numbers
 pub mod Words
 pub mod Held
 pub mod Reading
+pub mod Colours
 pub mod Edited
 pub mod Panel
 pub mod Computing

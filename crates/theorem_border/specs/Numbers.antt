@@ -3,6 +3,7 @@
 -- the screen that is read from the state's 17 words.
 use Rattle.std.specs.Prelude.{ℕ, ◌≡◌, List, length, Float, ℤ}
 use Rattle.sizes.specs.Sizes.{state-size}
+use Rattle.rules.specs.Recording.{File}
 use Rattle.rules.specs.Spans.{Span}
 use Rattle.rules.specs.Setups.{Setup, frame}
 use Rattle.span.specs.declared.TileSpan.{TileSpan}
@@ -49,12 +50,12 @@ ResetKeeps =
 
 abbrev pub RecordingKeeps : Type 0
 RecordingKeeps =
-    (file : List ℕ) (w : SetupWords) (q : Setup) (st : List ℕ) (t : Tables) → Asks w q
+    (file : File) (w : SetupWords) (q : Setup) (st : List ℕ) (t : Tables) → Asks w q
     → Keeps st (recorded file q (screen_lent (screen-at st) t)).number (recording_call file w st t).number
 
 abbrev pub WhyKeeps : Type 0
 WhyKeeps =
-    (file : List ℕ) (w : SetupWords) (q : Setup) (row tile layer attribute : ℕ) (st : List ℕ) (t : Tables) (res : List ℕ) → Asks w q
+    (file : File) (w : SetupWords) (q : Setup) (row tile layer attribute : ℕ) (st : List ℕ) (t : Tables) (res : List ℕ) → Asks w q
     → Keeps st (explained file q row tile (asked layer attribute) (screen_lent (screen-at st) t)).number (why_call file w row tile layer attribute st t res).number
 
 abbrev pub FillKeeps : Type 0

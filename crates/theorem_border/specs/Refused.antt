@@ -1,6 +1,7 @@
 -- A refused `coarse_` call leaves the state's words, and everything else that it was lent, as they were: each call by the definition that its contract
 -- cites, at any words whatever. Of a refused recording `RecordingRefused` says what it leaves, since it may have reset the screen.
 use Rattle.std.specs.Prelude.{ℕ, ◌≡◌, List, Float, ℤ}
+use Rattle.rules.specs.Recording.{File}
 use Rattle.rules.specs.Spans.{Span}
 use Rattle.span.specs.declared.TileSpan.{TileSpan}
 use Rattle.rect.specs.declared.Rect.{Rect}
@@ -105,5 +106,5 @@ SizesRefused = (v : Rect) (w : SetupWords) (old : List ℕ) → Refused (size_ca
 -- `coarse_why`: its result words. The rest is what `coarse_bucket_recording` leaves.
 abbrev pub WhyRefused : Type 0
 WhyRefused =
-    (file : List ℕ) (w : SetupWords) (row tile layer attribute : ℕ) (st : List ℕ) (t : Tables) (old : List ℕ)
+    (file : File) (w : SetupWords) (row tile layer attribute : ℕ) (st : List ℕ) (t : Tables) (old : List ℕ)
     → Refused (why_call file w row tile layer attribute st t old) → (why_call file w row tile layer attribute st t old).value.2 ≡ old

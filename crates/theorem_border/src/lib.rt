@@ -11,12 +11,20 @@ ghost use Rattle.theorem_border.specs.Numbers.{BeginKeeps, FillKeeps, FilterKeep
 ghost use Rattle.theorem_border.specs.Words.{ScreenReadBack, SizesFit, WordsWrittenBack};
 ghost use Rattle.theorem_border.specs.Held.{HostedReached};
 ghost use Rattle.theorem_border.specs.Reading.{HostedStands, LengthsRead, CmdsRead, NoCmdRead, DepthsRead, NoDepthRead, ProgressRead};
+ghost use Rattle.theorem_border.specs.Colours as colours;
 ghost use Rattle.theorem_border.specs.Edited.{LinePieces, LineWords};
 ghost use Rattle.theorem_border.specs.Panel.{CallsDone, EachTile, MixedFinish, PaintsTaken, StepsFinish, Tile10, Tile25, Tile40};
 
 /// What each tile receives, whatever a host calls in between.
 pub fn picture_at_border()
     ensures { Picture }
+{}
+
+/// What each tile comes to, whatever the colours are: by painting steps, and by what is read of its row.
+pub fn same_picture_at_border<B>()
+    ensures by_steps { colours.SamePicture B }
+    ensures by_commands { colours.SameStored B }
+    ensures word { colours.WordRead }
 {}
 
 /// Where `coarse_can_skip` says yes, nothing of the span is hidden.

@@ -1,4 +1,6 @@
 -- What is held of the words that a building call or a recording is lent.
+use Rattle.file.specs.Held.{file_of}
+use Rattle.rules.specs.Recording.{File}
 use Rattle.std.specs.Prelude.{ℕ, ℤ, Float, List}
 use Rattle.row.specs.Words.{Words}
 use Rattle.row.specs.Rows.{all-held}
@@ -23,5 +25,5 @@ pop-words l = (l.screen, all-held l.rows, l.layers.table.now, l.layers.opacities
 abbrev pub filter-words : FilterLent → Screen × Words × List ℕ × List ℤ
 filter-words l = (l.screen, all-held l.rows, l.paint_attrs.now, l.filter_paints.now)
 
-abbrev pub recording-words : RecordingLent → ScreenLent × List ℕ
-recording-words l = (whole l.screen l.lent, l.file.now)
+abbrev pub recording-words : RecordingLent → ScreenLent × File
+recording-words l = (whole l.screen l.lent, file_of l.file)

@@ -3,16 +3,17 @@ ghost use Rattle.std.specs.Prelude.{◌≡◌};
 ghost use Rattle.theorem_once.specs.Lent.{recording-words};
 
 use crate::Twice;
+use file::File;
 use screen::{Lent, Screen, Setup};
 use sizes::answers::Refusal;
 use tile::{Asked, Reason, why};
 use walk::bucket_recording;
 
-/// What a recording's call reads and writes: the screen, the file's words and all that a host lends with the screen.
+/// What a recording's call reads and writes: the screen, the file and all that a host lends with the screen.
 #[derive(Drop)]
 pub struct RecordingLent<'a> {
     pub screen: Screen,
-    pub file: &'a [u32],
+    pub file: File<'a>,
     pub lent: Lent<'a>,
 }
 

@@ -2,10 +2,12 @@
 ghost use Rattle.std.specs.Prelude.{◌≡◌};
 ghost use Rattle.row.specs.Rows.{all-held};
 ghost use Rattle.screen.specs.Lent.{tables_in};
+ghost use Rattle.file.specs.Held.{file_of};
 ghost use Rattle.text.specs.Dumped.{tables_of};
 ghost use Rattle.theorem_once.specs.Painting.{row-text-words};
 
 use crate::Twice;
+use file::File;
 use paint::{Canvas, Stored};
 use row::Rows;
 use screen::{Lent, Screen, Setup};
@@ -107,23 +109,23 @@ pub fn row_text_twice(
 }
 
 /// Two calls of `size_of`.
-pub fn size_twice(a: &[u32], b: &[u32], setup: Setup) -> Twice<Result<Size, Refusal>>
-    ensures { a.now ≡ b.now → result.0 ≡ result.1 }
+pub fn size_twice(a: File<'_>, b: File<'_>, setup: Setup) -> Twice<Result<Size, Refusal>>
+    ensures { file_of a.entry ≡ file_of b.entry → result.0 ≡ result.1 }
 {
     (size_of(a, setup), size_of(b, setup))
 }
 
 /// Two calls of `recording_text`.
 pub fn recording_text_twice(
-    a: &[u32],
+    a: File<'_>,
     a_lent: &mut Lent<'_>,
     a_bytes: &mut [u8],
-    b: &[u32],
+    b: File<'_>,
     b_lent: &mut Lent<'_>,
     b_bytes: &mut [u8],
     setup: Setup,
 ) -> Twice<FileText>
-    ensures { (a.now ≡ b.now) × (tables_in a_lent.old ≡ tables_in b_lent.old) × (a_bytes.old ≡ b_bytes.old)
+    ensures { (file_of a.entry ≡ file_of b.entry) × (tables_in a_lent.old ≡ tables_in b_lent.old) × (a_bytes.old ≡ b_bytes.old)
         → (result.0 ≡ result.1) × (tables_in a_lent.new ≡ tables_in b_lent.new) × (a_bytes.new ≡ b_bytes.new) }
 {
     (

@@ -5,7 +5,7 @@ use Rattle.rules.specs.Answers.{Answer, answer}
 use Rattle.rules.specs.Boxes.{rows_of}
 use Rattle.rules.specs.Plans.{Step}
 use Rattle.rules.specs.Setups.{Setup, frame}
-use Rattle.rules.specs.Recording.{shape, sections, recording}
+use Rattle.rules.specs.Recording.{parsed, recording, File}
 use Rattle.rules.specs.Calls.{Canvas, fresh-canvas, step_call, record-call}
 use Rattle.screen.specs.Judging.{good-tables, arenas}
 use Rattle.screen.specs.Tables.{lengths, ScreenLent}
@@ -33,8 +33,8 @@ step-held x k l h =
       value = λ e. record { whole = step-whole x k h.whole; same = ap (λ (a : Answer ScreenLent). a.value) q };
     }
 
-module _ (ws : List ℕ) (q : Setup) (k : Canvas)
-    (fit : (ss : List (List (List ℕ))) → sections shape ws ≡ Some ss → good-tables (rows_of (frame q (recording ss).viewport).viewport) (lengths (canvas-words k).tables) ≡ true) where
+module _ (ws : File) (q : Setup) (k : Canvas)
+    (fit : (ss : List (List (List ℕ))) → parsed ws ≡ Some ss → good-tables (rows_of (frame q (recording ss).viewport).viewport) (lengths (canvas-words k).tables) ≡ true) where
   -- the rules' call, with the arenas that are lent
   abbrev theirs : Answer Canvas
   theirs = record-call q (arenas (lengths (canvas-words k).tables)) ws k

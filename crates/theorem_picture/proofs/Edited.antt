@@ -7,7 +7,7 @@ use Rattle.rules.specs.Plain.{plain}
 use Rattle.rules.specs.Plans.{Frame, bucket, Step}
 use Rattle.rules.specs.Steps.{Screen, reset, call}
 use Rattle.rules.specs.Setups.{Setup, frame}
-use Rattle.rules.specs.Recording.{Recording}
+use Rattle.rules.specs.Recording.{Recording, File}
 use Rattle.rules.specs.Walk.{walk-all}
 use Rattle.rules.specs.Logged.{Logged, logged-call, walk-logged}
 use Rattle.rules.specs.Calls.{Canvas, begin-call}
@@ -152,7 +152,7 @@ reached-pieces {f = f} {xs = xs} {ys = ys} r p e h i there edits cs ds fin end =
     ∙ line-painted s.canvas t.canvas i (row-unchanged f i there xs ys edits s.canvas.screen t.canvas.screen s.built t.built) (u ∙ sym v) a.begins b.begins here here' a.turns b.turns a.finished b.finished
     ∙ sym b.gave
 
-module _ (ws vs : List ℕ) (q : Setup) (i : ℕ) (l m : ScreenLent) (e : EditedPair ws vs q i l m) where
+module _ (ws vs : File) (q : Setup) (i : ℕ) (l m : ScreenLent) (e : EditedPair ws vs q i l m) where
   abbrev f : Frame
   f = frame-in q e.one
 

@@ -17,3 +17,5 @@ pub mod Answered
 pub mod Stored
 pub mod Refined
 pub mod Bounded
+pub mod SamePicture
+pub mod WordAt

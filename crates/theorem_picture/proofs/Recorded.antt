@@ -6,7 +6,7 @@ use Rattle.rules.specs.Answers.{Answer, answer, first_of, Done, BadRecord, BadOr
 use Rattle.rules.specs.Rows.{Row, fresh-row, row-ops}
 use Rattle.rules.specs.Plans.{Frame, Step, Layer}
 use Rattle.rules.specs.Steps.{Screen, reset}
-use Rattle.rules.specs.Recording.{Recording, shape, sections, good-records, good-order}
+use Rattle.rules.specs.Recording.{Recording, parsed, good-records, good-order, File}
 use Rattle.rules.specs.Setups.{Setup}
 use Rattle.rules.specs.Walk.{Place, frame-of, go_on, ◌then◌, walk-all}
 use Rattle.rules.specs.Logged.{Logged, logged-call, walk-logged}
@@ -66,7 +66,7 @@ judged-late r = go (good-records r) (good-order r)
     go true false e = omega arith
     go true true e = absurd (eqb-false Done Done e refl)
 
-module _ (ws : List ℕ) (r : Readable ws) (q : Setup) (l : ScreenLent) where
+module _ (ws : File) (r : Readable ws) (q : Setup) (l : ScreenLent) where
   abbrev p : Place
   p = place q l
 
@@ -137,13 +137,13 @@ module _ (ws : List ℕ) (r : Readable ws) (q : Setup) (l : ScreenLent) where
       go true e = plays (eqb-true _ _ e) (eqb (judged (said r)) Done) refl
       go false e = ((λ z. absurd (eqb-false _ _ e z)), λ z. kept (reset-refused e))
 
-module _ (ws : List ℕ) (q : Setup) (l : ScreenLent) where
+module _ (ws : File) (q : Setup) (l : ScreenLent) where
   -- An accepted recording leaves words that the steps of its walk reach, and painting can begin there: `picture` speaks of it.
   pub recorded-reached : (recorded ws q l).number ≡ Done → Accepted (place q l) ws (recorded ws q l).value
   unfolding recorded
-  recorded-reached = go (sections shape ws) refl
+  recorded-reached = go (parsed ws) refl
     where
-      go : (o : Option (List (List (List ℕ)))) → sections shape ws ≡ o → (of-sections o q l).number ≡ Done → Accepted (place q l) ws (of-sections o q l).value
+      go : (o : Option (List (List (List ℕ)))) → parsed ws ≡ o → (of-sections o q l).number ≡ Done → Accepted (place q l) ws (of-sections o q l).value
       go None e z = absurd (omega arith)
       go (Some ss) e z =
           let r : Readable ws = record { parts = ss; formed = e } in
@@ -158,9 +158,9 @@ module _ (ws : List ℕ) (q : Setup) (l : ScreenLent) where
   -- A refused one leaves the words as they were, or those of the file's reset.
   pub recorded-refused : ((recorded ws q l).number ≡ Done → ⊥) → Refused q ws l (recorded ws q l)
   unfolding recorded
-  recorded-refused = go (sections shape ws) refl
+  recorded-refused = go (parsed ws) refl
     where
-      go : (o : Option (List (List (List ℕ)))) → sections shape ws ≡ o → ((of-sections o q l).number ≡ Done → ⊥) → Refused q ws l (of-sections o q l)
+      go : (o : Option (List (List (List ℕ)))) → parsed ws ≡ o → ((of-sections o q l).number ≡ Done → ⊥) → Refused q ws l (of-sections o q l)
       go None e z = kept refl
       go (Some ss) e z = (result ws (record { parts = ss; formed = e }) q l).1 z
 

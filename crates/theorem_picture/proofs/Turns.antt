@@ -14,7 +14,7 @@ use Rattle.theorem_picture.proofs.Pieces.{pieces-back}
 use Rattle.theorem_picture.proofs.Words.{paint-gives, paint-words}
 
 -- what one call gave
-gave-same : (k : Canvas) → WholeCanvas k → (t : Turn) → gave-out t.row (paint-out t.row t.list (canvas-words k)) ≡ gave t.row (paint-call t.row (length t.list / piece-size) k)
+pub gave-same : (k : Canvas) → WholeCanvas k → (t : Turn) → gave-out t.row (paint-out t.row t.list (canvas-words k)) ≡ gave t.row (paint-call t.row (length t.list / piece-size) k)
 gave-same k w t =
     let g = paint-call t.row (length t.list / piece-size) k in
     ap (gave-out t.row) (paint-gives k w t.row t.list) ∙ rw (pieces-back g.value.result.pieces t.list)

@@ -1,5 +1,6 @@
 -- Editing one line of the screen, at the lent words: what two recordings that differ in segments outside one row leave of that row.
 use Rattle.std.specs.Prelude.{ℕ, ◌+◌, ◌/◌, ◌<◌, ◌≡◌, true, List}
+use Rattle.rules.specs.Recording.{File}
 use Rattle.rules.specs.Answers.{Done}
 use Rattle.rules.specs.Boxes.{rows_of}
 use Rattle.rules.specs.Plain.{plain}
@@ -28,12 +29,12 @@ pub record SameLine (f : Frame) (i : ℕ) (l m : ScreenLent) : Type 0 where
   pub filter-paints : l.tables.filter-paints ≡ m.tables.filter-paints
 
 -- The frame of a recording that is played in the setup q.
-abbrev pub frame-in : Setup → {ws : List ℕ} → Readable ws → Frame
+abbrev pub frame-in : Setup → {ws : File} → Readable ws → Frame
 frame-in q x = frame q (said x).viewport
 
 -- Two recordings are played in one setup into any tables, and both are accepted. They are edits of one another outside row i of the screen: outside that row of
 -- the scene, which is so many rows further on as the viewport's first row says.
-pub record EditedPair (ws vs : List ℕ) (q : Setup) (i : ℕ) (l m : ScreenLent) : Type 0 where
+pub record EditedPair (ws vs : File) (q : Setup) (i : ℕ) (l m : ScreenLent) : Type 0 where
   pub one : Readable ws
   pub other : Readable vs
   pub one_done : (recorded ws q l).number ≡ Done
@@ -44,13 +45,13 @@ pub record EditedPair (ws vs : List ℕ) (q : Setup) (i : ℕ) (l m : ScreenLent
 -- Then they leave that row as it was, ..
 abbrev pub LineWords : Type 0
 LineWords =
-    (ws vs : List ℕ) (q : Setup) (i : ℕ) (l m : ScreenLent) (e : EditedPair ws vs q i l m)
+    (ws vs : File) (q : Setup) (i : ℕ) (l m : ScreenLent) (e : EditedPair ws vs q i l m)
     → SameLine (frame-in q e.one) i (recorded ws q l).value (recorded vs q m).value
 
 -- .. painting gives the same pieces of it, by any calls of painting steps and rows, in any mixture, after which it has finished, on either side its own, ..
 abbrev pub LinePieces : Type 0
 LinePieces =
-    (ws vs : List ℕ) (q : Setup) (i : ℕ) (l m : ScreenLent) → EditedPair ws vs q i l m
+    (ws vs : File) (q : Setup) (i : ℕ) (l m : ScreenLent) → EditedPair ws vs q i l m
     → (cs ds : List Call)
     → row-finished i cs (begin-at (recorded ws q l).value).value ≡ true
     → row-finished i ds (begin-at (recorded vs q m).value).value ≡ true
@@ -59,6 +60,6 @@ LinePieces =
 -- .. and each of its tiles has the same list in plain draw order.
 abbrev pub LineListed : Type 0
 LineListed =
-    (ws vs : List ℕ) (q : Setup) (i : ℕ) (l m : ScreenLent) (e : EditedPair ws vs q i l m) (t : ℕ)
+    (ws vs : File) (q : Setup) (i : ℕ) (l m : ScreenLent) (e : EditedPair ws vs q i l m) (t : ℕ)
     → plain (bucket (frame-in q e.one)) (frame-in q e.one).viewport i t (history (place q l) (said e.one))
     ≡ plain (bucket (frame-in q e.one)) (frame-in q e.one).viewport i t (history (place q m) (said e.other))

@@ -16,3 +16,4 @@ pub mod Alone
 pub mod Kept
 pub mod Apart
 pub mod Bounded
+pub mod Colours

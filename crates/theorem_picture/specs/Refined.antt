@@ -6,7 +6,7 @@ use Rattle.rules.specs.Spans.{Span}
 use Rattle.rules.specs.Rows.{Row, row-ops, fresh-row}
 use Rattle.rules.specs.Plans.{Frame, Layer, Step, Act, paint, opaque, touch, close, pop, Put}
 use Rattle.rules.specs.Steps.{Screen, do-puts, touched, reset, call}
-use Rattle.rules.specs.Recording.{Recording, shape, sections, recording}
+use Rattle.rules.specs.Recording.{Recording, parsed, recording, File}
 use Rattle.rules.specs.Setups.{Setup, frame}
 use Rattle.rules.specs.Walk.{good-room, walk-all, play}
 use Rattle.rules.specs.Calls.{Canvas, fresh-canvas, step_call, begin-call, paint-call, write-call}
@@ -93,8 +93,8 @@ WalksAgree =
 -- as long as the frame asks.
 abbrev pub FilePlays : Type 0
 FilePlays =
-    (ws : List ℕ) (q : Setup) (l : ScreenLent) (old : Screen Row)
-    → ((ss : List (List (List ℕ))) → sections shape ws ≡ Some ss → good-tables (rows_of (frame q (recording ss).viewport).viewport) (lengths l.tables) ≡ true)
+    (ws : File) (q : Setup) (l : ScreenLent) (old : Screen Row)
+    → ((ss : List (List (List ℕ))) → parsed ws ≡ Some ss → good-tables (rows_of (frame q (recording ss).viewport).viewport) (lengths l.tables) ≡ true)
     → Plays Refined old l (play (Screen Row) (call Row row-ops) (reset fresh-row) (place q l) old ws) (recorded ws q l)
 
 -- A canvas that a reset and calls make is whole.

@@ -5,10 +5,13 @@
 ghost use Rattle.std.specs.Prelude.{List};
 ghost use Rattle.rules.specs.Plans.{Frame, Step};
 ghost use Rattle.screen.specs.Tables.{ScreenLent};
+ghost use Rattle.rules_picture.specs.Colours as colours;
+ghost use Rattle.rules_picture.specs.StoredColours.{SameStored, WordNewest};
 ghost use Rattle.rules_picture.specs.Turns as rules;
 ghost use Rattle.rules_picture.specs.Skip.{Skipped-visible};
 ghost use Rattle.theorem_picture.specs.Reached.{Reached};
 ghost use Rattle.theorem_picture.specs.Picture.{Picture};
+ghost use Rattle.theorem_picture.specs.Colours.{RecordingSame, SamePicture, WordAt};
 ghost use Rattle.theorem_picture.specs.Rows.{PictureByRows};
 ghost use Rattle.theorem_picture.specs.Skip.{Clear, FinishedFills, SkippedBuckets, SkippedRuns};
 ghost use Rattle.theorem_picture.specs.Alone.{AllShown, FinishedAlone, RowPicture, SaidFinished};
@@ -84,6 +87,18 @@ pub fn each_tile_receives_draw_order()
     ensures finished { FinishedAlone }
     ensures said { SaidFinished }
     ensures unhidden { AllShown }
+{}
+
+/// What each tile comes to, whatever the colours are: by the rules, with touched rows and without; by what is stored for its row; by painting steps
+/// on the words; of an accepted recording.
+pub fn each_tile_comes_to_draw_order<B>()
+    ensures by_touched { colours.SameTouched B }
+    ensures by_rules { colours.SamePicture B }
+    ensures stored { SameStored B }
+    ensures newest { WordNewest }
+    ensures by_words { SamePicture B }
+    ensures word { WordAt }
+    ensures recorded { RecordingSame B }
 {}
 
 /// Every row can be painted to its end, and a row's call is painting steps.

@@ -10,7 +10,7 @@ use Rattle.rules.specs.Rows.{Row, fresh-row, row-ops}
 use Rattle.rules.specs.Plans.{Frame, bucket}
 use Rattle.rules.specs.Steps.{Screen, reset, call}
 use Rattle.rules.specs.Painting.{Entry}
-use Rattle.rules.specs.Recording.{Recording, recording}
+use Rattle.rules.specs.Recording.{Recording, recording, File}
 use Rattle.rules.specs.Setups.{Setup, frame}
 use Rattle.rules.specs.Walk.{Place, frame-of, walk-all}
 use Rattle.rules.specs.Logged.{walk-logged}
@@ -36,7 +36,7 @@ use Rattle.theorem_reason.specs.Reasons.{Listed, Unlisted}
 use Rattle.theorem_reason.specs.Explained.{Explained-true, Explained-painted}
 use Rattle.theorem_reason.proofs.Reasons.{shown-exact, not-shown}
 
-module _ (ws : List ℕ) (q : Setup) (l : ScreenLent) (z : (recorded ws q l).number ≡ Done) (s : Readable ws) where
+module _ (ws : File) (q : Setup) (l : ScreenLent) (z : (recorded ws q l).number ≡ Done) (s : Readable ws) where
   abbrev r : Recording
   r = said s
 

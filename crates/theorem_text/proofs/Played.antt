@@ -1,11 +1,11 @@
 -- A done play of a file's words leaves no layer open, and opacities that are words. Assumes nothing.
-use Rattle.std.proofs.Common.{◌≡◌, refl, sym, ap, ◌∙◌, Bool, true, false, cond, List, [], Option, None, Some, ℕ, arith, leb, eqb, eq-eqb, eqb-true}
+use Rattle.std.proofs.Common.{◌≡◌, refl, sym, ap, ◌∙◌, Bool, true, false, cond, List, [], Option, None, Some, ℕ, arith, leb, eqb, eq-eqb, eqb-true, length, drop}
 use Rattle.rules.specs.Answers.{Answer, answer, settle, Done, BadForm}
 use Rattle.rules.specs.Rows.{Row, fresh-row, row-ops}
 use Rattle.rules.specs.Steps.{Screen, reset, call}
-use Rattle.rules.specs.Recording.{Recording, shape, sections, recording}
+use Rattle.rules.specs.Recording.{Recording, File, head, shape, starts, sections, parsed, recording}
 use Rattle.rules.specs.Walk.{Place, frame-of, judge-records, walk-all, play-records, play}
-use Rattle.rules.proofs.All.{All, nil, never}
+use Rattle.rules.proofs.All.{All, nil, all_drop, never}
 use Rattle.rules_picture.proofs.Walked.{all-walks}
 use Rattle.theorem_text.proofs.Small.{Word, Opacities, walk-small, said-small}
 
@@ -52,10 +52,22 @@ module _ (p : Place) (old : Screen Row) (ss : List (List (List ℕ))) (words : A
       go true e z = walked (eqb walk.number Done) refl z
       go false e z = never (sym (eq-eqb _ _ z) ∙ e)
 
-pub play-ended : (p : Place) (old : Screen Row) (ws : List ℕ) → All Word ws → (play (Screen Row) (call Row row-ops) (reset fresh-row) p old ws).number ≡ 0
+-- a file of words has sections of words
+parsed-small : (f : File) (ss : List (List (List ℕ))) → parsed f ≡ Some ss → All Word f.words → All (All (All Word)) ss
+unfolding parsed
+parsed-small f ss e words = go (starts (head f.edition) f.words) e
+  where
+    n : ℕ
+    n = length (head f.edition)
+
+    go : (b : Bool) → cond b (sections (shape f.edition) (drop n f.words)) None ≡ Some ss → All (All (All Word)) ss
+    go true i = said-small (shape f.edition) (drop n f.words) ss i (all_drop n words)
+    go false i = cc
+
+pub play-ended : (p : Place) (old : Screen Row) (ws : File) → All Word ws.words → (play (Screen Row) (call Row row-ops) (reset fresh-row) p old ws).number ≡ 0
     → Ended (play (Screen Row) (call Row row-ops) (reset fresh-row) p old ws).value
 unfolding play
-play-ended p old ws words = go (sections shape ws) refl
+play-ended p old ws words = go (parsed ws) refl
   where
     played : Option (List (List (List ℕ))) → Answer (Screen Row)
     played o = elim o [
@@ -63,6 +75,6 @@ play-ended p old ws words = go (sections shape ws) refl
       | Some qs ↦ play-records (Screen Row) (call Row row-ops) (reset fresh-row) p old (recording qs)
     ]
 
-    go : (o : Option (List (List (List ℕ)))) → sections shape ws ≡ o → (played o).number ≡ 0 → Ended (played o).value
+    go : (o : Option (List (List (List ℕ)))) → parsed ws ≡ o → (played o).number ≡ 0 → Ended (played o).value
     go None e z = absurd (omega arith)
-    go (Some ss) e z = records-ended p old ss (said-small shape ws ss e words) z
+    go (Some ss) e z = records-ended p old ss (parsed-small ws ss e words) z

@@ -86,7 +86,7 @@ words-below bs byte i = at 0 (omega arith) (words_small bs byte) i
 
 pub played-ended : PlayEnded
 played-ended p old ws small e =
-    let a = play-ended p old ws (all-words ws small) e in
+    let a = play-ended p old ws (all-words ws.words small) e in
     record {
       closed = a.closed;
       small = λ i h. at {P = λ (a : LayerAttr). Word a.opacity} no-layer (omega arith) a.small.attrs i;

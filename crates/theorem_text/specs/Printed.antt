@@ -2,6 +2,7 @@
 use Rattle.std.specs.Prelude.{Ok, ℕ, suc, ◌*◌, ◌≤◌, ◌<◌, ◌≡◌, true, Bool, List, [], ◌∷◌, ◌++◌, length, get_or, drop}
 use Rattle.sizes.specs.declared.width.Width.{Width}
 use Rattle.sizes.specs.Widths.{bucket-tiles}
+use Rattle.rules.specs.Recording.{File, in-one}
 use Rattle.rules.specs.Answers.{Answer, Done}
 use Rattle.rules.specs.Boxes.{Box, rows_of, buckets-of}
 use Rattle.rules.specs.Attributes.{Attrs, no-layer}
@@ -55,7 +56,7 @@ pub record WordsListed (q : Setup) (ws : List ℕ) (bs : List ℕ) (x : Showed) 
   pub few : length (text_of (rowlist-words q ws)) ≤ 264256
 
 abbrev pub WordsPrinted : Type 0
-WordsPrinted = (q : Setup) → Usual q → (ws bs : List ℕ) → 264256 ≤ length bs → WordsListed q ws bs (sized-text (size_of ws q) ws q bs)
+WordsPrinted = (q : Setup) → Usual q → (ws bs : List ℕ) → 264256 ≤ length bs → WordsListed q ws bs (sized-text (size_of (in-one ws) q) (in-one ws) q bs)
 
 -- What `rowlist` writes of a file's bytes into its buffers is the text of the rules' own `rowlist` of these bytes, refusals too; it fits.
 pub record FileListed (q : Setup) (fs : List ℕ) (bs : List ℕ) : Type 0 where
@@ -69,8 +70,8 @@ FilePrinted = (q : Setup) → Usual q → (fs bs : List ℕ) → 264256 ≤ leng
 -- Tables of one size print the same, in any setup: no text tells what they held before.
 abbrev pub TablesUntold : Type 0
 TablesUntold =
-    (z : Size) (t u : Tables) → Exact z t → Exact z u → (ws : List ℕ) (q : Setup) (bs : List ℕ)
-    → (recording-text ws q t bs).showed ≡ (recording-text ws q u bs).showed
+    (z : Size) (t u : Tables) → Exact z t → Exact z u → (file : File) (q : Setup) (bs : List ℕ)
+    → (recording-text file q t bs).showed ≡ (recording-text file q u bs).showed
 
 -- A file's words in tables of the size of its screen: an accepted one leaves words that hold the rules' screen of it.
 pub record Left (s : Screen Row) (z : Size) (o : FileOut) : Type 0 where
@@ -91,8 +92,8 @@ pub record Leaves (a : Answer (Screen Row)) (z : Size) (o : FileOut) : Type 0 wh
 
 abbrev pub WordsLeave : Type 0
 WordsLeave =
-    (q : Setup) → Usual q → (ws : List ℕ) (z : Size) → Ok z ≡ size_of ws q → (t : Tables) → Exact z t
-    → (bs : List ℕ) → 264256 ≤ length bs → Leaves (rowlist-screen q ws) z (recording-text ws q t bs)
+    (q : Setup) → Usual q → (ws : List ℕ) (z : Size) → Ok z ≡ size_of (in-one ws) q → (t : Tables) → Exact z t
+    → (bs : List ℕ) → 264256 ≤ length bs → Leaves (rowlist-screen q ws) z (recording-text (in-one ws) q t bs)
 
 -- The words of bytes are words, ..
 abbrev pub WordsSmall : Type 0
@@ -105,9 +106,9 @@ pub record Ended (s : Screen Row) : Type 0 where
 
 abbrev pub PlayEnded : Type 0
 PlayEnded =
-    (p : Place) (old : Screen Row) (ws : List ℕ) → ((i : ℕ) → get_or ws i 0 < 4294967296)
-    → (play (Screen Row) (call Row row-ops) (reset fresh-row) p old ws).number ≡ Done
-    → Ended (play (Screen Row) (call Row row-ops) (reset fresh-row) p old ws).value
+    (p : Place) (old : Screen Row) (file : File) → ((i : ℕ) → get_or file.words i 0 < 4294967296)
+    → (play (Screen Row) (call Row row-ops) (reset fresh-row) p old file).number ≡ Done
+    → Ended (play (Screen Row) (call Row row-ops) (reset fresh-row) p old file).value
 
 -- At the words of a sound screen whose layer attributes' opacities are such patterns, the text of the attributes is that of the rules' lines.
 abbrev pub AttrsPrinted : Type 0

@@ -3,7 +3,7 @@ use Rattle.std.proofs.Common.{◌≡◌, sym, ap, ◌∙◌, true, List, ℕ, So
 use Rattle.rules.specs.Answers.{Answer, Done}
 use Rattle.rules.specs.Boxes.{good_viewport}
 use Rattle.rules.specs.Setups.{Setup, frame}
-use Rattle.rules.specs.Recording.{shape, sections}
+use Rattle.rules.specs.Recording.{File, parsed}
 use Rattle.screen.specs.Tables.{ScreenLent}
 use Rattle.file.specs.declared.recording.Recording.{Recording}
 use Rattle.file.specs.Held.{held, FitsIn, recording_of}
@@ -14,7 +14,7 @@ use Rattle.walk.proofs.Recordings.{as-said}
 use Rattle.walk.specs.Ready.{ReadyIn}
 use Rattle.tile.specs.Explained.{Accepted}
 
-module _ (r : Recording) (ws : List ℕ) (g : FitsIn r × (recording_of (sections shape ws) ≡ Some (held r))) (q : Setup) (by : Accepted ws q) where
+module _ (r : Recording) (ws : File) (g : FitsIn r × (recording_of (parsed ws) ≡ Some (held r))) (q : Setup) (by : Accepted ws q) where
   done : (recorded-in (held r) q by.before).number ≡ Done
   done = sym (ap (λ (a : Answer ScreenLent). a.number) (by.same ∙ as-said (held r) ws g.1 q by.before))
 

@@ -7,7 +7,7 @@ use Rattle.rules.specs.Answers.{Answer, answer, Done, BadForm, BadRun}
 use Rattle.rules.specs.Boxes.{Box, good_viewport}
 use Rattle.rules.specs.Plans.{Frame, bucket}
 use Rattle.rules.specs.Setups.{Setup, frame, viewport-in}
-use Rattle.rules.specs.Recording.{Recording, shape, sections, recording}
+use Rattle.rules.specs.Recording.{Recording, File, parsed, recording}
 use Rattle.rules.specs.Walk.{walk-all}
 use Rattle.rules_reason.specs.Reasons.{Reason, Asked}
 use Rattle.screen.specs.Tables.{ScreenLent}
@@ -60,13 +60,13 @@ module _ (f : Frame) (r : Recording) (row tile : ℕ) (a : Asked) (l : ScreenLen
   on-screen q = rw q
 
 -- the whole call, from what the recording call gave
-module _ (ws : List ℕ) (q : Setup) (row tile : ℕ) (a : Asked) (old : ScreenLent) where
+module _ (ws : File) (q : Setup) (row tile : ℕ) (a : Asked) (old : ScreenLent) where
   pub refused : (n : ℕ) (l : ScreenLent) → answer n l ≡ recorded ws q old → (n ≡ Done → ⊥) → no-reason n l ≡ explained ws q row tile a old
   unfolding explained
   refused n l e h = rw (← e, ne_eqb n Done h)
 
   module _ (l : ScreenLent) (e : answer Done l ≡ recorded ws q old) where
-    pub formless : sections shape ws ≡ None → no-reason BadForm l ≡ explained ws q row tile a old
+    pub formless : parsed ws ≡ None → no-reason BadForm l ≡ explained ws q row tile a old
     unfolding explained
     formless h = rw (← e, h)
 
@@ -77,13 +77,13 @@ module _ (ws : List ℕ) (q : Setup) (row tile : ℕ) (a : Asked) (old : ScreenL
         rw h
     by_recording None r g = let z : ◌≡◌ {A = ℕ} 0 1 = cc in absurd (omega arith)
 
-    module _ (r : Recording) (g : recording_of (sections shape ws) ≡ Some r) where
+    module _ (r : Recording) (g : recording_of (parsed ws) ≡ Some r) where
       abbrev f : Frame
       f = frame q r.viewport
 
       in-form : explained ws q row tile a old ≡ explained-of f r row tile a l
       unfolding explained
-      in-form = rw (← e) (by_recording (sections shape ws) r g)
+      in-form = rw (← e) (by_recording (parsed ws) r g)
 
       module _ (v : Box) (same : f.viewport ≡ v) where
         pub off : off-screen v row tile ≡ true → no-reason BadRun l ≡ explained ws q row tile a old

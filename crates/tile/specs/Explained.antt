@@ -7,7 +7,7 @@ use Rattle.rules.specs.Answers.{Answer, answer, Done, BadForm, BadRun}
 use Rattle.rules.specs.Boxes.{Box}
 use Rattle.rules.specs.Plans.{Frame, bucket}
 use Rattle.rules.specs.Setups.{Setup, frame}
-use Rattle.rules.specs.Recording.{Recording, shape, sections, recording}
+use Rattle.rules.specs.Recording.{Recording, File, parsed, recording}
 use Rattle.rules.specs.Walk.{walk-all}
 use Rattle.rules_reason.specs.Answers.{off-screen}
 use Rattle.rules_reason.specs.Reasons.{Reason, unknown-attribute, Asked}
@@ -54,14 +54,14 @@ abbrev pub explained-in : Setup → Option (List (List (List ℕ))) → ℕ → 
 explained-in q None row tile a l = no-reason BadForm l
 explained-in q (Some ss) row tile a l = let r = recording ss in explained-of (frame q r.viewport) r row tile a l
 
--- A file's words: the recording's own number first; then 12; then the reason. The words are what the recording call leaves
-unfoldable pub explained : List ℕ → Setup → ℕ → ℕ → Asked → ScreenLent → Explained
+-- A file: the recording's own number first; then 12; then the reason. The words are what the recording call leaves
+unfoldable pub explained : File → Setup → ℕ → ℕ → Asked → ScreenLent → Explained
 explained ws q row tile a l =
     let b = recorded ws q l in
-    cond (eqb b.number Done) (explained-in q (sections shape ws) row tile a b.value) (no-reason b.number b.value)
+    cond (eqb b.number Done) (explained-in q (parsed ws) row tile a b.value) (no-reason b.number b.value)
 
 -- the recording call accepted a file in a setup
-pub record Accepted (ws : List ℕ) (q : Setup) : Type 0 where
+pub record Accepted (ws : File) (q : Setup) : Type 0 where
   pub before : ScreenLent
   pub after : ScreenLent
   pub same : answer Done after ≡ recorded ws q before

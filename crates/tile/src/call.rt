@@ -12,7 +12,7 @@ ghost use Rattle.rect.specs.Rects.{box_of};
 ghost use Rattle.screen.specs.Screens.{setup-of};
 ghost use Rattle.screen.specs.Tables.{ScreenLent};
 ghost use Rattle.screen.specs.Lent.{whole, SameLent};
-ghost use Rattle.file.specs.Held.{held};
+ghost use Rattle.file.specs.Held.{file_of, held};
 ghost use Rattle.walk.specs.Ready.{ReadyIn};
 ghost use Rattle.walk.specs.Recorded.{recorded};
 ghost use Rattle.tile.specs.Telling.{Telling, tell-at, nothing-told};
@@ -23,7 +23,7 @@ ghost use Rattle.tile.specs.Explained.{explained-as, reason_said, reason-told, t
 use crate::reason::{Asked, Reason, reason_of};
 use crate::steps::{Spot, Tale, Within};
 use crate::story::{Teller, tell_nodes};
-use file::Recording;
+use file::{File, Recording};
 use rect::Rect;
 use screen::{Lent, Screen, Setup};
 use sizes::answers::Refusal;
@@ -99,17 +99,17 @@ fn reason_at(
 
 // A recording that was bucketed answers for one attribute at one tile; BadRun, 12, off the screen.
 fn explain(
-    words: &[u32],
+    file: File<'_>,
     setup: Setup,
     row: u32,
     tile: u32,
     asked: Asked,
 ) -> Result<Reason, Refusal>
-    requires { Accepted words.now (setup-of setup) }
-    ensures { (old l : ScreenLent) → answer 0 l ≡ recorded words.now (setup-of setup) old
-        → explained-as (answer_number result) l (reason_said result) ≡ explained words.now (setup-of setup) row tile (asked_of asked) old }
+    requires { Accepted (file_of file) (setup-of setup) }
+    ensures { (old l : ScreenLent) → answer 0 l ≡ recorded (file_of file.entry) (setup-of setup) old
+        → explained-as (answer_number result) l (reason_said result) ≡ explained (file_of file.entry) (setup-of setup) row tile (asked_of asked) old }
 {
-    let file = Recording::read(words)?;
+    let file = Recording::read(file)?;
     let viewport = file.viewport().viewport_in(setup.mode)?;
     if is_off_screen(viewport, row, tile) {
         return Err(Refusal::BadRun);
@@ -121,7 +121,7 @@ fn explain(
 /// the screen; the screen and the words are those that the recording call leaves, in each case.
 pub fn why(
     screen: &mut Screen,
-    file: &[u32],
+    file: File<'_>,
     setup: Setup,
     row: u32,
     tile: u32,
@@ -130,7 +130,7 @@ pub fn why(
 ) -> Result<Reason, Refusal>
     ensures same { SameLent lent.old lent.new }
     ensures explained { explained-as (answer_number result) (whole screen.new lent.new) (reason_said result)
-        ≡ explained file.now (setup-of setup) row tile (asked_of asked) (whole screen.old lent.old) }
+        ≡ explained (file_of file.entry) (setup-of setup) row tile (asked_of asked) (whole screen.old lent.old) }
 {
     bucket_recording(screen, file, setup, lent)?;
     explain(file, setup, row, tile, asked)

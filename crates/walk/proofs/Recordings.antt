@@ -5,7 +5,7 @@ use Rattle.rules.specs.Answers.{Answer, answer}
 use Rattle.rules.specs.Boxes.{Box}
 use Rattle.rules.specs.Plans.{Frame}
 use Rattle.rules.specs.Setups.{Setup, frame}
-use Rattle.rules.specs.Recording.{Recording, recording, shape, sections, good-records}
+use Rattle.rules.specs.Recording.{Recording, recording, File, parsed, good-records}
 use Rattle.rules.specs.Walk.{◌then◌, walk-all, walk-nodes, walk-layer}
 use Rattle.rect.specs.declared.Rect.{Rect}
 use Rattle.rect.specs.Rects.{box_of}
@@ -55,7 +55,7 @@ module _ (f : Frame) (old : ScreenLent) (n : ℕ) (a : ScreenLent) (e : answer n
   emptied = ap (λ (x : ScreenLent). x.tables) (by_number n (judged_reset f (lengths old.tables)) _ refl a old _ z e)
 
 -- the whole call
-pub bad-file : (ws : List ℕ) (q : Setup) (old : ScreenLent) → sections shape ws ≡ None → answer 3 old ≡ recorded ws q old
+pub bad-file : (ws : File) (q : Setup) (old : ScreenLent) → parsed ws ≡ None → answer 3 old ≡ recorded ws q old
 unfolding recorded
 bad-file ws q old e = rw e
 
@@ -66,11 +66,11 @@ by-sections (Some ss) r e q old =
 by-sections None r e q old = let z : ◌≡◌ {A = ℕ} 0 1 = cc in absurd (omega arith)
 
 -- the call at a file that says a recording
-pub as-said : (r : Recording) (ws : List ℕ) → recording_of (sections shape ws) ≡ Some r → (q : Setup) (old : ScreenLent) → recorded ws q old ≡ recorded-in r q old
+pub as-said : (r : Recording) (ws : File) → recording_of (parsed ws) ≡ Some r → (q : Setup) (old : ScreenLent) → recorded ws q old ≡ recorded-in r q old
 unfolding recorded
-as-said r ws g q old = by-sections (sections shape ws) r g q old
+as-said r ws g q old = by-sections (parsed ws) r g q old
 
-module _ (r : Recording) (ws : List ℕ) (g : recording_of (sections shape ws) ≡ Some r) (v : Rect) (b : box_of v ≡ r.viewport) (q : Setup) (old : ScreenLent)
+module _ (r : Recording) (ws : File) (g : recording_of (parsed ws) ≡ Some r) (v : Rect) (b : box_of v ≡ r.viewport) (q : Setup) (old : ScreenLent)
     (n : ℕ) (a : ScreenLent) (e : answer n a ≡ reset_to (frame q (box_of v)) old) where
   as-recorded : recorded-in r q old ≡ recorded ws q old
   as-recorded = sym (as-said r ws g q old)

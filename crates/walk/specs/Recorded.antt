@@ -3,7 +3,7 @@ use Rattle.std.specs.Prelude.{ℕ, cond, List, eqb}
 use Rattle.std.specs.Prelude.{Option, None, Some}
 use Rattle.rules.specs.Answers.{Answer, answer, Done, BadForm}
 use Rattle.rules.specs.Setups.{Setup, frame}
-use Rattle.rules.specs.Recording.{Recording, shape, sections, recording}
+use Rattle.rules.specs.Recording.{Recording, File, parsed, recording}
 use Rattle.rules.specs.Walk.{◌then◌, walk-all}
 use Rattle.screen.specs.Tables.{ScreenLent, reset_to}
 use Rattle.file.specs.Judging.{judged}
@@ -32,6 +32,6 @@ abbrev pub of-sections : Option (List (List (List ℕ))) → Setup → ScreenLen
 of-sections None q l = answer BadForm l
 of-sections (Some ss) q l = recorded-in (recording ss) q l
 
--- a file's words, and what the screen is asked to be; 3 before all
-unfoldable pub recorded : List ℕ → Setup → ScreenLent → Answer ScreenLent
-recorded ws = of-sections (sections shape ws)
+-- a file, and what the screen is asked to be; 3 before all
+unfoldable pub recorded : File → Setup → ScreenLent → Answer ScreenLent
+recorded f = of-sections (parsed f)

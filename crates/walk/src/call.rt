@@ -4,11 +4,11 @@ ghost use Rattle.sizes.specs.Refusals.{answer_number};
 ghost use Rattle.rules.specs.Answers.{answer};
 ghost use Rattle.screen.specs.Screens.{setup-of};
 ghost use Rattle.screen.specs.Lent.{whole, SameLent};
-ghost use Rattle.file.specs.Held.{held, FitsIn};
+ghost use Rattle.file.specs.Held.{file_of, held, FitsIn};
 ghost use Rattle.walk.specs.Recorded.{played-once, recorded};
 
 use crate::nodes::walk_nodes;
-use file::Recording;
+use file::{File, Recording};
 use screen::{Lent, Screen, Setup, reset};
 use sizes::MOST_LAYERS;
 use sizes::answers::Refusal;
@@ -25,17 +25,17 @@ fn play(screen: &mut Screen, file: &Recording<'_>, lent: &mut Lent<'_>) -> Resul
     walk_nodes(MOST_LAYERS, screen, file, first, end, lent)
 }
 
-/// Rule 2: the words of a recording file, in a setup. 3 for its form, then 2, 1 or 4 as a reset of its viewport, with nothing changed; then 4 and 5 for its
+/// Rule 2: a recording file, in a setup. 3 for its form, then 2, 1 or 4 as a reset of its viewport, with nothing changed; then 4 and 5 for its
 /// records, or the number of the first refused step of its walk, with the screen freshly reset and every word 0.
 pub fn bucket_recording(
     screen: &mut Screen,
-    file: &[u32],
+    file: File<'_>,
     setup: Setup,
     lent: &mut Lent<'_>,
 ) -> Result<(), Refusal>
     ensures same { SameLent lent.old lent.new }
     ensures recorded { answer (answer_number result) (whole screen.new lent.new)
-        ≡ recorded file.now (setup-of setup) (whole screen.old lent.old) }
+        ≡ recorded (file_of file.entry) (setup-of setup) (whole screen.old lent.old) }
 {
     let recording = Recording::read(file)?;
     let fresh = reset(recording.viewport(), setup, lent)?;

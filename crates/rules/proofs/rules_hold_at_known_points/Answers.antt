@@ -33,3 +33,20 @@ returns-clause-left c = record { recording = refl; paint = refl; write = refl; r
 pub returns-clause-edges : goal.returns-clause-edges
 unfolding computing
 returns-clause-edges c = refl
+
+pub returns-clause-editions : goal.returns-clause-editions
+unfolding computing
+returns-clause-editions c =
+    record {
+      read = refl;
+      again = refl;
+      first = refl;
+      zero = refl;
+      paints = refl;
+      layers = refl;
+      rows = refl;
+      apart = refl;
+      heads = refl;
+      either = refl;
+      numbers = refl;
+    }

@@ -1,6 +1,7 @@
 -- Each answer number of the rules, from calls at their own rows, on both sides of its edge, and what a refused call gives.
 use Rattle.std.specs.Prelude.{ℕ, ◌+◌, ◌≡◌, true, false, List, [], ◌∷◌, ◌++◌, replicate, eqb, None, Some}
 use Rattle.sizes.specs.declared.width.Width.TheVariants.{W128}
+use Rattle.sizes.specs.declared.edition.Edition.TheVariants.{One}
 use Rattle.rules.specs.Lists.{every}
 use Rattle.rules.specs.Answers.{Answer, answer, Done, BadArena, BadViewport, BadForm, BadRecord, BadOrder, Deep, NoLayer, Ids, FullAttrs, FullRow, FullDepth, BadRun, Open, NoRoom}
 use Rattle.rules.specs.Boxes.{Box, box}
@@ -17,6 +18,7 @@ use Rattle.rules.specs.Setups.{Mode, exact, snapping, Setup}
 use Rattle.rules.specs.Painting.{begin}
 use Rattle.rules.specs.Walk.{needed}
 use Rattle.rules.specs.Calls.{Canvas, given, fresh-canvas, reset-call, step_call, record-call, begin-call, paint-call, unset-call, visible-call, write-call, can-skip-call}
+use Rattle.rules.specs.Recording.{in-one}
 use Rattle.rules.specs.Words.{file}
 use Rattle.rules.specs.cases.Samples as sample
 use Rattle.rules.specs.cases.Samples.{solid, alpha, opaque-paint, draw, draw-for, any-props, blend, clip, full, filter, pictureless, node, rec, minus, paint-attr}
@@ -107,10 +109,10 @@ abbrev pub one_each : Setup
 one_each = record { c = 1; d = 1; mode = exact; width = W128 }
 
 abbrev pub recorded : List ℕ → Canvas → Answer Canvas
-recorded ws k = record-call one_each (record { render = 4; fills = 2; depth = 2 }) ws k
+recorded ws k = record-call one_each (record { render = 4; fills = 2; depth = 2 }) (in-one ws) k
 
 abbrev pub a-file : List ℕ
-a-file = file (rec (box 0 0 256 4) (solid 0 0 64 ∷ []) (draw 0 1 ∷ []) [] (node 0 1 0 ∷ []) 0 1)
+a-file = file One (rec (box 0 0 256 4) (solid 0 0 64 ∷ []) (draw 0 1 ∷ []) [] (node 0 1 0 ∷ []) 0 1)
 
 -- what a call answered, and what it has to answer
 pub record Answered : Type 0 where
@@ -127,9 +129,9 @@ answers =
     (recorded a-file start).number is Done
     ∷ (recorded (a-file ++ (0 ∷ [])) start).number is BadForm
     ∷ (recorded [] start).number is BadForm
-    ∷ (record-call one_each (record { render = 2048; fills = 1024; depth = 0 }) (file (rec (box 0 0 0 2048) [] [] [] [] 0 0)) start).number is Done
-    ∷ (recorded (file (rec (box 2 0 256 4) [] [] [] [] 1 0) ++ (0 ∷ [])) start).number is BadForm
-    ∷ (recorded (file (rec (box 2 0 256 4) [] [] [] [] 1 0)) start).number is BadViewport
+    ∷ (record-call one_each (record { render = 2048; fills = 1024; depth = 0 }) (in-one (file One (rec (box 0 0 0 2048) [] [] [] [] 0 0))) start).number is Done
+    ∷ (recorded (file One (rec (box 2 0 256 4) [] [] [] [] 1 0) ++ (0 ∷ [])) start).number is BadForm
+    ∷ (recorded (file One (rec (box 2 0 256 4) [] [] [] [] 1 0)) start).number is BadViewport
     -- 2, then 1
     ∷ resets (box 0 0 4096 2048) 1 1024 0 is Done
     ∷ resets (box 0 0 4100 2048) 1 1 0 is BadViewport
@@ -219,7 +221,7 @@ answers =
     ∷ (paint-call 0 9 (write-call 1 0 9 (span 0 1) painting).value.canvas).number is Open
     -- .. a done recording and one refused for its records end painting, one refused for its form does not
     ∷ (paint-call 0 9 (recorded a-file painting).value).number is Open
-    ∷ (paint-call 0 9 (recorded (file (rec (box 0 0 256 4) [] [] [] [] 1 0)) painting).value).number is Open
+    ∷ (paint-call 0 9 (recorded (file One (rec (box 0 0 256 4) [] [] [] [] 1 0)) painting).value).number is Open
     ∷ (paint-call 0 9 (recorded [] painting).value).number is Done
     -- 12, then 14
     ∷ (paint-call 1 0 start).number is BadRun

@@ -1,6 +1,7 @@
 -- Short names for the records of a recording, for attributes and pieces: for the cases.
 use Rattle.std.specs.Prelude.{ℕ, ℤ, pos, neg_ℤ, true, false, List, [], ◌∷◌, map, Option, None, Some}
 use Rattle.sizes.specs.declared.width.Width.TheVariants.{W128}
+use Rattle.sizes.specs.declared.edition.Edition.TheVariants.{One}
 use Rattle.rules.specs.Spans.{span}
 use Rattle.rules.specs.Boxes.{Box, box, buckets-of}
 use Rattle.rules.specs.Blends.{Blend, default-blend}
@@ -138,7 +139,7 @@ listed-snapped ws = rowlist-words (usual snapping W128) ws
 
 -- what `rowlist` makes of a recording's file: the screen, its attributes, and each row's pieces, painted to its end
 abbrev pub screen-of : Recording → Screen Row
-screen-of r = (rowlist-screen (usual exact W128) (file r)).value
+screen-of r = (rowlist-screen (usual exact W128) (file One r)).value
 
 abbrev pub attributes : Recording → Attrs
 attributes r = (screen-of r).state.attrs

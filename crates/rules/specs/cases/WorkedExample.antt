@@ -1,10 +1,11 @@
 -- The rules' worked example (docs/RULES.md).
 use Rattle.std.specs.Prelude.{ℕ, ◌/◌, ◌%◌, ◌≡◌, None, Some, List, [], ◌∷◌, ◌++◌, codes, unwrap_or}
 use Rattle.sizes.specs.declared.width.Width.TheVariants.{W128}
+use Rattle.sizes.specs.declared.edition.Edition.TheVariants.{One}
 use Rattle.rules.specs.Lists.{join}
 use Rattle.rules.specs.Spans.{span}
 use Rattle.rules.specs.Setups.{exact}
-use Rattle.rules.specs.Recording.{Recording, shape, sections, recording}
+use Rattle.rules.specs.Recording.{Recording, in-one, parsed, recording}
 use Rattle.rules.specs.Words as words
 use Rattle.rules.specs.Lines.{Line, header, row, D, P, L, B, E, usual, rowlist, line-bytes}
 use Rattle.rules.specs.cases.Samples as sample
@@ -42,7 +43,7 @@ worked-lines =
     ∷ []
 
 abbrev pub worked-recording : Recording
-worked-recording = recording (unwrap_or (sections shape worked-words) [])
+worked-recording = recording (unwrap_or (parsed (in-one worked-words)) [])
 
 -- From the file's words, and from its bytes, to the lines, to their bytes, to the attributes and the painted pieces. What says the recording again, a
 -- paint's shifts being 0 here, is the same file.
@@ -55,4 +56,4 @@ pub record WorkedExample : Type 0 where
       ≡ attrs (paint-attr 0 0 3 0 1 0 0 0 ∷ paint-attr 0 0 3 0 2 0 0 0 ∷ []) (layer-attr 0 3 1056964608 0 3 0 ∷ []) []
   pub pieces : sample.pieces worked-recording
       ≡ (paint-piece 0 32 64 None 0 ∷ paint-piece 0 10 32 None 0 ∷ []) ∷ (paint-piece 1 0 8 None 1 ∷ layer-piece 0 0 64 None 1 ∷ []) ∷ []
-  pub again : words.file worked-recording ≡ worked-words
+  pub again : words.file One worked-recording ≡ worked-words

@@ -13,7 +13,7 @@ pub returns-in_err-file : goal.returns-in_err-file
 returns-in_err-file c =
     let a = c.args in
     let p = err_from_is_err_and c.from_residual.result c.from_residual.ensures.1 in
-    rw (p.1, p.2) (formless (setup-of a.setup) a.words.now c.requires.accepted a.row a.tile c.in_err-file.ensures)
+    rw (p.1, p.2) (formless (setup-of a.setup) a.words.now c.requires.accepted a.row a.tile (rw c.in_one.ensures at c.in_err-file.ensures))
 
 pub returns-in_err-viewport : goal.returns-in_err-viewport
 returns-in_err-viewport c =
@@ -21,7 +21,7 @@ returns-in_err-viewport c =
     let u = setup-of a.setup in
     let r = held c.in_ok-file.file in
     let bad = view-unseen r u _ c.viewport.ensures c.in_err-viewport.ensures in
-    never (sym (good-view u a.words.now c.requires.accepted a.row a.tile r c.in_ok-file.ensures.1) ∙ bad)
+    never (sym (good-view u a.words.now c.requires.accepted a.row a.tile r (rw c.in_one.ensures at c.in_ok-file.ensures.1)) ∙ bad)
 
 pub returns-then-is_off_screen : goal.returns-then-is_off_screen
 returns-then-is_off_screen c =
@@ -29,14 +29,14 @@ returns-then-is_off_screen c =
     let u = setup-of a.setup in
     let r = held c.in_ok-file.file in
     let view = view-seen r u _ c.viewport.ensures _ c.in_ok-viewport.ensures in
-    off-answer u a.words.now c.requires.accepted a.row a.tile r c.in_ok-file.ensures.1 _ view (sym c.is_off_screen.ensures ∙ c.if-is_off_screen.true)
+    off-answer u a.words.now c.requires.accepted a.row a.tile r (rw c.in_one.ensures at c.in_ok-file.ensures.1) _ view (sym c.is_off_screen.ensures ∙ c.if-is_off_screen.true)
 
 pub tell_tile-requires : goal.tell_tile-requires
 tell_tile-requires c =
     let a = c.args in
     let u = setup-of a.setup in
     let r = held c.in_ok-file.file in
-    let e = c.in_ok-file.ensures in
+    let e = rw c.in_one.ensures at c.in_ok-file.ensures in
     let view = view-seen r u _ c.viewport.ensures _ c.in_ok-viewport.ensures in
     record {
       ready = record { fits = e.0; good = good-here u a.words.now c.requires.accepted a.row a.tile r e.1 };
@@ -51,5 +51,5 @@ returns c =
     let u = setup-of a.setup in
     let r = held c.in_ok-file.file in
     let view = view-seen r u _ c.viewport.ensures _ c.in_ok-viewport.ensures in
-    told-of u a.words.now c.requires.accepted a.row a.tile r c.in_ok-file.ensures.1 _ view (sym c.is_off_screen.ensures ∙ c.if-is_off_screen.false) _ _ _
+    told-of u a.words.now c.requires.accepted a.row a.tile r (rw c.in_one.ensures at c.in_ok-file.ensures.1) _ view (sym c.is_off_screen.ensures ∙ c.if-is_off_screen.false) _ _ _
     c.tell_tile.ensures

@@ -2,6 +2,7 @@ use Rattle.std.proofs.Common.{◌+◌, ◌*◌, ◌/◌, arith, refl, ◌∙◌,
 use Rattle.std.proofs.lemmas.Iterator.{YieldsList-from_range, serves_from_Range}
 use Rattle.std.proofs.lemmas.Iterator.Search.{all_from_yields_List}
 use Rattle.segments.specs.Segs.{segs-of}
+use Rattle.sizes.specs.Editions.{draw-size}
 use Rattle.file.specs.Places.{draw_from}
 use Rattle.file.proofs.Eaches.{each_place, every-at}
 use Rattle.file.specs.Judging.{draw_range, draw_ordered}
@@ -12,14 +13,16 @@ unfolding draw_range draw_from
 all-requires-clause-callable c =
     serves_from_Range (λ x q k. search (rules, tests))
     (λ x a b.
-    let r = every-at draw_from 7 c.args.w.now (draw_range (length c.args.list.now / 5)) c.args.draws.at c.args.draws.count x b c.requires.ranges in
+    let r = every-at (draw_from c.args.l.edition) (draw-size c.args.l.edition) c.args.w.now (draw_range (length c.args.list.now / 5)) c.args.l.draws.at c.args.l.draws.count x b c.requires.ranges in
     search (rules, tests, r))
 
 pub returns : goal.returns
 unfolding draw_ordered draw_from
 returns c =
     let w = c.args.w.now in
-    let s = c.args.draws in
+    let l = c.args.l in
+    let s = l.draws in
+    let f = draw_from l.edition in
     let test = draw_ordered (segs-of c.args.list.now) in
-    all_from_yields_List (λ i. test (draw_from w (s.at + 7 * i))) _ _ _ c.all.ensures.ran (YieldsList-from_range 0 s.count s.count refl (omega arith)) (λ x b q k. search (rules, tests))
-    ∙ each_place draw_from 7 w test s.at s.count
+    all_from_yields_List (λ i. test (f w (s.at + draw-size l.edition * i))) _ _ _ c.all.ensures.ran (YieldsList-from_range 0 s.count s.count refl (omega arith)) (λ x b q k. search (rules, tests))
+    ∙ each_place f (draw-size l.edition) w test s.at s.count

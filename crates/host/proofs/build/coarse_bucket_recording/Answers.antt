@@ -12,12 +12,12 @@ use Rattle.host.proofs.build.coarse_bucket_recording.Goals as goal
 pub returns-in_default-clause-recorded : goal.returns-in_default-clause-recorded
 returns-in_default-clause-recorded c =
     let t : Tables = tables_in c.args.tables.now in
-    let e = recording_asked _ (setup-of c.in-Ok.asked) c.in-Ok.ensures _ _ t (recording_unheld _ _ _ _ t c.in_default.ensures c.refuse_recording.ensures) in
+    let e = recording_asked _ (setup-of c.in-Ok.asked) c.in-Ok.ensures _ _ t (recording_unheld _ _ _ _ t c.in_default.ensures (rw c.in_one-file.ensures at c.refuse_recording.ensures)) in
     search (rules, e)
 
 pub returns-clause-recorded : goal.returns-clause-recorded
 returns-clause-recorded c =
     let t : Tables = tables_in c.args.tables.now in
     let e = recording_asked _ (setup-of c.in-Ok.asked) c.in-Ok.ensures _ _ t
-    (recording_built _ _ _ _ _ _ c.in-Some.ensures c.leave.ensures.0 c.leave.ensures.1 _ _ t _ c.bucket_recording-done.ensures.recorded) in
+    (recording_built _ _ _ _ _ _ c.in-Some.ensures c.leave.ensures.0 c.leave.ensures.1 _ _ t _ (rw c.in_one-file.ensures at c.bucket_recording-done.ensures.recorded)) in
     search (rules, e)

@@ -1,54 +1,76 @@
 -- What the one look sees, part by part, is what the exact judge asks.
 use mathlib.Core.Path.{◌≡◌, sym, ◌∙◌}
-use mathlib.Core.Bool.{true, ◌&&◌}
-use lib.Dec.{ltb}
+use mathlib.Core.Bool.{Bool, true, ◌&&◌}
+use lib.Dec.{eqb, ltb}
 use Prim.Native.Nat.{◌/◌}
-use borrow.Author.Tests.{ltb-true, lt-leb, leb-true}
-use Rattle.rules.specs.Boxes.{good_viewport}
+use native.Mathlib.Omega.{arith}
+use Rattle.std.proofs.Common.{length}
+use borrow.Author.Tests.{ltb-true, lt-leb, le-leb, eqb-true}
 use Rattle.rules.proofs.All.{and_left, and_right}
-use Rattle.screen.proofs.ScreenLaws.{few_rows, few-buckets}
+use Rattle.screen.proofs.ScreenLaws.{room, few_rows, few-buckets}
 use Rattle.host.specs.OneLook.{corner-box}
 use Rattle.host.specs.State.{width-at}
-use Rattle.host.proofs.OneLook.{told, sure, stands}
+use Rattle.host.proofs.OneLook.{sure, stands}
 use Rattle.host.proofs.sure.sure_buckets.Goals as goal
 
 pub is_long-requires : goal.is_long-requires
 is_long-requires c =
     let s = c.args.state.now in
     let v = c.is_view.result in
-    let ro = c.is_rooms.result in
-    let co = c.is_counts.result in
-    let wh = c.is_whole.result in
-    let all : (v && ro && co && wh) ≡ true = c.if-not-words.false in
-    let a2 = and_left (v && ro) co (and_left (v && ro && co) wh all) in
-    let view : good_viewport (corner-box s.viewport) ≡ true = sym c.is_view.ensures ∙ and_left v ro a2 in
-    let t = told s (sym c.is_rooms.ensures ∙ and_right v ro a2) in
-    record {
-      few = (
-        rw c.saturating_sub-h.ensures (few_rows (corner-box s.viewport) view),
-        rw (c.above-b.ensures, c.width_at.ensures, c.saturating_sub-w.ensures) (few-buckets (corner-box s.viewport) view (width-at s.width)),
-      );
-      rooms = (leb-true _ _ t.c-most, leb-true _ _ t.d-most);
-    }
+    let k = c.is_counts.result in
+    let b : Bool = eqb s.layers 0 && eqb s.painting 1 in
+    let h = c.is_whole.result in
+    let vk : (v && k) ≡ true = and_left (v && k) b (and_left (v && k && b) h c.if-not-words.false) in
+    let view = c.is_view.ensures (and_left v k vk) in
+    let counted = c.is_counts.ensures (and_right v k vk) in
+    record { few = rw view.down (few_rows (corner-box s.viewport) view.good); rooms = ((room _ counted.c).few, (room _ counted.d).few) }
+
+pub buckets_of-requires : goal.buckets_of-requires
+buckets_of-requires c = omega arith
+
+pub is_canvas_long-requires : goal.is_canvas_long-requires
+is_canvas_long-requires c =
+    let s = c.args.state.now in
+    let v = c.is_view.result in
+    let k = c.is_counts.result in
+    let b : Bool = eqb s.layers 0 && eqb s.painting 1 in
+    let h = c.is_whole.result in
+    let vk : (v && k) ≡ true = and_left (v && k) b (and_left (v && k && b) h c.if-not-words.false) in
+    let view = c.is_view.ensures (and_left v k vk) in
+    let wide = c.in-Some.ensures.1 in (
+      rw view.down (few_rows (corner-box s.viewport) view.good),
+      rw (wide, view.across) (few-buckets (corner-box s.viewport) view.good (width-at s.width)),
+    )
 
 pub returns : goal.returns
 returns c below64 =
-    let k = c.if-not-long.false in
     let s = c.args.state.now in
     let v = c.is_view.result in
-    let ro = c.is_rooms.result in
-    let co = c.is_counts.result in
-    let wh = c.is_whole.result in
-    let all : (v && ro && co && wh) ≡ true = c.if-not-words.false in
-    let a3 = and_left (v && ro && co) wh all in
-    let a2 = and_left (v && ro) co a3 in
-    let n = c.saturating_sub-h.result / 4 in
-    let below = rw c.saturating_sub-h.ensures at (lt-leb n c.args.row (ltb-true _ _ (and_left (ltb c.args.row n) c.is_long.result k))) in
-    let whole = rw (c.saturating_sub-w.ensures, c.saturating_sub-h.ensures) at (sym c.is_whole.ensures ∙ and_right (v && ro && co) wh all) in
-    let long = rw (c.above-b.ensures, c.width_at.ensures, c.saturating_sub-w.ensures, c.saturating_sub-h.ensures) at (sym c.is_long.ensures ∙ and_right (ltb c.args.row n) c.is_long.result k) in
-    let rs = sym c.is_rooms.ensures ∙ and_right v ro a2 in (
-      sure s c.args.row _ _ _ _ _ _ _ (sym c.is_view.ensures ∙ and_left v ro a2) rs
-          (sym c.is_counts.ensures ∙ and_right (v && ro) co a3) whole below long,
-      stands s rs,
-      rw (c.above-b.ensures, c.width_at.ensures, c.saturating_sub-w.ensures),
+    let k = c.is_counts.result in
+    let z = eqb s.layers 0 in
+    let p = eqb s.painting 1 in
+    let b : Bool = z && p in
+    let h = c.is_whole.result in
+    let vkb : (v && k && b) ≡ true = and_left (v && k && b) h c.if-not-words.false in
+    let vk : (v && k) ≡ true = and_left (v && k) b vkb in
+    let zp : (z && p) ≡ true = and_right (v && k) b vkb in
+    let view = c.is_view.ensures (and_left v k vk) in
+    let whole = rw (view.across, view.down) at (sym c.is_whole.ensures ∙ and_right (v && k && b) h c.if-not-words.false) in
+    let wide = c.in-Some.ensures in
+    let n = c.side-h.result / 4 in
+    let r = ltb c.args.row n in
+    let l = c.is_long.result in
+    let q = c.is_canvas_long.result in
+    let i = eqb (length c.args.stored.now.paint_attrs.now) 9216 in
+    let j = eqb (length c.args.stored.now.layer_attrs.now) 7168 in
+    let t : Bool = i && j in
+    let rlq : (r && l && q) ≡ true = and_left (r && l && q) t c.if-not-long.false in
+    let rl : (r && l) ≡ true = and_left (r && l) q rlq in
+    let below = rw view.down at (lt-leb n c.args.row (ltb-true _ _ (and_left r l rl))) in
+    let long = rw view.down at (sym c.is_long.ensures ∙ and_right r l rl) in
+    let canvas = rw (view.down, wide.1, view.across) at (sym c.is_canvas_long.ensures ∙ and_right (r && l) q rlq) in (
+      sure s c.args.row _ _ _ _ _ _ _ view.good (c.is_counts.ensures (and_right v k vk)) (and_left z p zp) (and_right z p zp) whole below long canvas
+          (and_right (r && l && q) t c.if-not-long.false),
+      stands s (rw (eqb-true _ _ (and_right z p zp))) (le-leb _ _ wide.0),
+      rw (wide.1, view.across),
     )

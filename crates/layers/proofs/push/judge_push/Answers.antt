@@ -1,4 +1,4 @@
--- The tests in the rules' order: what is lent, then the depth of layers, then the rows of the box.
+-- The tests in the rules' order: what is given, then the depth of layers, then the rows of the box.
 use Rattle.std.proofs.Common.{sym, ◌∙◌, arith, eq-eqb, ne_eqb}
 use Rattle.std.proofs.lemmas.Bool.Decides.{nat_tests}
 use Rattle.std.proofs.lemmas.Result.{err_from_is_err_and}
@@ -7,46 +7,34 @@ use Rattle.row.specs.Rows.{all-held}
 use Rattle.row.specs.Building.{step_number}
 use Rattle.row.proofs.RoomLaws.{never_bad}
 use Rattle.layers.specs.Push.{push-number}
-use Rattle.layers.proofs.PushLaws.{tests, rows-asked, number-of-rows}
+use Rattle.layers.proofs.PushLaws.{lent-well, tests, rows-asked, number-of-rows}
 use Rattle.layers.proofs.push.judge_push.Goals as goal
-use Rattle.layers.proofs.push.judge_push.Goals.{then-layers-ne-OPEN_TABLE-via-then-layers-ne-OPEN_TABLE, then-layers-ne-OPEN_TABLE-via-else-layers-ne-OPEN_TABLE+then-layers-ne-OPACITIES}
-
-pub returns-in_err-judge_screen-clause-number : goal.returns-in_err-judge_screen-clause-number
-unfolding push-number step_number
-returns-in_err-judge_screen-clause-number c =
-    let p = err_from_is_err_and c.from_residual.result c.from_residual.ensures.1 in
-    rw (p.1, p.2) (grind (arith, nat_tests, not_done))
-
-pub returns-then-layers-ne-OPEN_TABLE-clause-number : goal.returns-then-layers-ne-OPEN_TABLE-clause-number
-returns-then-layers-ne-OPEN_TABLE-clause-number c =
-    let t = tests c.args.props c.args.screen (all-held c.args.rows.now) c.args.layers.now.table.now c.args.layers.now.opacities.now (sym c.in_ok-judge_screen.ensures) in
-    elim c.then-layers-ne-OPEN_TABLE.branch [
-      | then-layers-ne-OPEN_TABLE-via-then-layers-ne-OPEN_TABLE w ↦ sym (t ∙ rw (ne_eqb _ _ w.if-layers-ne-OPEN_TABLE.true))
-      | then-layers-ne-OPEN_TABLE-via-else-layers-ne-OPEN_TABLE+then-layers-ne-OPACITIES w ↦
-          sym (t ∙ rw (eq-eqb _ _ w.if-layers-ne-OPEN_TABLE.false, ne_eqb _ _ w.if-layers-ne-OPACITIES.true))
-    ]
 
 pub returns-then-not-is_good-clause-number : goal.returns-then-not-is_good-clause-number
 returns-then-not-is_good-clause-number c =
-    let t = tests c.args.props c.args.screen (all-held c.args.rows.now) c.args.layers.now.table.now c.args.layers.now.opacities.now (sym c.in_ok-judge_screen.ensures) in
+    let q = lent-well c.args.screen (all-held c.args.rows.now) c.args.layers.now.table.now c.args.layers.now.opacities.now c.requires in
+    let t = tests c.args.props c.args.screen (all-held c.args.rows.now) c.args.layers.now.table.now c.args.layers.now.opacities.now q.0 in
     grind (arith, nat_tests)
 
 pub judge_rows-requires : goal.judge_rows-requires
 judge_rows-requires c =
-    let k = rows-asked c.args.props _ (all-held c.args.rows.now) (sym c.in_ok-judge_screen.ensures) _ c.layer_box-bbox.ensures _ c.touch_rows-band.ensures in
+    let q = lent-well c.args.screen (all-held c.args.rows.now) c.args.layers.now.table.now c.args.layers.now.opacities.now c.requires in
+    let k = rows-asked c.args.props _ (all-held c.args.rows.now) q.0 _ c.layer_box-bbox.ensures _ c.touch_rows-band.ensures in
     record { layers = k.0; room = k.1; few = k.2; there = k.3 }
 
 pub returns-in_err-fault-clause-number : goal.returns-in_err-fault-clause-number
 returns-in_err-fault-clause-number c =
-    let z = sym c.in_ok-judge_screen.ensures in
-    let p = err_from_is_err_and c.from_residual-in_err-fault.result c.from_residual-in_err-fault.ensures.1 in
+    let q = lent-well c.args.screen (all-held c.args.rows.now) c.args.layers.now.table.now c.args.layers.now.opacities.now c.requires in
+    let z = q.0 in
+    let p = err_from_is_err_and c.from_residual.result c.from_residual.ensures.1 in
     let t = tests c.args.props c.args.screen (all-held c.args.rows.now) c.args.layers.now.table.now c.args.layers.now.opacities.now z in
     let r = number-of-rows c.args.props _ (all-held c.args.rows.now) z _ c.layer_box-bbox.ensures _ c.touch_rows-band.ensures _ (sym c.in_err-fault.ensures.1) in
     rw (p.1, p.2, c.in_err-fault.ensures.0) (grind (arith, nat_tests))
 
 pub returns-then-screen-ge-MOST_LAYERS-clause-number : goal.returns-then-screen-ge-MOST_LAYERS-clause-number
 returns-then-screen-ge-MOST_LAYERS-clause-number c =
-    let z = sym c.in_ok-judge_screen.ensures in
+    let q = lent-well c.args.screen (all-held c.args.rows.now) c.args.layers.now.table.now c.args.layers.now.opacities.now c.requires in
+    let z = q.0 in
     let t = tests c.args.props c.args.screen (all-held c.args.rows.now) c.args.layers.now.table.now c.args.layers.now.opacities.now z in
     let r = number-of-rows c.args.props _ (all-held c.args.rows.now) z _ c.layer_box-bbox.ensures _ c.touch_rows-band.ensures _ c.in_ok-fault.ensures in
     let k = never_bad c.in_ok-fault.fault in
@@ -54,7 +42,8 @@ returns-then-screen-ge-MOST_LAYERS-clause-number c =
 
 pub returns-in_err-answer-clause-number : goal.returns-in_err-answer-clause-number
 returns-in_err-answer-clause-number c =
-    let z = sym c.in_ok-judge_screen.ensures in
+    let q = lent-well c.args.screen (all-held c.args.rows.now) c.args.layers.now.table.now c.args.layers.now.opacities.now c.requires in
+    let z = q.0 in
     let p = err_from_is_err_and c.from_residual-in_err-answer.result c.from_residual-in_err-answer.ensures.1 in
     let t = tests c.args.props c.args.screen (all-held c.args.rows.now) c.args.layers.now.table.now c.args.layers.now.opacities.now z in
     let r = number-of-rows c.args.props _ (all-held c.args.rows.now) z _ c.layer_box-bbox.ensures _ c.touch_rows-band.ensures _ c.in_ok-fault.ensures in
@@ -63,7 +52,8 @@ returns-in_err-answer-clause-number c =
 
 pub returns-clause-number : goal.returns-clause-number
 returns-clause-number c =
-    let z = sym c.in_ok-judge_screen.ensures in
+    let q = lent-well c.args.screen (all-held c.args.rows.now) c.args.layers.now.table.now c.args.layers.now.opacities.now c.requires in
+    let z = q.0 in
     let t = tests c.args.props c.args.screen (all-held c.args.rows.now) c.args.layers.now.table.now c.args.layers.now.opacities.now z in
     let r = number-of-rows c.args.props _ (all-held c.args.rows.now) z _ c.layer_box-bbox.ensures _ c.touch_rows-band.ensures _ c.in_ok-fault.ensures in
     let k = never_bad c.in_ok-fault.fault in

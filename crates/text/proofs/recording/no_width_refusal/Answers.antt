@@ -9,4 +9,4 @@ returns-then-not-is_good_bytes c = no-width-bad c.args.file.now (sym c.is_good_b
 pub returns : goal.returns
 returns c =
     no-width-read c.args.file.now _ (sym c.is_good_bytes.ensures ∙ c.if-not-is_good_bytes.false) c.words_of_bytes-n.ensures
-    c.no_width_of.ensures
+    (rw c.in_one.ensures at c.no_width_of.ensures)

@@ -9,4 +9,4 @@ returns-then-not-is_good_bytes-clause-size c = bad-size c.args.file.now (setup-o
 
 pub returns-clause-size : goal.returns-clause-size
 returns-clause-size c =
-    size-read c.args.file.now _ (sym c.is_good_bytes.ensures ∙ c.if-not-is_good_bytes.false) c.words_of_bytes-n.ensures (setup-of c.args.setup) c.size_of.ensures.value
+    size-read c.args.file.now _ (sym c.is_good_bytes.ensures ∙ c.if-not-is_good_bytes.false) c.words_of_bytes-n.ensures (setup-of c.args.setup) (rw c.in_one.ensures at c.size_of.ensures.value)

@@ -1,12 +1,11 @@
 use Rattle.std.proofs.Common.{◌≡◌, length, map, string_bytes}
-use Rattle.rect.specs.Rects.{mode_of}
-use Rattle.text_programs.specs.Arguments.{choice, arguments_after, read_arguments}
+use Rattle.text_programs.specs.Arguments.{chosen_of, arguments_after, read_arguments}
 use Rattle.text_programs.proofs.options.read_options.Given as goal
 
 -- the arguments that are left say what all of them do
 abbrev pub invariant-loop-next : goal.invariant-loop-next
 invariant-loop-next l =
-    arguments_after l.panels_known (choice (mode_of l.chosen.mode) l.chosen.pixels l.chosen.panels) (map string_bytes l.others)
+    arguments_after l.panels_known (chosen_of l.chosen) (map string_bytes l.others)
     ≡ read_arguments l.panels_known (map string_bytes l.args)
 
 abbrev pub decreases-loop-next : goal.decreases-loop-next

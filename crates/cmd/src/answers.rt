@@ -1,13 +1,13 @@
 //! The numbers of the answers, in code, are those of the rules.
 ghost use Rattle.std.specs.Prelude.{◌≡◌, [], ◌∷◌};
-ghost use Rattle.rules.specs.Answers.{Done, BadArena, BadViewport, BadForm, BadRecord, BadOrder, Deep, NoLayer, Ids, FullAttrs, FullRow, FullDepth, BadRun, Open, NoRoom};
+ghost use Rattle.rules.specs.Answers.{Done, BadArena, BadViewport, BadForm, BadRecord, BadOrder, Deep, NoLayer, Ids, FullAttrs, FullRow, FullDepth, BadRun, Open, NoRoom, HasPanels};
 
 use sizes::answers::{Refusal, answer_number};
 
-// All fifteen, from 0, done, up.
-fn tied_answers() -> [u32; 15]
+// All sixteen, from 0, done, up.
+fn tied_answers() -> [u32; 16]
     ensures { result ≡ Done ∷ BadArena ∷ BadViewport ∷ BadForm ∷ BadRecord ∷ BadOrder ∷ Deep ∷ NoLayer
-        ∷ Ids ∷ FullAttrs ∷ FullRow ∷ FullDepth ∷ BadRun ∷ Open ∷ NoRoom ∷ [] }
+        ∷ Ids ∷ FullAttrs ∷ FullRow ∷ FullDepth ∷ BadRun ∷ Open ∷ NoRoom ∷ HasPanels ∷ [] }
 {
     [
         answer_number(Ok(())),
@@ -25,5 +25,6 @@ fn tied_answers() -> [u32; 15]
         Refusal::BadRun.number(),
         Refusal::Open.number(),
         Refusal::NoRoom.number(),
+        Refusal::HasPanels.number(),
     ]
 }

@@ -13,7 +13,7 @@ use Rattle.rules.specs.Rows.{fresh-row, put-depth-fill}
 use Rattle.rules.specs.Plans.{Frame, a-fill}
 use Rattle.rules.specs.Setups.{exact}
 use Rattle.rules.specs.Painting.{Piece, paint-row}
-use Rattle.rules.specs.Recording.{Recording}
+use Rattle.rules.specs.Recording.{Recording, in-one}
 use Rattle.rules.specs.Walk.{needed}
 use Rattle.rules.specs.Lines.{Line, header, row, D, P, refused, usual, rowlist-words, rowlist-screen, no-width}
 use Rattle.rules.specs.Calls.{Canvas, fresh-canvas, step_call, begin-call, paint-call, unset-call, visible-call}
@@ -72,7 +72,7 @@ summaries = refl
 
 -- A screen that ends at tile 50: the whole buckets before it are depth fills, those of 64 pixels up to tile 48, none of 256.
 abbrev listed_at : Width → Recording → List Line
-listed_at w r = rowlist-words (usual exact w) (file One r)
+listed_at w r = rowlist-words (usual exact w) (in-one (file One r))
 
 pub lines-at-64 : listed_at W64 last-bucket ≡ header 1 4 2 ∷ row 0 1 2 ∷ D 0 3 1 ∷ P 20 50 (Some 32) 0 ∷ P 48 50 None 1 ∷ []
 unfolding computing
@@ -84,7 +84,7 @@ lines-at-256 = refl
 
 abbrev pieces-at : Width → Recording → List (List Piece)
 pieces-at w r =
-    let s = (rowlist-screen (usual exact w) (file One r)).value in
+    let s = (rowlist-screen (usual exact w) (in-one (file One r))).value in
     map (paint-row (bucket-tiles w) s.state.attrs (buckets-of (bucket-tiles w) r.viewport)) s.rows
 
 pub pieces-at-64 : pieces-at W64 last-bucket ≡ (paint-piece 1 0 48 None 0 ∷ paint-piece 0 48 50 (Some 480) 0 ∷ paint-piece 1 48 50 None 0 ∷ []) ∷ []
@@ -120,10 +120,10 @@ unfolding computing
 same-pictures-at-256 = refl
 
 -- a program that is asked for another width: 2, after 3
-pub refused-by-2 : no-width worked-bytes ≡ refused 2 ∷ []
+pub refused-by-2 : no-width One worked-bytes ≡ refused 2 ∷ []
 unfolding computing
 refused-by-2 = refl
 
-pub refused-by-3 : no-width [] ∷ no-width (1 ∷ []) ∷ no-width (1 ∷ 0 ∷ 0 ∷ 0 ∷ []) ∷ [] ≡ (refused 3 ∷ []) ∷ (refused 3 ∷ []) ∷ (refused 3 ∷ []) ∷ []
+pub refused-by-3 : no-width One [] ∷ no-width One (1 ∷ []) ∷ no-width One (1 ∷ 0 ∷ 0 ∷ 0 ∷ []) ∷ [] ≡ (refused 3 ∷ []) ∷ (refused 3 ∷ []) ∷ (refused 3 ∷ []) ∷ []
 unfolding computing
 refused-by-3 = refl

@@ -46,6 +46,9 @@ Open = 13
 abbrev pub NoRoom : ℕ
 NoRoom = 14
 
+abbrev pub HasPanels : ℕ
+HasPanels = 15
+
 -- the first number whose test says yes, or 0
 abbrev pub first_of : List (Bool × ℕ) → ℕ
 first_of [] = Done

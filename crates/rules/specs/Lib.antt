@@ -20,6 +20,7 @@ pub mod Lines
 pub mod Plain
 pub mod Calls
 pub mod Words
+pub mod Conversions
 pub mod Logged
 pub mod Snapping
 pub mod cases

@@ -5,3 +5,4 @@ pub mod WorkedExample
 pub mod Edges
 pub mod Refusals
 pub mod Editions
+pub mod Conversions

@@ -7,9 +7,10 @@ ghost use Rattle.rules.specs.cases.KnownPoints.{KnownPoints};
 ghost use Rattle.rules.specs.cases.WorkedExample.{WorkedExample};
 ghost use Rattle.rules.specs.cases.Edges.{EdgesHold};
 ghost use Rattle.rules.specs.cases.Editions.{EditionsHold};
+ghost use Rattle.rules.specs.cases.Conversions.{ConversionsHold};
 ghost use Rattle.rules.specs.cases.Refusals.{AnswersDue, LeftAlone};
 
-/// The rules at known points, their worked example, each answer and each bound on both sides of its edge, and a recording file's editions.
+/// The rules at known points, their worked example, each answer and each bound on both sides of its edge, a recording file's editions, and conversions between them.
 pub fn rules_hold_at_known_points()
     ensures points { KnownPoints }
     ensures worked { WorkedExample }
@@ -17,6 +18,7 @@ pub fn rules_hold_at_known_points()
     ensures left { LeftAlone }
     ensures edges { EdgesHold }
     ensures editions { EditionsHold }
+    ensures conversions { ConversionsHold }
 {}
 
 /// What the snapping mode makes of a box: the smallest box of tile edges around it.

@@ -10,7 +10,7 @@ use Rattle.rules.specs.Inputs.{Draw, draw-segments}
 use Rattle.rules.specs.Rows.{Row, fresh-row}
 use Rattle.rules.specs.Setups.{exact}
 use Rattle.rules.specs.Steps.{Screen}
-use Rattle.rules.specs.Recording.{Recording}
+use Rattle.rules.specs.Recording.{Recording, in-one}
 use Rattle.rules.specs.Words.{file}
 use Rattle.rules.specs.Lines.{Line, row, P, L, B, E, row-lines, usual, rowlist-screen}
 use Rattle.rules.specs.cases.Samples.{solid, alpha, draw, clipped, node, rec, pieces}
@@ -18,7 +18,7 @@ use Rattle.rules_picture.specs.Edited.{on-row, EditedFile, SameRow}
 
 -- what is left of a recording that is played at 64 commands and depth fills a row
 abbrev pub left : Recording → Answer (Screen Row)
-left r = rowlist-screen (usual exact W128) (file One r)
+left r = rowlist-screen (usual exact W128) (in-one (file One r))
 
 -- .. and row i of it, as its lines
 abbrev pub lines : ℕ → Answer (Screen Row) → List Line
@@ -65,7 +65,7 @@ abbrev pub crowded : Recording
 crowded = drawn (alpha 0 0 1 0 ∷ alpha 1 0 1 16 ∷ alpha 1 2 3 32 ∷ []) (draw 0 3 ∷ [])
 
 abbrev pub narrow : Recording → Answer (Screen Row)
-narrow r = rowlist-screen (record { c = 1; d = 1; mode = exact; width = W128 }) (file One r)
+narrow r = rowlist-screen (record { c = 1; d = 1; mode = exact; width = W128 }) (in-one (file One r))
 
 pub record EditedPairs : Type 0 where
   -- row 0 is the same, word for word, and row 1 is not

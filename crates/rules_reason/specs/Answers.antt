@@ -1,12 +1,13 @@
 -- What `why` prints of a recording file's bytes, a row, a tile and a question: over the rules alone.
 use Rattle.std.specs.Prelude.{ℕ, zero, suc, ◌/◌, Bool, true, false, ◌||◌, cond, List, [], ◌∷◌, ◌++◌, length, leb, eqb, codes}
 use Rattle.std.specs.Prelude.{Option, None, Some}
+use Rattle.sizes.specs.declared.edition.Edition.{Edition}
 use Rattle.rules.specs.Answers.{Done, BadForm, BadRun}
 use Rattle.rules.specs.Boxes.{Box, width, rows_of}
 use Rattle.rules.specs.Rows.{Row, row-ops, fresh-row}
 use Rattle.rules.specs.Plans.{Frame, bucket, Step}
 use Rattle.rules.specs.Setups.{Setup, frame}
-use Rattle.rules.specs.Recording.{Recording, in-one, parsed, recording}
+use Rattle.rules.specs.Recording.{Recording, File, in-edition, parsed, recording}
 use Rattle.rules.specs.Lines.{refused, rowlist-screen, words_of, too_long, digits, number, line-bytes}
 use Rattle.rules.specs.Plain.{untold, tell-steps}
 use Rattle.rules.specs.Logged.{walk-logged}
@@ -122,19 +123,19 @@ abbrev pub answer-in : Setup → Option (List (List (List ℕ))) → ℕ → ℕ
 answer-in u None row tile q = refused-bytes BadForm
 answer-in u (Some ss) row tile q = let r = recording ss in recording-answer (frame u r.viewport) r row tile q
 
--- a file's words, and what the screen is asked to be: the recording's own number first
-unfoldable pub why-words : Setup → List ℕ → ℕ → ℕ → Question → List ℕ
-why-words u ws row tile q =
-    let n = (rowlist-screen u ws).number in
-    let answer = answer-in u (parsed (in-one ws)) row tile q in
+-- a file, and what the screen is asked to be: the recording's own number first
+unfoldable pub why-words : Setup → File → ℕ → ℕ → Question → List ℕ
+why-words u f row tile q =
+    let n = (rowlist-screen u f).number in
+    let answer = answer-in u (parsed f) row tile q in
     cond (eqb n Done) answer (refused-bytes n)
 
--- a file's bytes, as `rowlist` takes them
-unfoldable pub why-text : Setup → List ℕ → ℕ → ℕ → Question → List ℕ
-why-text u fs row tile q =
+-- the bytes of a file of an edition, as `rowlist` takes them
+unfoldable pub why-text : Edition → Setup → List ℕ → ℕ → ℕ → Question → List ℕ
+why-text e u fs row tile q =
     elim (too_long (length fs)) [
       | true ↦ refused-bytes BadForm
-      | false ↦ elim (words_of fs) [ None ↦ refused-bytes BadForm | Some ws ↦ why-words u ws row tile q ]
+      | false ↦ elim (words_of fs) [ None ↦ refused-bytes BadForm | Some ws ↦ why-words u (in-edition e ws) row tile q ]
     ]
 
 -- in a stream: the line before question i's answer

@@ -20,10 +20,11 @@ not_done refusal.FullDepth h = omega arith
 not_done refusal.BadRun h = omega arith
 not_done refusal.Open h = omega arith
 not_done refusal.NoRoom h = omega arith
+not_done refusal.HasPanels h = omega arith
 
 -- the refusal of a number
 abbrev pub refusal_of : ℕ → Refusal
-refusal_of n = cond (eqb n 1) refusal.BadArena (cond (eqb n 2) refusal.BadViewport (cond (eqb n 3) refusal.BadForm (cond (eqb n 4) refusal.BadRecord (cond (eqb n 5) refusal.BadOrder (cond (eqb n 6) refusal.Deep (cond (eqb n 7) refusal.NoLayer (cond (eqb n 8) refusal.Ids (cond (eqb n 9) refusal.FullAttrs (cond (eqb n 10) refusal.FullRow (cond (eqb n 11) refusal.FullDepth (cond (eqb n 12) refusal.BadRun (cond (eqb n 13) refusal.Open refusal.NoRoom))))))))))))
+refusal_of n = cond (eqb n 1) refusal.BadArena (cond (eqb n 2) refusal.BadViewport (cond (eqb n 3) refusal.BadForm (cond (eqb n 4) refusal.BadRecord (cond (eqb n 5) refusal.BadOrder (cond (eqb n 6) refusal.Deep (cond (eqb n 7) refusal.NoLayer (cond (eqb n 8) refusal.Ids (cond (eqb n 9) refusal.FullAttrs (cond (eqb n 10) refusal.FullRow (cond (eqb n 11) refusal.FullDepth (cond (eqb n 12) refusal.BadRun (cond (eqb n 13) refusal.Open (cond (eqb n 14) refusal.NoRoom refusal.HasPanels)))))))))))))
 
 -- the result that a number and a value stand for
 abbrev pub result_of : {T : Type 0} → ℕ → T → Result T Refusal
@@ -44,3 +45,4 @@ refusal_there x refusal.FullDepth = refl
 refusal_there x refusal.BadRun = refl
 refusal_there x refusal.Open = refl
 refusal_there x refusal.NoRoom = refl
+refusal_there x refusal.HasPanels = refl

@@ -18,6 +18,7 @@ number_of refusal.FullDepth = 11
 number_of refusal.BadRun = 12
 number_of refusal.Open = 13
 number_of refusal.NoRoom = 14
+number_of refusal.HasPanels = 15
 
 abbrev pub answer_number : {T : Type 0} → Result T Refusal → ℕ
 answer_number (Ok _) = 0
@@ -39,3 +40,4 @@ refusal_text refusal.FullDepth = codes "a row's depth fills are full"
 refusal_text refusal.BadRun = codes "there is no such row, tile or run"
 refusal_text refusal.Open = codes "a layer is open, or painting has not begun"
 refusal_text refusal.NoRoom = codes "the list has no room for the result"
+refusal_text refusal.HasPanels = codes "a draw or a layer has a panel, and edition one has none"

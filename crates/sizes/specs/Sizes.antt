@@ -73,12 +73,15 @@ last-id = 1048576
 abbrev pub panel-end : ℕ
 panel-end = 256
 
--- records in a section of a recording file, and a file's bytes
+-- records in a section of a recording file, a file's bytes, and those of a file of which no rows are kept
 abbrev pub most-records : ℕ
 most-records = 4096
 
 abbrev pub file-bytes : ℕ
 file-bytes = 65536
+
+abbrev pub long-file-bytes : ℕ
+long-file-bytes = 1048576
 
 -- A row's record: how many commands and depth fills, the depth summary's first tile, end and largest id, how many levels, then
 -- three words for each level from 1 on.

@@ -36,11 +36,13 @@ pub enum Refusal {
     Open = 13,
     // The list lent for a result is shorter than the result.
     NoRoom = 14,
+    // A draw or a layer of a file has a panel that is not 0, and edition one has no word for it.
+    HasPanels = 15,
 }
 
 impl Refusal {
     /// All of them, in the order of their numbers.
-    pub const ALL: [Refusal; 14] = [
+    pub const ALL: [Refusal; 15] = [
         Refusal::BadArena,
         Refusal::BadViewport,
         Refusal::BadForm,
@@ -55,9 +57,10 @@ impl Refusal {
         Refusal::BadRun,
         Refusal::Open,
         Refusal::NoRoom,
+        Refusal::HasPanels,
     ];
 
-    /// The rules' number, 1 to 14, as calls answer it.
+    /// The rules' number, 1 to 15, as calls answer it.
     pub fn number(self) -> u32
         ensures { result ≡ number_of self }
     {
@@ -65,9 +68,9 @@ impl Refusal {
     }
 }
 
-// There is one for each number from 1 to 14, in order.
-fn tied_refusals() -> [Refusal; 14]
-    ensures { map number_of result ≡ range_with_len 1 14 }
+// There is one for each number from 1 to 15, in order.
+fn tied_refusals() -> [Refusal; 15]
+    ensures { map number_of result ≡ range_with_len 1 15 }
 {
     Refusal::ALL
 }
@@ -101,6 +104,7 @@ impl fmt::Display for Refusal {
             Refusal::BadRun => "there is no such row, tile or run",
             Refusal::Open => "a layer is open, or painting has not begun",
             Refusal::NoRoom => "the list has no room for the result",
+            Refusal::HasPanels => "a draw or a layer has a panel, and edition one has none",
         })
     }
 }

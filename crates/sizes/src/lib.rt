@@ -7,7 +7,7 @@ pub mod edition;
 pub mod width;
 
 ghost use Rattle.std.specs.Prelude.{◌≡◌, ◌+◌, ◌*◌, ℕ};
-ghost use Rattle.sizes.specs.Sizes.{narrowest, tile-end, bucket-end, tile-width, tile-height, scene-end, tile-alphas, most-width, most-height, most-rows, most-runs, most-room, most-layers, most-attrs, most-filters, thread-end, handle-end, last-id, panel-end, most-records, file-bytes};
+ghost use Rattle.sizes.specs.Sizes.{narrowest, tile-end, bucket-end, tile-width, tile-height, scene-end, tile-alphas, most-width, most-height, most-rows, most-runs, most-room, most-layers, most-attrs, most-filters, thread-end, handle-end, last-id, panel-end, most-records, file-bytes, long-file-bytes};
 ghost use Rattle.sizes.specs.Sizes.{renders-at, depths-at, first-at, end-at, largest-at, levels-at, level-at, row-size, open-layer-size, open-layer-table, paint-attr-size, paint-id-at, paint-panel-at, paint-attr-table, layer-attr-size, layer-id-at, layer-panel-at, layer-attr-table, filter-paint-size, filter-paint-table, opacity-count, piece-size, line-size, line-table, state-size};
 ghost use Rattle.sizes.specs.Sizes.{program-rows, program-buckets, program-room, program-render, program-fills, program-depth, program-records, program-painting};
 
@@ -71,8 +71,11 @@ pub const PANEL_END: u32 = 256;
 /// Records in a section of a recording file, and paints in a paint list, at most.
 pub const MOST_RECORDS: usize = 4096;
 
-/// Bytes of a recording file that the programs read, at most.
+/// Bytes of a recording file that `rowlist`, `rowdump` and `why` read, at most.
 pub const FILE_BYTES: usize = 65536;
+
+/// Bytes of one that a program reads which keeps no rows, at most.
+pub const LONG_FILE_BYTES: usize = 1048576;
 
 /// The words of a record in a recording file, and in the lists that a step is lent: a paint's,
 pub const PAINT: usize = 4;
@@ -202,7 +205,7 @@ fn constants_hold()
     ensures screens { (MOST_WIDTH ≡ most-width) × (MOST_HEIGHT ≡ most-height) × (MOST_ROWS ≡ most-rows) × (MOST_ROOM ≡ most-room) }
     ensures counts { (MOST_LAYERS ≡ most-layers) × (MOST_ATTRS ≡ most-attrs) × (MOST_FILTERS ≡ most-filters) × (MOST_RECORDS ≡ most-records) }
     ensures ends { (THREAD_END ≡ thread-end) × (HANDLE_END ≡ handle-end) × (PANEL_END ≡ panel-end) × (LAST_ID ≡ last-id) }
-    ensures file { (FILE_BYTES ≡ file-bytes) × (PAINT ≡ 4) × (SEGMENT ≡ 5) × (NODE ≡ 3) }
+    ensures file { (FILE_BYTES ≡ file-bytes) × (LONG_FILE_BYTES ≡ long-file-bytes) × (PAINT ≡ 4) × (SEGMENT ≡ 5) × (NODE ≡ 3) }
     ensures row { (RENDERS ≡ renders-at) × (DEPTHS ≡ depths-at) × (LEVELS ≡ levels-at) × (ROW ≡ row-size) }
     ensures summary { (FIRST ≡ first-at) × (END ≡ end-at) × (LARGEST ≡ largest-at) }
     ensures levels { (k : ℕ) → LEVEL_BASE + LEVEL * k ≡ level-at k }

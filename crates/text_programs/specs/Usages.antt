@@ -9,7 +9,7 @@ use Rattle.sizes.specs.declared.answers.Refusal.TheVariants as refusal
 abbrev pub refusals : List Refusal
 refusals =
     refusal.BadArena ∷ refusal.BadViewport ∷ refusal.BadForm ∷ refusal.BadRecord ∷ refusal.BadOrder ∷ refusal.Deep ∷ refusal.NoLayer ∷ refusal.Ids ∷ refusal.FullAttrs
-    ∷ refusal.FullRow ∷ refusal.FullDepth ∷ refusal.BadRun ∷ refusal.Open ∷ refusal.NoRoom ∷ []
+    ∷ refusal.FullRow ∷ refusal.FullDepth ∷ refusal.BadRun ∷ refusal.Open ∷ refusal.NoRoom ∷ refusal.HasPanels ∷ []
 
 -- what a refusal's number stands for
 abbrev pub refusal_line : Refusal → List ℕ

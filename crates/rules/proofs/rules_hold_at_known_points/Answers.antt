@@ -50,3 +50,25 @@ returns-clause-editions c =
       either = refl;
       numbers = refl;
     }
+
+pub returns-clause-conversions : goal.returns-clause-conversions
+unfolding computing
+returns-clause-conversions c =
+    record {
+      two = refl;
+      one = refl;
+      shifts = refl;
+      unreached = refl;
+      unwalked = refl;
+      view = refl;
+      panels = refl;
+      order = refl;
+      forms = refl;
+      exacts = refl;
+      short = refl;
+      full = refl;
+      last = refl;
+      bytes = refl;
+      part = refl;
+      items = refl;
+    }

@@ -11,7 +11,7 @@ use Rattle.rules.specs.Attributes.{PaintAttr, LayerAttr, FilterPaint, Attrs}
 use Rattle.rules.specs.Rows.{Row}
 use Rattle.rules.specs.Steps.{Screen}
 use Rattle.rules.specs.Painting.{Piece, paint-row}
-use Rattle.rules.specs.Recording.{LayerRec, Node, Recording}
+use Rattle.rules.specs.Recording.{LayerRec, Node, Recording, in-one}
 use Rattle.rules.specs.Words.{file}
 use Rattle.rules.specs.Setups.{exact, snapping}
 use Rattle.rules.specs.Lines.{Line, usual, rowlist-screen, rowlist-words}
@@ -132,14 +132,14 @@ layer-piece i a b x n = record { layer = true; attribute = i; tiles = span a b; 
 
 -- what `rowlist` prints of a file's words, and with `--snap`
 abbrev pub listed : List ℕ → List Line
-listed ws = rowlist-words (usual exact W128) ws
+listed ws = rowlist-words (usual exact W128) (in-one ws)
 
 abbrev pub listed-snapped : List ℕ → List Line
-listed-snapped ws = rowlist-words (usual snapping W128) ws
+listed-snapped ws = rowlist-words (usual snapping W128) (in-one ws)
 
 -- what `rowlist` makes of a recording's file: the screen, its attributes, and each row's pieces, painted to its end
 abbrev pub screen-of : Recording → Screen Row
-screen-of r = (rowlist-screen (usual exact W128) (file One r)).value
+screen-of r = (rowlist-screen (usual exact W128) (in-one (file One r))).value
 
 abbrev pub attributes : Recording → Attrs
 attributes r = (screen-of r).state.attrs

@@ -1,5 +1,5 @@
 -- The rules' worked example (docs/RULES.md).
-use Rattle.std.specs.Prelude.{ℕ, ◌/◌, ◌%◌, ◌≡◌, None, Some, List, [], ◌∷◌, ◌++◌, codes, unwrap_or}
+use Rattle.std.specs.Prelude.{ℕ, ◌≡◌, None, Some, List, [], ◌∷◌, ◌++◌, codes, unwrap_or}
 use Rattle.sizes.specs.declared.width.Width.TheVariants.{W128}
 use Rattle.sizes.specs.declared.edition.Edition.TheVariants.{One}
 use Rattle.rules.specs.Lists.{join}
@@ -7,7 +7,7 @@ use Rattle.rules.specs.Spans.{span}
 use Rattle.rules.specs.Setups.{exact}
 use Rattle.rules.specs.Recording.{Recording, in-one, parsed, recording}
 use Rattle.rules.specs.Words as words
-use Rattle.rules.specs.Lines.{Line, header, row, D, P, L, B, E, usual, rowlist, line-bytes}
+use Rattle.rules.specs.Lines.{Line, header, row, D, P, L, B, E, usual, bytes-of, rowlist, line-bytes}
 use Rattle.rules.specs.cases.Samples as sample
 use Rattle.rules.specs.cases.Samples.{attrs, paint-attr, layer-attr, paint-piece, layer-piece, listed}
 
@@ -22,12 +22,9 @@ worked-words =
     ++ ((1 ∷ 0 ∷ 1 ∷ 2 ∷ 0 ∷ 3 ∷ 1056964608 ∷ 0 ∷ 0 ∷ 0 ∷ 0 ∷ 0 ∷ 0 ∷ 0 ∷ 0 ∷ 0 ∷ 0 ∷ 0 ∷ 0 ∷ 0 ∷ 0 ∷ 0 ∷ 0 ∷ [])
     ++ ((2 ∷ 0 ∷ 1 ∷ 1 ∷ 1 ∷ 2 ∷ 0 ∷ []) ++ (1 ∷ 0 ∷ 1 ∷ []))))))
 
--- a word's bytes, little-endian, and the file's
-abbrev pub word-bytes : ℕ → List ℕ
-word-bytes n = n % 256 ∷ n / 256 % 256 ∷ n / 65536 % 256 ∷ n / 16777216 % 256 ∷ []
-
+-- the file's bytes
 abbrev pub worked-bytes : List ℕ
-worked-bytes = join word-bytes worked-words
+worked-bytes = bytes-of worked-words
 
 abbrev pub worked-lines : List Line
 worked-lines =
@@ -49,7 +46,7 @@ worked-recording = recording (unwrap_or (parsed (in-one worked-words)) [])
 -- paint's shifts being 0 here, is the same file.
 pub record WorkedExample : Type 0 where
   pub lines : listed worked-words ≡ worked-lines
-  pub file : rowlist (usual exact W128) worked-bytes ≡ worked-lines
+  pub file : rowlist One (usual exact W128) worked-bytes ≡ worked-lines
   pub text : join line-bytes worked-lines
       ≡ codes "rows 2 buckets 2 ids 3\nrow 0 depth 1 render 1\nD 1 2 0\nP 10 32 - 0\nrow 1 depth 0 render 4\nB 0 64\nP 0 8 - 1\nL 0 64 - 0\nE\n"
   pub attributes : sample.attributes worked-recording

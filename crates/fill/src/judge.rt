@@ -157,7 +157,13 @@ fn has_room_at(rows: &[u32], job: FillJob, row: u32, segments: usize, split: usi
 
 // Yes only where the exact number is 0: rows rise, each segment is good and in order, and each row has room for the most that its segments come
 // to, looked at once for all of them.
-fn is_sure<const LISTED: bool>(rows: &[u32], list: &[u32], start: usize, end: usize, job: FillJob) -> bool
+fn is_sure<const LISTED: bool>(
+    rows: &[u32],
+    list: &[u32],
+    start: usize,
+    end: usize,
+    job: FillJob,
+) -> bool
     requires rows { RecordsOf job rows.now }
     requires range { start < «end» }
     requires list { InList list.now «end» }

@@ -26,6 +26,7 @@ use sizes::answers::Refusal;
 use sizes::{HANDLE_END, LAST_ID, MOST_ATTRS, MOST_RECORDS, PAINT, PAINT_TABLE, SEGMENT};
 
 pub mod judge;
+pub mod list;
 pub mod rows;
 
 // Whether a paint's opaque flag and handle are in their bounds.

@@ -173,7 +173,13 @@ fn fill_run<const LISTED: bool>(
 }
 
 /// The segments from start to end of a list that is judged: solid ones one by one, those with alpha in runs.
-pub fn fill_rows<const LISTED: bool>(rows: &mut Rows<'_>, segs: &[u32], start: usize, end: usize, job: FillJob)
+pub fn fill_rows<const LISTED: bool>(
+    rows: &mut Rows<'_>,
+    segs: &[u32],
+    start: usize,
+    end: usize,
+    job: FillJob,
+)
     requires { FillReady job (count-rows rows.old.state.now) segs.now start «end» (all-held rows.old) }
     ensures same { SameRows rows.old rows.new }
     ensures rows { all-held rows.new ≡ lay (rows_after job segs.now start «end» (held_rows job rows.old)) }

@@ -4,3 +4,4 @@ pub mod Tallies
 pub mod Sure
 pub mod Lists
 pub mod Named
+pub mod Turns

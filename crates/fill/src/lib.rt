@@ -28,6 +28,7 @@ use sizes::{HANDLE_END, LAST_ID, MOST_ATTRS, MOST_RECORDS, PAINT, PAINT_TABLE, S
 pub mod judge;
 pub mod list;
 pub mod rows;
+pub mod turns;
 
 // Whether a paint's opaque flag and handle are in their bounds.
 fn is_good_paint(paints: &[u32], paint: usize) -> bool

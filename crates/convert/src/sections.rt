@@ -1,0 +1,116 @@
+//! A file's sections, one after the other: each its count, then its records. Parts: a caller has read the form.
+
+use sizes::edition::Edition;
+use sizes::{NODE, PAINT, SEGMENT};
+
+// The sections after the head.
+const SECTIONS: usize = 7;
+
+// The words of a record of each section.
+fn record_sizes(edition: Edition) -> [usize; SECTIONS] {
+    [4, PAINT, SEGMENT, edition.draw(), edition.layer(), NODE, 2]
+}
+
+// The words before the sections.
+fn head_length(edition: Edition) -> usize {
+    match edition {
+        Edition::One => 0,
+        Edition::Two => 2,
+    }
+}
+
+// No word but 0 stands past the first `kept` of a record.
+fn is_record_kept(record: &[u32], kept: usize) -> bool {
+    record.iter().skip(kept).all(|word| *word == 0)
+}
+
+// .. of any of the records, of `size` words each.
+fn is_section_kept(records: &[u32], size: usize, count: usize, kept: usize) -> bool {
+    size <= kept || (0..count).all(|i| is_record_kept(&records[size * i..size * i + size], kept))
+}
+
+/// Nothing but 0 is cut away where a file of edition `from` becomes one of edition `to`.
+pub fn is_kept(words: &[u32], from: Edition, to: Edition) -> bool {
+    let sizes = record_sizes(from);
+    let kept = record_sizes(to);
+    let mut at = head_length(from);
+    for k in 0..SECTIONS {
+        let count = words[at] as usize;
+        let end = at + 1 + count * sizes[k];
+        if !is_section_kept(&words[at + 1..end], sizes[k], count, kept[k]) {
+            return false;
+        }
+        at = end;
+    }
+    true
+}
+
+/// The words of the file that a file of edition `from` becomes in edition `to`.
+pub fn converted_length(words: &[u32], from: Edition, to: Edition) -> usize {
+    let old_sizes = record_sizes(from);
+    let new_sizes = record_sizes(to);
+    let mut at = head_length(from);
+    let mut length = head_length(to);
+    for k in 0..SECTIONS {
+        let count = words[at] as usize;
+        at += 1 + count * old_sizes[k];
+        length += 1 + count * new_sizes[k];
+    }
+    length
+}
+
+// A record in the words that are there for it: cut, or continued by 0.
+fn put_record(record: &[u32], out: &mut [u32]) {
+    let kept = record.len().min(out.len());
+    out[..kept].copy_from_slice(&record[..kept]);
+    out[kept..].fill(0);
+}
+
+// A section's records, of `size` words each, as records of `new_size` words.
+fn put_records(records: &[u32], size: usize, count: usize, out: &mut [u32], new_size: usize) {
+    if size == new_size {
+        out.copy_from_slice(records);
+    } else {
+        for i in 0..count {
+            put_record(
+                &records[size * i..size * i + size],
+                &mut out[new_size * i..new_size * i + new_size],
+            );
+        }
+    }
+}
+
+// The words before the sections, put first; how many there are.
+fn put_head(edition: Edition, out: &mut [u32]) -> usize {
+    match edition {
+        Edition::One => 0,
+        Edition::Two => {
+            out[0] = 1;
+            out[1] = 2;
+            2
+        }
+    }
+}
+
+/// The file that a file of edition `from` becomes in edition `to`, put first.
+pub fn put_file(words: &[u32], from: Edition, to: Edition, out: &mut [u32]) {
+    let old_sizes = record_sizes(from);
+    let new_sizes = record_sizes(to);
+    let mut at = head_length(from);
+    let mut put = put_head(to, out);
+    for k in 0..SECTIONS {
+        let count = words[at] as usize;
+        let end = at + 1 + count * old_sizes[k];
+        let put_end = put + 1 + count * new_sizes[k];
+        out[put] = words[at];
+        put_records(
+            &words[at + 1..end],
+            old_sizes[k],
+            count,
+            &mut out[put + 1..put_end],
+            new_sizes[k],
+        );
+        at = end;
+        put = put_end;
+    }
+}

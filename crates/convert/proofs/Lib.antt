@@ -6,3 +6,4 @@ pub mod Resized
 pub mod Putting
 pub mod Standing
 pub mod Steps
+pub mod Converting

@@ -45,23 +45,24 @@ module _ (m : Mode) (r : Recording) {b : Rect} (h : box_of b ≡ r.viewport) whe
 abbrev pub left : ℕ → List ℕ → Placed
 left n out = record { number = n; count = 0; words = out }
 
-module _ (m : Mode) (e : Edition) (f : File) (out : List ℕ) where
-  abbrev pub call : Placed
-  call = put_first (convert-call m e (length out) f) out
-
-  of-none : parsed f ≡ None → conversion m e f ≡ answer BadForm []
+module _ (m : Mode) (e : Edition) (f : File) where
+  pub of-none : parsed f ≡ None → conversion m e f ≡ answer BadForm []
   unfolding conversion
   of-none h = rw (h, conversion)
 
-  of-sections : (xs : List (List (List ℕ))) → parsed f ≡ Some xs → conversion m e f ≡ settle (judge-sections m e xs) [] (file-of e (converted (shape e) xs))
+  pub of-sections : (xs : List (List (List ℕ))) → parsed f ≡ Some xs → conversion m e f ≡ settle (judge-sections m e xs) [] (file-of e (converted (shape e) xs))
   unfolding conversion
   of-sections xs p = rw (p, conversion)
+
+module _ (m : Mode) (e : Edition) (f : File) (out : List ℕ) where
+  abbrev pub call : Placed
+  call = put_first (convert-call m e (length out) f) out
 
   pub bad-form : parsed f ≡ None → left BadForm out ≡ call
   unfolding convert-call
   bad-form h =
       let z : ltb (length out) 0 ≡ false = le-ltb (length out) 0 (omega arith) in
-      rw (of-none h, z) refl
+      rw (of-none m e f h, z) refl
 
   module _ (r : Recording) (h : recording_of (parsed f) ≡ Some r) where
     abbrev ss : List (List (List ℕ))
@@ -84,7 +85,7 @@ module _ (m : Mode) (e : Edition) (f : File) (out : List ℕ) where
     unfolding convert-call
     refused n z g =
         let w : ltb (length out) 0 ≡ false = le-ltb (length out) 0 (omega arith) in
-        let a : conversion m e f ≡ answer n [] = of-sections ss is-parsed ∙ rw (g, ne_eqb n 0 z) in
+        let a : conversion m e f ≡ answer n [] = of-sections m e f ss is-parsed ∙ rw (g, ne_eqb n 0 z) in
         rw (a, w) refl
 
     pub bad-viewport : good_viewport (viewport-in m r.viewport) ≡ false → left BadViewport out ≡ call
@@ -109,7 +110,7 @@ module _ (m : Mode) (e : Edition) (f : File) (out : List ℕ) where
           good = judged-last ∙ rw k
 
           is-converted : conversion m e f ≡ answer 0 there
-          is-converted = of-sections ss is-parsed ∙ rw good
+          is-converted = of-sections m e f ss is-parsed ∙ rw good
 
           pub no-room : length out < length there → left NoRoom out ≡ call
           unfolding convert-call

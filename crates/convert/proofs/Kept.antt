@@ -7,6 +7,7 @@ use Rattle.std.specs.List.{list_all, range_with_len}
 use Rattle.rules.specs.Lists.{every}
 use Rattle.rules.specs.Recording.{records}
 use Rattle.rules.specs.Conversions.{keeps, is_zero}
+use Rattle.convert.proofs.Resized.{short}
 
 -- a test of every word, as a chain has it
 pub zeros : (r : List ℕ) → list_all (λ (w : ℕ). w == 0) r ≡ every is_zero r
@@ -23,13 +24,6 @@ keeps-zeros (suc k) (w ∷ ws) = keeps-zeros k ws
 -- .. as they are cut out
 pub part-zeros : (k : ℕ) (ws : List ℕ) → k ≤ length ws → list_all (λ (w : ℕ). w == 0) (take (length ws - k) (drop k ws)) ≡ keeps k ws
 part-zeros k ws h = zeros (take (length ws - k) (drop k ws)) ∙ ap (every is_zero) (between_to_end ws k (length ws) (omega arith)) ∙ keeps-zeros k ws
-
-short : (k : ℕ) (r : List ℕ) → length r ≤ k → keeps k r ≡ true
-unfolding keeps
-short zero [] h = refl
-short zero (w ∷ ws) h = absurd (omega arith)
-short (suc k) [] h = refl
-short (suc k) (w ∷ ws) h = short k ws (omega arith)
 
 -- nothing is cut away of records that are no longer
 pub all-short : (k m n : ℕ) (ws : List ℕ) → k ≤ m → every (keeps m) (records k n ws) ≡ true

@@ -1,4 +1,3 @@
--- Records and sections, as words and as the code reads them.
 pub mod Records
 pub mod Parsing
 pub mod Kept
@@ -7,3 +6,6 @@ pub mod Putting
 pub mod Standing
 pub mod Steps
 pub mod Converting
+pub mod Back
+pub mod Alike
+pub mod Theorems

@@ -79,7 +79,7 @@ module _ (m : Mode) (e : Edition) (f : File) (vs : List ℕ) where
   opened h = by-form _ refl h
 
 -- .. and one whose number says so
-by-number : (m : Mode) (e : Edition) (f : File) → (conversion m e f).number ≡ Done → conversion m e f ≡ answer Done (conversion m e f).value
+pub by-number : (m : Mode) (e : Edition) (f : File) → (conversion m e f).number ≡ Done → conversion m e f ≡ answer Done (conversion m e f).value
 by-number m e f h = ap (λ (n : ℕ). answer n (conversion m e f).value) h
 
 -- what passes the tests is done

@@ -1,5 +1,5 @@
 -- Sections in another edition say the same recording.
-use Rattle.std.proofs.Common.{ℕ, zero, suc, ◌+◌, ◌≤◌, arith, ◌≡◌, refl, sym, ap, ◌∙◌, Bool, true, false, ◌&&◌, List, [], ◌∷◌, map, length, get_or, drop, get_or-drop, eqb, eqb-true}
+use Rattle.std.proofs.Common.{ℕ, suc, ◌≤◌, arith, ◌≡◌, refl, sym, ap, ◌∙◌, Bool, true, false, ◌&&◌, List, [], ◌∷◌, map, length, get_or, drop, get_or-drop, eqb, eqb-true}
 use Rattle.sizes.specs.Editions.{draw-size, layer-size}
 use Rattle.sizes.specs.declared.edition.Edition.{Edition}
 use Rattle.sizes.specs.declared.edition.Edition.TheVariants.{One, Two}

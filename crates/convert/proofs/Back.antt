@@ -1,5 +1,5 @@
 -- Sections converted, and back, over any two shapes of a kind.
-use Rattle.std.proofs.Common.{ℕ, ◌+◌, arith, ◌≡◌, refl, ◌∙◌, Bool, true, false, ◌&&◌, cond, List, [], ◌∷◌, ◌++◌, None, Some, map, length, take, drop, eqb, eqb-true, eq-eqb}
+use Rattle.std.proofs.Common.{ℕ, arith, ◌≡◌, refl, Bool, true, false, ◌&&◌, cond, List, [], ◌∷◌, ◌++◌, None, Some, map, length, drop, eqb, eqb-true}
 use Rattle.std.proofs.lemmas.List.{length-map}
 use Rattle.rules.specs.Lists.{every}
 use Rattle.rules.specs.Recording.{good-count, sections, shape, head, starts, in-edition, parsed}
@@ -7,7 +7,7 @@ use Rattle.rules.specs.Conversions.{written, file-of, resized, keeps, converted,
 use Rattle.rules.proofs.All.{both}
 use Rattle.sizes.specs.declared.edition.Edition.{Edition}
 use Rattle.sizes.specs.declared.edition.Edition.TheVariants.{One, Two}
-use Rattle.convert.specs.Written.{of-words, shaped, Parsed}
+use Rattle.convert.specs.Written.{of-words, shaped}
 use Rattle.convert.proofs.Parsing.{never, written-parsed, parsed-written}
 use Rattle.convert.proofs.Records.{resized-whole}
 use Rattle.convert.proofs.Resized.{resized-back, keeps-back}

@@ -1,10 +1,10 @@
 -- A conversion, test by test.
-use Rattle.std.proofs.Common.{ℕ, suc, ◌+◌, ◌≤◌, ◌<◌, arith, ◌≡◌, refl, sym, ap, ◌∙◌, Bool, true, false, ◌&&◌, not, cond, List, [], ◌∷◌, ◌++◌, length, drop, Option, None, Some, ltb, lt-ltb, le-ltb, eqb, eq-eqb, ne_eqb}
-use Rattle.std.proofs.Common.{Result, Ok, Err}
+use Rattle.std.proofs.Common.{ℕ, ◌≤◌, ◌<◌, arith, ◌≡◌, refl, sym, ◌∙◌, Bool, true, false, not, List, [], ◌∷◌, ◌++◌, length, drop, Option, None, Some, ltb, lt-ltb, le-ltb, ne_eqb}
+use Rattle.std.proofs.Common.{Ok, Err}
 use Rattle.sizes.specs.declared.edition.Edition.{Edition}
 use Rattle.sizes.specs.declared.answers.Refusal.{Refusal}
 use Rattle.sizes.specs.declared.answers.Refusal.TheVariants as refusal
-use Rattle.rules.specs.Answers.{Answer, answer, settle, first_of, BadViewport, BadForm, BadRecord, BadOrder, NoRoom, HasPanels}
+use Rattle.rules.specs.Answers.{answer, settle, first_of, BadViewport, BadForm, BadRecord, BadOrder, NoRoom, HasPanels}
 use Rattle.rules.specs.Boxes.{good_viewport}
 use Rattle.rules.specs.Setups.{Mode, viewport-in}
 use Rattle.rules.specs.Recording.{Recording, File, shape, parsed, recording, good-records, good-order}

@@ -1,5 +1,5 @@
 -- What is cut away of a record, as the code looks for it.
-use Rattle.std.proofs.Common.{ℕ, zero, suc, ◌+◌, ◌-◌, ◌*◌, ◌≤◌, ◌<◌, mul-zero, mul-suc, add-zero, add_comm, add_assoc, mul-le-mul_right, arith, ◌≡◌, refl, ap, ◌∙◌, Bool, true, List, [], ◌∷◌, length, take, drop, drop-drop, length-take}
+use Rattle.std.proofs.Common.{ℕ, zero, suc, ◌+◌, ◌-◌, ◌*◌, ◌≤◌, ◌<◌, mul-zero, mul-suc, mul-le-mul_right, arith, ◌≡◌, refl, ap, ◌∙◌, Bool, true, List, [], ◌∷◌, length, take, drop, drop-drop, length-take}
 use Rattle.std.specs.Prelude.{◌==◌}
 use Rattle.std.proofs.lemmas.Slice.{between_to_end}
 use Rattle.std.proofs.Math.Nat.{mul_comm}

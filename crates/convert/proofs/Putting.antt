@@ -1,7 +1,7 @@
 -- Records as the code writes them.
-use Rattle.std.proofs.Common.{ℕ, zero, suc, ◌+◌, ◌-◌, ◌*◌, ◌≤◌, ◌<◌, min, mul-zero, mul-suc, add_assoc, add_comm, add-one, arith, ◌≡◌, refl, sym, ap, ◌∙◌, true, List, [], ◌∷◌, ◌++◌, append_assoc, append-nil, map, length, take, drop}
-use Rattle.std.proofs.Common.{drop-drop, replicate, length-append, length-take, length-drop, length-take-le}
-use Rattle.std.proofs.lemmas.List.{take_at, take_all, drop_all, take-append-drop}
+use Rattle.std.proofs.Common.{ℕ, zero, suc, ◌+◌, ◌-◌, ◌*◌, ◌<◌, min, mul-zero, add-one, arith, ◌≡◌, refl, sym, ap, ◌∙◌, List, [], ◌∷◌, ◌++◌, append_assoc, append-nil, map, length, take, drop}
+use Rattle.std.proofs.Common.{drop-drop, replicate, length-append, length-take, length-drop}
+use Rattle.std.proofs.lemmas.List.{take_at, drop_all, take-append-drop}
 use Rattle.std.proofs.lemmas.Slice.{take-put_mid}
 use borrow.Rule.Slice.PartMut.{put_mid}
 use Rattle.rules.specs.Recording.{records}

@@ -2,7 +2,7 @@
 use Rattle.std.proofs.Common.{ℕ, zero, suc, ◌+◌, ◌*◌, ◌≤◌, arith, ◌≡◌, refl, sym, ◌∙◌, true, List, [], ◌∷◌, ◌++◌, append_assoc, length, take, drop, map, length-drop, length-take, length-append, drop-drop, eqb-true, eq-eqb}
 use Rattle.std.proofs.lemmas.List.{take-append-drop, drop-take, length-map}
 use lib.Seq.{take-take}
-use Rattle.rules.specs.Lists.{join, every}
+use Rattle.rules.specs.Lists.{every}
 use Rattle.rules.specs.Recording.{records}
 use Rattle.rules.specs.Conversions.{resized}
 use Rattle.rules.proofs.All.{both}

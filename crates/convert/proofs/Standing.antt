@@ -1,10 +1,8 @@
 -- How far the code has come in a file: which section stands next, and where.
-use Rattle.std.proofs.Common.{ℕ, zero, suc, ◌+◌, ◌-◌, ◌*◌, ◌≤◌, ◌<◌, add-zero, zero-add, add-one, arith, ◌≡◌, refl, sym, ap, ◌∙◌, Bool, true, false, ◌&&◌, cond, List, [], ◌∷◌, length, get_or, take, drop, drop-cons, drop-drop, length-drop, map}
+use Rattle.std.proofs.Common.{ℕ, zero, suc, ◌+◌, ◌-◌, ◌*◌, ◌≤◌, ◌<◌, add-one, arith, ◌≡◌, refl, sym, ◌∙◌, Bool, true, false, ◌&&◌, cond, List, [], ◌∷◌, length, get_or, drop, drop-cons, drop-drop, length-drop}
 use Rattle.std.proofs.Common.{Option, None, Some, option_map, leb, eqb, ltb, leb-true, eqb-true, ltb-true, ltb-false}
 use Rattle.std.proofs.lemmas.List.{drop_all}
 use Rattle.std.proofs.Math.Nat.{mul-le-mul_left}
-use lib.Seq.{drop-length}
-use Rattle.sizes.specs.Editions.{draw-size, layer-size}
 use Rattle.sizes.specs.declared.edition.Edition.{Edition}
 use Rattle.sizes.specs.declared.edition.Edition.TheVariants.{One, Two}
 use Rattle.rules.specs.Recording.{shape, head, starts, good-count, records, sections, in-edition, parsed}
@@ -68,9 +66,6 @@ abbrev pub size : Edition → ℕ → ℕ
 size e k = get_or (sizes-of (shape e)) k 0
 
 module _ (e : Edition) where
-  pub shape-long : length (shape e) ≡ 7
-  shape-long = refl
-
   -- the shape from number k on
   pub shape-next : (k : ℕ) → k < 7 → drop k (shape e) ≡ (size e k, (get_or (shape e) k (0, true)).1) ∷ drop (k + 1) (shape e)
   shape-next zero h = refl

@@ -1,5 +1,5 @@
 -- One section of a file, by the lists of sizes that the code holds.
-use Rattle.std.proofs.Common.{ℕ, ◌+◌, ◌-◌, ◌*◌, ◌≤◌, ◌<◌, add-one, arith, ◌≡◌, refl, sym, ap, ◌∙◌, Bool, true, false, ◌&&◌, List, [], ◌∷◌, ◌++◌, length, get_or, take, drop, map, length-append}
+use Rattle.std.proofs.Common.{ℕ, ◌+◌, ◌-◌, ◌*◌, ◌≤◌, ◌<◌, arith, ◌≡◌, refl, sym, ap, ◌∙◌, true, false, ◌&&◌, List, [], ◌∷◌, ◌++◌, length, get_or, take, drop, map, length-append}
 use Rattle.std.proofs.Common.{set, append_assoc, append-nil, drop-drop, length-set, length-take-le}
 use Rattle.std.proofs.lemmas.List.{length-map, take_more_set, drop-set-lt, take-append-drop}
 use Rattle.std.proofs.Math.Seq.{take-append_seam, drop-append_seam}
@@ -12,7 +12,7 @@ use Rattle.rules.specs.Conversions.{keeps, all-kept, resized, converted, written
 use Rattle.convert.specs.Written.{joined}
 use Rattle.convert.specs.Sections.{sections_of, sizes-of}
 use Rattle.convert.proofs.Records.{records-part, records-count, resized-count}
-use Rattle.convert.proofs.Standing.{Standing, Next, next, size, shape-next, words-few}
+use Rattle.convert.proofs.Standing.{Standing, next, size, shape-next, words-few}
 
 module _ (e f : Edition) (ws : List ℕ) (k at : ℕ) (old new : List ℕ) (h : k < 7) (t : Standing e ws k at)
     (p : old ≡ sizes-of (shape e)) (q : new ≡ sizes-of (shape f)) where
@@ -109,7 +109,7 @@ module _ (e f : Edition) (ws : List ℕ) (k at : ℕ) (old new : List ℕ) (h : 
           let r = room g in
           let s : length (set out put n) ≡ length out = length-set out put n in
           let a : take (put + 1 + n * to) now ≡ take (put + 1) (set out put n) ++ ys =
-              take-put_mid (put + 1) (put + 1 + n * to - (put + 1)) (set out put n) ys (put + 1 + n * to) (omega (arith, long)) (omega arith) in
+          take-put_mid (put + 1) (put + 1 + n * to - (put + 1)) (set out put n) ys (put + 1 + n * to) (omega (arith, long)) (omega arith) in
           let b : take (put + 1) (set out put n) ≡ take put out ++ (n ∷ []) = take_more_set out put n (omega arith) in
           let v : ys ≡ joined (map (resized to) rs) = rw part at w in
           rw (a, b, append_assoc (take put out ++ (n ∷ [])) ys, append_assoc (take put out) (n ∷ []), v) (rw written-next at done)

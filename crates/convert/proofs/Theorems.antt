@@ -1,15 +1,15 @@
 -- What conversions keep.
-use Rattle.std.proofs.Common.{ℕ, ◌≤◌, arith, ◌≡◌, ◌↔◌, refl, sym, ap, ◌∙◌, Bool, true, false, not, List, [], ◌∷◌, length, Option, None, Some, option_map, ltb, le-ltb, eqb, eqb-true}
+use Rattle.std.proofs.Common.{ℕ, arith, ◌≡◌, refl, sym, ap, ◌∙◌, Bool, true, false, not, List, [], ◌∷◌, length, Option, None, Some, option_map, le-ltb, eqb, eqb-true}
 use borrow.Author.Tests.{eqb-false}
 use Rattle.sizes.specs.declared.edition.Edition.{Edition}
 use Rattle.sizes.specs.declared.edition.Edition.TheVariants.{One, Two}
-use Rattle.rules.specs.Answers.{Answer, answer, settle, first_of, Done, BadViewport, BadForm, BadRecord, BadOrder, HasPanels}
+use Rattle.rules.specs.Answers.{Answer, answer, settle, first_of, Done, BadViewport, BadRecord, BadOrder, HasPanels}
 use Rattle.rules.specs.Boxes.{good_viewport}
 use Rattle.rules.specs.Plans.{Step, Frame}
-use Rattle.rules.specs.Setups.{Setup, Mode, viewport-in}
+use Rattle.rules.specs.Setups.{Mode, viewport-in}
 use Rattle.rules.specs.Recording.{Recording, File, in-edition, shape, parsed, recording, good-records, good-order}
-use Rattle.rules.specs.Walk.{Place, Arenas, play, play-records}
-use Rattle.rules.specs.Calls.{Canvas, record-call}
+use Rattle.rules.specs.Walk.{Place, play, play-records}
+use Rattle.rules.specs.Calls.{record-call}
 use Rattle.rules.specs.Conversions.{judge-sections, conversion, convert-call, converted, file-of, all-kept}
 use Rattle.convert.specs.Theorems.{Valid, no-panels, Becomes, Room, ExactToTwo, ExactToOne, ThereAndBack, AlwaysBack, SameRecording, SamePlayed}
 use Rattle.convert.proofs.Converting.{of-none, of-sections}
@@ -113,12 +113,12 @@ module _ (d e : Edition) (m : Mode) (ws vs : List ℕ) (h : Becomes m d e ws vs)
   always : Becomes m e d vs ws
   always =
       let j : Judged m d there =
-          record {
-            viewport = rw same o.judged.viewport;
-            records = rw same o.judged.records;
-            order = rw same o.judged.order;
-            kept = back-kept d e ws o.sections o.form;
-          } in
+      record {
+        viewport = rw same o.judged.viewport;
+        records = rw same o.judged.records;
+        order = rw same o.judged.order;
+        kept = back-kept d e ws o.sections o.form;
+      } in
       closed m d (in-edition e vs) there there-form j ∙ ap (λ (v : List ℕ). answer 0 v) again
 
   recorded : option_map recording (parsed (in-edition e vs)) ≡ option_map recording (parsed (in-edition d ws))
@@ -176,7 +176,7 @@ exact-to-one m ws n r =
     let f = in-edition Two ws in
     let s = roomy m One f n r in
     let panels : (ss : List (List (List ℕ))) → parsed f ≡ Some ss → all-kept (shape One) ss ≡ no-panels (recording ss) =
-        λ ss p. kept-in-one ss (seven Two ss (parts Two ws ss p).shape) in (
+    λ ss p. kept-in-one ss (seven Two ss (parts Two ws ss p).shape) in (
       λ h.
           let o = done-of m One f (rw s at h) in
           record { valid = valid-of m One f o; panels = sym (panels o.sections o.form) ∙ o.judged.kept },

@@ -30,8 +30,8 @@ fn convert(file: File<'_>, mode: Mode, to: Edition, out: &mut [u32]) -> Result<u
     Ok(length)
 }
 
-/// A file of edition one as one of edition two, each panel 0, put first in `out`; how many words it has. Refused, all of `out` stays: BadForm, 3; BadViewport, 2,
-/// for a viewport that is bad as the mode reads it, however many rows it has; BadRecord, 4; BadOrder, 5; NoRoom, 14.
+/// A file of edition one as one of edition two, each panel 0, put first in `out`; how many words it has. Refused, all of `out` stays: BadForm, 3; BadViewport,
+/// 2, for a viewport that is bad as the mode reads it, however many rows it has; BadRecord, 4; BadOrder, 5; NoRoom, 14.
 pub fn to_edition_two(file: &[u32], mode: Mode, out: &mut [u32]) -> Result<usize, Refusal>
     ensures converted { placed result out.new ≡ put_first (as_two mode file.now out.old) out.old }
     ensures refused { answer_number result ≡ (as_two mode file.now out.old).number }

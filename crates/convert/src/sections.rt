@@ -17,15 +17,7 @@ const SECTIONS: usize = 7;
 fn record_sizes(edition: Edition) -> [usize; SECTIONS]
     ensures { result ≡ sizes-of (shape edition) }
 {
-    [
-        4,
-        PAINT,
-        SEGMENT,
-        edition.draw(),
-        edition.layer(),
-        NODE,
-        2,
-    ]
+    [4, PAINT, SEGMENT, edition.draw(), edition.layer(), NODE, 2]
 }
 
 // The words before the sections.
@@ -58,8 +50,7 @@ fn is_section_kept(words: &[u32], size: usize, count: usize, kept: usize) -> boo
     requires { length words.now ≡ count * size }
     ensures { result ≡ every (keeps kept) (records size count words.now) }
 {
-    size <= kept
-        || (0..count).all(|i| is_record_kept(&words[size * i..size * i + size], kept))
+    size <= kept || (0..count).all(|i| is_record_kept(&words[size * i..size * i + size], kept))
 }
 
 /// Nothing but 0 is cut away where a file of edition `from` becomes one of edition `to`.

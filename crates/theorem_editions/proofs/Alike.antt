@@ -1,7 +1,6 @@
 -- What is made of a file by its recording alone is the same for files that say the same recording.
-use Rattle.std.proofs.Common.{ℕ, ◌≡◌, refl, sym, ap, ◌∙◌, cond, List, Option, None, Some, option_map, eqb}
-use Rattle.sizes.specs.declared.edition.Edition.{Edition}
-use Rattle.rules.specs.Answers.{Answer, Done}
+use Rattle.std.proofs.Common.{ℕ, ◌≡◌, refl, ap, cond, List, Option, None, Some, option_map, eqb}
+use Rattle.rules.specs.Answers.{Done}
 use Rattle.rules.specs.Setups.{Setup}
 use Rattle.rules.specs.Recording.{File, in-edition, parsed, recording}
 use Rattle.rules_reason.specs.Reasons.{Asked}

@@ -1,5 +1,5 @@
-//! Theorems about the calls that convert recordings, and about those that take what was converted. What a function here promises is a theorem, and it does nothing
-//! else.
+//! Theorems about the calls that convert recordings, and about those that take what was converted. What a function here promises is a theorem, and it does
+//! nothing else.
 #![tactic(auto)]
 
 ghost use Rattle.theorem_editions.specs.Conversions.{TwoAndBack, OneAndBack};

@@ -1,9 +1,8 @@
 -- The form comes first, then the viewport, the records and their order, the panels, the room; then all is put.
-use Rattle.std.proofs.Common.{arith, sym, ap, ◌∙◌}
+use Rattle.std.proofs.Common.{arith, sym, ◌∙◌}
 use Rattle.std.proofs.lemmas.Result.{err_from_is_err_and}
 use Rattle.sizes.proofs.Refusals.{not_done}
-use Rattle.rules.specs.Boxes.{good_viewport}
-use Rattle.rect.specs.Rects.{box_of, mode_of}
+use Rattle.rect.specs.Rects.{mode_of}
 use Rattle.file.specs.Held.{file_of, held}
 use Rattle.convert.proofs.Converting.{bad-form, formed, seen-good, seen-bad, bad-viewport, bad-records, has-panels, no-room, done}
 use Rattle.convert.proofs.call.convert.Goals as goal

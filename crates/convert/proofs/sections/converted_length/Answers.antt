@@ -1,9 +1,9 @@
-use Rattle.std.proofs.Common.{ℕ, ◌<◌, ◌+◌, ◌≡◌, arith, refl, sym, ap, ◌∙◌, length, length-append}
+use Rattle.std.proofs.Common.{◌≡◌, arith, sym, length-append}
 use Rattle.rules.specs.Recording.{head, shape, in-edition}
 use Rattle.rules.specs.Conversions.{converted, written}
 use Rattle.convert.specs.Sections.{sections_of}
 use Rattle.convert.proofs.Standing.{begin, head-few}
-use Rattle.convert.proofs.Steps.{there, few, more-counted, counted-next, put-few}
+use Rattle.convert.proofs.Steps.{there, more-counted, counted-next, put-few}
 use Rattle.convert.proofs.sections.converted_length.Goals as goal
 
 pub loop-k-init : goal.loop-k-init
@@ -31,7 +31,7 @@ loop-k-preserved c =
 
 pub returns : goal.returns
 unfolding converted
-returns c = 
+returns c =
     let e : c.loop-k.k ≡ 7 = omega arith in
     let g = c.loop-k.invariant.counted in
     let h = rw e at g in

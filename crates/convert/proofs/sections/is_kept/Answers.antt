@@ -1,4 +1,4 @@
-use Rattle.std.proofs.Common.{ℕ, ◌<◌, ◌≡◌, arith, refl, sym, ◌∙◌, rules}
+use Rattle.std.proofs.Common.{◌≡◌, arith, refl, sym, ◌∙◌, rules}
 use Rattle.rules.specs.Conversions.{all-kept}
 use Rattle.convert.proofs.Standing.{begin}
 use Rattle.convert.proofs.Steps.{there, ends, more, kept-not, kept-still}

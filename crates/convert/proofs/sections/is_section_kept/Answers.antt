@@ -1,4 +1,4 @@
-use Rattle.std.proofs.Common.{◌+◌, ◌-◌, ◌*◌, ◌≤◌, arith, refl, sym, ◌∙◌, le-leb, take, drop, length, rules, tests}
+use Rattle.std.proofs.Common.{◌+◌, ◌-◌, ◌*◌, arith, refl, sym, ◌∙◌, le-leb, take, drop, rules, tests}
 use Rattle.std.proofs.lemmas.Iterator.{YieldsList-from_range, serves_from_Range}
 use Rattle.std.proofs.lemmas.Iterator.Search.{all_from_yields_List}
 use Rattle.rules.specs.Conversions.{keeps}

@@ -1,4 +1,4 @@
-use Rattle.std.proofs.Common.{ℕ, ◌<◌, ◌≤◌, ◌≡◌, length, arith, rules}
+use Rattle.std.proofs.Common.{◌≤◌, ◌≡◌, length, arith, rules}
 use Rattle.rules.specs.Recording.{head, shape, in-edition}
 use Rattle.rules.specs.Conversions.{converted, written}
 use Rattle.convert.specs.Sections.{sections_of, file-in}

@@ -131,11 +131,12 @@ static inline void coarse_bucketer_free(coarse_bucketer *b) {
 }
 
 /* The bucketer for a recording: with tables of its own where the file's viewport asks for other lengths than `b` has. */
-static inline uint32_t coarse_bucketer_for(const coarse_bucketer *b, const uint32_t *file, size_t words, coarse_bucketer *next) {
+static inline uint32_t coarse_bucketer_for(const coarse_bucketer *b, uint32_t edition, const uint32_t *file, size_t words, coarse_bucketer *next) {
     coarse_lengths sizes;
+    size_t at = edition == COARSE_EDITION_TWO ? 3 : 1; /* after the viewport's count, and in edition two two words more */
     *next = *b;
-    if (words > 4) {
-        coarse_rect v = {file[1], file[2], file[3], file[4]};
+    if (words > at + 3) {
+        coarse_rect v = {file[at], file[at + 1], file[at + 2], file[at + 3]};
         if (coarse_sizes(v, b->setup, &sizes) == COARSE_DONE && memcmp(&sizes, &b->sizes, sizeof sizes) != 0)
             return coarse_bucketer_tables(next, &sizes);
     }
@@ -156,27 +157,27 @@ static inline uint32_t coarse_bucketer_keep(coarse_bucketer *b, const coarse_buc
     return answer;
 }
 
-/* Rule 2: the words of a recording file, on a fresh screen of its own viewport. Its viewport and boxes are in pixels, its segments
- * in tiles, all of the scene. */
-static inline uint32_t coarse_bucketer_bucket_commands(coarse_bucketer *b, const uint32_t *file, size_t words) {
+/* Rule 2: the words of a recording file, of a coarse_edition, on a fresh screen of its own viewport. Its viewport and boxes are in pixels,
+ * its segments in tiles, all of the scene. */
+static inline uint32_t coarse_bucketer_bucket_commands(coarse_bucketer *b, uint32_t edition, const uint32_t *file, size_t words) {
     coarse_bucketer next;
-    uint32_t answer = coarse_bucketer_for(b, file, words, &next);
+    uint32_t answer = coarse_bucketer_for(b, edition, file, words, &next);
     if (answer != COARSE_DONE)
         return answer;
-    answer = coarse_bucket_recording(&next.state, file, words, next.setup, &next.tables);
+    answer = coarse_bucket_recording(&next.state, edition, file, words, next.setup, &next.tables);
     return coarse_bucketer_keep(b, &next, answer);
 }
 
-/* Buckets a recording's words, and says why an attribute (a layer's where `layer` is not 0, else a draw's) is shown at a row and
+/* Buckets a recording's words, of a coarse_edition, and says why an attribute (a layer's where `layer` is not 0, else a draw's) is shown at a row and
  * tile of its screen or not. The screen is left as coarse_bucketer_bucket_commands leaves it, with 12 too. */
-static inline uint32_t coarse_bucketer_why(coarse_bucketer *b, const uint32_t *file, size_t words, uint32_t row, uint32_t tile, int layer,
-                                           uint32_t attribute, coarse_reason *reason) {
+static inline uint32_t coarse_bucketer_why(coarse_bucketer *b, uint32_t edition, const uint32_t *file, size_t words, uint32_t row,
+                                           uint32_t tile, int layer, uint32_t attribute, coarse_reason *reason) {
     coarse_bucketer next;
     coarse_question question = {row, tile, layer != 0, attribute};
-    uint32_t answer = coarse_bucketer_for(b, file, words, &next);
+    uint32_t answer = coarse_bucketer_for(b, edition, file, words, &next);
     if (answer != COARSE_DONE)
         return answer;
-    answer = coarse_why(&next.state, file, words, next.setup, &question, &next.tables, reason);
+    answer = coarse_why(&next.state, edition, file, words, next.setup, &question, &next.tables, reason);
     return coarse_bucketer_keep(b, &next, answer);
 }
 

@@ -3,7 +3,7 @@
 use crate::answer::Answer;
 use crate::canvas::{Brush, Canvas, Piece, Runs};
 use crate::input::{
-    FilterLayerPlacement, LayerProps, Paint, RecordedFill, Rect, Segment, Setup, Width,
+    Edition, FilterLayerPlacement, LayerProps, Paint, RecordedFill, Rect, Segment, Setup, Width,
 };
 use crate::reason::{Attribute, Reason};
 use crate::stored::{
@@ -275,15 +275,28 @@ impl CommandBucketer {
         (self.lent, self.stored, self.brush.words) = self.tables.lent();
     }
 
-    /// Rule 2: a recording file's words, bucketed from a fresh screen of its own viewport. Its viewport and boxes are in pixels, its segments in tiles,
-    /// all of the scene. [`Recorder`](crate::Recorder) makes such words.
+    /// Rule 2: the words of a recording file of an edition, bucketed from a fresh screen of its own viewport. Its viewport and boxes are in pixels, its
+    /// segments in tiles, all of the scene. [`Recorder`](crate::Recorder) makes such words, of edition one.
+    ///
+    /// ```
+    /// use coarse::{CommandBucketer, Edition, Setup};
+    ///
+    /// // One draw of panel 7 over the 128 tiles of one row.
+    /// let words = [
+    ///     1, 2, 1, 0, 0, 512, 4, 1, 1, 1, 0, 0, 1, 0, 0, 0, 128, 0, 1, 0, 0, 1, 0, 0, 3, 0, 7, 0, 1, 0, 1, 0, 1, 0, 1,
+    /// ];
+    /// let mut screen = CommandBucketer::from_wh(512, 4, Setup::new(64, 64))?;
+    /// screen.bucket_commands(Edition::Two, &words)?;
+    /// assert_eq!(screen.paint_attr(0).map(|attrs| attrs.panel), Some(7));
+    /// # Ok::<(), coarse::Answer>(())
+    /// ```
     ///
     /// # Errors
     /// [`Answer::BadForm`], then [`Answer::BadViewport`]: nothing changes. Then [`Answer::BadRecord`], [`Answer::BadOrder`] or what the first refused
     /// step of the recording answers: a fresh screen of the recording's viewport is left.
-    pub fn bucket_commands(&mut self, file: &[u32]) -> Result<(), Answer> {
-        self.on_own_screen(file, |state, setup, tables| {
-            record(state, file, setup, tables)
+    pub fn bucket_commands(&mut self, edition: Edition, file: &[u32]) -> Result<(), Answer> {
+        self.on_own_screen(edition, file, |state, setup, tables| {
+            record(state, edition, file, setup, tables)
         })
     }
 
@@ -294,24 +307,38 @@ impl CommandBucketer {
     /// The recording's own, then [`Answer::BadRun`] for a row or a tile off the screen.
     pub fn why(
         &mut self,
+        edition: Edition,
         file: &[u32],
         row: u32,
         tile: u32,
         attribute: Attribute,
     ) -> Result<Reason, Answer> {
-        self.on_own_screen(file, |state, setup, tables| {
-            explain(state, file, setup, row, tile, attribute, tables)
+        let (layer, attribute) = match attribute {
+            Attribute::Draw(attribute) => (0, attribute),
+            Attribute::Layer(attribute) => (1, attribute),
+        };
+        let question = sys::QuestionWords {
+            row,
+            tile,
+            layer,
+            attribute,
+        };
+        self.on_own_screen(edition, file, |state, setup, tables| {
+            explain(state, edition, file, setup, question, tables)
         })
     }
 
     /// A recording call, with tables for the file's own viewport. They are kept unless it is refused by 1 to 3.
     fn on_own_screen<T>(
         &mut self,
+        edition: Edition,
         file: &[u32],
         call: impl FnOnce(&mut sys::StateWords, Setup, &mut sys::TableWords) -> Result<T, Answer>,
     ) -> Result<T, Answer> {
-        let viewport = match file {
-            [_, x0, y0, x1, y1, ..] => Rect::new(*x0, *y0, *x1, *y1),
+        // The viewport stands after its count, and in edition two after two words more.
+        let viewport = match (edition, file) {
+            (Edition::One, [_, x0, y0, x1, y1, ..])
+            | (Edition::Two, [_, _, _, x0, y0, x1, y1, ..]) => Rect::new(*x0, *y0, *x1, *y1),
             _ => return Err(Answer::BadForm),
         };
         match sizes(viewport, self.setup) {
@@ -707,38 +734,36 @@ impl CommandBucketer {
 
 fn record(
     state: &mut sys::StateWords,
+    edition: Edition,
     file: &[u32],
     setup: Setup,
     tables: &mut sys::TableWords,
 ) -> Result<(), Answer> {
     Answer::check(unsafe {
-        sys::coarse_bucket_recording(state, file.as_ptr(), file.len(), setup.into(), tables)
+        sys::coarse_bucket_recording(
+            state,
+            edition as u32,
+            file.as_ptr(),
+            file.len(),
+            setup.into(),
+            tables,
+        )
     })
 }
 
 fn explain(
     state: &mut sys::StateWords,
+    edition: Edition,
     file: &[u32],
     setup: Setup,
-    row: u32,
-    tile: u32,
-    attribute: Attribute,
+    question: sys::QuestionWords,
     tables: &mut sys::TableWords,
 ) -> Result<Reason, Answer> {
-    let (layer, attribute) = match attribute {
-        Attribute::Draw(attribute) => (0, attribute),
-        Attribute::Layer(attribute) => (1, attribute),
-    };
-    let question = sys::QuestionWords {
-        row,
-        tile,
-        layer,
-        attribute,
-    };
     let mut reason = sys::ReasonWords::default();
     Answer::check(unsafe {
         sys::coarse_why(
             state,
+            edition as u32,
             file.as_ptr(),
             file.len(),
             setup.into(),

@@ -308,6 +308,9 @@ pub type Paint = unsafe extern "C" fn(
     *mut PaintedWords,
 ) -> u32;
 
+/// A call that converts a recording: `coarse_to_edition_two`, `coarse_to_edition_one`.
+pub type Convert = unsafe extern "C" fn(*const u32, usize, u32, *mut u32, usize, *mut usize) -> u32;
+
 extern "C" {
     pub fn coarse_sizes(viewport: Corners, setup: SetupWords, sizes: *mut Lengths) -> u32;
 
@@ -320,6 +323,7 @@ extern "C" {
 
     pub fn coarse_bucket_recording(
         state: *mut StateWords,
+        edition: u32,
         file: *const u32,
         file_len: usize,
         setup: SetupWords,
@@ -328,12 +332,31 @@ extern "C" {
 
     pub fn coarse_why(
         state: *mut StateWords,
+        edition: u32,
         file: *const u32,
         file_len: usize,
         setup: SetupWords,
         question: *const QuestionWords,
         tables: *mut TableWords,
         reason: *mut ReasonWords,
+    ) -> u32;
+
+    pub fn coarse_to_edition_two(
+        file: *const u32,
+        file_len: usize,
+        mode: u32,
+        out: *mut u32,
+        out_len: usize,
+        words: *mut usize,
+    ) -> u32;
+
+    pub fn coarse_to_edition_one(
+        file: *const u32,
+        file_len: usize,
+        mode: u32,
+        out: *mut u32,
+        out_len: usize,
+        words: *mut usize,
     ) -> u32;
 
     pub fn coarse_fill(

@@ -1,17 +1,17 @@
 -- What the program `rowlist` writes of a file's words is the text of the rules' `rowlist` of them. Assumes nothing.
-use Rattle.std.proofs.Common.{◌≡◌, refl, sym, ap, ◌∙◌, Bool, true, false, not, ◌&&◌, ◌||◌, cond, List, [], ◌∷◌, ◌++◌, append-nil, Option, None, Some, Ok, Err, ℕ, ◌*◌, ◌≤◌, arith, ltb, leb}
+use Rattle.std.proofs.Common.{◌≡◌, refl, sym, ap, ◌∙◌, Bool, true, false, not, ◌&&◌, ◌||◌, cond, List, [], ◌∷◌, ◌++◌, append-nil, Option, None, Some, Ok, Err, ℕ, ◌+◌, ◌*◌, ◌≤◌, add-one, add-zero, arith, ltb, leb}
 use Rattle.std.proofs.Common.{eqb, length, get_or, drop, get_or-drop, le-ltb, lt-ltb, leb-true, leb-false, eq-eqb, eqb-true}
 use Rattle.sizes.specs.declared.answers.Refusal.TheVariants as refusal
 use Rattle.sizes.specs.declared.width.Width.{Width}
 use Rattle.sizes.specs.Widths.{bucket-tiles}
-use Rattle.sizes.specs.declared.edition.Edition.TheVariants.{One}
+use Rattle.sizes.specs.declared.edition.Edition.{Edition}
 use Rattle.rules.specs.Answers.{Answer, answer, settle, Done, BadForm}
 use Rattle.rules.specs.Boxes.{Box, box, good_viewport, rows_of, buckets-of}
 use Rattle.rules.specs.Rows.{Row, fresh-row, row-ops}
 use Rattle.rules.specs.Plans.{Frame, buckets-across}
 use Rattle.rules.specs.Setups.{Setup, frame}
 use Rattle.rules.specs.Steps.{Screen, reset, call}
-use Rattle.rules.specs.Recording.{Recording, in-one, parsed, recording, box-at}
+use Rattle.rules.specs.Recording.{Recording, File, in-edition, head, parsed, recording, box-in}
 use Rattle.rules.specs.Walk.{Place, Arenas, needed, good-arenas, frame-of, judge-records, walk-all, play-records, play}
 use Rattle.rules.specs.Lines as rules
 use Rattle.rules.specs.Lines.{refused, answer-lines, rowlist-place, rowlist-screen, rowlist-words, words_of, rowlist, line-bytes}
@@ -203,11 +203,11 @@ not-shown true n e = lt-ltb 32 n (leb-false n 32 e)
 some_same : {A : Type 0} {x y : A} → Some x ≡ Some y → x ≡ y
 some_same p = cc
 
-module _ (q : Setup) (u : Usual q) (ws : List ℕ) (bs : List ℕ) (room : 264256 ≤ length bs) where
+module _ (q : Setup) (u : Usual q) (w : File) (bs : List ℕ) (room : 264256 ≤ length bs) where
   abbrev old : Screen Row
   old = reset fresh-row rules.nothing
 
-  module _ (ss : List (List (List ℕ))) (e : parsed (in-one ws) ≡ Some ss) where
+  module _ (ss : List (List (List ℕ))) (e : parsed w ≡ Some ss) where
     abbrev r : Recording
     r = recording ss
 
@@ -218,23 +218,29 @@ module _ (q : Setup) (u : Usual q) (ws : List ℕ) (bs : List ℕ) (room : 26425
     abbrev v : Box
     v = f.viewport
 
-    -- the file's viewport stands at its words 1 to 4
-    at_words : r.viewport ≡ box (get_or ws 1 0) (get_or ws 2 0) (get_or ws 3 0) (get_or ws 4 0)
+    -- the file's viewport stands after its head and its own count
+    abbrev there : ℕ
+    there = length (head w.edition) + 1
+
+    at_words : r.viewport ≡ box (get_or w.words there 0) (get_or w.words (there + 1) 0) (get_or w.words (there + 2) 0) (get_or w.words (there + 3) 0)
     unfolding form_of layout
     at_words =
-        let y : Ok (layout One ws) ≡ form_of One ws = rw e in
-        let g = good-form One ws (layout One ws) y in
-        let x : ss ≡ sections_at (layout One ws) ws = some_same (sym e ∙ g.same) in
-        rw x (viewport-is (layout One ws) ws g.fits)
+        let l = layout w.edition w.words in
+        let y : Ok l ≡ form_of w.edition w.words = rw e in
+        let g = good-form w.edition w.words l y in
+        let x : ss ≡ sections_at l w.words = some_same (sym e ∙ g.same) in
+        rw x (viewport-is l w.words g.fits)
 
-    place_view : box-at ws 1 ≡ r.viewport
-    place_view = rw (get_or-drop 1 ws 0 0, get_or-drop 1 ws 1 0, get_or-drop 1 ws 2 0, get_or-drop 1 ws 3 0) (sym at_words)
+    place_view : box-in w ≡ r.viewport
+    place_view =
+        rw (← add-one (length (head w.edition)))
+        (rw (get_or-drop there w.words 0 0, get_or-drop there w.words 1 0, get_or-drop there w.words 2 0, get_or-drop there w.words 3 0, add-zero there) (sym at_words))
 
-    refused-there : (good_viewport v && leb (rows_of v) 32) ≡ false → answer-lines (play-records (Screen Row) (call Row row-ops) (reset fresh-row) (rowlist-place q ws) old r) ≡ refused 2 ∷ []
+    refused-there : (good_viewport v && leb (rows_of v) 32) ≡ false → answer-lines (play-records (Screen Row) (call Row row-ops) (reset fresh-row) (rowlist-place q w) old r) ≡ refused 2 ∷ []
     unfolding judge-records
     refused-there h =
-        refused-lines (play-records (Screen Row) (call Row row-ops) (reset fresh-row) (rowlist-place q ws) old r) 2
-        (refused-view (rowlist-place q ws) old r (rw (not-shown (good_viewport v) (rows_of v) h))) refl
+        refused-lines (play-records (Screen Row) (call Row row-ops) (reset fresh-row) (rowlist-place q w) old r) 2
+        (refused-view (rowlist-place q w) old r (rw (not-shown (good_viewport v) (rows_of v) h))) refl
 
     abbrev z : Size
     z = usual-size v q.width
@@ -271,7 +277,7 @@ module _ (q : Setup) (u : Usual q) (ws : List ℕ) (bs : List ℕ) (room : 26425
 
       -- the rules' answer in `rowlist`
       abbrev theirs : Answer (Screen Row)
-      theirs = play-records (Screen Row) (call Row row-ops) (reset fresh-row) (rowlist-place q ws) old r
+      theirs = play-records (Screen Row) (call Row row-ops) (reset fresh-row) (rowlist-place q w) old r
 
       judge-at : (b : Box) → b ≡ r.viewport
           → judge-records (record { limit = 32; setup = q; arenas = needed (frame q b) }) r ≡ judge-records (place q given) r
@@ -291,7 +297,7 @@ module _ (q : Setup) (u : Usual q) (ws : List ℕ) (bs : List ℕ) (room : 26425
             eq-eqb (n * buckets-across f) (n * buckets-across f) refl,
           )
 
-      at-words-play : play (Screen Row) (call Row row-ops) (reset fresh-row) (place q given) old (in-one ws) ≡ theirs
+      at-words-play : play (Screen Row) (call Row row-ops) (reset fresh-row) (place q given) old w ≡ theirs
       unfolding play
       at-words-play =
           ap (λ (o : Option (List (List (List ℕ)))). elim o [
@@ -299,79 +305,79 @@ module _ (q : Setup) (u : Usual q) (ws : List ℕ) (bs : List ℕ) (room : 26425
             | Some qs ↦ play-records (Screen Row) (call Row row-ops) (reset fresh-row) (place q given) old (recording qs)
           ])
           e
-          ∙ sym (same-play 32 512 q (needed (frame q (box-at ws 1))) (arenas (lengths t)) old r (judge-at (box-at ws 1) place_view))
+          ∙ sym (same-play 32 512 q (needed (frame q (box-in w))) (arenas (lengths t)) old r (judge-at (box-in w) place_view))
 
-      plays : Plays Refines old given theirs (recorded (in-one ws) q given)
+      plays : Plays Refines old given theirs (recorded w q given)
       plays =
           rw (← at-words-play)
-          (file-plays (in-one ws) q given old (λ qs i. let k : qs ≡ ss = some_same (sym i ∙ e) in rw k tables-good))
+          (file-plays w q given old (λ qs i. let k : qs ≡ ss = some_same (sym i ∙ e) in rw k tables-good))
 
-      done-with : theirs.number ≡ 0 → Done-with theirs (recorded (in-one ws) q given) v q.width
+      done-with : theirs.number ≡ 0 → Done-with theirs (recorded w q given) v q.width
       done-with d = go plays.value
         where
-          go : Outcome Refines theirs.number old given theirs.value (recorded (in-one ws) q given).value → Done-with theirs (recorded (in-one ws) q given) v q.width
+          go : Outcome Refines theirs.number old given theirs.value (recorded w q given).value → Done-with theirs (recorded w q given) v q.width
           go (unaltered i x y) = never (sym (eq-eqb _ _ d) ∙ i)
-          go (made x) = record { refines = x; kept = play-kept (rowlist-place q ws) old r first start-kept d }
+          go (made x) = record { refines = x; kept = play-kept (rowlist-place q w) old r first start-kept d }
 
-      left_there : Leaves theirs z bs (recording-text (in-one ws) q t bs)
+      left_there : Leaves theirs z bs (recording-text w q t bs)
       unfolding recording-text
-      left_there = answer-leaves bs room theirs (recorded (in-one ws) q given) v q.width few plays.number done-with
+      left_there = answer-leaves bs room theirs (recorded w q given) v q.width few plays.number done-with
 
     abbrev rules-answer : Answer (Screen Row)
-    rules-answer = play-records (Screen Row) (call Row row-ops) (reset fresh-row) (rowlist-place q ws) old r
+    rules-answer = play-records (Screen Row) (call Row row-ops) (reset fresh-row) (rowlist-place q w) old r
 
     refused-number : (good_viewport v && leb (rows_of v) 32) ≡ false → rules-answer.number ≡ 2
     unfolding judge-records
-    refused-number h = refused-view (rowlist-place q ws) old r (rw (not-shown (good_viewport v) (rows_of v) h))
+    refused-number h = refused-view (rowlist-place q w) old r (rw (not-shown (good_viewport v) (rows_of v) h))
 
-    by_size : (x : Bool) → (good_viewport v && leb (rows_of v) 32) ≡ x → {y : Size} → Ok y ≡ sized-if x f → (t : Tables) → Exact y t → Leaves rules-answer y bs (recording-text (in-one ws) q t bs)
+    by_size : (x : Bool) → (good_viewport v && leb (rows_of v) 32) ≡ x → {y : Size} → Ok y ≡ sized-if x f → (t : Tables) → Exact y t → Leaves rules-answer y bs (recording-text w q t bs)
     by_size false h i t k = cc
     by_size true h {y} i t k =
         let same : y ≡ z = cc in
         rw same (left_there (and_left (good_viewport v) (leb (rows_of v) 32) h) (leb-true _ _ (and_right (good_viewport v) (leb (rows_of v) 32) h)) t (rw same at k))
 
-    printed-by-size : (x : Bool) → (good_viewport v && leb (rows_of v) 32) ≡ x → Prints rules-answer bs (sized-text (sized-if x f) (in-one ws) q bs)
+    printed-by-size : (x : Bool) → (good_viewport v && leb (rows_of v) 32) ≡ x → Prints rules-answer bs (sized-text (sized-if x f) w q bs)
     printed-by-size false h = refused-prints bs room rules-answer 2 nothing (refused-number h) (refused-there h)
     printed-by-size true h = (by_size true h refl (blank z) (blank_exact z)).prints
 
   abbrev played-of : Option (List (List (List ℕ))) → Answer (Screen Row)
   played-of o = elim o [
     | None ↦ answer BadForm old
-    | Some qs ↦ play-records (Screen Row) (call Row row-ops) (reset fresh-row) (rowlist-place q ws) old (recording qs)
+    | Some qs ↦ play-records (Screen Row) (call Row row-ops) (reset fresh-row) (rowlist-place q w) old (recording qs)
   ]
 
   -- What is printed of a file's words, with room for the longest text: the number and the text of the rules' lines.
-  pub words-print : Prints (rowlist-screen q ws) bs (sized-text (size_of (in-one ws) q) (in-one ws) q bs)
+  pub words-print : Prints (rowlist-screen q w) bs (sized-text (size_of w q) w q bs)
   unfolding size_of play
-  words-print = go (parsed (in-one ws)) refl
+  words-print = go (parsed w) refl
     where
-      go : (o : Option (List (List (List ℕ)))) → parsed (in-one ws) ≡ o → Prints (played-of o) bs (sized-text (sized (recording_of o) q) (in-one ws) q bs)
+      go : (o : Option (List (List (List ℕ)))) → parsed w ≡ o → Prints (played-of o) bs (sized-text (sized (recording_of o) q) w q bs)
       go None e = refused-prints bs room (answer BadForm old) 3 nothing refl refl
       go (Some ss) e = printed-by-size ss e _ refl
 
   -- .. and what is left beside it, in tables of its screen's lengths, is the rules' screen, where it is not refused.
-  pub words-leave : {z : Size} → Ok z ≡ size_of (in-one ws) q → (t : Tables) → Exact z t → Leaves (rowlist-screen q ws) z bs (recording-text (in-one ws) q t bs)
+  pub words-leave : {z : Size} → Ok z ≡ size_of w q → (t : Tables) → Exact z t → Leaves (rowlist-screen q w) z bs (recording-text w q t bs)
   unfolding size_of play
-  words-leave {z} i t k = go (parsed (in-one ws)) refl i
+  words-leave {z} i t k = go (parsed w) refl i
     where
-      go : (o : Option (List (List (List ℕ)))) → parsed (in-one ws) ≡ o → Ok z ≡ sized (recording_of o) q → Leaves (played-of o) z bs (recording-text (in-one ws) q t bs)
+      go : (o : Option (List (List (List ℕ)))) → parsed w ≡ o → Ok z ≡ sized (recording_of o) q → Leaves (played-of o) z bs (recording-text w q t bs)
       go None e j = cc
       go (Some ss) e j = by_size ss e _ refl j t k
 
 -- `rowlist`: a file's bytes, with room lent as the program has it. What `file_text` writes is the text of the rules' `rowlist` of the bytes.
-module _ (q : Setup) (u : Usual q) (fs : List ℕ) (bs : List ℕ) (room : 264256 ≤ length bs) where
-  pub file-printed : shows (bytes-text fs q bs) ≡ text-first (text_of (rowlist q fs)) bs
+module _ (e : Edition) (q : Setup) (u : Usual q) (fs : List ℕ) (bs : List ℕ) (room : 264256 ≤ length bs) where
+  pub file-printed : shows (bytes-text e fs q bs) ≡ text-first (text_of (rowlist e q fs)) bs
   unfolding bytes-text file-size rowlist rowlist-words
-  file-printed = rw (by-file (refused BadForm ∷ []) (rowlist-words q) fs) (go (good-bytes (length fs)))
+  file-printed = rw (by-file (refused BadForm ∷ []) (λ ws. rowlist-words q (in-edition e ws)) fs) (go (good-bytes (length fs)))
     where
-      go : (b : Bool) → shows (sized-text (cond b (size_of (in-one (words-in fs)) q) (Err refusal.BadForm)) (in-one (words-in fs)) q bs) ≡ text-first (text_of (cond b (rowlist-words q (words-in fs)) (refused BadForm ∷ []))) bs
-      go true = (words-print q u (words-in fs) bs room).shows
+      go : (b : Bool) → shows (sized-text (cond b (size_of (in-edition e (words-in fs)) q) (Err refusal.BadForm)) (in-edition e (words-in fs)) q bs) ≡ text-first (text_of (cond b (rowlist-words q (in-edition e (words-in fs))) (refused BadForm ∷ []))) bs
+      go true = (words-print q u (in-edition e (words-in fs)) bs room).shows
       go false = ap shows (refusing-is bs room 3 nothing)
 
-  pub file-few : length (text_of (rowlist q fs)) ≤ 264256
+  pub file-few : length (text_of (rowlist e q fs)) ≤ 264256
   unfolding rowlist rowlist-words
-  file-few = rw (by-file (refused BadForm ∷ []) (rowlist-words q) fs) (go (good-bytes (length fs)))
+  file-few = rw (by-file (refused BadForm ∷ []) (λ ws. rowlist-words q (in-edition e ws)) fs) (go (good-bytes (length fs)))
     where
-      go : (b : Bool) → length (text_of (cond b (rowlist-words q (words-in fs)) (refused BadForm ∷ []))) ≤ 264256
-      go true = (words-print q u (words-in fs) bs room).few
+      go : (b : Bool) → length (text_of (cond b (rowlist-words q (in-edition e (words-in fs))) (refused BadForm ∷ []))) ≤ 264256
+      go true = (words-print q u (in-edition e (words-in fs)) bs room).few
       go false = refused-few BadForm

@@ -1,19 +1,19 @@
 -- What `rowdump` prints.
-use Rattle.std.specs.Prelude.{ℕ, true, List, codes}
-use Rattle.text_programs.specs.Programs.{Wanted}
-use Rattle.text_programs.specs.Arguments.{asked_about, read_arguments, wanted_by}
+use Rattle.std.specs.Prelude.{ℕ, true, List, ◌++◌, codes}
+use Rattle.text_programs.specs.Arguments.{Wanted, asked_about, read_arguments, wanted_by}
 use Rattle.text_programs.specs.Streams.{Item, stream_printed}
 use Rattle.text_programs.specs.declared.about.About.{About}
 use Rattle.text_programs.specs.Abouts.{about_text, said_or}
-use Rattle.text_dump.specs.Rowdump.{rowdump-text, dump-by-width}
+use Rattle.text_files.specs.Programs.{by_reading}
+use Rattle.text_dump.specs.Rowdump.{recording-line, file-lines-text}
 
 -- .. where it is asked about itself
 abbrev pub about : About → List ℕ
-about = about_text (codes "rowdump") (codes "usage: rowdump [--snap] [--width N] [--panels] < STREAM\noptions, in any order; the last of a repeated one counts:\n") (codes "  --panels   end each line that has a panel with it\n")
+about = about_text (codes "rowdump") (codes "usage: rowdump [--snap] [--width N] [--edition N] [--panels] < STREAM\noptions, in any order; the last of a repeated one counts:\n") (codes "  --panels     end each line that has a panel with it\n")
 
 -- .. of recording i, a file's bytes
 abbrev pub recording_printed : Wanted → ℕ → List ℕ → List ℕ
-recording_printed want i file = dump-by-width want.no-width i file (rowdump-text want.panels want.setup i file)
+recording_printed want i file = recording-line i ++ by_reading (file-lines-text want.panels) want.reading file
 
 -- .. of a stream's file i
 abbrev pub item_printed : Wanted → ℕ → Item → List ℕ

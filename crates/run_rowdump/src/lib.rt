@@ -5,9 +5,7 @@
 
 ghost use Rattle.std.specs.Prelude.{◌≡◌, ◌≢◌, ◌↔◌, ◌⊎◌, true, [], length, map, string_bytes, IfSome, IfErr, OnOk, IsErrAnd};
 ghost use Rattle.std.specs.Io.KnownBytes.{Appends};
-ghost use Rattle.screen.specs.Screens.{setup-of};
-ghost use Rattle.text.specs.Files.{Usual};
-ghost use Rattle.text_programs.specs.Programs.{first};
+ghost use Rattle.text_files.specs.Programs.{first};
 ghost use Rattle.text_programs.specs.Arguments.{asked_about, read_arguments, wanted_of};
 ghost use Rattle.text_programs.specs.Streams.{stream_printed, PrintsFirst};
 ghost use Rattle.text_programs.specs.Failures.{IsUsage, IsUnwritten, IsOfWriting, Begins};
@@ -16,20 +14,22 @@ ghost use Rattle.run_rowdump.specs.Printed.{about, recording_printed, item_print
 
 use std::alloc::Global;
 use std::io::{Read, Write};
-use text_dump::{Desk, dump_buffer, no_width_dump, piece_buffer, rowdump_text};
+use text::FileBytes;
+use text_dump::{Desk, dump_buffer, no_edition_dump, no_width_dump, piece_buffer, rowdump_text};
+use text_files::tables::Tables;
+use text_files::usual;
 use text_programs::about::{asked_about, print_about};
 use text_programs::failure::{Failure, Stop};
-use text_programs::options::{Want, read_options};
+use text_programs::options::{Reading, Want, read_options};
 use text_programs::stream::{Replies, answer_all};
-use text_programs::tables::{Tables, file_buffer};
 use text_programs::usage::{Usage, Wrong, wrong_option};
-use text_programs::write_text;
+use text_programs::{file_buffer, write_text};
 
 /// What it says of itself where it is asked.
 pub const USAGE: Usage = Usage {
     program: "rowdump",
-    calls: "usage: rowdump [--snap] [--width N] [--panels] < STREAM\noptions, in any order; the last of a repeated one counts:\n",
-    options: "  --panels   end each line that has a panel with it\n",
+    calls: "usage: rowdump [--snap] [--width N] [--edition N] [--panels] < STREAM\noptions, in any order; the last of a repeated one counts:\n",
+    options: "  --panels     end each line that has a panel with it\n",
 };
 
 // The head of a recording in a stream: its length in bytes.
@@ -44,21 +44,34 @@ struct Dump<'a> {
 
 // What is wanted, put first; how long it is.
 fn wanted_text(i: u64, file: &[u8], want: Want, desk: &mut Desk<'_>) -> usize
-    requires { Usual (setup-of want.setup) × Ready desk.old }
+    requires { Ready desk.old }
     ensures ready { Ready desk.new }
     ensures value { result ≡ length (recording_printed (wanted_of want) i file.now) }
     ensures text { desk.new.text.now ≡ first (recording_printed (wanted_of want) i file.now) desk.old.text.now }
 {
-    if want.no_width {
-        return no_width_dump(i, file, desk.text);
+    match want.reading {
+        Reading::Screen(view) => {
+            let file = FileBytes {
+                edition: view.edition,
+                bytes: file,
+            };
+            rowdump_text(i, file, usual(view.mode, view.width), want.panels, desk)
+        }
+        Reading::NoWidth(edition) => {
+            let file = FileBytes {
+                edition,
+                bytes: file,
+            };
+            no_width_dump(i, file, desk.text)
+        }
+        Reading::NoEdition => no_edition_dump(i, desk.text),
     }
-    rowdump_text(i, file, want.setup, want.panels, desk)
 }
 
 impl Replies for Dump<'_> {
     ghost reply = { λ dump i x. item_printed (wanted_of dump.want) i x };
 
-    ghost ready = { λ dump. Usual (setup-of dump.want.setup) × Ready dump.desk };
+    ghost ready = { λ dump. Ready dump.desk };
 
     fn answer<W: Write>(
         &mut self,
@@ -80,7 +93,6 @@ fn print_stream<R: Read, W: Write>(
     output: &mut W,
     want: Want,
 ) -> Result<(), Failure>
-    requires { Usual (setup-of want.setup) }
     ensures ok { OnOk result (IfSome (R.remaining input.old) (λ stream.
         Appends (W.contents output.old) (W.contents output.new) (stream_printed (item_printed (wanted_of want)) 4 stream))) }
     ensures begun { IfSome (R.remaining input.old) (λ stream.

@@ -3,40 +3,54 @@
 
 ghost use Rattle.std.specs.Prelude.{◌≡◌, ◌≢◌, ◌≤◌, ◌↔◌, ◌⊎◌, false, [], length, map, string_bytes, IfSome, IfErr, OnOk, IsErrAnd};
 ghost use Rattle.std.specs.Io.KnownBytes.{Appends};
-ghost use Rattle.screen.specs.Screens.{setup-of};
-ghost use Rattle.text.specs.Files.{Usual};
-ghost use Rattle.text_programs.specs.Programs.{rowlist-text, by_width, first};
+ghost use Rattle.text_files.specs.Programs.{first};
 ghost use Rattle.text_programs.specs.Arguments.{asked_about, read_arguments, wanted_of};
-ghost use Rattle.text_programs.specs.Rooms.{file-room, text-room};
+ghost use Rattle.text_programs.specs.Rooms.{file-room};
+ghost use Rattle.text_files.specs.Rooms.{text-room};
 ghost use Rattle.text_programs.specs.Failures.{IsOfReading, IsOfWriting, IsUsage, IsUnwritten, Begins};
 ghost use Rattle.run_rowlist.specs.Printed.{about, listed, printed};
 
 use std::alloc::Global;
 use std::io::{Read, Write};
+use text::FileBytes;
+use text_files::tables::{Tables, text_buffer};
+use text_files::{no_edition_text, no_width_text, rowlist_text, usual};
 use text_programs::about::{asked_about, print_about};
 use text_programs::failure::{Failure, Stop};
-use text_programs::options::{Want, read_options};
-use text_programs::tables::{Tables, file_buffer, text_buffer};
+use text_programs::options::{Reading, Want, read_options};
 use text_programs::usage::{Usage, Wrong, wrong_option};
-use text_programs::{no_width_text, read_all, rowlist_text, write_text};
+use text_programs::{file_buffer, read_all, write_text};
 
 /// What it says of itself where it is asked.
 pub const USAGE: Usage = Usage {
     program: "rowlist",
-    calls: "usage: rowlist [--snap] [--width N] < FILE\noptions, in any order; the last of a repeated one counts:\n",
+    calls: "usage: rowlist [--snap] [--width N] [--edition N] < FILE\noptions, in any order; the last of a repeated one counts:\n",
     options: "",
 };
 
 // What is wanted, put first; how long it is.
 fn wanted_text(file: &[u8], want: Want, tables: &mut Tables, out: &mut [u8]) -> usize
-    requires { Usual (setup-of want.setup) × (text-room ≤ length out.old) }
+    requires { text-room ≤ length out.old }
     ensures value { result ≡ length (listed (wanted_of want) file.now) }
     ensures out_after { out.new ≡ first (listed (wanted_of want) file.now) out.old }
 {
-    if want.no_width {
-        return no_width_text(file, out);
+    match want.reading {
+        Reading::Screen(view) => {
+            let file = FileBytes {
+                edition: view.edition,
+                bytes: file,
+            };
+            rowlist_text(file, usual(view.mode, view.width), tables, out)
+        }
+        Reading::NoWidth(edition) => {
+            let file = FileBytes {
+                edition,
+                bytes: file,
+            };
+            no_width_text(file, out)
+        }
+        Reading::NoEdition => no_edition_text(out),
     }
-    rowlist_text(file, want.setup, tables, out)
 }
 
 // Lists the recording on the input, in tables and buffers that are lent. Nothing is written before the input is read; where writing fails, a beginning
@@ -49,7 +63,7 @@ fn list_in<R: Read, W: Write>(
     buffer: &mut [u8],
     text: &mut [u8],
 ) -> Result<(), Failure>
-    requires { Usual (setup-of want.setup) × (length buffer.old ≡ file-room) × (text-room ≤ length text.old) }
+    requires { (length buffer.old ≡ file-room) × (text-room ≤ length text.old) }
     ensures ok { OnOk result (IfSome (R.remaining input.old) (λ file. Appends (W.contents output.old) (W.contents output.new) (listed (wanted_of want) file))) }
     ensures begun { IfSome (R.remaining input.old) (λ file. Begins (W.contents output.old) (W.contents output.new) (listed (wanted_of want) file)) }
     ensures unread { IfErr result (λ e. IsOfWriting e ⊎ (output.new ≡ output.old)) }
@@ -67,7 +81,6 @@ fn list_input<R: Read, W: Write>(
     output: &mut W,
     want: Want,
 ) -> Result<(), Failure>
-    requires { Usual (setup-of want.setup) }
     ensures ok { OnOk result (IfSome (R.remaining input.old) (λ file. Appends (W.contents output.old) (W.contents output.new) (listed (wanted_of want) file))) }
     ensures begun { IfSome (R.remaining input.old) (λ file. Begins (W.contents output.old) (W.contents output.new) (listed (wanted_of want) file)) }
     ensures unread { IfErr result (λ e. IsOfWriting e ⊎ (output.new ≡ output.old)) }

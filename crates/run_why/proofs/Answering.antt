@@ -3,31 +3,35 @@ use Rattle.std.proofs.Common.{◌≡◌, ℕ, ◌<◌, Bool, true, false, List, 
 use Rattle.std.proofs.KnownBytes.{Appends-trans}
 use Rattle.std.specs.Io.KnownBytes.{Appends}
 use Rattle.rules.specs.Answers.{BadForm}
+use Rattle.sizes.specs.declared.edition.Edition.{Edition}
 use Rattle.rules.specs.Setups.{Setup}
+use Rattle.rules.specs.Recording.{in-edition}
 use Rattle.rules.specs.Lines.{words_of}
 use Rattle.rules_reason.specs.Answers.{Question, refused-bytes, why-words, why-text, question-line}
 use Rattle.text_programs.specs.Failures.{Begins}
-use Rattle.text_programs.specs.Programs.{Wanted}
+use Rattle.text_programs.specs.Arguments.{Wanted}
 use Rattle.text_programs.specs.Streams.{Item, short, PrintsFirst}
-use Rattle.text_programs.proofs.Cut.{cut, by_width-cut}
+use Rattle.text_programs.proofs.Cut.{cut}
+use Rattle.text_files.proofs.Cut.{by_reading-cut}
 use Rattle.text_programs.proofs.Streaming.{nothing_first, begins_after}
 use Rattle.text_why.specs.Questions.{question-of}
 use Rattle.run_why.specs.declared.arguments.Query.{Query}
 use Rattle.run_why.specs.Printed.{answer, query_in, item_answer}
 
-module _ (q : Setup) (row tile : ℕ) (x : Question) where
-  long-why : (xs : List ℕ) → 65536 < length xs → why-text q xs row tile x ≡ refused-bytes BadForm
+module _ (row tile : ℕ) (x : Question) (e : Edition) (q : Setup) where
+  long-why : (xs : List ℕ) → 65536 < length xs → why-text e q xs row tile x ≡ refused-bytes BadForm
   unfolding why-text
   long-why xs h =
-      ap (λ (b : Bool). elim b [ true ↦ refused-bytes BadForm | false ↦ elim (words_of xs) [ None ↦ refused-bytes BadForm | Some ws ↦ why-words q ws row tile x ] ])
+      ap (λ (b : Bool). elim b [ true ↦ refused-bytes BadForm | false ↦ elim (words_of xs) [ None ↦ refused-bytes BadForm | Some ws ↦ why-words q (in-edition e ws) row tile x ] ])
       (lt-ltb 65536 (length xs) h)
 
-  why-cut : (fs : List ℕ) → why-text q (take 65537 fs) row tile x ≡ why-text q fs row tile x
-  why-cut = cut (λ fs. why-text q fs row tile x) (λ xs ys h k. long-why xs h ∙ sym (long-why ys k))
+  why-cut : (fs : List ℕ) → why-text e q (take 65537 fs) row tile x ≡ why-text e q fs row tile x
+  why-cut = cut (λ fs. why-text e q fs row tile x) (λ xs ys h k. long-why xs h ∙ sym (long-why ys k))
 
 -- a file that is cut where it is too long is answered about as the whole is
 pub answer-cut : (w : Wanted) (q : Query) (fs : List ℕ) → answer w q (take 65537 fs) ≡ answer w q fs
-answer-cut w q fs = by_width-cut _ (why-cut w.setup q.row q.tile (question-of q.question)) w.no-width fs
+answer-cut w q fs =
+    by_reading-cut (λ e u gs. why-text e u gs q.row q.tile (question-of q.question)) (why-cut q.row q.tile (question-of q.question)) w.reading fs
 
 -- .. also after its question's line
 pub item-cut : (w : Wanted) (i : ℕ) (x : Item) → item_answer w i (short x) ≡ item_answer w i x

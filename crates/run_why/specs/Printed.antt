@@ -1,11 +1,11 @@
 -- What `why` prints.
 use Rattle.std.specs.Prelude.{ℕ, false, List, [], ◌++◌, codes, Some, None}
 use Rattle.rules_reason.specs.Answers.{why-text, question-line}
-use Rattle.text_programs.specs.Programs.{Wanted, by_width}
-use Rattle.text_programs.specs.Arguments.{Arguments, asked_about, read_arguments, wanted_by}
+use Rattle.text_programs.specs.Arguments.{Wanted, Arguments, asked_about, read_arguments, wanted_by}
 use Rattle.text_programs.specs.Streams.{Item, word_at, stream_printed}
 use Rattle.text_programs.specs.declared.about.About.{About}
 use Rattle.text_programs.specs.Abouts.{about_text, said_or}
+use Rattle.text_files.specs.Programs.{by_reading}
 use Rattle.text_why.specs.declared.Question.TheVariants.{Every}
 use Rattle.text_why.specs.Questions.{question-of}
 use Rattle.run_why.specs.declared.arguments.Query.{Query}
@@ -18,12 +18,12 @@ abbrev pub about : About → List ℕ
 about =
     about_text
     (codes "why")
-    (codes "usage: why [--snap] [--width N] ROW TILE [draw N | layer N] < FILE\n       why [--snap] [--width N] --stream < STREAM\nROW and TILE count from 0 on the screen; draw N, layer N: the attribute asked about, every one without it\noptions, before the other arguments, in any order; the last of a repeated one counts:\n")
+    (codes "usage: why [--snap] [--width N] [--edition N] ROW TILE [draw N | layer N] < FILE\n       why [--snap] [--width N] [--edition N] --stream < STREAM\nROW and TILE count from 0 on the screen; draw N, layer N: the attribute asked about, every one without it\noptions, before the other arguments, in any order; the last of a repeated one counts:\n")
     []
 
 -- .. of a question about a file's bytes
 abbrev pub answer : Wanted → Query → List ℕ → List ℕ
-answer want q file = by_width want.no-width file (why-text want.setup file q.row q.tile (question-of q.question))
+answer want q file = by_reading (λ e u fs. why-text e u fs q.row q.tile (question-of q.question)) want.reading file
 
 -- the question that the head of a stream's item asks: every attribute, at the row and the tile after the file's length
 abbrev pub query_in : List ℕ → Query

@@ -77,11 +77,12 @@ fn wrong_count(others: &[String]) -> Wrong<'_> {
     }
 }
 
-/// What is wrong with arguments that ask for nothing, given what was found first: nothing may stand after `--stream`.
-pub fn wrong_after_stream<'a>(others: &'a [String], found: Wrong<'a>) -> Wrong<'a> {
+/// What is wrong with arguments that ask for nothing, given what was found as a question: nothing may stand after `--stream`, and a first word that is meant
+/// as an option comes before what follows it.
+pub fn wrong_request<'a>(others: &'a [String], found: Wrong<'a>) -> Wrong<'a> {
     match others {
         [first, extra, ..] if first.as_str() == "--stream" => Wrong::TooMany(extra.as_str()),
-        _ => found,
+        _ => wrong_option(others).unwrap_or(found),
     }
 }
 

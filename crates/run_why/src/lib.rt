@@ -6,9 +6,8 @@
 ghost use Rattle.std.specs.Prelude.{◌≡◌, ◌≤◌, ◌↔◌, ◌⊎◌, false, length, map, take, string_bytes, None, IfSome, IfErr, OnOk, IsErrAnd};
 ghost use Rattle.std.specs.Io.KnownBytes.{Appends};
 ghost use Rattle.rules_reason.specs.Answers.{question-line};
-ghost use Rattle.screen.specs.Screens.{setup-of};
-ghost use Rattle.text.specs.Files.{Usual};
-ghost use Rattle.text_programs.specs.Rooms.{file-room, text-room};
+ghost use Rattle.text_programs.specs.Rooms.{file-room};
+ghost use Rattle.text_files.specs.Rooms.{text-room};
 ghost use Rattle.text_programs.specs.Failures.{IsOfReading, IsOfWriting, IsUsage, IsUnwritten, Begins};
 ghost use Rattle.text_programs.specs.Arguments.{asked_about, read_arguments, wanted_of};
 ghost use Rattle.text_programs.specs.Streams.{PrintsFirst};
@@ -16,16 +15,18 @@ ghost use Rattle.run_why.specs.Requests.{request_of, IsOfFile, AsksOfFile, AsksO
 ghost use Rattle.run_why.specs.Desks.{Ready};
 ghost use Rattle.run_why.specs.Printed.{about, answer, item_answer, reply, printed, item_of};
 
-use crate::arguments::{Query, Request, read_request, wrong_after_stream};
+use crate::arguments::{Query, Request, read_request, wrong_request};
 use std::alloc::Global;
 use std::io::{Read, Write};
+use text::FileBytes;
+use text_files::tables::{Tables, text_buffer};
+use text_files::{no_edition_text, no_width_text, usual};
 use text_programs::about::{asked_about, print_about};
 use text_programs::failure::{Failure, Stop};
-use text_programs::options::{Want, read_options};
+use text_programs::options::{Reading, Want, read_options};
 use text_programs::stream::{Replies, answer_all, word};
-use text_programs::tables::{Tables, file_buffer, text_buffer};
 use text_programs::usage::Usage;
-use text_programs::{no_width_text, read_all, write_text};
+use text_programs::{file_buffer, read_all, write_text};
 use text_why::{Question, question_text, why_text};
 
 mod arguments;
@@ -33,7 +34,7 @@ mod arguments;
 /// What it says of itself where it is asked.
 pub const USAGE: Usage = Usage {
     program: "why",
-    calls: "usage: why [--snap] [--width N] ROW TILE [draw N | layer N] < FILE\n       why [--snap] [--width N] --stream < STREAM\n\
+    calls: "usage: why [--snap] [--width N] [--edition N] ROW TILE [draw N | layer N] < FILE\n       why [--snap] [--width N] [--edition N] --stream < STREAM\n\
         ROW and TILE count from 0 on the screen; draw N, layer N: the attribute asked about, every one without it\n\
         options, before the other arguments, in any order; the last of a repeated one counts:\n",
     options: "",
@@ -56,23 +57,32 @@ struct Desk<'a> {
 
 // What is wanted, put first; how long it is.
 fn wanted_text(file: &[u8], want: Want, query: Query, tables: &mut Tables, out: &mut [u8]) -> usize
-    requires usual { Usual (setup-of want.setup) }
     requires room { text-room ≤ length out.old }
     ensures value { result ≡ length (answer (wanted_of want) query file.now) }
     ensures out_after { take result out.new ≡ answer (wanted_of want) query file.now }
 {
-    if want.no_width {
-        return no_width_text(file, out);
+    match want.reading {
+        Reading::Screen(view) => why_text(
+            FileBytes {
+                edition: view.edition,
+                bytes: file,
+            },
+            usual(view.mode, view.width),
+            query.row,
+            query.tile,
+            query.question,
+            tables,
+            out,
+        ),
+        Reading::NoWidth(edition) => {
+            let file = FileBytes {
+                edition,
+                bytes: file,
+            };
+            no_width_text(file, out)
+        }
+        Reading::NoEdition => no_edition_text(out),
     }
-    why_text(
-        file,
-        want.setup,
-        query.row,
-        query.tile,
-        query.question,
-        tables,
-        out,
-    )
 }
 
 fn print_question<W: Write>(output: &mut W, i: u64) -> Result<(), Failure>
@@ -183,7 +193,6 @@ fn answer_input<R: Read, W: Write>(
     want: Want,
     request: Request,
 ) -> Result<(), Failure>
-    requires { Usual (setup-of want.setup) }
     ensures ok { OnOk result (IfSome (R.remaining input.old) (λ bytes.
         Appends (W.contents output.old) (W.contents output.new) (reply (wanted_of want) request bytes))) }
     ensures begun { IfSome (R.remaining input.old) (λ bytes.
@@ -239,6 +248,6 @@ pub fn run<'a, R: Read, W: Write>(
             answer_input(alloc, input, output, options.want, request)?;
             Ok(())
         }
-        Err(wrong) => Err(Stop::Usage(wrong_after_stream(options.others, wrong))),
+        Err(wrong) => Err(Stop::Usage(wrong_request(options.others, wrong))),
     }
 }

@@ -1,11 +1,12 @@
 -- A file's bytes. Assumes nothing.
 use Rattle.std.proofs.Common.{◌≡◌, refl, ap, ◌∙◌, Bool, true, false, ◌&&◌, ◌||◌, cond, List, ◌++◌, Option, None, Some, Result, Err, ℕ, ◌/◌, ◌%◌, length, take, drop, leb, ltb, eqb, le-ltb, lt-ltb, leb-true, leb-false}
 use Rattle.sizes.specs.declared.answers.Refusal.{Refusal}
+use Rattle.sizes.specs.declared.edition.Edition.{Edition}
 use Rattle.sizes.specs.declared.answers.Refusal.TheVariants as refusal
 use Rattle.sizes.specs.Refusals.{number_of}
 use Rattle.rules.specs.Lists.{is_none}
 use Rattle.rules.specs.Setups.{Setup}
-use Rattle.rules.specs.Recording.{Recording, File, in-one, parsed}
+use Rattle.rules.specs.Recording.{Recording, File, in-edition, parsed}
 use Rattle.rules.specs.Lines.{words_of}
 use Rattle.rules.specs.Lines as rules
 use Rattle.file.specs.Held.{recording_of}
@@ -26,9 +27,9 @@ by-file {A} bad f fs = go (leb (length fs) 65536) (eqb (length fs % 4) 0) refl r
     go true true p e = rw (le-ltb 65536 (length fs) (leb-true _ _ p), rules-words fs, e)
 
 -- the size, where the bytes are bad, and of the words of others
-pub bad-size : (fs : List ℕ) (q : Setup) → good-bytes (length fs) ≡ false → Err refusal.BadForm ≡ file-size fs q
+pub bad-size : (e : Edition) (fs : List ℕ) (q : Setup) → good-bytes (length fs) ≡ false → Err refusal.BadForm ≡ file-size e fs q
 unfolding file-size
-bad-size fs q g = rw g refl
+bad-size e fs q g = rw g refl
 
 -- the words that they fill
 module _ (fs ws : List ℕ) (g : good-bytes (length fs) ≡ true) {n : ℕ} {vs : List ℕ} (f : filled n vs ≡ filled-with fs ws) where
@@ -41,9 +42,9 @@ module _ (fs ws : List ℕ) (g : good-bytes (length fs) ≡ true) {n : ℕ} {vs 
   pub words-read : take n vs ≡ words-in fs
   words-read = rw (words, count) (first-words fs ws)
 
-  pub size-read : (q : Setup) {r : Result Size Refusal} → r ≡ size_of (in-one (take n vs)) q → r ≡ file-size fs q
+  pub size-read : (e : Edition) (q : Setup) {r : Result Size Refusal} → r ≡ size_of (in-edition e (take n vs)) q → r ≡ file-size e fs q
   unfolding file-size
-  size-read q e = rw g (rw words-read at e)
+  size-read e q h = rw g (rw words-read at h)
 
 -- Where the width asked for is none: the number of the words' form, and of the bytes.
 pub formless : (ws : File) {r : Refusal} → (r ≡ refusal.BadForm) × (parsed ws ≡ None) → number_of r ≡ no-width-of ws
@@ -63,19 +64,19 @@ either : (a b : Bool) → (a || b) ≡ elim a [ true ↦ true | false ↦ b ]
 either true b = refl
 either false b = refl
 
-by-form : (fs : List ℕ) → rules.bad-form fs ≡ cond (good-bytes (length fs)) (is_none (parsed (in-one (words-in fs)))) true
-by-form fs =
-    either (ltb 65536 (length fs)) (elim (words_of fs) [ None ↦ true | Some ws ↦ is_none (parsed (in-one ws)) ])
-    ∙ by-file true (λ ws. is_none (parsed (in-one ws))) fs
+by-form : (e : Edition) (fs : List ℕ) → rules.bad-form e fs ≡ cond (good-bytes (length fs)) (is_none (parsed (in-edition e (words-in fs)))) true
+by-form e fs =
+    either (ltb 65536 (length fs)) (elim (words_of fs) [ None ↦ true | Some ws ↦ is_none (parsed (in-edition e ws)) ])
+    ∙ by-file true (λ ws. is_none (parsed (in-edition e ws))) fs
 
-pub no-width-bad : (fs : List ℕ) → good-bytes (length fs) ≡ false → 3 ≡ no-width-number fs
+pub no-width-bad : (e : Edition) (fs : List ℕ) → good-bytes (length fs) ≡ false → 3 ≡ no-width-number e fs
 unfolding no-width-number
-no-width-bad fs g = rw (by-form fs, g)
+no-width-bad e fs g = rw (by-form e fs, g)
 
-no-width-words : (fs : List ℕ) → good-bytes (length fs) ≡ true → no-width-of (in-one (words-in fs)) ≡ no-width-number fs
+no-width-words : (e : Edition) (fs : List ℕ) → good-bytes (length fs) ≡ true → no-width-of (in-edition e (words-in fs)) ≡ no-width-number e fs
 unfolding no-width-of no-width-number
-no-width-words fs g = rw (by-form fs, g)
+no-width-words e fs g = rw (by-form e fs, g)
 
 module _ (fs ws : List ℕ) (g : good-bytes (length fs) ≡ true) {n : ℕ} {vs : List ℕ} (f : filled n vs ≡ filled-with fs ws) where
-  pub no-width-read : {m : ℕ} → m ≡ no-width-of (in-one (take n vs)) → m ≡ no-width-number fs
-  no-width-read e = (rw (words-read fs ws g f) at e) ∙ no-width-words fs g
+  pub no-width-read : (e : Edition) {m : ℕ} → m ≡ no-width-of (in-edition e (take n vs)) → m ≡ no-width-number e fs
+  no-width-read e h = (rw (words-read fs ws g f) at h) ∙ no-width-words e fs g

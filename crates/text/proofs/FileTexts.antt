@@ -3,13 +3,14 @@ use Rattle.std.proofs.Common.{◌≡◌, refl, sym, ap, ◌∙◌, Option, None,
 use lib.ListN.{length-replicate}
 use borrow.Author.Tests.{lt-leb}
 use Rattle.sizes.specs.declared.answers.Refusal.{Refusal}
+use Rattle.sizes.specs.declared.edition.Edition.{Edition}
 use Rattle.sizes.specs.declared.answers.Refusal.TheVariants as refusal
 use Rattle.sizes.specs.Refusals.{number_of}
 use Rattle.sizes.specs.Widths.{bucket-tiles}
 use Rattle.rules.specs.Answers.{Answer, answer, settle}
 use Rattle.rules.specs.Boxes.{Box, good_viewport, rows_of, buckets-of}
 use Rattle.rules.specs.Setups.{Setup, frame, viewport-in}
-use Rattle.rules.specs.Recording.{Recording, File, in-one, parsed, recording}
+use Rattle.rules.specs.Recording.{Recording, File, in-edition, parsed, recording}
 use Rattle.rules.specs.Walk.{go_on, ◌then◌}
 use Rattle.rect.specs.declared.Rect.{Rect}
 use Rattle.rect.specs.Rects.{box_of, seen}
@@ -173,15 +174,15 @@ blank_exact z =
     }
 
 -- a file's bytes, by the size of its screen
-module _ (fs : List ℕ) (q : Setup) (bs : List ℕ) where
-  pub sized-shown : {z : Size} {t : Tables} {x : Showed} {u : Tables} → Ok z ≡ file-size fs q → Exact z t → file-out x u ≡ recording-text (in-one (words-in fs)) q t bs → x ≡ bytes-text fs q bs
+module _ (e : Edition) (fs : List ℕ) (q : Setup) (bs : List ℕ) where
+  pub sized-shown : {z : Size} {t : Tables} {x : Showed} {u : Tables} → Ok z ≡ file-size e fs q → Exact z t → file-out x u ≡ recording-text (in-edition e (words-in fs)) q t bs → x ≡ bytes-text e fs q bs
   unfolding bytes-text
-  sized-shown {z} {t} e h g =
-      rw (← e) (ap (λ (o : FileOut). o.showed) g ∙ exact-same t (blank z) h (blank_exact z) (in-one (words-in fs)) q bs)
+  sized-shown {z} {t} i h g =
+      rw (← i) (ap (λ (o : FileOut). o.showed) g ∙ exact-same t (blank z) h (blank_exact z) (in-edition e (words-in fs)) q bs)
 
-  pub refused-shown : {r : Refusal} {s : Screen} {x : Showed} → Err r ≡ file-size fs q → s ≡ nothing → x ≡ refusing (number_of r) s bs → x ≡ bytes-text fs q bs
+  pub refused-shown : {r : Refusal} {s : Screen} {x : Showed} → Err r ≡ file-size e fs q → s ≡ nothing → x ≡ refusing (number_of r) s bs → x ≡ bytes-text e fs q bs
   unfolding bytes-text
-  refused-shown e p g = rw (← e) (rw p at g)
+  refused-shown i p g = rw (← i) (rw p at g)
 
 -- the same slices are as long as they were
 pub exact_kept : {z : Size} (a b : Lent) → SameLent a b → Exact z (tables_in a) → Exact z (tables_in b)

@@ -8,6 +8,7 @@ use Rattle.rules.specs.Plans.{bucket, buckets-across}
 use Rattle.rules.specs.Setups.{Setup}
 use Rattle.rules.specs.Steps.{Screen}
 use Rattle.rules.specs.Painting.{Piece, paint-row}
+use Rattle.rules.specs.Recording.{File}
 use Rattle.rules.specs.Lines.{rowlist-screen}
 
 -- A: paint mix compose mask id thread x y panel. Y: mix compose opacity-bits mask id thread panel. F: flag pixmap dx dy.
@@ -59,6 +60,6 @@ detail-lines s =
     let f = s.state.frame in
     attr-lines a ++ painted-lines (bucket f) a (buckets-across f) 0 s.rows
 
--- a file's words; a refused recording has no details
-unfoldable pub rowdump-words : Setup → List ℕ → List Detail
-rowdump-words q ws = let a = rowlist-screen q ws in cond (eqb a.number Done) (detail-lines a.value) []
+-- a file; a refused recording has no details
+unfoldable pub rowdump-words : Setup → File → List Detail
+rowdump-words q f = let a = rowlist-screen q f in cond (eqb a.number Done) (detail-lines a.value) []

@@ -2,6 +2,7 @@
 use Rattle.std.specs.Prelude.{Option, None, Some, Result, Ok, Err, ℕ, ◌*◌, ◌%◌, ◌≡◌, Bool, true, false, ◌&&◌, cond, List, length, replicate, leb, eqb, pos}
 use Rattle.sizes.specs.Sizes.{file-bytes, program-rows, program-room, row-size, open-layer-table, opacity-count, paint-attr-table, layer-attr-table, filter-paint-table}
 use Rattle.sizes.specs.declared.answers.Refusal.{Refusal}
+use Rattle.sizes.specs.declared.edition.Edition.{Edition}
 use Rattle.sizes.specs.declared.answers.Refusal.TheVariants as refusal
 use Rattle.sizes.specs.Refusals.{number_of, answer_number}
 use Rattle.rules.specs.Answers.{Answer, Done, BadViewport, BadForm}
@@ -9,7 +10,7 @@ use Rattle.rules.specs.Lists.{is_none}
 use Rattle.rules.specs.Boxes.{good_viewport, rows_of}
 use Rattle.rules.specs.Plans.{Frame, buckets-across}
 use Rattle.rules.specs.Setups.{Setup, frame}
-use Rattle.rules.specs.Recording.{Recording, File, in-one, parsed}
+use Rattle.rules.specs.Recording.{Recording, File, in-edition, parsed}
 use Rattle.rules.specs.Lines as rule
 use Rattle.row.specs.Words.{Words, words}
 use Rattle.screen.specs.declared.Screen.{Screen}
@@ -107,9 +108,9 @@ pub record Usual (q : Setup) : Type 0 where
 abbrev pub good-bytes : ℕ → Bool
 good-bytes n = leb n file-bytes && eqb (n % 4) 0
 
--- the size of a file's screen: 3 for its bytes, then 3 and 2 of its words
-unfoldable pub file-size : List ℕ → Setup → Result Size Refusal
-file-size fs q = cond (good-bytes (length fs)) (size_of (in-one (words-in fs)) q) (Err refusal.BadForm)
+-- the size of the screen of a file of an edition: 3 for its bytes, then 3 and 2 of its words
+unfoldable pub file-size : Edition → List ℕ → Setup → Result Size Refusal
+file-size e fs q = cond (good-bytes (length fs)) (size_of (in-edition e (words-in fs)) q) (Err refusal.BadForm)
 
 -- tables as long as a screen of such a size asks, with 64 commands and 64 depth fills a row
 pub record Exact (z : Size) (t : Tables) : Type 0 where
@@ -141,13 +142,13 @@ abbrev pub sized-text : Result Size Refusal → File → Setup → List ℕ → 
 sized-text (Ok z) ws q bs = (recording-text ws q (blank z) bs).showed
 sized-text (Err r) ws q bs = refusing (number_of r) nothing bs
 
-unfoldable pub bytes-text : List ℕ → Setup → List ℕ → Showed
-bytes-text fs q bs = sized-text (file-size fs q) (in-one (words-in fs)) q bs
+unfoldable pub bytes-text : Edition → List ℕ → Setup → List ℕ → Showed
+bytes-text e fs q bs = sized-text (file-size e fs q) (in-edition e (words-in fs)) q bs
 
 -- the number of a file that is refused because the width asked for is none: 3 for its words' form, then 2
 unfoldable pub no-width-of : File → ℕ
 no-width-of f = cond (is_none (parsed f)) BadForm BadViewport
 
 -- .. and 3 for its bytes, as the rules say
-unfoldable pub no-width-number : List ℕ → ℕ
-no-width-number fs = cond (rule.bad-form fs) BadForm BadViewport
+unfoldable pub no-width-number : Edition → List ℕ → ℕ
+no-width-number e fs = cond (rule.bad-form e fs) BadForm BadViewport

@@ -15,12 +15,20 @@ use rect::NOWHERE;
 use row::Rows;
 use screen::{Lent, Screen, Setup, fresh};
 use sizes::answers::Refusal;
+use sizes::edition::Edition;
 use sizes::width::Width;
 use sizes::{FILE_BYTES, PROGRAM_ROWS};
 use walk::bucket_recording;
 
 /// How many words the longest file has.
 pub const FILE_WORDS: usize = FILE_BYTES / 4;
+
+/// A recording file as a program reads it: the edition that it is told to be of, and its bytes.
+#[derive(Clone, Copy)]
+pub struct FileBytes<'a> {
+    pub edition: Edition,
+    pub bytes: &'a [u8],
+}
 
 /// What is printed of a file: whether its recording is refused, how many bytes are written at the start of the lent ones, and the screen afterwards.
 #[derive(Clone, Copy)]
@@ -124,27 +132,40 @@ fn no_width_of(file: File<'_>) -> Refusal
 }
 
 /// How a file's bytes are refused where the width asked for is none: 3 for bytes that are too many or no whole words, or for their form, then 2.
-pub fn no_width_refusal(file: &[u8]) -> Refusal
-    ensures { number_of result ≡ no-width-number file.now }
+pub fn no_width_refusal(file: FileBytes<'_>) -> Refusal
+    ensures { number_of result ≡ no-width-number file.entry.edition file.entry.bytes.now }
 {
-    if !is_good_bytes(file.len()) {
+    if !is_good_bytes(file.bytes.len()) {
         return Refusal::BadForm;
     }
     let mut words = [0; FILE_WORDS];
-    let n = words_of_bytes(file, &mut words);
-    no_width_of(File::in_one(&words[..n]))
+    let n = words_of_bytes(file.bytes, &mut words);
+    no_width_of(File {
+        edition: file.edition,
+        words: &words[..n],
+    })
 }
 
 /// A file's words, put first in `words`, and the rows and buckets that its screen has: 3 for more than 65,536 bytes or no whole words, then as `size_of`.
-pub fn read_file(file: &[u8], setup: Setup, words: &mut [u32; FILE_WORDS]) -> Result<Size, Refusal>
-    ensures size { result ≡ file-size file.now (setup-of setup) }
-    ensures words { OnOk result (take (length file.now / 4) words.new ≡ words-in file.now) }
-    ensures short { OnOk result (length file.now ≤ file-bytes) }
+pub fn read_file(
+    file: FileBytes<'_>,
+    setup: Setup,
+    words: &mut [u32; FILE_WORDS],
+) -> Result<Size, Refusal>
+    ensures size { result ≡ file-size file.entry.edition file.entry.bytes.now (setup-of setup) }
+    ensures words { OnOk result (take (length file.entry.bytes.now / 4) words.new ≡ words-in file.entry.bytes.now) }
+    ensures short { OnOk result (length file.entry.bytes.now ≤ file-bytes) }
     ensures few { IfOk result (λ size. (size.rows ≤ program-rows) × (size.buckets ≤ program-buckets)) }
 {
-    if !is_good_bytes(file.len()) {
+    if !is_good_bytes(file.bytes.len()) {
         return Err(Refusal::BadForm);
     }
-    let n = words_of_bytes(file, words);
-    size_of(File::in_one(&words[..n]), setup)
+    let n = words_of_bytes(file.bytes, words);
+    size_of(
+        File {
+            edition: file.edition,
+            words: &words[..n],
+        },
+        setup,
+    )
 }

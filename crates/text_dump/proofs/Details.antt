@@ -28,7 +28,7 @@ use Rattle.theorem_text.proofs.Lines.{attrs-text-few}
 use Rattle.theorem_text.proofs.Begun.{all-wait}
 use Rattle.refine_paint.proofs.Painters.{all-taken}
 use Rattle.theorem_text.proofs.Full.{row-long, theirs-text, row_written, rows-text-few}
-use Rattle.text_programs.specs.Programs.{first}
+use Rattle.text_files.specs.Programs.{first}
 use Rattle.text_dump.specs.Dumped.{details-room, rows-dumped, details-dumped, heads, given}
 use Rattle.text_dump.proofs.First.{Says, after-says, room-left}
 

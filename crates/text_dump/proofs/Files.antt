@@ -1,7 +1,8 @@
 -- A file's bytes: where its call refuses them there are no details, and where it does not the tables hold the rules' screen, so that the details are the rules'. Assumes nothing.
 use Rattle.std.proofs.Common.{◌≡◌, refl, sym, ap, ◌∙◌, Bool, true, false, cond, List, [], ◌∷◌, ◌++◌, append-nil, ℕ, ◌+◌, ◌-◌, ◌*◌, ◌≤◌, ◌<◌, arith, eqb, length, get_or, take, drop, length-append, length-drop, eq-eqb, ne_eqb, Ok, Err}
 use borrow.Rule.Slice.PartMut.{put_mid}
-use Rattle.rules.specs.Recording.{in-one}
+use Rattle.sizes.specs.declared.edition.Edition.{Edition}
+use Rattle.rules.specs.Recording.{File, in-edition}
 use Rattle.rules.specs.Answers.{Answer, Done}
 use Rattle.rules.specs.Boxes.{Box, rows_of}
 use Rattle.rules.specs.Rows.{Row, fresh-row}
@@ -31,8 +32,8 @@ use Rattle.refine_steps.specs.Lent.{lent_of, Holds}
 use Rattle.refine_text.proofs.Files.{usual-frame, Left, Leaves, words-print, words-leave, file-few}
 use Rattle.theorem_text.proofs.Small.{words_small}
 use Rattle.theorem_text.proofs.Played.{Ended, play-ended}
-use Rattle.text_programs.proofs.Laws.{rowlist-shown}
-use Rattle.text_programs.specs.Programs.{rowlist-text, first}
+use Rattle.text_files.proofs.Laws.{rowlist-shown}
+use Rattle.text_files.specs.Programs.{rowlist-text, first}
 use Rattle.text_dump.specs.Rowdump.{recording-line, rowdump-lines, file-lines-text, Printed}
 use Rattle.text_dump.specs.Dumped.{list-room, details-room, lines-room, PartWritten, details-dumped, heads, given}
 use Rattle.text_dump.proofs.Parts.{mid-all, put_all}
@@ -103,81 +104,85 @@ module _ (d : Bool) (s : Screen Row) (z : Size) (u : Tables) (h : Exact z u) (x 
 done-lines : (a : Answer (Screen Row)) → a.number ≡ 0 → cond (eqb a.number Done) (detail-lines a.value) [] ≡ detail-lines a.value
 done-lines a z = rw (eq-eqb a.number 0 z)
 
-dumped-lines : (q : Setup) (ws : List ℕ) → (rowlist-screen q ws).number ≡ 0 → rowdump-words q ws ≡ detail-lines (rowlist-screen q ws).value
+dumped-lines : (q : Setup) (f : File) → (rowlist-screen q f).number ≡ 0 → rowdump-words q f ≡ detail-lines (rowlist-screen q f).value
 unfolding rowdump-words
-dumped-lines q ws z = done-lines (rowlist-screen q ws) z
+dumped-lines q f z = done-lines (rowlist-screen q f) z
 
-module _ (q : Setup) (usual : Usual q) (fs : List ℕ) where
-  by-lines : rowdump-lines q fs ≡ cond (good-bytes (length fs)) (rowdump-words q (words-in fs)) []
+module _ (ed : Edition) (q : Setup) (usual : Usual q) (fs : List ℕ) where
+  -- the file
+  abbrev words : File
+  words = in-edition ed (words-in fs)
+
+  by-lines : rowdump-lines ed q fs ≡ cond (good-bytes (length fs)) (rowdump-words q words) []
   unfolding rowdump-lines
-  by-lines = by-file [] (rowdump-words q) fs
+  by-lines = by-file [] (λ ws. rowdump-words q (in-edition ed ws)) fs
 
   -- a file without a size has no details
-  pub sizeless : {r : Refusal} → Err r ≡ file-size fs q → (bs : List ℕ) → 264256 ≤ length bs → rowdump-lines q fs ≡ []
+  pub sizeless : {r : Refusal} → Err r ≡ file-size ed fs q → (bs : List ℕ) → 264256 ≤ length bs → rowdump-lines ed q fs ≡ []
   unfolding file-size rowdump-words
   sizeless {r} h bs room = rw by-lines (go (good-bytes (length fs)) h)
     where
-      go : (b : Bool) → Err r ≡ cond b (size_of (in-one (words-in fs)) q) (Err refusal.BadForm) → cond b (rowdump-words q (words-in fs)) [] ≡ []
+      go : (b : Bool) → Err r ≡ cond b (size_of words q) (Err refusal.BadForm) → cond b (rowdump-words q words) [] ≡ []
       go true i =
-          let p = (words-print q usual (words-in fs) bs room).number in
-          let e : number_of r ≡ (rowlist-screen q (words-in fs)).number = unfold refusing in (rw (← i) at p) in
-          rw (ne_eqb (rowlist-screen q (words-in fs)).number 0 (λ z. not_done r (e ∙ z)))
+          let p = (words-print q usual words bs room).number in
+          let e : number_of r ≡ (rowlist-screen q words).number = unfold refusing in (rw (← i) at p) in
+          rw (ne_eqb (rowlist-screen q words).number 0 (λ z. not_done r (e ∙ z)))
       go false i = refl
 
   -- .. another has the words' details, and their size
   pub record Accepted (z : Size) : Type 0 where
-    pub lines : rowdump-lines q fs ≡ rowdump-words q (words-in fs)
-    pub size : Ok z ≡ size_of (in-one (words-in fs)) q
+    pub lines : rowdump-lines ed q fs ≡ rowdump-words q words
+    pub size : Ok z ≡ size_of words q
 
-  pub sized_file : {z : Size} → Ok z ≡ file-size fs q → Accepted z
+  pub sized_file : {z : Size} → Ok z ≡ file-size ed fs q → Accepted z
   unfolding file-size
   sized_file {z} h = go (good-bytes (length fs)) by-lines h
     where
-      go : (b : Bool) → rowdump-lines q fs ≡ cond b (rowdump-words q (words-in fs)) [] → Ok z ≡ cond b (size_of (in-one (words-in fs)) q) (Err refusal.BadForm) → Accepted z
+      go : (b : Bool) → rowdump-lines ed q fs ≡ cond b (rowdump-words q words) [] → Ok z ≡ cond b (size_of words q) (Err refusal.BadForm) → Accepted z
       go true e i = record { lines = e; size = i }
       go false e i = cc
 
 -- The whole text of a file: where it has no size, where its recording is refused, and where the details stand after its lines.
-module _ (v : Bool) (q : Setup) (usual : Usual q) (fs : List ℕ) (bs : List ℕ) (room : lines-room ≤ length bs) where
+module _ (v : Bool) (ed : Edition) (q : Setup) (usual : Usual q) (fs : List ℕ) (bs : List ℕ) (room : lines-room ≤ length bs) where
   enough : list-room ≤ length bs
   enough = omega arith
 
-  module _ {x : FileText} {cs : List ℕ} (e : shows-as x cs ≡ bytes-text fs q bs) where
-    lines : (x.bytes ≡ length (rowlist-text q fs)) × (cs ≡ first (rowlist-text q fs) bs)
-    lines = rowlist-shown q usual fs bs enough e
+  module _ {x : FileText} {cs : List ℕ} (e : shows-as x cs ≡ bytes-text ed fs q bs) where
+    lines : (x.bytes ≡ length (rowlist-text ed q fs)) × (cs ≡ first (rowlist-text ed q fs) bs)
+    lines = rowlist-shown ed q usual fs bs enough e
 
     lines-few : x.bytes ≤ list-room
-    lines-few = rw lines.0 (file-few q usual fs bs enough)
+    lines-few = rw lines.0 (file-few ed q usual fs bs enough)
 
     lines_long : x.bytes ≤ length cs
-    lines_long = rw (lines.1, first-long (rowlist-text q fs) bs (omega (arith, lines.0, lines-few))) (omega (arith, lines-few))
+    lines_long = rw (lines.1, first-long (rowlist-text ed q fs) bs (omega (arith, lines.0, lines-few))) (omega (arith, lines-few))
 
-    no-details : rowdump-lines q fs ≡ [] → Printed (file-lines-text v q fs) bs x.bytes cs
+    no-details : rowdump-lines ed q fs ≡ [] → Printed (file-lines-text v ed q fs) bs x.bytes cs
     no-details d =
-        let whole : file-lines-text v q fs ≡ rowlist-text q fs = rw (d, append-nil (rowlist-text q fs)) in
+        let whole : file-lines-text v ed q fs ≡ rowlist-text ed q fs = rw (d, append-nil (rowlist-text ed q fs)) in
         record { count = rw whole lines.0; bytes = rw whole lines.1; few = omega (arith, lines-few) }
 
-  pub unsized-whole : {r : Refusal} {s : declared.Screen} {x : FileText} {cs : List ℕ} → Err r ≡ file-size fs q → s ≡ nothing → shows-as x cs ≡ refusing (number_of r) s bs
-      → Printed (file-lines-text v q fs) bs x.bytes cs
-  unsized-whole h i g = no-details (refused-shown fs q bs h i g) (sizeless q usual fs h bs enough)
+  pub unsized-whole : {r : Refusal} {s : declared.Screen} {x : FileText} {cs : List ℕ} → Err r ≡ file-size ed fs q → s ≡ nothing → shows-as x cs ≡ refusing (number_of r) s bs
+      → Printed (file-lines-text v ed q fs) bs x.bytes cs
+  unsized-whole h i g = no-details (refused-shown ed fs q bs h i g) (sizeless ed q usual fs h bs enough)
 
   -- in tables t of its screen's size
-  module _ {z : Size} (sized : Ok z ≡ file-size fs q) {t : Tables} (exact : Exact z t) {ws : List ℕ} (words : ws ≡ words-in fs)
-      {x : FileText} {cs : List ℕ} {u : Tables} (e : file-out (shows-as x cs) u ≡ recording-text (in-one ws) q t bs) where
+  module _ {z : Size} (sized : Ok z ≡ file-size ed fs q) {t : Tables} (exact : Exact z t) {ws : List ℕ} (words : ws ≡ words-in fs)
+      {x : FileText} {cs : List ℕ} {u : Tables} (e : file-out (shows-as x cs) u ≡ recording-text (in-edition ed ws) q t bs) where
     abbrev answer-of : Answer (Screen Row)
-    answer-of = rowlist-screen q (words-in fs)
+    answer-of = rowlist-screen q (in-edition ed (words-in fs))
 
-    abbrev accepted : Accepted q usual fs z
-    accepted = sized_file q usual fs sized
+    abbrev accepted : Accepted ed q usual fs z
+    accepted = sized_file ed q usual fs sized
 
-    there : file-out (shows-as x cs) u ≡ recording-text (in-one (words-in fs)) q t bs
+    there : file-out (shows-as x cs) u ≡ recording-text (in-edition ed (words-in fs)) q t bs
     there = rw words at e
 
-    leaves : Leaves answer-of z bs (recording-text (in-one (words-in fs)) q t bs)
-    leaves = words-leave q usual (words-in fs) bs enough accepted.size t exact
+    leaves : Leaves answer-of z bs (recording-text (in-edition ed (words-in fs)) q t bs)
+    leaves = words-leave q usual (in-edition ed (words-in fs)) bs enough accepted.size t exact
 
-    shown : shows-as x cs ≡ bytes-text fs q bs
-    shown = sized-shown fs q bs sized exact there
+    shown : shows-as x cs ≡ bytes-text ed fs q bs
+    shown = sized-shown ed fs q bs sized exact there
 
     number_is : x.number ≡ answer-of.number
     number_is = ap (λ (o : FileOut). o.showed.text.number) there ∙ leaves.prints.number
@@ -185,31 +190,31 @@ module _ (v : Bool) (q : Setup) (usual : Usual q) (fs : List ℕ) (bs : List ℕ
     pub call-long : x.bytes ≤ length cs
     call-long = lines_long shown
 
-    pub refused-whole : (x.number ≡ 0 → ⊥) → Printed (file-lines-text v q fs) bs x.bytes cs
+    pub refused-whole : (x.number ≡ 0 → ⊥) → Printed (file-lines-text v ed q fs) bs x.bytes cs
     refused-whole n = no-details shown (accepted.lines ∙ (unfold rowdump-words in rw (ne_eqb answer-of.number 0 (λ y. n (number_is ∙ y)))))
 
     pub accepted-whole : ((i : ℕ) → get_or fs i 0 < 256) → Exact z u → x.number ≡ 0 → (list : List ℕ) → piece-list ≡ length list → {j m : ℕ} {ds : List ℕ}
         → PartWritten j ds (details-dumped v x.screen (rows_of (box_of x.screen.viewport)) (heads u) (given u list) (take (m - x.bytes) (drop x.bytes cs)))
-        → j ≤ length (take (m - x.bytes) (drop x.bytes cs)) → m ≡ length cs → Printed (file-lines-text v q fs) bs (x.bytes + j) (put_mid x.bytes (m - x.bytes) cs ds)
+        → j ≤ length (take (m - x.bytes) (drop x.bytes cs)) → m ≡ length cs → Printed (file-lines-text v ed q fs) bs (x.bytes + j) (put_mid x.bytes (m - x.bytes) cs ds)
     accepted-whole byte hu y list long {j} {m} {ds} g f k =
         let done : answer-of.number ≡ 0 = sym number_is ∙ y in
         let rest = drop x.bytes cs in
-        let rs = rowlist-text q fs in
+        let rs = rowlist-text ed q fs in
         let few = lines-few shown in
         let (count-is, bytes-are) = lines shown in
         let same_rest : rest ≡ drop (length rs) (first rs bs) = rw (count-is, bytes-are) in
         let roomy-rest : details-room ≤ length rest = rw (same_rest, first-dropped rs bs, length-drop) (omega (arith, few, count-is)) in
         let i : PartWritten j ds (details-dumped v x.screen (rows_of (box_of x.screen.viewport)) (heads u) (given u list) rest) = rw (k, mid-all x.bytes cs) at g in
-        let ended : Ended answer-of.value = play-ended (rowlist-place q (words-in fs)) (reset fresh-row rules.nothing) (in-one (words-in fs)) (words_small fs byte) done in
-        let says = screen-says v answer-of.value z u hu x.screen (recording-text (in-one (words-in fs)) q t bs) (leaves.left done) (ap (λ (o : FileOut). o.showed.text.screen) there) (ap (λ (o : FileOut). o.tables) there) ended list (omega arith) rest roomy-rest in
-        let own : rowdump-lines q fs ≡ detail-lines answer-of.value = accepted.lines ∙ dumped-lines q (words-in fs) done in
-        let count : j ≡ length (details-text v (rowdump-lines q fs)) = i.count ∙ says.count ∙ rw own in
-        let bytes : ds ≡ first (details-text v (rowdump-lines q fs)) rest = i.bytes ∙ says.bytes ∙ rw own in
+        let ended : Ended answer-of.value = play-ended (rowlist-place q (in-edition ed (words-in fs))) (reset fresh-row rules.nothing) (in-edition ed (words-in fs)) (words_small fs byte) done in
+        let says = screen-says v answer-of.value z u hu x.screen (recording-text (in-edition ed (words-in fs)) q t bs) (leaves.left done) (ap (λ (o : FileOut). o.showed.text.screen) there) (ap (λ (o : FileOut). o.tables) there) ended list (omega arith) rest roomy-rest in
+        let own : rowdump-lines ed q fs ≡ detail-lines answer-of.value = accepted.lines ∙ dumped-lines q (in-edition ed (words-in fs)) done in
+        let count : j ≡ length (details-text v (rowdump-lines ed q fs)) = i.count ∙ says.count ∙ rw own in
+        let bytes : ds ≡ first (details-text v (rowdump-lines ed q fs)) rest = i.bytes ∙ says.bytes ∙ rw own in
         let rest-few : j ≤ length rest = rw (k, mid-all x.bytes cs) at f in
         let cs-long : length cs ≡ length bs = ap (λ (o : List ℕ). length o) bytes-are ∙ first-long rs bs (omega (arith, few, count-is)) in
         record {
-          count = rw (count-is, count) (sym (length-append rs (details-text v (rowdump-lines q fs))));
-          bytes = rw (k, put_all x.bytes cs ds, bytes, count-is, bytes-are) (first_two rs bs (details-text v (rowdump-lines q fs)));
+          count = rw (count-is, count) (sym (length-append rs (details-text v (rowdump-lines ed q fs))));
+          bytes = rw (k, put_all x.bytes cs ds, bytes, count-is, bytes-are) (first_two rs bs (details-text v (rowdump-lines ed q fs)));
           few = omega (arith, rest-few, length-drop x.bytes cs, cs-long, few);
         }
 

@@ -1,6 +1,6 @@
 -- Texts that stand first, one after the other. Assumes nothing.
 use Rattle.std.proofs.Common.{◌≡◌, refl, sym, List, ◌++◌, append_assoc, ℕ, ◌+◌, ◌≤◌, arith, length, take, drop, length-append, length-drop, take_at, drop_at, drop-drop}
-use Rattle.text_programs.specs.Programs.{first}
+use Rattle.text_files.specs.Programs.{first}
 use Rattle.text_dump.specs.Dumped.{Part, after}
 
 module _ (ts bs : List ℕ) where

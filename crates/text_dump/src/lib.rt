@@ -13,8 +13,8 @@ ghost use Rattle.text.specs.Files.{Usual};
 ghost use Rattle.text.specs.Pieces.{piece-list};
 ghost use Rattle.text.specs.Listed.{left};
 ghost use Rattle.text.specs.Dumped.{attrs-dumped};
-ghost use Rattle.text_programs.specs.Programs.{first};
-ghost use Rattle.text_dump.specs.Rowdump.{recording-line, file-lines-text, rowdump-text, no-width-dump, Printed};
+ghost use Rattle.text_files.specs.Programs.{first};
+ghost use Rattle.text_dump.specs.Rowdump.{recording-line, file-lines-text, rowdump-text, no-width-dump, no-edition-dump, Printed};
 ghost use Rattle.text_dump.specs.Dumped.{lines-room, dump-room, part_in, PartWritten, rows-dumped, begun-dumped, details-dumped, heads, given, Ready};
 ghost use Rattle.paint.specs.Named.{row_attrs, row_lent};
 
@@ -22,16 +22,17 @@ use file::File;
 use paint::{Canvas, Stored, begin_painting};
 use screen::{Lent, Screen, Setup};
 use sizes::answers::Refusal;
+use sizes::edition::Edition;
 use sizes::{MOST_ATTRS, MOST_FILTERS, PROGRAM_ROOM, PROGRAM_ROWS};
 use std::alloc::{AllocError, Global};
 use text::details::{DETAIL, PIECE_LINE};
 use text::painted::{PIECE_LIST, PIECES};
 use text::{
-    FILE_WORDS, Out, Print, Tables as AttrTables, attrs_text, no_screen, print_first, read_file,
-    recording_text, refuse, row_text,
+    FILE_WORDS, FileBytes, Out, Print, Tables as AttrTables, attrs_text, no_screen, print_first,
+    read_file, recording_text, refuse, row_text,
 };
-use text_programs::no_width_text;
-use text_programs::tables::Tables;
+use text_files::tables::Tables;
+use text_files::{no_edition_text, no_width_text};
 
 // What the lines of `rowlist` have at most, and what the text after the first line has.
 const LIST_ROOM: usize = 64 + PROGRAM_ROWS * (64 * (1 + 2 * PROGRAM_ROOM as usize));
@@ -215,7 +216,8 @@ fn screen_text(
 
 // The text of a recording after its first line.
 fn lines_text(
-    file: &[u8],
+    bytes: &[u8],
+    edition: Edition,
     setup: Setup,
     panels: bool,
     tables: &mut Tables,
@@ -225,20 +227,19 @@ fn lines_text(
     requires usual { Usual (setup-of setup) }
     requires pieces { piece-list ≡ length list.old }
     requires room { lines-room ≤ length out.old }
-    ensures { Printed (file-lines-text panels (setup-of setup) file.now) out.old result out.new }
+    ensures { Printed (file-lines-text panels edition (setup-of setup) bytes.now) out.old result out.new }
 {
     let mut words = [0; FILE_WORDS];
-    let size = match read_file(file, setup, &mut words) {
+    let size = match read_file(FileBytes { edition, bytes }, setup, &mut words) {
         Ok(size) => size,
         Err(refusal) => return refuse(refusal, no_screen(), out).bytes,
     };
     let mut lent = tables.lend(size.rows, size.buckets);
-    let text = recording_text(
-        File::in_one(&words[..file.len() / 4]),
-        setup,
-        &mut lent,
-        out,
-    );
+    let recording = File {
+        edition,
+        words: &words[..bytes.len() / 4],
+    };
+    let text = recording_text(recording, setup, &mut lent, out);
     let k = text.bytes;
     if text.answer.is_err() {
         return k;
@@ -248,16 +249,23 @@ fn lines_text(
 }
 
 /// The text that `rowdump` prints of recording i, a file's bytes, put first; how long it is.
-pub fn rowdump_text(i: u64, file: &[u8], setup: Setup, panels: bool, desk: &mut Desk<'_>) -> usize
+pub fn rowdump_text(
+    i: u64,
+    file: FileBytes<'_>,
+    setup: Setup,
+    panels: bool,
+    desk: &mut Desk<'_>,
+) -> usize
     requires usual { Usual (setup-of setup) }
     requires ready { Ready desk.old }
     ensures ready { Ready desk.new }
-    ensures value { result ≡ length (rowdump-text panels (setup-of setup) i file.now) }
-    ensures out_after { desk.new.text.now ≡ first (rowdump-text panels (setup-of setup) i file.now) desk.old.text.now }
+    ensures value { result ≡ length (rowdump-text panels file.entry.edition (setup-of setup) i file.entry.bytes.now) }
+    ensures out_after { desk.new.text.now ≡ first (rowdump-text panels file.entry.edition (setup-of setup) i file.entry.bytes.now) desk.old.text.now }
 {
     let k = put_recording(desk.text, i);
     let more = lines_text(
-        file,
+        file.bytes,
+        file.edition,
         setup,
         panels,
         desk.tables,
@@ -268,12 +276,23 @@ pub fn rowdump_text(i: u64, file: &[u8], setup: Setup, panels: bool, desk: &mut 
 }
 
 /// What `rowdump` prints of recording i where the width asked for is none, put first; how long it is.
-pub fn no_width_dump(i: u64, file: &[u8], out: &mut [u8]) -> usize
+pub fn no_width_dump(i: u64, file: FileBytes<'_>, out: &mut [u8]) -> usize
     requires { 128 ≤ length out.old }
-    ensures value { result ≡ length (no-width-dump i file.now) }
-    ensures out_after { out.new ≡ first (no-width-dump i file.now) out.old }
+    ensures value { result ≡ length (no-width-dump file.entry.edition i file.entry.bytes.now) }
+    ensures out_after { out.new ≡ first (no-width-dump file.entry.edition i file.entry.bytes.now) out.old }
 {
     let k = put_recording(out, i);
     let more = no_width_text(file, &mut out[k..]);
+    k + more
+}
+
+/// What `rowdump` prints of recording i where the edition asked for is none, put first; how long it is.
+pub fn no_edition_dump(i: u64, out: &mut [u8]) -> usize
+    requires { 128 ≤ length out.old }
+    ensures value { result ≡ length (no-edition-dump i) }
+    ensures out_after { out.new ≡ first (no-edition-dump i) out.old }
+{
+    let k = put_recording(out, i);
+    let more = no_edition_text(&mut out[k..]);
     k + more
 }

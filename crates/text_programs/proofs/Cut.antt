@@ -1,11 +1,6 @@
--- The programs read at most one byte more than the longest file has. A file that is cut there is refused as the whole file is.
-use Rattle.std.proofs.Common.{◌≡◌, ℕ, ◌<◌, true, List, length, take, take_all, take-take, min, arith, length-take, leb, refl, sym, ap, subst, ◌∙◌, Bool, false, [], ◌∷◌, Option, None, Some, IfSome, Result, Ok, Err, OnOk, lt-ltb, leb-true, leb-false}
+-- The programs read at most one byte more than the longest file has.
+use Rattle.std.proofs.Common.{◌≡◌, ℕ, ◌<◌, true, List, length, take, take_all, take-take, min, arith, length-take, leb, refl, sym, ap, subst, ◌∙◌, Bool, false, Option, None, Some, IfSome, Result, Ok, Err, OnOk, leb-true, leb-false}
 use Rattle.std.specs.Io.KnownBytes.{Appends}
-use Rattle.rules.specs.Answers.{BadForm}
-use Rattle.rules.specs.Setups.{Setup}
-use Rattle.rules.specs.Lines.{refused, words_of, rowlist-words, rowlist, no-width}
-use Rattle.text.specs.Listed.{text_of}
-use Rattle.text_programs.specs.Programs.{rowlist-text, no-width-text, by_width}
 use Rattle.text_programs.specs.Streams.{Takes}
 use Rattle.text_programs.specs.Failures.{Begins}
 
@@ -28,28 +23,6 @@ read-cut m size bs e = go (leb size 65537) refl
     go false h =
         let most : m ≡ 65537 = omega (arith, leb-false _ _ h) in
         ap (λ k. take k bs) most ∙ sym (take-take 65537 size bs (omega (arith, leb-false _ _ h)))
-
-long-rowlist : (q : Setup) (xs : List ℕ) → 65536 < length xs → rowlist-text q xs ≡ text_of (refused BadForm ∷ [])
-unfolding rowlist
-long-rowlist q xs h =
-    ap (λ (b : Bool). text_of (elim b [ true ↦ refused BadForm ∷ [] | false ↦ elim (words_of xs) [ None ↦ refused BadForm ∷ [] | Some ws ↦ rowlist-words q ws ] ]))
-    (lt-ltb 65536 (length xs) h)
-
-long-no-width : (xs : List ℕ) → 65536 < length xs → no-width-text xs ≡ text_of (refused BadForm ∷ [])
-unfolding no-width
-long-no-width xs h = rw (lt-ltb 65536 (length xs) h)
-
-pub rowlist-cut : (q : Setup) (fs : List ℕ) → rowlist-text q (take 65537 fs) ≡ rowlist-text q fs
-rowlist-cut q = cut (rowlist-text q) (λ xs ys h k. long-rowlist q xs h ∙ sym (long-rowlist q ys k))
-
-pub no-width-cut : (fs : List ℕ) → no-width-text (take 65537 fs) ≡ no-width-text fs
-no-width-cut = cut no-width-text (λ xs ys h k. long-no-width xs h ∙ sym (long-no-width ys k))
-
--- .. and so is what is printed of it, given that of its text at the width asked for
-pub by_width-cut : (f : List ℕ → List ℕ) → ((fs : List ℕ) → f (take 65537 fs) ≡ f fs) → (no-width : Bool) (fs : List ℕ)
-    → by_width no-width (take 65537 fs) (f (take 65537 fs)) ≡ by_width no-width fs (f fs)
-by_width-cut f same true fs = no-width-cut fs
-by_width-cut f same false fs = same fs
 
 -- what is printed of the first bytes of an input is printed of all, and so is a beginning of it
 module _ (f : List ℕ → List ℕ) (same : (fs : List ℕ) → f (take 65537 fs) ≡ f fs) (n : ℕ) (e : n ≡ 65537) (old new : Option (List ℕ)) (ts : List ℕ) where

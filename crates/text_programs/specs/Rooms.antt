@@ -1,12 +1,7 @@
--- What the programs' buffers have room for.
-use Rattle.std.specs.Prelude.{ℕ, ◌+◌, ◌*◌}
-use Rattle.sizes.specs.Sizes.{file-bytes, program-rows, program-room}
-use Rattle.text.specs.Listed.{row_room}
+-- What the programs' buffer has room for.
+use Rattle.std.specs.Prelude.{ℕ, ◌+◌}
+use Rattle.sizes.specs.Sizes.{file-bytes}
 
 -- the longest file, and one byte more, by which a longer one is known
 abbrev pub file-room : ℕ
 file-room = file-bytes + 1
-
--- the longest text of a screen's rows, or of a tile's reasons
-abbrev pub text-room : ℕ
-text-room = 64 + program-rows * row_room program-room program-room

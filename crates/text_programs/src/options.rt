@@ -2,31 +2,42 @@
 ghost use Rattle.std.specs.Prelude.{◌≡◌, ◌<◌, ◌⊎◌, IfErr, IfSome, length, map, string_bytes, MatchOption};
 ghost use Rattle.text_programs.specs.declared.failure.Failure.TheVariants as Failure;
 ghost use Rattle.text_programs.specs.declared.failure.Stop.TheVariants as Stop;
+ghost use Rattle.sizes.specs.Editions.{edition_of};
 ghost use Rattle.sizes.specs.Widths.{width_of};
-ghost use Rattle.rules.specs.Lines as rule;
 ghost use Rattle.rect.specs.Rects.{mode_of};
-ghost use Rattle.screen.specs.Screens.{setup-of};
-ghost use Rattle.text.specs.Files.{Usual};
-ghost use Rattle.text_programs.specs.Programs.{want-of};
 ghost use Rattle.text_programs.specs.Failures.{IsUsage};
-ghost use Rattle.text_programs.specs.Arguments.{number_of, chosen_of, NoOption, OneOption, wanted_by, wanted_of, read_arguments};
+ghost use Rattle.text_programs.specs.Arguments.{number_of, chosen_of, NoOption, OneOption, reading-by, reading_of, wanted_by, wanted_of, read_arguments};
 
 use crate::failure::{Failure, Stop};
 use crate::usage::Wrong;
 use rect::Mode;
-use screen::Setup;
-use sizes::PROGRAM_ROOM;
+use sizes::edition::Edition;
 use sizes::width::Width;
 use std::env;
 use std::io::ErrorKind;
 use std::rt::Env;
 
-/// What the options want of a screen, and of its text. no_width: the number typed for the width is none, and every file is refused. panels: lines
-/// with a panel show it.
+/// What a file is read for: the edition that it is of, its viewport's mode, the width of a bucket.
+#[derive(Clone, Copy)]
+pub struct View {
+    pub edition: Edition,
+    pub mode: Mode,
+    pub width: Width,
+}
+
+/// How each file is read. NoWidth: the number typed for the width is none, and every file is refused, by 3 for its form in the edition, else by 2.
+/// NoEdition: that for the edition is none, and every file is refused by 3, whatever was typed for the width.
+#[derive(Clone, Copy)]
+pub enum Reading {
+    Screen(View),
+    NoWidth(Edition),
+    NoEdition,
+}
+
+/// What the options want: how each file is read, and whether lines with a panel show it.
 #[derive(Clone, Copy)]
 pub struct Want {
-    pub setup: Setup,
-    pub no_width: bool,
+    pub reading: Reading,
     pub panels: bool,
 }
 
@@ -40,38 +51,26 @@ pub struct Options<'a> {
 // What the options read so far have chosen.
 #[derive(Clone, Copy)]
 struct ReadSoFar {
+    edition: u32,
     mode: Mode,
     pixels: u32,
     panels: bool,
 }
 
-// C = D = 64.
-fn usual(mode: Mode, width: Width) -> Setup
-    ensures { setup-of result ≡ rule.usual (mode_of mode) width }
+// In the edition of a number, with so many pixels a bucket.
+fn reading_of(edition: u32, mode: Mode, pixels: u32) -> Reading
+    ensures { reading_of result ≡ reading-by (edition_of edition) (mode_of mode) (width_of pixels) }
 {
-    Setup {
-        c: PROGRAM_ROOM,
-        d: PROGRAM_ROOM,
-        mode,
-        width,
-    }
-}
-
-// What is wanted with so many pixels a bucket.
-fn want_of(mode: Mode, pixels: u32, panels: bool) -> Want
-    ensures { wanted_of result ≡ want-of (mode_of mode) (width_of pixels) panels }
-{
+    let Ok(edition) = Edition::try_from(edition) else {
+        return Reading::NoEdition;
+    };
     match Width::try_from(pixels) {
-        Ok(width) => Want {
-            setup: usual(mode, width),
-            no_width: false,
-            panels,
-        },
-        Err(_) => Want {
-            setup: usual(mode, Width::W128),
-            no_width: true,
-            panels,
-        },
+        Ok(width) => Reading::Screen(View {
+            edition,
+            mode,
+            width,
+        }),
+        Err(_) => Reading::NoWidth(edition),
     }
 }
 
@@ -116,18 +115,23 @@ fn next_option<'a>(
             let pixels = number(text.as_str())?;
             Some((ReadSoFar { pixels, ..chosen }, rest))
         }
+        "--edition" => {
+            let (text, rest) = rest.split_first()?;
+            let edition = number(text.as_str())?;
+            Some((ReadSoFar { edition, ..chosen }, rest))
+        }
         _ => None,
     }
 }
 
-/// The options at the front of a program's arguments, 128 pixels a bucket without `--width`; panels_known: `--panels` is one of them. Whatever is none ends
-/// them: what may stand there the program knows.
+/// The options at the front of a program's arguments, 128 pixels a bucket without `--width`, edition one without `--edition`; panels_known: `--panels` is one
+/// of them. Whatever is none ends them: what may stand there the program knows.
 pub fn read_options(args: &[String], panels_known: bool) -> Options<'_>
-    ensures usual { Usual (setup-of result.want.setup) }
     ensures wanted { wanted_of result.want ≡ wanted_by (read_arguments panels_known (map string_bytes args.now)).choice }
     ensures others { map string_bytes result.others.now ≡ (read_arguments panels_known (map string_bytes args.now)).others }
 {
     let mut chosen = ReadSoFar {
+        edition: 1,
         mode: Mode::Exact,
         pixels: 128,
         panels: false,
@@ -138,7 +142,10 @@ pub fn read_options(args: &[String], panels_known: bool) -> Options<'_>
         others = rest;
     }
     Options {
-        want: want_of(chosen.mode, chosen.pixels, chosen.panels),
+        want: Want {
+            reading: reading_of(chosen.edition, chosen.mode, chosen.pixels),
+            panels: chosen.panels,
+        },
         others,
     }
 }

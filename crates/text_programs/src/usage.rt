@@ -42,7 +42,7 @@ impl fmt::Display for Wrong<'_> {
 pub fn wrong_option(args: &[String]) -> Option<Wrong<'_>> {
     let (first, rest) = args.split_first()?;
     match first.as_str() {
-        "--width" => match rest.first() {
+        "--width" | "--edition" => match rest.first() {
             Some(text) => Some(Wrong::NoNumber(text.as_str())),
             None => Some(Wrong::Unfollowed(first.as_str())),
         },
@@ -54,9 +54,10 @@ pub fn wrong_option(args: &[String]) -> Option<Wrong<'_>> {
 
 // The options that every program has, and the line before the refusals.
 const COMMON: &str =
-    "  --snap     read the viewport in snapping mode\n  --width N  N pixels a depth bucket: 64, 128 or 256; without it 128\n  \
-    --help     print this; so does -h; no other argument may stand beside it\n  \
-    --version  print the version, and the kit that it is proved with; likewise alone\nwhat `refused N` stands for:\n";
+    "  --snap       read the viewport in snapping mode\n  --width N    N pixels a depth bucket: 64, 128 or 256; without it 128\n  \
+    --edition N  files of edition N, 1 or 2; without it 1\n  \
+    --help       print this; so does -h; no other argument may stand beside it\n  \
+    --version    print the version, and the kit that it is proved with; likewise alone\nwhat `refused N` stands for:\n";
 
 /// A program's usage: its name, how it is called, up to its options, and a line for each option that not every program has.
 #[derive(Clone, Copy)]

@@ -10,7 +10,7 @@ use Rattle.rules.specs.Rows.{Row, fresh-row, row-ops}
 use Rattle.rules.specs.Plans.{Frame, bucket}
 use Rattle.rules.specs.Setups.{Setup, frame}
 use Rattle.rules.specs.Steps.{Screen, reset, call}
-use Rattle.rules.specs.Recording.{Recording, in-one, parsed, recording, good-records, good-order}
+use Rattle.rules.specs.Recording.{Recording, File, parsed, recording, good-records, good-order}
 use Rattle.rules.specs.Walk.{Place, frame-of, good-arenas, judge-records, walk-all, play-records, play}
 use Rattle.rules.specs.Lines.{nothing, rowlist-place, rowlist-screen}
 use Rattle.rules.specs.Plain.{untold, tell-steps}
@@ -117,29 +117,29 @@ done-answer : (u : Setup) (a : Answer (Screen Row)) (o : Option (List (List (Lis
     → cond (eqb a.number Done) (answer-in u o row tile q) (refused-bytes a.number) ≡ answer-in u o row tile q
 done-answer u a o row tile q z = rw (eq-eqb a.number 0 z)
 
-module _ (u : Setup) (ws : List ℕ) (accepted : (rowlist-screen u ws).number ≡ 0) (row tile : ℕ) where
-  words-answer : (q : Question) → why-words u ws row tile q ≡ answer-in u (parsed (in-one ws)) row tile q
+module _ (u : Setup) (file : File) (accepted : (rowlist-screen u file).number ≡ 0) (row tile : ℕ) where
+  words-answer : (q : Question) → why-words u file row tile q ≡ answer-in u (parsed file) row tile q
   unfolding why-words
-  words-answer q = done-answer u (rowlist-screen u ws) (parsed (in-one ws)) row tile q accepted
+  words-answer q = done-answer u (rowlist-screen u file) (parsed file) row tile q accepted
 
   -- where there is no form the call has refused
-  pub formless : {x : Refusal} → (x ≡ refusal.BadForm) × (parsed (in-one ws) ≡ None) → (q : Question) → why-words u ws row tile q ≡ refused-bytes (number_of x)
+  pub formless : {x : Refusal} → (x ≡ refusal.BadForm) × (parsed file ≡ None) → (q : Question) → why-words u file row tile q ≡ refused-bytes (number_of x)
   formless b q = rw b.0 (words-answer q ∙ ap (λ (o : Option (List (List (List ℕ)))). answer-in u o row tile q) b.1)
 
-  module _ (r : Recording) (e : recording_of (parsed (in-one ws)) ≡ Some r) where
+  module _ (r : Recording) (e : recording_of (parsed file) ≡ Some r) where
     -- the screen's frame
     abbrev f : Frame
     f = frame u r.viewport
 
-    recording-there : (q : Question) → why-words u ws row tile q ≡ recording-answer f r row tile q
-    recording-there q = words-answer q ∙ go (parsed (in-one ws)) e
+    recording-there : (q : Question) → why-words u file row tile q ≡ recording-answer f r row tile q
+    recording-there q = words-answer q ∙ go (parsed file) e
       where
         go : (o : Option (List (List (List ℕ)))) → recording_of o ≡ Some r → answer-in u o row tile q ≡ recording-answer f r row tile q
         go None i = cc
         go (Some ss) i = let same : recording ss ≡ r = cc in rw same
 
-    played : (play-records (Screen Row) (call Row row-ops) (reset fresh-row) (rowlist-place u ws) (reset fresh-row nothing) r).number ≡ 0
-    played = by (parsed (in-one ws)) e accepted-play
+    played : (play-records (Screen Row) (call Row row-ops) (reset fresh-row) (rowlist-place u file) (reset fresh-row nothing) r).number ≡ 0
+    played = by (parsed file) e accepted-play
       where
         old : Screen Row
         old = reset fresh-row nothing
@@ -147,22 +147,22 @@ module _ (u : Setup) (ws : List ℕ) (accepted : (rowlist-screen u ws).number �
         by-sections : Option (List (List (List ℕ))) → Answer (Screen Row)
         by-sections o = elim o [
           | None ↦ answer BadForm old
-          | Some ss ↦ play-records (Screen Row) (call Row row-ops) (reset fresh-row) (rowlist-place u ws) old (recording ss)
+          | Some ss ↦ play-records (Screen Row) (call Row row-ops) (reset fresh-row) (rowlist-place u file) old (recording ss)
         ]
 
-        accepted-play : (by-sections (parsed (in-one ws))).number ≡ 0
+        accepted-play : (by-sections (parsed file)).number ≡ 0
         accepted-play = unfold play in accepted
 
         by : (o : Option (List (List (List ℕ)))) → recording_of o ≡ Some r → (by-sections o).number ≡ 0
-            → (play-records (Screen Row) (call Row row-ops) (reset fresh-row) (rowlist-place u ws) old r).number ≡ 0
+            → (play-records (Screen Row) (call Row row-ops) (reset fresh-row) (rowlist-place u file) old r).number ≡ 0
         by None i z = cc
         by (Some ss) i z = let same : recording ss ≡ r = cc in rw same at z
 
-    facts : (judge-records (rowlist-place u ws) r ≡ 0) × ((walk (rowlist-place u ws) (reset fresh-row nothing) r).number ≡ 0)
-    facts = judged-walked (rowlist-place u ws) (reset fresh-row nothing) r played
+    facts : (judge-records (rowlist-place u file) r ≡ 0) × ((walk (rowlist-place u file) (reset fresh-row nothing) r).number ≡ 0)
+    facts = judged-walked (rowlist-place u file) (reset fresh-row nothing) r played
 
     goods : (good_viewport f.viewport ≡ true) × (good-records r ≡ true)
-    goods = records-good (rowlist-place u ws) (reset fresh-row nothing) r facts.0
+    goods = records-good (rowlist-place u file) (reset fresh-row nothing) r facts.0
 
     pub good-here : good-records r ≡ true
     good-here = goods.1
@@ -179,11 +179,11 @@ module _ (u : Setup) (ws : List ℕ) (accepted : (rowlist-screen u ws).number �
     on-there h q = rw h
 
     told : (ls : List ℕ) → Told f r row tile ls
-    told ls = told-true f r row tile ls goods.0 (logged-done (rowlist-place u ws) (reset fresh-row nothing) r facts.1)
+    told ls = told-true f r row tile ls goods.0 (logged-done (rowlist-place u file) (reset fresh-row nothing) r facts.1)
 
     -- the viewport v that the screen has
     module _ (v : Box) (view : f.viewport ≡ v) where
-      pub off-answer : off-screen v row tile ≡ true → (q : Question) → why-words u ws row tile q ≡ refused-bytes 12
+      pub off-answer : off-screen v row tile ≡ true → (q : Question) → why-words u file row tile q ≡ refused-bytes 12
       off-answer h q = recording-there q ∙ off-there (ap (λ (b : Box). off-screen b row tile) view ∙ h) q
 
       module _ (on : off-screen v row tile ≡ false) (ls : List ℕ) where
@@ -196,7 +196,7 @@ module _ (u : Setup) (ws : List ℕ) (accepted : (rowlist-screen u ws).number �
         pub told-done : seen.number ≡ 0
         told-done = rw same-story at (told ls).done
 
-        pub answered : {t : Telling} → Says seen 0 t → (q : Question) → why-words u ws row tile q ≡ told-answer t q
+        pub answered : {t : Telling} → Says seen 0 t → (q : Question) → why-words u file row tile q ≡ told-answer t q
         answered s q =
             recording-there q
             ∙ on-there (ap (λ (b : Box). off-screen b row tile) view ∙ on) q
@@ -205,6 +205,6 @@ module _ (u : Setup) (ws : List ℕ) (accepted : (rowlist-screen u ws).number �
             ∙ ap (λ (x : Telling). told-answer x q) (s.value refl)
 
         -- what the code tells of the tile
-        pub told-of : (x : Result Tale Refusal) (cs : List ℕ) → ToldTo seen x cs → ToldOf u ws row tile x cs
+        pub told-of : (x : Result Tale Refusal) (cs : List ℕ) → ToldTo seen x cs → ToldOf u file row tile x cs
         told-of (Ok t) cs s = (s.1, answered s.0)
         told-of (Err r) cs s = absurd (not_done r (sym s ∙ told-done))

@@ -4,6 +4,7 @@ use Rattle.sizes.specs.Sizes.{most-attrs}
 use Rattle.sizes.specs.declared.answers.Refusal.{Refusal}
 use Rattle.sizes.specs.Refusals.{number_of}
 use Rattle.rules.specs.Setups.{Setup}
+use Rattle.rules.specs.Recording.{File}
 use Rattle.rules_reason.specs.Reasons.{Reason, Asked}
 use Rattle.rules_reason.specs.Answers as rule
 use Rattle.tile.specs.declared.steps.Tale.{Tale}
@@ -22,10 +23,10 @@ abbrev pub read_by : List ℕ → ℕ → Asked → Reason
 read_by ws n a = reason-read a ws n
 
 -- what is told of an accepted recording's tile, its counts and lines, answers every question about it; or a refusal does
-abbrev pub ToldOf : Setup → List ℕ → ℕ → ℕ → Result Tale Refusal → List ℕ → Type 0
-ToldOf u ws row tile (Ok t) lines =
-    Low t × ((q : rule.Question) → rule.why-words u ws row tile q ≡ rule.answer-lines (read_by lines (t.paints + t.layers)) t.paints t.layers q)
-ToldOf u ws row tile (Err r) lines = (q : rule.Question) → rule.why-words u ws row tile q ≡ rule.refused-bytes (number_of r)
+abbrev pub ToldOf : Setup → File → ℕ → ℕ → Result Tale Refusal → List ℕ → Type 0
+ToldOf u f row tile (Ok t) lines =
+    Low t × ((q : rule.Question) → rule.why-words u f row tile q ≡ rule.answer-lines (read_by lines (t.paints + t.layers)) t.paints t.layers q)
+ToldOf u f row tile (Err r) lines = (q : rule.Question) → rule.why-words u f row tile q ≡ rule.refused-bytes (number_of r)
 
 -- The bytes at most: of a reason, of an attribute's line, and of an answer's lines
 abbrev pub reason-most : ℕ

@@ -6,12 +6,14 @@ ghost use Rattle.sizes.specs.Sizes.{most-attrs, file-bytes, line-size, line-tabl
 ghost use Rattle.rules.specs.Lines.{rowlist-screen};
 ghost use Rattle.rules_reason.specs.Answers.{panel-bytes, reason-text, reason-bytes, kind-text, attribute-line, kind-lines, why-words, why-text, question-line};
 ghost use Rattle.screen.specs.Screens.{setup-of};
+ghost use Rattle.rules.specs.Recording.{in-edition};
+ghost use Rattle.file.specs.Held.{file_of};
 ghost use Rattle.file.specs.Words.{words-in};
 ghost use Rattle.text.specs.Texts.{Writes};
 ghost use Rattle.tile.specs.Places.{Low};
 ghost use Rattle.tile.specs.Reasons.{reason-of as said_of, asked_of};
 ghost use Rattle.text.specs.Files.{Usual};
-ghost use Rattle.text_programs.specs.Programs.{first};
+ghost use Rattle.text_files.specs.Programs.{first};
 ghost use Rattle.text_why.specs.Questions.{question-of, read_by, ToldOf, answer-most};
 
 use file::{File, Recording, words_of_bytes};
@@ -19,9 +21,9 @@ use screen::Setup;
 use sizes::LINE_TABLE;
 use sizes::answers::Refusal;
 use text::lines::Refused;
-use text::{Out, Print, print_first};
-use text_programs::list_file;
-use text_programs::tables::Tables;
+use text::{FileBytes, Out, Print, print_first};
+use text_files::list_file;
+use text_files::tables::Tables;
 use tile::{Asked, Reason, Tale, is_off_screen, reason_of, tell_tile};
 
 /// What is asked of a tile: one attribute, or every attribute.
@@ -141,40 +143,40 @@ impl Print for Answer<'_> {
 
 // The story of a tile of a recording that is accepted, told into the lines; 12 for a tile off the screen.
 fn tell_words(
-    words: &[u32],
+    file: File<'_>,
     setup: Setup,
     row: u32,
     tile: u32,
     lines: &mut [u32],
 ) -> Result<Tale, Refusal>
-    requires accepted { (rowlist-screen (setup-of setup) words.now).number ≡ 0 }
+    requires accepted { (rowlist-screen (setup-of setup) (file_of file)).number ≡ 0 }
     requires room { length lines.old ≡ line-table }
-    ensures { ToldOf (setup-of setup) words.now row tile result lines.new }
+    ensures { ToldOf (setup-of setup) (file_of file.entry) row tile result lines.new }
 {
-    let file = Recording::read(File::in_one(words))?;
-    let viewport = file.viewport().viewport_in(setup.mode)?;
+    let recording = Recording::read(file)?;
+    let viewport = recording.viewport().viewport_in(setup.mode)?;
     if is_off_screen(viewport, row, tile) {
         return Err(Refusal::BadRun);
     }
-    tell_tile(&file, viewport, setup.width, row, tile, lines)
+    tell_tile(&recording, viewport, setup.width, row, tile, lines)
 }
 
-// The text of a question about a recording that is accepted, from its words, put first; how long it is.
+// The text of a question about a recording that is accepted, from its file, put first; how long it is.
 fn words_text(
-    words: &[u32],
+    file: File<'_>,
     setup: Setup,
     row: u32,
     tile: u32,
     question: Question,
     out: &mut [u8],
 ) -> usize
-    requires accepted { (rowlist-screen (setup-of setup) words.now).number ≡ 0 }
+    requires accepted { (rowlist-screen (setup-of setup) (file_of file)).number ≡ 0 }
     requires room { answer-most ≤ length out.old }
-    ensures value { result ≡ length (why-words (setup-of setup) words.now row tile (question-of question)) }
-    ensures out_after { out.new ≡ first (why-words (setup-of setup) words.now row tile (question-of question)) out.old }
+    ensures value { result ≡ length (why-words (setup-of setup) (file_of file.entry) row tile (question-of question)) }
+    ensures out_after { out.new ≡ first (why-words (setup-of setup) (file_of file.entry) row tile (question-of question)) out.old }
 {
     let mut lines = [0u32; LINE_TABLE];
-    match tell_words(words, setup, row, tile, &mut lines) {
+    match tell_words(file, setup, row, tile, &mut lines) {
         Ok(tale) => {
             let answer = Answer {
                 lines: &lines,
@@ -194,28 +196,34 @@ fn words_text(
 
 // The same, from its bytes.
 fn accepted_text(
-    file: &[u8],
+    file: FileBytes<'_>,
     setup: Setup,
     row: u32,
     tile: u32,
     question: Question,
     out: &mut [u8],
 ) -> usize
-    requires short { length file.now ≤ file-bytes }
-    requires accepted { (rowlist-screen (setup-of setup) (words-in file.now)).number ≡ 0 }
+    requires short { length file.bytes.now ≤ file-bytes }
+    requires accepted { (rowlist-screen (setup-of setup) (in-edition file.edition (words-in file.bytes.now))).number ≡ 0 }
     requires room { answer-most ≤ length out.old }
-    ensures value { result ≡ length (why-words (setup-of setup) (words-in file.now) row tile (question-of question)) }
-    ensures out_after { out.new ≡ first (why-words (setup-of setup) (words-in file.now) row tile (question-of question)) out.old }
+    ensures value { result ≡ length
+        (why-words (setup-of setup) (in-edition file.entry.edition (words-in file.entry.bytes.now)) row tile (question-of question)) }
+    ensures out_after { out.new ≡ first
+        (why-words (setup-of setup) (in-edition file.entry.edition (words-in file.entry.bytes.now)) row tile (question-of question)) out.old }
 {
     let mut words = [0u32; 16384];
-    let n = words_of_bytes(file, &mut words);
-    words_text(&words[..n], setup, row, tile, question, out)
+    let n = words_of_bytes(file.bytes, &mut words);
+    let recording = File {
+        edition: file.edition,
+        words: &words[..n],
+    };
+    words_text(recording, setup, row, tile, question, out)
 }
 
 /// The text that `why` prints of a question about a file's bytes, put first; how long it is. The room is that of the longest text of `rowlist`,
 /// which is written there before; what stands after the text is free. The tables take the file's screen.
 pub fn why_text(
-    file: &[u8],
+    file: FileBytes<'_>,
     setup: Setup,
     row: u32,
     tile: u32,
@@ -224,8 +232,8 @@ pub fn why_text(
     out: &mut [u8],
 ) -> usize
     requires { Usual (setup-of setup) × (264256 ≤ length out.old) }
-    ensures value { result ≡ length (why-text (setup-of setup) file.now row tile (question-of question)) }
-    ensures out_after { take result out.new ≡ why-text (setup-of setup) file.now row tile (question-of question) }
+    ensures value { result ≡ length (why-text file.entry.edition (setup-of setup) file.entry.bytes.now row tile (question-of question)) }
+    ensures out_after { take result out.new ≡ why-text file.entry.edition (setup-of setup) file.entry.bytes.now row tile (question-of question) }
 {
     let text = list_file(file, setup, tables, out);
     if text.answer.is_err() {

@@ -32,8 +32,8 @@ reached-listed f xs l s =
 
 pub words-text : WordsPrinted
 unfolding rowlist-words
-words-text q u ws bs room =
-    let e = words-print q u ws bs room in
+words-text q u file bs room =
+    let e = words-print q u file bs room in
     record {
       number = e.number;
       count = ap (λ (x : ℕ × List ℕ). x.0) e.shows;
@@ -42,17 +42,17 @@ words-text q u ws bs room =
     }
 
 pub file-text : FilePrinted
-file-text q u fs bs room =
-    let e = file-printed q u fs bs room in
+file-text e q u fs bs room =
+    let p = file-printed e q u fs bs room in
     record {
-      count = ap (λ (x : ℕ × List ℕ). x.0) e;
-      bytes = ap (λ (x : ℕ × List ℕ). x.1) e;
-      few = file-few q u fs bs room;
+      count = ap (λ (x : ℕ × List ℕ). x.0) p;
+      bytes = ap (λ (x : ℕ × List ℕ). x.1) p;
+      few = file-few e q u fs bs room;
     }
 
 pub words-left : WordsLeave
-words-left q u ws z e t h bs room =
-    let a = words-leave q u ws bs room e t h in
+words-left q u file z e t h bs room =
+    let a = words-leave q u file bs room e t h in
     record {
       number = a.prints.number;
       left = λ i.

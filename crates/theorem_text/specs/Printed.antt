@@ -1,8 +1,9 @@
 -- The text of a recording's rows and of its painted rows is the rules' text of them.
 use Rattle.std.specs.Prelude.{Ok, ℕ, suc, ◌*◌, ◌≤◌, ◌<◌, ◌≡◌, true, Bool, List, [], ◌∷◌, ◌++◌, length, get_or, drop}
+use Rattle.sizes.specs.declared.edition.Edition.{Edition}
 use Rattle.sizes.specs.declared.width.Width.{Width}
 use Rattle.sizes.specs.Widths.{bucket-tiles}
-use Rattle.rules.specs.Recording.{File, in-one}
+use Rattle.rules.specs.Recording.{File}
 use Rattle.rules.specs.Answers.{Answer, Done}
 use Rattle.rules.specs.Boxes.{Box, rows_of, buckets-of}
 use Rattle.rules.specs.Attributes.{Attrs, no-layer}
@@ -48,24 +49,24 @@ HeldListed = (s : Screen Row) (l : ScreenLent) → Refined s l → FairRows s �
 abbrev pub ReachedListed : Type 0
 ReachedListed = (f : Frame) (xs : List Step) (l : ScreenLent) (s : Stands f xs l) → Listed s.canvas.screen l
 
--- What is printed of a file's words is the rules' answer to them: its number, and the text of its lines, which fits.
-pub record WordsListed (q : Setup) (ws : List ℕ) (bs : List ℕ) (x : Showed) : Type 0 where
-  pub number : x.text.number ≡ (rowlist-screen q ws).number
-  pub count : x.text.bytes ≡ length (text_of (rowlist-words q ws))
-  pub bytes : x.bytes ≡ text_of (rowlist-words q ws) ++ drop (length (text_of (rowlist-words q ws))) bs
-  pub few : length (text_of (rowlist-words q ws)) ≤ 264256
+-- What is printed of a file of either edition is the rules' answer to it: its number, and the text of its lines, which fits.
+pub record WordsListed (q : Setup) (file : File) (bs : List ℕ) (x : Showed) : Type 0 where
+  pub number : x.text.number ≡ (rowlist-screen q file).number
+  pub count : x.text.bytes ≡ length (text_of (rowlist-words q file))
+  pub bytes : x.bytes ≡ text_of (rowlist-words q file) ++ drop (length (text_of (rowlist-words q file))) bs
+  pub few : length (text_of (rowlist-words q file)) ≤ 264256
 
 abbrev pub WordsPrinted : Type 0
-WordsPrinted = (q : Setup) → Usual q → (ws bs : List ℕ) → 264256 ≤ length bs → WordsListed q ws bs (sized-text (size_of (in-one ws) q) (in-one ws) q bs)
+WordsPrinted = (q : Setup) → Usual q → (file : File) (bs : List ℕ) → 264256 ≤ length bs → WordsListed q file bs (sized-text (size_of file q) file q bs)
 
--- What `rowlist` writes of a file's bytes into its buffers is the text of the rules' own `rowlist` of these bytes, refusals too; it fits.
-pub record FileListed (q : Setup) (fs : List ℕ) (bs : List ℕ) : Type 0 where
-  pub count : (bytes-text fs q bs).text.bytes ≡ length (text_of (rowlist q fs))
-  pub bytes : (bytes-text fs q bs).bytes ≡ text_of (rowlist q fs) ++ drop (length (text_of (rowlist q fs))) bs
-  pub few : length (text_of (rowlist q fs)) ≤ 264256
+-- What `rowlist` writes of a file's bytes into its buffers is the text of the rules' own `rowlist` of these bytes, in either edition, refusals too; it fits.
+pub record FileListed (e : Edition) (q : Setup) (fs : List ℕ) (bs : List ℕ) : Type 0 where
+  pub count : (bytes-text e fs q bs).text.bytes ≡ length (text_of (rowlist e q fs))
+  pub bytes : (bytes-text e fs q bs).bytes ≡ text_of (rowlist e q fs) ++ drop (length (text_of (rowlist e q fs))) bs
+  pub few : length (text_of (rowlist e q fs)) ≤ 264256
 
 abbrev pub FilePrinted : Type 0
-FilePrinted = (q : Setup) → Usual q → (fs bs : List ℕ) → 264256 ≤ length bs → FileListed q fs bs
+FilePrinted = (e : Edition) (q : Setup) → Usual q → (fs bs : List ℕ) → 264256 ≤ length bs → FileListed e q fs bs
 
 -- Tables of one size print the same, in any setup: no text tells what they held before.
 abbrev pub TablesUntold : Type 0
@@ -73,7 +74,7 @@ TablesUntold =
     (z : Size) (t u : Tables) → Exact z t → Exact z u → (file : File) (q : Setup) (bs : List ℕ)
     → (recording-text file q t bs).showed ≡ (recording-text file q u bs).showed
 
--- A file's words in tables of the size of its screen: an accepted one leaves words that hold the rules' screen of it.
+-- A file in tables of the size of its screen: an accepted one leaves words that hold the rules' screen of it.
 pub record Left (s : Screen Row) (z : Size) (o : FileOut) : Type 0 where
   pub viewport : Box
   pub width : Width
@@ -92,8 +93,8 @@ pub record Leaves (a : Answer (Screen Row)) (z : Size) (o : FileOut) : Type 0 wh
 
 abbrev pub WordsLeave : Type 0
 WordsLeave =
-    (q : Setup) → Usual q → (ws : List ℕ) (z : Size) → Ok z ≡ size_of (in-one ws) q → (t : Tables) → Exact z t
-    → (bs : List ℕ) → 264256 ≤ length bs → Leaves (rowlist-screen q ws) z (recording-text (in-one ws) q t bs)
+    (q : Setup) → Usual q → (file : File) (z : Size) → Ok z ≡ size_of file q → (t : Tables) → Exact z t
+    → (bs : List ℕ) → 264256 ≤ length bs → Leaves (rowlist-screen q file) z (recording-text file q t bs)
 
 -- The words of bytes are words, ..
 abbrev pub WordsSmall : Type 0

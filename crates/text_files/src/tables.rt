@@ -1,12 +1,12 @@
-//! The programs' tables and buffers: made once, and lent to each recording. What is printed of one does not depend on what they held.
+//! The programs' tables and text buffer: made once, and lent to each recording. What is printed of one does not depend on what they held.
 ghost use Rattle.std.specs.Prelude.{◌≡◌, ◌≤◌, replicate, IfOk};
 ghost use Rattle.sizes.specs.Sizes.{program-rows, program-buckets};
 ghost use Rattle.screen.specs.Lent.{tables_in};
 ghost use Rattle.text.specs.Files.{size, Exact};
-ghost use Rattle.text_programs.specs.Rooms.{file-room, text-room};
-ghost use Rattle.text_programs.specs.Tables.{Zeros};
+ghost use Rattle.text_files.specs.Rooms.{text-room};
+ghost use Rattle.text_files.specs.Tables.{Zeros};
 
-use crate::{FILE_ROOM, TEXT_ROOM};
+use crate::TEXT_ROOM;
 use screen::Lent;
 use sizes::{
     FILTER_TABLE, LAYER_TABLE, OPACITIES, OPEN_TABLE, PAINT_TABLE, PROGRAM_DEPTH, PROGRAM_DEPTHS,
@@ -67,13 +67,6 @@ impl Tables {
             filter_paints: &mut self.filter_paints[..],
         }
     }
-}
-
-/// Room for the longest file, and one byte more.
-pub fn file_buffer(alloc: Global) -> Result<Vec<u8>, AllocError>
-    ensures { IfOk result (λ buffer. buffer.items ≡ replicate file-room 0) }
-{
-    Ok(vec![in alloc; 0; FILE_ROOM]?)
 }
 
 /// Room for the longest text of a screen, or of its attributes.

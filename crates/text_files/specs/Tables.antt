@@ -2,7 +2,7 @@
 use Rattle.std.specs.Prelude.{◌≡◌, replicate, pos}
 use Rattle.sizes.specs.Sizes.{program-render, program-fills, program-depth, program-records, program-painting, open-layer-table, opacity-count, paint-attr-table, layer-attr-table, filter-paint-table}
 use Rattle.screen.specs.Tables.{float-0}
-use Rattle.text_programs.specs.declared.tables.Tables.{Tables}
+use Rattle.text_files.specs.declared.tables.Tables.{Tables}
 
 pub record Zeros (t : Tables) : Type 0 where
   pub render : t.render_cmds.value ≡ replicate program-render 0

@@ -1,5 +1,5 @@
 -- A byte's clone is the byte.
-use Rattle.text_programs.proofs.tables.file_buffer.Goals as goal
+use Rattle.text_files.proofs.tables.text_buffer.Goals as goal
 
 pub returns : goal.returns
 returns c = c.in_ok-vec.ensures.items_if_clones_equal (λ y same. same)

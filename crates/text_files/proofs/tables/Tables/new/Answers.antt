@@ -1,5 +1,5 @@
 -- Each box holds what it was made of.
-use Rattle.text_programs.proofs.tables.Tables.new.Goals as goal
+use Rattle.text_files.proofs.tables.Tables.new.Goals as goal
 
 pub returns : goal.returns
 returns c = record {

@@ -2,4 +2,5 @@ pub mod Fills
 pub mod Filling
 pub mod Tallies
 pub mod Sure
+pub mod Lists
 pub mod Named

@@ -16,3 +16,4 @@ pub mod Words
 pub mod ScreenAsked
 pub mod OneLook
 pub mod Left
+pub mod FillLists

@@ -12,3 +12,4 @@ pub mod Asked
 pub mod Results
 pub mod Called
 pub mod Reading
+pub mod FillLists

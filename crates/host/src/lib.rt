@@ -7,6 +7,7 @@ mod border;
 pub mod build;
 pub mod layer;
 pub mod lengths;
+pub mod list;
 pub mod painting;
 pub mod reading;
 pub mod reasons;

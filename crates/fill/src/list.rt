@@ -21,6 +21,25 @@ pub struct Draws<'a> {
     pub end: usize,
 }
 
+impl Draws<'_> {
+    /// How many draws are asked for; none where start is past end.
+    pub fn asked(self) -> usize
+        ensures { result ≡ asked self.entry }
+    {
+        self.end.saturating_sub(self.start)
+    }
+
+    /// Whole draws of edition two, and a range of them.
+    pub fn is_good(self) -> bool
+        ensures { result ≡ good-draws self.entry.words.now self.entry.start self.entry.«end» }
+    {
+        let size = Edition::Two.draw();
+        self.words.len() % size == 0
+            && self.start <= self.end
+            && self.end <= self.words.len() / size
+    }
+}
+
 /// Where a list of fills stopped: how many fills are done, and why the next is refused.
 #[derive(Clone, Copy, Debug, PartialEq, Eq)]
 pub struct Stopped {
@@ -74,16 +93,6 @@ pub fn fill_each(
     Ok(())
 }
 
-// Whole draws of edition two, and a range of them.
-fn is_good_list(draws: Draws<'_>) -> bool
-    ensures { result ≡ good-draws draws.entry.words.now draws.entry.start draws.entry.«end» }
-{
-    let size = Edition::Two.draw();
-    draws.words.len() % size == 0
-        && draws.start <= draws.end
-        && draws.end <= draws.words.len() / size
-}
-
 /// Rules 3 to 7 for each of a range of draws, eight words each, in order. BadRecord, with nothing judged or done, where the words are no whole draws or the range
 /// is none of them; else as the first fill that is refused: the fills before it are done, it and the ones behind it change nothing. An empty range is done.
 #[tactic(auto, unfolding(crate::specs::Lists::fills_listed))]
@@ -99,7 +108,7 @@ pub fn fill_list(
     ensures filled { told (asked draws.entry) result (fill_lent_of screen.new rows.new paint_attrs.new)
         ≡ fills-of paints.now segments.now draws.entry (fill_lent_of screen.old rows.old paint_attrs.old) }
 {
-    if !is_good_list(draws) {
+    if !draws.is_good() {
         return Err(Stopped {
             done: 0,
             refusal: Refusal::BadRecord,

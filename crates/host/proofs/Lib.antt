@@ -17,3 +17,4 @@ pub mod ScreenAsked
 pub mod OneLook
 pub mod Left
 pub mod Conversions
+pub mod FillLists

@@ -13,3 +13,4 @@ pub mod Results
 pub mod Called
 pub mod Reading
 pub mod Editions
+pub mod FillLists

@@ -8,6 +8,7 @@ pub mod build;
 pub mod editions;
 pub mod layer;
 pub mod lengths;
+pub mod list;
 pub mod painting;
 pub mod reading;
 pub mod reasons;

@@ -198,5 +198,6 @@ module _ (xs : List (List (List ℕ))) where
   unfolding all-kept recording
   kept-in-one t =
       rw t.same
-      (rw (all-kept-in 4 4 t.viewport (omega arith) t.of-viewport, all-kept-in 4 4 t.paints (omega arith) t.of-paints, all-kept-in 5 5 t.segments (omega arith) t.of-segments, all-kept-in 3 3 t.nodes (omega arith) t.of-nodes, all-kept-in 2 2 t.root (omega arith) t.of-root)
-      (rw (drawn-kept 7 refl t.draws t.of-draws, layered-kept 22 refl t.layers t.of-layers) (ended _ _)))
+      (rw (all-kept-in 4 4 t.viewport (omega arith) t.of-viewport, all-kept-in 4 4 t.paints (omega arith) t.of-paints, all-kept-in 5 5 t.segments (omega arith) t.of-segments)
+      (rw (all-kept-in 3 3 t.nodes (omega arith) t.of-nodes, all-kept-in 2 2 t.root (omega arith) t.of-root)
+      (rw (drawn-kept 7 refl t.draws t.of-draws, layered-kept 22 refl t.layers t.of-layers) (ended _ _))))

@@ -77,7 +77,8 @@ module _ (m : Mode) (e : Edition) (f : File) (out : List ℕ) where
     same : recording ss ≡ r
     same = (by-sections (parsed f) r h).1
 
-    judged-as : judge-sections m e ss ≡ first_of ((not (good_viewport (viewport-in m r.viewport)), BadViewport) ∷ (not (good-records r), BadRecord) ∷ (not (good-order r), BadOrder) ∷ (not (all-kept (shape e) ss), HasPanels) ∷ [])
+    judged-as : judge-sections m e ss
+        ≡ first_of ((not (good_viewport (viewport-in m r.viewport)), BadViewport) ∷ (not (good-records r), BadRecord) ∷ (not (good-order r), BadOrder) ∷ (not (all-kept (shape e) ss), HasPanels) ∷ [])
     unfolding judge-sections
     judged-as = rw same
 

@@ -14,8 +14,7 @@ use Rattle.convert.specs.Sections.{sections_of, sizes-of}
 use Rattle.convert.proofs.Records.{records-part, records-count, resized-count}
 use Rattle.convert.proofs.Standing.{Standing, next, size, shape-next, words-few}
 
-module _ (e f : Edition) (ws : List ℕ) (k at : ℕ) (old new : List ℕ) (h : k < 7) (t : Standing e ws k at)
-    (p : old ≡ sizes-of (shape e)) (q : new ≡ sizes-of (shape f)) where
+module _ {e : Edition} (f : Edition) {ws : List ℕ} {k at : ℕ} {old new : List ℕ} (h : k < 7) (t : Standing e ws k at) (p : old ≡ sizes-of (shape e)) (q : new ≡ sizes-of (shape f)) where
   abbrev n : ℕ
   n = get_or ws at 0
 

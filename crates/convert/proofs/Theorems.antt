@@ -11,7 +11,7 @@ use Rattle.rules.specs.Recording.{Recording, File, in-edition, shape, parsed, re
 use Rattle.rules.specs.Walk.{Place, play, play-records}
 use Rattle.rules.specs.Calls.{record-call}
 use Rattle.rules.specs.Conversions.{judge-sections, conversion, convert-call, converted, file-of, all-kept}
-use Rattle.convert.specs.Theorems.{Valid, no-panels, Becomes, Room, ExactToTwo, ExactToOne, ThereAndBack, AlwaysBack, SameRecording, SamePlayed}
+use Rattle.convert.specs.Theorems.{Valid, no-panels, Becomes, Room, ExactToTwo, ExactToOne, ThereAndBack, AlwaysBack, SameRecording, SamePlayed, SameScreen}
 use Rattle.convert.proofs.Converting.{of-none, of-sections}
 use Rattle.convert.proofs.Back.{parts, there-parsed, back-written, back-kept}
 use Rattle.convert.proofs.Alike.{seven, recorded-alike, kept-in-two, kept-in-one}
@@ -145,6 +145,9 @@ same-recording d e m ws vs h = recorded d e m ws vs h
 pub same-played : SamePlayed
 unfolding record-call
 same-played d e m ws vs h q a k = played d e m ws vs h _ _ _ _ _
+
+pub same-screen : SameScreen
+same-screen d e m ws vs h p old = played d e m ws vs h _ _ _ p old
 
 -- Given room, the call is the conversion.
 roomy : (m : Mode) (e : Edition) (f : File) (n : ℕ) → Room m e f n → convert-call m e n f ≡ conversion m e f

@@ -8,7 +8,9 @@ use Rattle.rules.specs.Boxes.{good_viewport}
 use Rattle.rules.specs.Inputs.{Draw}
 use Rattle.rules.specs.Setups.{Setup, Mode, viewport-in}
 use Rattle.rules.specs.Recording.{Recording, File, LayerRec, in-edition, parsed, recording, good-records, good-order}
-use Rattle.rules.specs.Walk.{Arenas}
+use Rattle.rules.specs.Rows.{Row, row-ops, fresh-row}
+use Rattle.rules.specs.Steps.{Screen, reset, call}
+use Rattle.rules.specs.Walk.{Arenas, Place, play}
 use Rattle.rules.specs.Calls.{Canvas, record-call}
 use Rattle.rules.specs.Conversions.{conversion, convert-call}
 
@@ -58,7 +60,13 @@ abbrev pub SameRecording : Type 0
 SameRecording = (d e : Edition) (m : Mode) (ws vs : List ℕ) → Becomes m d e ws vs
     → option_map recording (parsed (in-edition e vs)) ≡ option_map recording (parsed (in-edition d ws))
 
--- .. so that the rules' recording call leaves the same: its number, the screen, its rows.
+-- .. so that it is played alike: the rules' recording call leaves the same number, screen, rows and painting, ..
 abbrev pub SamePlayed : Type 0
 SamePlayed = (d e : Edition) (m : Mode) (ws vs : List ℕ) → Becomes m d e ws vs
     → (q : Setup) (a : Arenas) (k : Canvas) → record-call q a (in-edition e vs) k ≡ record-call q a (in-edition d ws) k
+
+-- .. and a screen by itself, of at most so many rows, is left the same.
+abbrev pub SameScreen : Type 0
+SameScreen = (d e : Edition) (m : Mode) (ws vs : List ℕ) → Becomes m d e ws vs
+    → (p : Place) (old : Screen Row) → play (Screen Row) (call Row row-ops) (reset fresh-row) p old (in-edition e vs)
+    ≡ play (Screen Row) (call Row row-ops) (reset fresh-row) p old (in-edition d ws)

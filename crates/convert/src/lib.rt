@@ -6,7 +6,7 @@ mod call;
 mod sections;
 
 ghost use Rattle.convert.specs.Written.{WrittenParsed, ParsedWritten};
-ghost use Rattle.convert.specs.Theorems.{ExactToTwo, ExactToOne, ThereAndBack, AlwaysBack, SameRecording, SamePlayed};
+ghost use Rattle.convert.specs.Theorems.{ExactToTwo, ExactToOne, ThereAndBack, AlwaysBack, SameRecording, SamePlayed, SameScreen};
 
 pub use call::{to_edition_one, to_edition_two};
 
@@ -24,4 +24,5 @@ pub fn conversions_lose_nothing()
     ensures always { AlwaysBack }
     ensures same { SameRecording }
     ensures played { SamePlayed }
+    ensures screen { SameScreen }
 {}

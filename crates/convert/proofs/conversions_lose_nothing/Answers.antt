@@ -1,4 +1,4 @@
-use Rattle.convert.proofs.Theorems.{exact-to-two, exact-to-one, there-and-back, always-back, same-recording, same-played}
+use Rattle.convert.proofs.Theorems.{exact-to-two, exact-to-one, there-and-back, always-back, same-recording, same-played, same-screen}
 use Rattle.convert.proofs.conversions_lose_nothing.Goals as goal
 
 pub returns-clause-two : goal.returns-clause-two
@@ -18,3 +18,6 @@ returns-clause-same c = same-recording
 
 pub returns-clause-played : goal.returns-clause-played
 returns-clause-played c = same-played
+
+pub returns-clause-screen : goal.returns-clause-screen
+returns-clause-screen c = same-screen

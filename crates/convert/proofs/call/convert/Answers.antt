@@ -34,11 +34,15 @@ returns-then-not-is_kept c =
 
 pub returns-then-out-length : goal.returns-then-out-length
 returns-then-out-length c =
-    let v = seen-good (mode_of c.args.mode) (held c.in_ok-recording.recording) c.viewport.ensures c.in_ok-viewport_in.ensures in
-    no-room (mode_of c.args.mode) c.args.to (file_of c.args.file) c.args.out.now (held c.in_ok-recording.recording) c.in_ok-recording.ensures.1 v c.in_ok-judge.ensures (sym c.is_kept.ensures ∙ c.if-not-is_kept.false) (omega (arith, c.converted_length-length.ensures))
+    let r = held c.in_ok-recording.recording in
+    let v = seen-good (mode_of c.args.mode) r c.viewport.ensures c.in_ok-viewport_in.ensures in
+    let k = sym c.is_kept.ensures ∙ c.if-not-is_kept.false in
+    no-room (mode_of c.args.mode) c.args.to (file_of c.args.file) c.args.out.now r c.in_ok-recording.ensures.1 v c.in_ok-judge.ensures k (omega (arith, c.converted_length-length.ensures))
 
 pub returns : goal.returns
 returns c =
-    let v = seen-good (mode_of c.args.mode) (held c.in_ok-recording.recording) c.viewport.ensures c.in_ok-viewport_in.ensures in
+    let r = held c.in_ok-recording.recording in
+    let v = seen-good (mode_of c.args.mode) r c.viewport.ensures c.in_ok-viewport_in.ensures in
+    let k = sym c.is_kept.ensures ∙ c.if-not-is_kept.false in
     rw c.converted_length-length.ensures
-    (done (mode_of c.args.mode) c.args.to (file_of c.args.file) c.args.out.now (held c.in_ok-recording.recording) c.in_ok-recording.ensures.1 v c.in_ok-judge.ensures (sym c.is_kept.ensures ∙ c.if-not-is_kept.false) (omega (arith, c.converted_length-length.ensures)) c.put_file.new.out c.put_file.ensures)
+    (done (mode_of c.args.mode) c.args.to (file_of c.args.file) c.args.out.now r c.in_ok-recording.ensures.1 v c.in_ok-judge.ensures k (omega (arith, c.converted_length-length.ensures)) c.put_file.new.out c.put_file.ensures)

@@ -17,15 +17,15 @@ loop-k-init c =
 
 pub bounds-words-at : goal.bounds-words-at
 bounds-words-at c =
-    there c.args.from c.args.to c.args.words.now c.loop-k.k c.loop-k.at c.record_sizes-old_sizes.result c.record_sizes-new_sizes.result c.loop-k-test.true c.loop-k.invariant.stands c.record_sizes-old_sizes.ensures c.record_sizes-new_sizes.ensures
+    there c.args.to c.loop-k-test.true c.loop-k.invariant.stands c.record_sizes-old_sizes.ensures c.record_sizes-new_sizes.ensures
 
 pub loop-k-preserved : goal.loop-k-preserved
 loop-k-preserved c =
-    let m = more-counted c.args.from c.args.to c.args.words.now c.loop-k.k c.loop-k.at c.record_sizes-old_sizes.result c.record_sizes-new_sizes.result c.loop-k-test.true c.loop-k.invariant.stands c.record_sizes-old_sizes.ensures c.record_sizes-new_sizes.ensures in
-    let g = put-few c.args.from c.args.to c.args.words.now c.loop-k.k c.loop-k.at c.record_sizes-old_sizes.result c.record_sizes-new_sizes.result c.loop-k-test.true c.loop-k.invariant.stands c.record_sizes-old_sizes.ensures c.record_sizes-new_sizes.ensures in
+    let m = more-counted c.args.to c.loop-k-test.true c.loop-k.invariant.stands c.record_sizes-old_sizes.ensures c.record_sizes-new_sizes.ensures in
+    let g = put-few c.args.to c.loop-k-test.true c.loop-k.invariant.stands c.record_sizes-old_sizes.ensures c.record_sizes-new_sizes.ensures in
     record {
       stands = m;
-      counted = counted-next c.args.from c.args.to c.args.words.now c.loop-k.k c.loop-k.at c.record_sizes-old_sizes.result c.record_sizes-new_sizes.result c.loop-k-test.true c.loop-k.invariant.stands c.record_sizes-old_sizes.ensures c.record_sizes-new_sizes.ensures _ _ c.loop-k.invariant.counted;
+      counted = counted-next c.args.to c.loop-k-test.true c.loop-k.invariant.stands c.record_sizes-old_sizes.ensures c.record_sizes-new_sizes.ensures _ _ c.loop-k.invariant.counted;
       few = omega (arith, g);
     }
 

@@ -9,23 +9,23 @@ loop-k-init c = record { stands = rw c.head_length-at.ensures (begin _ _ c.requi
 
 pub bounds-words-at : goal.bounds-words-at
 bounds-words-at c =
-    there c.args.from c.args.to c.args.words.now c.loop-k.k c.loop-k.at c.record_sizes-sizes.result c.record_sizes-kept.result c.loop-k-test.true c.loop-k.invariant.stands c.record_sizes-sizes.ensures c.record_sizes-kept.ensures
+    there c.args.to c.loop-k-test.true c.loop-k.invariant.stands c.record_sizes-sizes.ensures c.record_sizes-kept.ensures
 
 pub slice_bounds-is_section_kept-end : goal.slice_bounds-is_section_kept-end
 slice_bounds-is_section_kept-end c =
-    let e = ends c.args.from c.args.to c.args.words.now c.loop-k.k c.loop-k.at c.record_sizes-sizes.result c.record_sizes-kept.result c.loop-k-test.true c.loop-k.invariant.stands c.record_sizes-sizes.ensures c.record_sizes-kept.ensures in
+    let e = ends c.args.to c.loop-k-test.true c.loop-k.invariant.stands c.record_sizes-sizes.ensures c.record_sizes-kept.ensures in
     search (rules, e)
 
 pub returns-then-not-is_section_kept : goal.returns-then-not-is_section_kept
 returns-then-not-is_section_kept c =
-    sym (kept-not c.args.from c.args.to c.args.words.now c.loop-k.k c.loop-k.at c.record_sizes-sizes.result c.record_sizes-kept.result c.loop-k-test.true c.loop-k.invariant.stands c.record_sizes-sizes.ensures c.record_sizes-kept.ensures (sym c.is_section_kept.ensures ∙ c.if-not-is_section_kept.true))
+    sym (kept-not c.args.to c.loop-k-test.true c.loop-k.invariant.stands c.record_sizes-sizes.ensures c.record_sizes-kept.ensures (sym c.is_section_kept.ensures ∙ c.if-not-is_section_kept.true))
     ∙ c.loop-k.invariant.kept
 
 pub loop-k-preserved : goal.loop-k-preserved
 loop-k-preserved c =
     record {
-      stands = more c.args.from c.args.to c.args.words.now c.loop-k.k c.loop-k.at c.record_sizes-sizes.result c.record_sizes-kept.result c.loop-k-test.true c.loop-k.invariant.stands c.record_sizes-sizes.ensures c.record_sizes-kept.ensures;
-      kept = kept-still c.args.from c.args.to c.args.words.now c.loop-k.k c.loop-k.at c.record_sizes-sizes.result c.record_sizes-kept.result c.loop-k-test.true c.loop-k.invariant.stands c.record_sizes-sizes.ensures c.record_sizes-kept.ensures (sym c.is_section_kept.ensures ∙ c.if-not-is_section_kept.false) ∙ c.loop-k.invariant.kept;
+      stands = more c.args.to c.loop-k-test.true c.loop-k.invariant.stands c.record_sizes-sizes.ensures c.record_sizes-kept.ensures;
+      kept = kept-still c.args.to c.loop-k-test.true c.loop-k.invariant.stands c.record_sizes-sizes.ensures c.record_sizes-kept.ensures (sym c.is_section_kept.ensures ∙ c.if-not-is_section_kept.false) ∙ c.loop-k.invariant.kept;
     }
 
 pub returns : goal.returns

@@ -22,35 +22,52 @@ loop-k-init c =
     }
 
 pub bounds-words-at : goal.bounds-words-at
-bounds-words-at c = there c.args.from c.args.to c.args.words.now c.loop-k.k c.loop-k.at c.record_sizes-old_sizes.result c.record_sizes-new_sizes.result c.loop-k-test.true c.loop-k.invariant.stands c.record_sizes-old_sizes.ensures c.record_sizes-new_sizes.ensures
+bounds-words-at c =
+    there c.args.to c.loop-k-test.true c.loop-k.invariant.stands c.record_sizes-old_sizes.ensures c.record_sizes-new_sizes.ensures
 
 pub bounds-words-at-in-loop-k : goal.bounds-words-at-in-loop-k
-bounds-words-at-in-loop-k c = there c.args.from c.args.to c.args.words.now c.loop-k.k c.loop-k.at c.record_sizes-old_sizes.result c.record_sizes-new_sizes.result c.loop-k-test.true c.loop-k.invariant.stands c.record_sizes-old_sizes.ensures c.record_sizes-new_sizes.ensures
+bounds-words-at-in-loop-k c =
+    there c.args.to c.loop-k-test.true c.loop-k.invariant.stands c.record_sizes-old_sizes.ensures c.record_sizes-new_sizes.ensures
 
 pub bounds-out-put : goal.bounds-out-put
 bounds-out-put c =
-    let r = room c.args.from c.args.to c.args.words.now c.loop-k.k c.loop-k.at c.record_sizes-old_sizes.result c.record_sizes-new_sizes.result c.loop-k-test.true c.loop-k.invariant.stands c.record_sizes-old_sizes.ensures c.record_sizes-new_sizes.ensures c.loop-k.put c.loop-k.out c.args.out.now (file-in c.args.from c.args.to c.args.words.now) c.loop-k.invariant.within c.loop-k.invariant.done (omega (arith, c.requires.room)) in
+    let i = c.loop-k.invariant in
+    let old = c.record_sizes-old_sizes.ensures in
+    let new = c.record_sizes-new_sizes.ensures in
+    let file = file-in c.args.from c.args.to c.args.words.now in
+    let r = room c.args.to c.loop-k-test.true i.stands old new c.loop-k.put c.loop-k.out c.args.out.now file i.within i.done (omega (arith, c.requires.room)) in
     omega (arith, r)
 
 pub slice_bounds-put_records-end : goal.slice_bounds-put_records-end
 slice_bounds-put_records-end c =
-    let e = ends c.args.from c.args.to c.args.words.now c.loop-k.k c.loop-k.at c.record_sizes-old_sizes.result c.record_sizes-new_sizes.result c.loop-k-test.true c.loop-k.invariant.stands c.record_sizes-old_sizes.ensures c.record_sizes-new_sizes.ensures in
+    let i = c.loop-k.invariant in
+    let old = c.record_sizes-old_sizes.ensures in
+    let new = c.record_sizes-new_sizes.ensures in
+    let e = ends c.args.to c.loop-k-test.true i.stands old new in
     search (rules, e)
 
 pub slice_bounds-put_records-end-in-loop-k : goal.slice_bounds-put_records-end-in-loop-k
 slice_bounds-put_records-end-in-loop-k c =
-    let r = room c.args.from c.args.to c.args.words.now c.loop-k.k c.loop-k.at c.record_sizes-old_sizes.result c.record_sizes-new_sizes.result c.loop-k-test.true c.loop-k.invariant.stands c.record_sizes-old_sizes.ensures c.record_sizes-new_sizes.ensures c.loop-k.put c.loop-k.out c.args.out.now (file-in c.args.from c.args.to c.args.words.now) c.loop-k.invariant.within c.loop-k.invariant.done (omega (arith, c.requires.room)) in
+    let i = c.loop-k.invariant in
+    let old = c.record_sizes-old_sizes.ensures in
+    let new = c.record_sizes-new_sizes.ensures in
+    let file = file-in c.args.from c.args.to c.args.words.now in
+    let r = room c.args.to c.loop-k-test.true i.stands old new c.loop-k.put c.loop-k.out c.args.out.now file i.within i.done (omega (arith, c.requires.room)) in
     search (rules, r)
 
 pub loop-k-preserved : goal.loop-k-preserved
 loop-k-preserved c =
-    let g : length (file-in c.args.from c.args.to c.args.words.now) ≤ length c.loop-k.out = omega (arith, c.requires.room) in
-    let r = room c.args.from c.args.to c.args.words.now c.loop-k.k c.loop-k.at c.record_sizes-old_sizes.result c.record_sizes-new_sizes.result c.loop-k-test.true c.loop-k.invariant.stands c.record_sizes-old_sizes.ensures c.record_sizes-new_sizes.ensures c.loop-k.put c.loop-k.out c.args.out.now (file-in c.args.from c.args.to c.args.words.now) c.loop-k.invariant.within c.loop-k.invariant.done g in
+    let i = c.loop-k.invariant in
+    let old = c.record_sizes-old_sizes.ensures in
+    let new = c.record_sizes-new_sizes.ensures in
+    let file = file-in c.args.from c.args.to c.args.words.now in
+    let g : length file ≤ length c.loop-k.out = omega (arith, c.requires.room) in
+    let r = room c.args.to c.loop-k-test.true i.stands old new c.loop-k.put c.loop-k.out c.args.out.now file i.within i.done g in
     record {
-      stands = more c.args.from c.args.to c.args.words.now c.loop-k.k c.loop-k.at c.record_sizes-old_sizes.result c.record_sizes-new_sizes.result c.loop-k-test.true c.loop-k.invariant.stands c.record_sizes-old_sizes.ensures c.record_sizes-new_sizes.ensures;
+      stands = more c.args.to c.loop-k-test.true i.stands old new;
       within = search (rules, r);
-      done = put-done c.args.from c.args.to c.args.words.now c.loop-k.k c.loop-k.at c.record_sizes-old_sizes.result c.record_sizes-new_sizes.result c.loop-k-test.true c.loop-k.invariant.stands c.record_sizes-old_sizes.ensures c.record_sizes-new_sizes.ensures c.loop-k.put c.loop-k.out c.args.out.now (file-in c.args.from c.args.to c.args.words.now) c.loop-k.invariant.within c.loop-k.invariant.done c.put_records.new.out g c.put_records.ensures;
-      stays = put-stays c.args.from c.args.to c.args.words.now c.loop-k.k c.loop-k.at c.record_sizes-old_sizes.result c.record_sizes-new_sizes.result c.loop-k-test.true c.loop-k.invariant.stands c.record_sizes-old_sizes.ensures c.record_sizes-new_sizes.ensures c.loop-k.put c.loop-k.out c.args.out.now (file-in c.args.from c.args.to c.args.words.now) c.loop-k.invariant.within c.loop-k.invariant.done c.put_records.new.out g c.put_records.ensures c.loop-k.invariant.stays;
+      done = put-done c.args.to c.loop-k-test.true i.stands old new c.loop-k.put c.loop-k.out c.args.out.now file i.within i.done c.put_records.new.out g c.put_records.ensures;
+      stays = put-stays c.args.to c.loop-k-test.true i.stands old new c.loop-k.put c.loop-k.out c.args.out.now file i.within i.done c.put_records.new.out g c.put_records.ensures i.stays;
     }
 
 pub returns : goal.returns

@@ -15,6 +15,7 @@ use Rattle.paint.specs.Stepping.{Attributes}
 use Rattle.theorem_picture.specs.Kept.{Refused}
 use Rattle.host.specs.declared.state.SetupWords.{SetupWords}
 use Rattle.host.specs.Asked.{FileWords}
+use Rattle.host.specs.Editions.{two_call, one_call}
 use Rattle.host.specs.Sizes.{size_call}
 use Rattle.host.specs.Reasons.{why_call}
 use Rattle.host.specs.Building.{reset_call, fill_call, push_call, pop_call, filter_call}
@@ -108,3 +109,10 @@ abbrev pub WhyRefused : Type 0
 WhyRefused =
     (f : FileWords) (w : SetupWords) (row tile layer attribute : ℕ) (st : List ℕ) (t : Tables) (old : List ℕ)
     → Refused (why_call f w row tile layer attribute st t old) → (why_call f w row tile layer attribute st t old).value.2 ≡ old
+
+-- the list and the result word
+abbrev pub ToTwoRefused : Type 0
+ToTwoRefused = (ws : List ℕ) (mode : ℕ) (out n : List ℕ) → Refused (two_call ws mode out n) → (two_call ws mode out n).value ≡ (out, n)
+
+abbrev pub ToOneRefused : Type 0
+ToOneRefused = (ws : List ℕ) (mode : ℕ) (out n : List ℕ) → Refused (one_call ws mode out n) → (one_call ws mode out n).value ≡ (out, n)

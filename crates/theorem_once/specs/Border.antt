@@ -26,6 +26,13 @@ screen-words w t = (words_in w, tables_in t)
 abbrev pub recording-words : RecordingHost → FileWords × List ℕ × Tables
 recording-words h = (told h.edition h.file.now, words_in h.state, tables_in h.tables)
 
+-- a conversion: the file, the list, and how many words are written
+abbrev pub conversion-words : List ℕ → List ℕ → ℕ → List ℕ × List ℕ × List ℕ
+conversion-words file out words = (file, out, one words)
+
+abbrev pub conversion-left : List ℕ → ℕ → List ℕ × List ℕ
+conversion-left out words = (out, one words)
+
 abbrev pub pop-words : List ℕ → StateWords → Lent → List ℕ × List ℕ × PopLent
 pop-words segments w t = (segments, words_in w, pop_in t)
 

@@ -102,6 +102,7 @@ static inline const char *coarse_answer_text(uint32_t answer) {
 
 /* Words of one record. An alpha index is the first tile's; a tile has 16. */
 #define COARSE_PAINT 4        /* a paint: 1 if opaque else 0, handle, shift x, shift y */
+#define COARSE_DRAW 8         /* a draw of a list: thread, segments start and end, paint, mix, compose, mask, panel */
 #define COARSE_SEGMENT 5      /* a segment: 0 solid or 1 alpha; row, first tile, end tile of the scene; alpha index or 0 */
 #define COARSE_PIECE 7        /* a piece: a fill's coarse_tag; attribute; first tile, end tile of the screen; alpha index or 0; nesting; panel */
 #define COARSE_RUN 2          /* a run: first, end, in tiles or buckets of the screen's row, as the call says */
@@ -270,6 +271,10 @@ typedef struct coarse_blend { uint32_t mix, compose; } coarse_blend;
  * handle, or 0 for none. */
 typedef struct coarse_draw { uint32_t thread, paint; size_t start, end; coarse_blend blend; uint32_t mask, panel; } coarse_draw;
 
+/* The draws start to end of a list, COARSE_DRAW words each. They are a recording's draws of edition two as they stand in its file, so the words
+ * may be a part of one; they must not overlap a table. */
+typedef struct coarse_draws { const uint32_t *words; size_t words_len; size_t start, end; } coarse_draws;
+
 /* A layer. opacity: the bits of an f32, any; every pattern is kept. flag: 1 with a clip, whose box (bounds, in pixels of the scene), segment
  * range (start to end, places in the list that the pop is lent) and thread follow, or 0 without, and those are not read. */
 typedef struct coarse_props { coarse_blend blend; uint32_t opacity, mask, flag; coarse_rect bounds; uint32_t start, end, thread, panel; } coarse_props;
@@ -325,6 +330,12 @@ uint32_t coarse_to_edition_one(const uint32_t *file, size_t file_len, uint32_t m
 /* Segments of a list, in tiles of the scene, filled with a paint of a paint list. */
 uint32_t coarse_fill(coarse_state *state, coarse_tables *tables, const uint32_t *paints, size_t paints_len,
                      const uint32_t *segments, size_t segments_len, const coarse_draw *draw);
+
+/* As coarse_fill for each of the draws, in order, up to the first that is refused. done: how many fills are done, written on every answer; the
+ * state and the tables are what these leave, also where the next is refused. 4, with none done, where the words are no whole draws, or start is
+ * after end, or end past their count. An empty range is done, and changes nothing. */
+uint32_t coarse_fill_list(coarse_state *state, coarse_tables *tables, const uint32_t *paints, size_t paints_len,
+                          const uint32_t *segments, size_t segments_len, const coarse_draws *draws, size_t *done);
 
 /* Opens a layer. */
 uint32_t coarse_push_layer(coarse_state *state, coarse_tables *tables, const coarse_props *props);

@@ -188,6 +188,48 @@ static inline uint32_t coarse_bucketer_generate_fill(coarse_bucketer *b, const c
                        (const uint32_t *)segments, segment_count * COARSE_SEGMENT, draw);
 }
 
+/* So many draws are handed over at once. */
+#define COARSE_DRAWS_AT_ONCE 64
+
+/* A place of a list as a word; one that no word holds is past the end of any list, and so is the largest word. */
+static inline uint32_t coarse_place(size_t place) {
+    return place < UINT32_MAX ? (uint32_t)place : UINT32_MAX;
+}
+
+static inline void coarse_put_draw(uint32_t *words, const coarse_draw *draw) {
+    words[0] = draw->thread;
+    words[1] = coarse_place(draw->start);
+    words[2] = coarse_place(draw->end);
+    words[3] = draw->paint;
+    words[4] = draw->blend.mix;
+    words[5] = draw->blend.compose;
+    words[6] = draw->mask;
+    words[7] = draw->panel;
+}
+
+/* Rules 3 to 7 for each of an array of draws, in order, up to the first that is refused. done: how many fills are done, written on every answer;
+ * the screen is what these leave, also where the next is refused. */
+static inline uint32_t coarse_bucketer_generate_fills(coarse_bucketer *b, const coarse_paint *paints, size_t paint_count,
+                                                      const coarse_segment *segments, size_t segment_count, const coarse_draw *draws,
+                                                      size_t draw_count, size_t *done) {
+    uint32_t words[COARSE_DRAWS_AT_ONCE * COARSE_DRAW];
+    *done = 0;
+    while (*done < draw_count) {
+        size_t more = draw_count - *done, some = 0, i;
+        size_t count = more < COARSE_DRAWS_AT_ONCE ? more : COARSE_DRAWS_AT_ONCE;
+        coarse_draws list = {words, count * COARSE_DRAW, 0, count};
+        uint32_t answer;
+        for (i = 0; i < count; i++)
+            coarse_put_draw(words + i * COARSE_DRAW, draws + *done + i);
+        answer = coarse_fill_list(&b->state, &b->tables, (const uint32_t *)paints, paint_count * COARSE_PAINT,
+                                  (const uint32_t *)segments, segment_count * COARSE_SEGMENT, &list, &some);
+        *done += some;
+        if (answer != COARSE_DONE)
+            return answer;
+    }
+    return COARSE_DONE;
+}
+
 /* Rule 8. The clip's box is in pixels of the scene. The opacity is kept bit for bit. */
 static inline uint32_t coarse_bucketer_push_layer(coarse_bucketer *b, const coarse_layer_props *props) {
     static const coarse_clip none = {{0, 0, 0, 0}, 0, 0, 0};

@@ -1048,6 +1048,87 @@ static void default_blend(void) {
     expect("fixed", 3, fixed.compose);
 }
 
+/* The same screen by single fills and by a list of them; how many of `count` are done. */
+static size_t listed(coarse_bucketer *single, coarse_bucketer *list, const coarse_draw *draws, size_t count, uint32_t want) {
+    const coarse_segment segments[] = {{0, 0, 0, 64, 0}, {1, 1, 8, 56, 160}, {0, 0, 0, 64, 0}};
+    uint32_t answer = COARSE_DONE;
+    size_t i, done = 99, row;
+    expect("reset", COARSE_DONE, coarse_bucketer_reset(single, (coarse_rect){0, 0, 256, 8}));
+    expect("reset too", COARSE_DONE, coarse_bucketer_reset(list, (coarse_rect){0, 0, 256, 8}));
+    for (i = 0; i < count && answer == COARSE_DONE; i++)
+        answer = coarse_bucketer_generate_fill(single, paints, 2, segments, 3, &draws[i]);
+    expect("one by one", want, answer);
+    expect("as a list", want, coarse_bucketer_generate_fills(list, paints, 2, segments, 3, draws, count, &done));
+    expect("the same state", 0, (uint32_t)(memcmp(&single->state, &list->state, sizeof single->state) != 0));
+    expect("the same attributes", 0,
+           (uint32_t)(memcmp(single->tables.paint_attrs, list->tables.paint_attrs, 4 * single->tables.paint_attrs_len) != 0));
+    expect("painting", COARSE_DONE, coarse_bucketer_begin_painting(single));
+    expect("painting it", COARSE_DONE, coarse_bucketer_begin_painting(list));
+    for (row = 0; row < 2; row++) {
+        const coarse_piece *a, *b;
+        size_t n, m;
+        expect("a row", COARSE_DONE, coarse_bucketer_paint_row(single, row, &a, &n));
+        expect("the other's", COARSE_DONE, coarse_bucketer_paint_row(list, row, &b, &m));
+        expect("as many pieces", (uint32_t)n, (uint32_t)m);
+        expect("the same", 0, (uint32_t)(n == m && memcmp(a, b, n * sizeof *a) != 0));
+    }
+    return done;
+}
+
+/* Lists of fills are single fills up to the first that is refused; more than are handed over at once, too. */
+static void lists(void) {
+    const coarse_draw good = {.start = 0, .end = 2, .paint = 0, .blend = COARSE_DEFAULT_BLEND, .panel = 3};
+    coarse_draw draws[3 * COARSE_DRAWS_AT_ONCE];
+    uint32_t words[2 * COARSE_DRAW] = {0}, paint[COARSE_PAINT] = {1, 7, 0, 0}, segment[COARSE_SEGMENT] = {0, 0, 0, 64, 0};
+    coarse_bucketer single, list;
+    coarse_draws some = {words, 2 * COARSE_DRAW, 0, 2};
+    const size_t most = sizeof draws / sizeof *draws;
+    size_t i, done = 99;
+    const coarse_piece *pieces;
+    size_t count;
+    expect("a screen", COARSE_DONE, coarse_bucketer_new(&single, (coarse_rect){0, 0, 256, 8}, (coarse_setup){200, 200, COARSE_EXACT, COARSE_128}));
+    expect("another", COARSE_DONE, coarse_bucketer_new(&list, (coarse_rect){0, 0, 256, 8}, (coarse_setup){200, 200, COARSE_EXACT, COARSE_128}));
+    for (i = 0; i < most; i++)
+        draws[i] = good;
+    expect("none", 0, (uint32_t)listed(&single, &list, draws, 0, COARSE_DONE));
+    expect("all", (uint32_t)most, (uint32_t)listed(&single, &list, draws, most, COARSE_DONE));
+    for (i = 0; i < most; i += most / 3 - 1) {
+        draws[i].panel = 256;
+        expect("up to one of no panel", (uint32_t)i, (uint32_t)listed(&single, &list, draws, most, COARSE_BAD_RECORD));
+        draws[i] = good;
+    }
+    draws[2].end = SIZE_MAX;
+    expect("up to one that ends nowhere", 2, (uint32_t)listed(&single, &list, draws, most, COARSE_BAD_RECORD));
+    draws[2] = good;
+    draws[1].start = 1, draws[1].end = 3;
+    expect("up to one out of order", 1, (uint32_t)listed(&single, &list, draws, most, COARSE_BAD_ORDER));
+
+    /* The call beneath: its words, its range; an empty one while painting goes on. */
+    coarse_put_draw(words, &good), coarse_put_draw(words + COARSE_DRAW, &good);
+    words[2] = 1, words[COARSE_DRAW + 2] = 1;
+    expect("a whole list", COARSE_DONE, coarse_fill_list(&list.state, &list.tables, paint, COARSE_PAINT, segment, COARSE_SEGMENT, &some, &done));
+    expect("of two", 2, (uint32_t)done);
+    some.words_len--;
+    expect("a word short", COARSE_BAD_RECORD, coarse_fill_list(&list.state, &list.tables, paint, COARSE_PAINT, segment, COARSE_SEGMENT, &some, &done));
+    expect("none done", 0, (uint32_t)done);
+    some.words_len++, some.start = 2, some.end = 1, done = 99;
+    expect("backwards", COARSE_BAD_RECORD, coarse_fill_list(&list.state, &list.tables, paint, COARSE_PAINT, segment, COARSE_SEGMENT, &some, &done));
+    expect("none then", 0, (uint32_t)done);
+    some.start = 0, some.end = 3, done = 99;
+    expect("past its end", COARSE_BAD_RECORD, coarse_fill_list(&list.state, &list.tables, paint, COARSE_PAINT, segment, COARSE_SEGMENT, &some, &done));
+    expect("none there", 0, (uint32_t)done);
+    expect("painting", COARSE_DONE, coarse_bucketer_begin_painting(&list));
+    some.start = 2, some.end = 2, done = 99;
+    expect("an empty range", COARSE_DONE, coarse_fill_list(&list.state, &list.tables, paint, COARSE_PAINT, segment, COARSE_SEGMENT, &some, &done));
+    expect("is none", 0, (uint32_t)done);
+    expect("and painting goes on", COARSE_DONE, coarse_bucketer_paint_row(&list, 0, &pieces, &count));
+    some.start = 1;
+    expect("one fill", COARSE_DONE, coarse_fill_list(&list.state, &list.tables, paint, COARSE_PAINT, segment, COARSE_SEGMENT, &some, &done));
+    expect("ends it", COARSE_OPEN, coarse_bucketer_paint_row(&list, 0, &pieces, &count));
+    coarse_bucketer_free(&single);
+    coarse_bucketer_free(&list);
+}
+
 int main(void) {
     null_pointers();
     owned_tables();
@@ -1061,6 +1142,7 @@ int main(void) {
     coordinates();
     named_sizes();
     panels();
+    lists();
     editions();
     conversions();
     stored_commands();

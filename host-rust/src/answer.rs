@@ -141,3 +141,24 @@ impl From<Answer> for std::io::Error {
         Self::new(std::io::ErrorKind::InvalidInput, answer)
     }
 }
+
+/// Where a list of fills stopped: see [`CommandBucketer::generate_fills`](crate::CommandBucketer::generate_fills).
+#[derive(Debug, Clone, Copy, PartialEq, Eq, Hash)]
+pub struct Stopped {
+    /// How many fills are done.
+    pub done: usize,
+    /// Why the next one is refused.
+    pub answer: Answer,
+}
+
+impl fmt::Display for Stopped {
+    fn fmt(&self, f: &mut fmt::Formatter<'_>) -> fmt::Result {
+        write!(f, "fill {}: {}", self.done, self.answer)
+    }
+}
+
+impl core::error::Error for Stopped {
+    fn source(&self) -> Option<&(dyn core::error::Error + 'static)> {
+        Some(&self.answer)
+    }
+}

@@ -1,6 +1,6 @@
 //! A screen that owns its tables.
 
-use crate::answer::Answer;
+use crate::answer::{Answer, Stopped};
 use crate::canvas::{Brush, Canvas, Piece, Runs};
 use crate::input::{
     Edition, FilterLayerPlacement, LayerProps, Paint, RecordedFill, Rect, Segment, Setup, Width,
@@ -24,6 +24,25 @@ pub(crate) const OPEN_LAYER: usize = 17;
 
 /// The most layers open at once. Their opacities stand before those of the layer attributes.
 pub(crate) const MOST_LAYERS: usize = 16;
+
+/// A place of a list as a word; one that no word holds is past the end of any list, and so is the largest word.
+fn place(place: usize) -> u32 {
+    u32::try_from(place).unwrap_or(u32::MAX)
+}
+
+/// The words of a draw in a list, as `include/coarse.h` has them.
+fn draw_words(fill: &RecordedFill) -> [u32; 8] {
+    [
+        fill.thread_idx,
+        place(fill.start),
+        place(fill.end),
+        fill.paint,
+        fill.blend_mode.mix,
+        fill.blend_mode.compose,
+        fill.mask,
+        fill.panel,
+    ]
+}
 
 /// A record of `repr(C)` with 32-bit fields alone, as words.
 fn paint_words(paints: &[Paint]) -> (*const u32, usize) {
@@ -392,6 +411,53 @@ impl CommandBucketer {
                 &draw,
             )
         })
+    }
+
+    /// [`generate_fill`](Self::generate_fill) for each of the fills, in order, up to the first that is refused; the fills before it stand.
+    ///
+    /// ```
+    /// use coarse::{Answer, CommandBucketer, Paint, RecordedFill, Segment, Setup};
+    ///
+    /// let mut screen = CommandBucketer::from_wh(512, 4, Setup::new(64, 64))?;
+    /// let segments = [Segment::solid(0, 0, 128), Segment::solid(0, 20, 70)];
+    /// let fill = |i, panel| RecordedFill { start: i, end: i + 1, panel, ..RecordedFill::default() };
+    /// let fills = [fill(0, 3), fill(1, 256)];
+    /// let stopped = screen.generate_fills(&[Paint::new(true, 1)], &segments, &fills).unwrap_err();
+    /// assert_eq!((stopped.done, stopped.answer), (1, Answer::BadRecord));
+    /// assert_eq!(screen.paint_attrs().len(), 1);
+    /// # Ok::<(), Answer>(())
+    /// ```
+    ///
+    /// # Errors
+    /// [`Stopped`] says how many fills are done, and why the next is refused, as [`generate_fill`](Self::generate_fill) refuses it.
+    pub fn generate_fills(
+        &mut self,
+        paints: &[Paint],
+        segments: &[Segment],
+        fills: &[RecordedFill],
+    ) -> Result<(), Stopped> {
+        let words: Vec<u32> = fills.iter().flat_map(draw_words).collect();
+        let (paints, paints_len) = paint_words(paints);
+        let (segments, segments_len) = segment_words(segments);
+        let draws = sys::DrawsWords {
+            words: sys::Read::of(&words),
+            start: 0,
+            end: fills.len(),
+        };
+        let mut done = 0;
+        Answer::check(unsafe {
+            sys::coarse_fill_list(
+                &mut self.state,
+                &mut self.lent,
+                paints,
+                paints_len,
+                segments,
+                segments_len,
+                &draws,
+                &mut done,
+            )
+        })
+        .map_err(|answer| Stopped { done, answer })
     }
 
     /// Rule 8: opens a layer. The clip's box is in pixels of the scene; its segments are read at the pop.

@@ -77,7 +77,7 @@ mod stored;
 mod sys;
 mod version;
 
-pub use answer::Answer;
+pub use answer::{Answer, Stopped};
 pub use bucketer::{split_opaque_span, CommandBucketer};
 pub use canvas::{Canvas, Piece, Runs};
 pub use editions::{to_edition_one, to_edition_two};

@@ -70,6 +70,15 @@ impl<T> Clone for Read<T> {
     }
 }
 
+impl<T> Read<T> {
+    pub fn of(words: &[T]) -> Self {
+        Self {
+            at: words.as_ptr(),
+            len: words.len(),
+        }
+    }
+}
+
 impl<T> Lent<T> {
     pub fn of(words: &mut [T]) -> Self {
         Self {
@@ -116,6 +125,15 @@ pub struct TableWords {
     pub paint_attrs: Lent<u32>,
     pub layer_attrs: Lent<u32>,
     pub filter_paints: Lent<i32>,
+}
+
+/// Draws `start` to `end` of a list, as they cross.
+#[repr(C)]
+#[derive(Clone, Copy, Debug)]
+pub struct DrawsWords {
+    pub words: Read<u32>,
+    pub start: usize,
+    pub end: usize,
 }
 
 /// What painting only reads.
@@ -367,6 +385,17 @@ extern "C" {
         segments: *const u32,
         segments_len: usize,
         draw: *const DrawWords,
+    ) -> u32;
+
+    pub fn coarse_fill_list(
+        state: *mut StateWords,
+        tables: *mut TableWords,
+        paints: *const u32,
+        paints_len: usize,
+        segments: *const u32,
+        segments_len: usize,
+        draws: *const DrawsWords,
+        done: *mut usize,
     ) -> u32;
 
     pub fn coarse_push_layer(

@@ -883,6 +883,73 @@ fn nested() -> CommandBucketer {
     bucketer
 }
 
+/// Lists of fills are single fills, up to the first that is refused: at the first, a middle and the last, and none.
+#[test]
+fn a_list_is_its_fills() {
+    let screen = || CommandBucketer::from_wh(256, 8, Setup::new(64, 64)).unwrap();
+    let paints = [Paint::new(true, 1), Paint::new(false, 2)];
+    let segments = [
+        Segment::solid(0, 0, 64),
+        Segment::alpha(1, 8, 56, 160),
+        Segment::solid(0, 3, 9),
+    ];
+    let good = [fill(0, 2, 0), fill(0, 1, 1), fill(1, 2, 0), fill(2, 3, 1)];
+    let refused = [
+        (fill(0, 4, 0), Answer::BadRecord),
+        (fill(0, usize::MAX, 0), Answer::BadRecord),
+        (fill(0, 1, 2), Answer::BadRecord),
+        (fill(1, 3, 0), Answer::BadOrder),
+    ];
+    let mut lists = vec![(good.to_vec(), None), (Vec::new(), None)];
+    for at in 0..good.len() {
+        for (bad, answer) in refused {
+            let mut fills = good.to_vec();
+            fills[at] = bad;
+            lists.push((fills, Some(Stopped { done: at, answer })));
+        }
+    }
+    for (fills, stopped) in lists {
+        let (mut single, mut list) = (screen(), screen());
+        let one_by_one = fills.iter().enumerate().try_for_each(|(done, fill)| {
+            single
+                .generate_fill(&paints, &segments, fill)
+                .map_err(|answer| Stopped { done, answer })
+        });
+        assert_eq!(one_by_one.err(), stopped);
+        assert_eq!(
+            list.generate_fills(&paints, &segments, &fills).err(),
+            stopped
+        );
+        single.begin_painting().unwrap();
+        list.begin_painting().unwrap();
+        for row in 0..2 {
+            assert_eq!(painted(&mut list, row), painted(&mut single, row));
+        }
+        assert!(list.paint_attrs().eq(single.paint_attrs()));
+        if let Some(stopped) = stopped {
+            let said = stopped.to_string();
+            assert!(
+                said.starts_with(&format!("fill {}: refused ", stopped.done)),
+                "{said}"
+            );
+        }
+    }
+}
+
+/// An empty list judges nothing, and painting goes on; one fill ends it.
+#[test]
+fn an_empty_list_leaves_painting_alone() {
+    let mut screen = CommandBucketer::from_wh(256, 8, Setup::new(64, 64)).unwrap();
+    let bad = vec![Paint::new(true, 1); 4_097];
+    screen.begin_painting().unwrap();
+    screen.generate_fills(&bad, &[], &[]).unwrap();
+    assert_eq!(screen.paint_row(0).unwrap(), []);
+    screen
+        .generate_fills(&bad[..1], &[], &[fill(0, 0, 0)])
+        .unwrap();
+    assert_eq!(screen.paint_row(0), Err(Answer::Open));
+}
+
 #[test]
 fn a_row_is_its_steps() {
     let mut by_steps = nested();

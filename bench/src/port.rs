@@ -64,6 +64,13 @@ impl Port {
         }
     }
 
+    /// The fills of a scene that has nothing else, by one call.
+    pub(crate) fn fill_list(&mut self) {
+        self.bucketer
+            .generate_fills(&self.paints, &self.segments, &self.draws)
+            .expect("fills within the limits");
+    }
+
     /// The depth fills of all rows.
     pub(crate) fn depth_fills(&self) -> usize {
         let rows = self.bucketer.rows();

@@ -436,11 +436,11 @@ impl CommandBucketer {
         segments: &[Segment],
         fills: &[RecordedFill],
     ) -> Result<(), Stopped> {
-        let words: Vec<u32> = fills.iter().flat_map(draw_words).collect();
+        let words: Vec<[u32; 8]> = fills.iter().map(draw_words).collect();
         let (paints, paints_len) = paint_words(paints);
         let (segments, segments_len) = segment_words(segments);
         let draws = sys::DrawsWords {
-            words: sys::Read::of(&words),
+            words: sys::Read::of(words.as_flattened()),
             start: 0,
             end: fills.len(),
         };

@@ -38,10 +38,12 @@ int main(void) {
     /* Both are opaque. The banner has the whole row, the panel tiles 20 to 70: all of bucket 1, and a part of 0 and of 2. */
     const coarse_paint paints[] = {{1, 1, 0, 0}, {1, 2, 0, 0}};
     const coarse_segment segments[] = {{0, 0, 0, 128, 0}, {0, 0, 20, 70, 0}};
-    const coarse_draw banner = {.start = 0, .end = 1, .paint = 0, .blend = COARSE_DEFAULT_BLEND, .panel = STATUS};
-    const coarse_draw panel = {.start = 1, .end = 2, .paint = 1, .blend = COARSE_DEFAULT_BLEND, .panel = DIALOGS};
-    must(coarse_bucketer_generate_fill(&screen, paints, 2, segments, 2, &banner));
-    must(coarse_bucketer_generate_fill(&screen, paints, 2, segments, 2, &panel));
+    const coarse_draw fills[] = {
+        {.start = 0, .end = 1, .paint = 0, .blend = COARSE_DEFAULT_BLEND, .panel = STATUS},
+        {.start = 1, .end = 2, .paint = 1, .blend = COARSE_DEFAULT_BLEND, .panel = DIALOGS},
+    };
+    size_t done;
+    must(coarse_bucketer_generate_fills(&screen, paints, 2, segments, 2, fills, 2, &done));
 
     /* The row is painted to its end. A piece says which module drew it. */
     const coarse_piece *pieces;

@@ -53,7 +53,7 @@ enum coarse_answer {
     COARSE_DONE = 0,
     COARSE_BAD_ARENA = 1,    /* render_cmds, depth_cmds or depth of a wrong length, or C or D not from 1 to 1,024 */
     COARSE_BAD_VIEWPORT = 2, /* as the mode reads it: a side no multiple of 4, an end before its start, past 32,768, wider than 4,096, higher than 2,048; or a bucket's width that is none */
-    COARSE_BAD_FORM = 3,     /* a recording that is not exactly its sections */
+    COARSE_BAD_FORM = 3,     /* a recording that is not exactly its sections in the edition that it is told to be of, or an edition that is none */
     COARSE_BAD_RECORD = 4,   /* a field out of bounds, a table of a wrong length, a state that is no screen's */
     COARSE_BAD_ORDER = 5,    /* a segment list out of order */
     COARSE_DEEP = 6,         /* a push with 16 layers open */
@@ -64,7 +64,8 @@ enum coarse_answer {
     COARSE_FULL_DEPTH = 11,  /* a row's depth fills pass D */
     COARSE_BAD_RUN = 12,     /* no such row, tile or command, a range out of order or past its end, or id 0 where it is written */
     COARSE_OPEN = 13,        /* painting with a layer open, or a step with painting not begun */
-    COARSE_NO_ROOM = 14      /* the list is shorter than the result */
+    COARSE_NO_ROOM = 14,     /* the list is shorter than the result */
+    COARSE_HAS_PANELS = 15   /* towards edition one: a draw or a layer has a panel that is not 0 */
 };
 
 /* No answer of the library: the one number that coarse_bucketer.h and coarse_recorder.h add. Memory could not be had. */
@@ -76,7 +77,7 @@ static inline const char *coarse_answer_text(uint32_t answer) {
     case COARSE_DONE: return "Done: the call was carried out";
     case COARSE_BAD_ARENA: return "BadArena: the table of render commands, depth fills or depth words has another length than the screen needs, or C or D is not from 1 to 1,024";
     case COARSE_BAD_VIEWPORT: return "BadViewport: the viewport is not made of multiples of 4 in order up to 32,768, or is wider than 4,096 or higher than 2,048, or a bucket's width is not 64, 128 or 256";
-    case COARSE_BAD_FORM: return "BadForm: the recording is not exactly its counted sections, or a count is out of range";
+    case COARSE_BAD_FORM: return "BadForm: the recording is not exactly the counted sections of its edition, or a count is out of range, or there is no such edition";
     case COARSE_BAD_RECORD: return "BadRecord: a field, a range or a table that the call reads is out of bounds";
     case COARSE_BAD_ORDER: return "BadOrder: a segment list is not in order, or its segments overlap";
     case COARSE_DEEP: return "Deep: 16 layers are open already";
@@ -88,6 +89,7 @@ static inline const char *coarse_answer_text(uint32_t answer) {
     case COARSE_BAD_RUN: return "BadRun: no such row, tile or command, or a range out of order or past its limit, or id 0 where an id is written";
     case COARSE_OPEN: return "Open: a layer is still open, or painting has not begun";
     case COARSE_NO_ROOM: return "NoRoom: the result list is shorter than the result";
+    case COARSE_HAS_PANELS: return "HasPanels: a draw or a layer has a panel that is not 0, and edition one has none";
     case COARSE_NO_MEMORY: return "NoMemory: out of memory, and nothing has changed";
     default: return "an answer that no call of this library gives";
     }
@@ -95,11 +97,12 @@ static inline const char *coarse_answer_text(uint32_t answer) {
 
 /* A panel: the number, 0 to 255, of the program module that drew a fill or a layer. It goes with the draw or the layer to its attribute,
  * to each painted piece and to each reason; nothing else depends on it. A filter fill takes its layer's panel. Above 255 is answer 4, in a
- * call and in a table's words. A recording has none: all its draws and layers have panel 0. */
+ * call, in a table's words and in a recording. A recording of edition one has none: all its draws and layers have panel 0. */
 #define COARSE_LAST_PANEL 255
 
 /* Words of one record. An alpha index is the first tile's; a tile has 16. */
 #define COARSE_PAINT 4        /* a paint: 1 if opaque else 0, handle, shift x, shift y */
+#define COARSE_DRAW 8         /* a draw of a list: thread, segments start and end, paint, mix, compose, mask, panel */
 #define COARSE_SEGMENT 5      /* a segment: 0 solid or 1 alpha; row, first tile, end tile of the scene; alpha index or 0 */
 #define COARSE_PIECE 7        /* a piece: a fill's coarse_tag; attribute; first tile, end tile of the screen; alpha index or 0; nesting; panel */
 #define COARSE_RUN 2          /* a run: first, end, in tiles or buckets of the screen's row, as the call says */
@@ -156,10 +159,15 @@ enum coarse_mode {
 /* How many pixels wide a depth bucket is. Narrow ones hide more on small panels, wide ones cost less on large screens. */
 enum coarse_width { COARSE_64 = 64, COARSE_128 = 128, COARSE_256 = 256 };
 
+/* The edition of a recording file. It is told with the file, and nothing of the words says it. In edition two there stand a 1 and a 2 before
+ * the sections, and a panel's word at the end of each draw (8 words in place of 7) and of each layer (23 in place of 22). */
+enum coarse_edition { COARSE_EDITION_ONE = 1, COARSE_EDITION_TWO = 2 };
+#define COARSE_EDITION_TWO_MORE (2 + 2 * 4096)
+
 /* What a screen is asked to be, by value: room for c render commands and d depth fills in a row, the mode, and the width of its buckets.
  * The screen holds the viewport as the mode reads it, the width, and no mode. A width that is none of the three is answer 2; then a mode
- * above 1 is answer 4, before the viewport's 2 and before 1: there is no viewport to judge. A recording's 3 comes before both. Nothing
- * changes then. */
+ * above 1 is answer 4, before the viewport's 2 and before 1: there is no viewport to judge. A recording's 3 comes before both, first for an
+ * edition that is none, then for its form. Nothing changes then. */
 typedef struct coarse_setup { uint32_t c, d, mode, width; } coarse_setup;
 
 /* Why an attribute is shown at a tile or not: the first that holds. With every case but the first comes the attribute's panel. */
@@ -263,6 +271,10 @@ typedef struct coarse_blend { uint32_t mix, compose; } coarse_blend;
  * handle, or 0 for none. */
 typedef struct coarse_draw { uint32_t thread, paint; size_t start, end; coarse_blend blend; uint32_t mask, panel; } coarse_draw;
 
+/* The draws start to end of a list, COARSE_DRAW words each. They are a recording's draws of edition two as they stand in its file, so the words
+ * may be a part of one; they must not overlap a table. */
+typedef struct coarse_draws { const uint32_t *words; size_t words_len; size_t start, end; } coarse_draws;
+
 /* A layer. opacity: the bits of an f32, any; every pattern is kept. flag: 1 with a clip, whose box (bounds, in pixels of the scene), segment
  * range (start to end, places in the list that the pop is lent) and thread follow, or 0 without, and those are not read. */
 typedef struct coarse_props { coarse_blend blend; uint32_t opacity, mask, flag; coarse_rect bounds; uint32_t start, end, thread, panel; } coarse_props;
@@ -293,20 +305,37 @@ uint32_t coarse_sizes(coarse_rect viewport, coarse_setup setup, coarse_lengths *
 /* A fresh screen of this viewport, in pixels of the scene, in a setup: every lent word is 0. */
 uint32_t coarse_reset(coarse_state *state, coarse_rect viewport, coarse_setup setup, coarse_tables *tables);
 
-/* A recording, as the little-endian words of its file, bucketed from a fresh screen of its own viewport in a setup. The tables have
- * the lengths that coarse_sizes gives for that. The file's viewport and boxes are in pixels, its segments in tiles, all of the
- * scene. */
-uint32_t coarse_bucket_recording(coarse_state *state, const uint32_t *file, size_t file_len, coarse_setup setup, coarse_tables *tables);
+/* A recording, as the little-endian words of its file, of a coarse_edition, bucketed from a fresh screen of its own viewport in a setup. The
+ * tables have the lengths that coarse_sizes gives for that. The file's viewport and boxes are in pixels, its segments in tiles, all of the
+ * scene. An edition that is neither 1 nor 2 is answer 3 before all else. */
+uint32_t coarse_bucket_recording(coarse_state *state, uint32_t edition, const uint32_t *file, size_t file_len, coarse_setup setup,
+                                 coarse_tables *tables);
 
 /* Why does this tile show that? A recording is bucketed as by coarse_bucket_recording, and answers for one attribute at one row and
  * tile of its screen. The answer is the recording's own, then 12 for a row or tile off the screen; the state and the tables are what
  * coarse_bucket_recording leaves. The reason is written only with answer 0. */
-uint32_t coarse_why(coarse_state *state, const uint32_t *file, size_t file_len, coarse_setup setup,
+uint32_t coarse_why(coarse_state *state, uint32_t edition, const uint32_t *file, size_t file_len, coarse_setup setup,
                     const coarse_question *question, coarse_tables *tables, coarse_reason *reason);
+
+/* A recording of edition one as one of edition two, each panel 0: its words at the start of `out`, and how many they are. They say the same
+ * recording: the viewport's numbers stand as they are given, whatever the mode, and so do all others. Nothing is bucketed, but every record is
+ * judged: refused by 3; by 2 for a viewport that is bad as the mode reads it; by 4 and by 5; then by 14 where `out` is shorter than the result,
+ * which has COARSE_EDITION_TWO_MORE words more than the file at most. A mode above 1 is answer 4 after 3. Refused, `out` and `words` stay. */
+uint32_t coarse_to_edition_two(const uint32_t *file, size_t file_len, uint32_t mode, uint32_t *out, size_t out_len, size_t *words);
+
+/* A recording of edition two as one of edition one, likewise, with fewer words than the file: refused also by 15, before 14, where a draw or a
+ * layer has a panel that is not 0, whether anything names it or not. */
+uint32_t coarse_to_edition_one(const uint32_t *file, size_t file_len, uint32_t mode, uint32_t *out, size_t out_len, size_t *words);
 
 /* Segments of a list, in tiles of the scene, filled with a paint of a paint list. */
 uint32_t coarse_fill(coarse_state *state, coarse_tables *tables, const uint32_t *paints, size_t paints_len,
                      const uint32_t *segments, size_t segments_len, const coarse_draw *draw);
+
+/* As coarse_fill for each of the draws, in order, up to the first that is refused. done: how many fills are done, written on every answer; the
+ * state and the tables are what these leave, also where the next is refused. 4, with none done, where the words are no whole draws, or start is
+ * after end, or end past their count. An empty range is done, and changes nothing. */
+uint32_t coarse_fill_list(coarse_state *state, coarse_tables *tables, const uint32_t *paints, size_t paints_len,
+                          const uint32_t *segments, size_t segments_len, const coarse_draws *draws, size_t *done);
 
 /* Opens a layer. */
 uint32_t coarse_push_layer(coarse_state *state, coarse_tables *tables, const coarse_props *props);

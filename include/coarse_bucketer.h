@@ -131,11 +131,12 @@ static inline void coarse_bucketer_free(coarse_bucketer *b) {
 }
 
 /* The bucketer for a recording: with tables of its own where the file's viewport asks for other lengths than `b` has. */
-static inline uint32_t coarse_bucketer_for(const coarse_bucketer *b, const uint32_t *file, size_t words, coarse_bucketer *next) {
+static inline uint32_t coarse_bucketer_for(const coarse_bucketer *b, uint32_t edition, const uint32_t *file, size_t words, coarse_bucketer *next) {
     coarse_lengths sizes;
+    size_t at = edition == COARSE_EDITION_TWO ? 3 : 1; /* after the viewport's count, and in edition two two words more */
     *next = *b;
-    if (words > 4) {
-        coarse_rect v = {file[1], file[2], file[3], file[4]};
+    if (words > at + 3) {
+        coarse_rect v = {file[at], file[at + 1], file[at + 2], file[at + 3]};
         if (coarse_sizes(v, b->setup, &sizes) == COARSE_DONE && memcmp(&sizes, &b->sizes, sizeof sizes) != 0)
             return coarse_bucketer_tables(next, &sizes);
     }
@@ -156,27 +157,27 @@ static inline uint32_t coarse_bucketer_keep(coarse_bucketer *b, const coarse_buc
     return answer;
 }
 
-/* Rule 2: the words of a recording file, on a fresh screen of its own viewport. Its viewport and boxes are in pixels, its segments
- * in tiles, all of the scene. */
-static inline uint32_t coarse_bucketer_bucket_commands(coarse_bucketer *b, const uint32_t *file, size_t words) {
+/* Rule 2: the words of a recording file, of a coarse_edition, on a fresh screen of its own viewport. Its viewport and boxes are in pixels,
+ * its segments in tiles, all of the scene. */
+static inline uint32_t coarse_bucketer_bucket_commands(coarse_bucketer *b, uint32_t edition, const uint32_t *file, size_t words) {
     coarse_bucketer next;
-    uint32_t answer = coarse_bucketer_for(b, file, words, &next);
+    uint32_t answer = coarse_bucketer_for(b, edition, file, words, &next);
     if (answer != COARSE_DONE)
         return answer;
-    answer = coarse_bucket_recording(&next.state, file, words, next.setup, &next.tables);
+    answer = coarse_bucket_recording(&next.state, edition, file, words, next.setup, &next.tables);
     return coarse_bucketer_keep(b, &next, answer);
 }
 
-/* Buckets a recording's words, and says why an attribute (a layer's where `layer` is not 0, else a draw's) is shown at a row and
+/* Buckets a recording's words, of a coarse_edition, and says why an attribute (a layer's where `layer` is not 0, else a draw's) is shown at a row and
  * tile of its screen or not. The screen is left as coarse_bucketer_bucket_commands leaves it, with 12 too. */
-static inline uint32_t coarse_bucketer_why(coarse_bucketer *b, const uint32_t *file, size_t words, uint32_t row, uint32_t tile, int layer,
-                                           uint32_t attribute, coarse_reason *reason) {
+static inline uint32_t coarse_bucketer_why(coarse_bucketer *b, uint32_t edition, const uint32_t *file, size_t words, uint32_t row,
+                                           uint32_t tile, int layer, uint32_t attribute, coarse_reason *reason) {
     coarse_bucketer next;
     coarse_question question = {row, tile, layer != 0, attribute};
-    uint32_t answer = coarse_bucketer_for(b, file, words, &next);
+    uint32_t answer = coarse_bucketer_for(b, edition, file, words, &next);
     if (answer != COARSE_DONE)
         return answer;
-    answer = coarse_why(&next.state, file, words, next.setup, &question, &next.tables, reason);
+    answer = coarse_why(&next.state, edition, file, words, next.setup, &question, &next.tables, reason);
     return coarse_bucketer_keep(b, &next, answer);
 }
 
@@ -185,6 +186,48 @@ static inline uint32_t coarse_bucketer_generate_fill(coarse_bucketer *b, const c
                                                      const coarse_segment *segments, size_t segment_count, const coarse_draw *draw) {
     return coarse_fill(&b->state, &b->tables, (const uint32_t *)paints, paint_count * COARSE_PAINT,
                        (const uint32_t *)segments, segment_count * COARSE_SEGMENT, draw);
+}
+
+/* So many draws are handed over at once. */
+#define COARSE_DRAWS_AT_ONCE 64
+
+/* A place of a list as a word; one that no word holds is past the end of any list, and so is the largest word. */
+static inline uint32_t coarse_place(size_t place) {
+    return place < UINT32_MAX ? (uint32_t)place : UINT32_MAX;
+}
+
+static inline void coarse_put_draw(uint32_t *words, const coarse_draw *draw) {
+    words[0] = draw->thread;
+    words[1] = coarse_place(draw->start);
+    words[2] = coarse_place(draw->end);
+    words[3] = draw->paint;
+    words[4] = draw->blend.mix;
+    words[5] = draw->blend.compose;
+    words[6] = draw->mask;
+    words[7] = draw->panel;
+}
+
+/* Rules 3 to 7 for each of an array of draws, in order, up to the first that is refused. done: how many fills are done, written on every answer;
+ * the screen is what these leave, also where the next is refused. */
+static inline uint32_t coarse_bucketer_generate_fills(coarse_bucketer *b, const coarse_paint *paints, size_t paint_count,
+                                                      const coarse_segment *segments, size_t segment_count, const coarse_draw *draws,
+                                                      size_t draw_count, size_t *done) {
+    uint32_t words[COARSE_DRAWS_AT_ONCE * COARSE_DRAW];
+    *done = 0;
+    while (*done < draw_count) {
+        size_t more = draw_count - *done, some = 0, i;
+        size_t count = more < COARSE_DRAWS_AT_ONCE ? more : COARSE_DRAWS_AT_ONCE;
+        coarse_draws list = {words, count * COARSE_DRAW, 0, count};
+        uint32_t answer;
+        for (i = 0; i < count; i++)
+            coarse_put_draw(words + i * COARSE_DRAW, draws + *done + i);
+        answer = coarse_fill_list(&b->state, &b->tables, (const uint32_t *)paints, paint_count * COARSE_PAINT,
+                                  (const uint32_t *)segments, segment_count * COARSE_SEGMENT, &list, &some);
+        *done += some;
+        if (answer != COARSE_DONE)
+            return answer;
+    }
+    return COARSE_DONE;
 }
 
 /* Rule 8. The clip's box is in pixels of the scene. The opacity is kept bit for bit. */

@@ -1,13 +1,13 @@
-/* A recorder: what a host draws by direct calls, kept as the words of a recording file, which coarse_bucketer_bucket_commands and
- * coarse_bucketer_why take. So a host that draws by direct calls can ask why a tile shows what it shows: it records what it draws.
+/* A recorder: what a host draws by direct calls, kept as the words of a recording file of edition one, which coarse_bucketer_bucket_commands
+ * and coarse_bucketer_why take. So a host that draws by direct calls can ask why a tile shows what it shows: it records what it draws.
  *
  * A record is refused at once by the number that the file would be refused by, where that is known at once: COARSE_BAD_FORM where its
  * section has 4,096 records already, then COARSE_BAD_RECORD for a field that is out of bounds or a place that nothing is recorded at yet,
  * then COARSE_BAD_ORDER for segments out of order. COARSE_DEEP and COARSE_NO_LAYER are as in direct calls, and COARSE_NO_MEMORY is where
  * memory ran out. Refused, nothing has changed. All else is said when the words are bucketed: the viewport, ids, attributes, rooms.
  *
- * Boxes are in pixels and segments in tiles, all of the scene. A recording has no panels: one above 255 is COARSE_BAD_RECORD, and
- * any other is not kept. */
+ * Boxes are in pixels and segments in tiles, all of the scene. A recording of edition one has no panels: one above 255 is
+ * COARSE_BAD_RECORD, and any other is not kept. */
 #ifndef COARSE_RECORDER_H
 #define COARSE_RECORDER_H
 
@@ -258,7 +258,7 @@ static inline uint32_t *coarse_recorder_section(uint32_t *at, size_t size, const
     return at + (both - one->count) * size;
 }
 
-/* The words of the recording file, which stand until the next call of the recorder; more may be recorded after it. COARSE_OPEN with a layer
+/* The words of the recording file, of edition one, which stand until the next call of the recorder; more may be recorded after it. COARSE_OPEN with a layer
  * open. In a file they are little-endian. */
 static inline uint32_t coarse_recorder_words(coarse_recorder *r, const uint32_t **file, size_t *words) {
     size_t nodes = r->nodes.count + r->pending.count;
@@ -288,7 +288,7 @@ static inline uint32_t coarse_recorder_bucket(coarse_recorder *r, coarse_buckete
     const uint32_t *file;
     size_t words;
     uint32_t answer = coarse_recorder_words(r, &file, &words);
-    return answer == COARSE_DONE ? coarse_bucketer_bucket_commands(b, file, words) : answer;
+    return answer == COARSE_DONE ? coarse_bucketer_bucket_commands(b, COARSE_EDITION_ONE, file, words) : answer;
 }
 
 /* Why what is recorded shows an attribute at a tile or not, as coarse_bucketer_why says it: the screen is left bucketed. A host that wants
@@ -298,7 +298,7 @@ static inline uint32_t coarse_recorder_why(coarse_recorder *r, coarse_bucketer *
     const uint32_t *file;
     size_t words;
     uint32_t answer = coarse_recorder_words(r, &file, &words);
-    return answer == COARSE_DONE ? coarse_bucketer_why(b, file, words, row, tile, layer, attribute, reason) : answer;
+    return answer == COARSE_DONE ? coarse_bucketer_why(b, COARSE_EDITION_ONE, file, words, row, tile, layer, attribute, reason) : answer;
 }
 
 #endif

@@ -58,7 +58,7 @@ static void null_pointers(void) {
     expect("its count stays", 7, (uint32_t)count);
     expect("spans of no row", COARSE_BAD_RUN, coarse_visible_spans(&state, &canvas, 0, (coarse_span){0, 4}, 1, NULL, 0, &count));
     expect("their count stays", 7, (uint32_t)count);
-    expect("a recording of no words", COARSE_BAD_FORM, coarse_bucket_recording(&state, NULL, 0, one, &tables));
+    expect("a recording of no words", COARSE_BAD_FORM, coarse_bucket_recording(&state, COARSE_EDITION_ONE, NULL, 0, one, &tables));
     free(layers), free(paint_attrs), free(layer_attrs), free(opacities), free(filter_paints);
 }
 
@@ -117,7 +117,7 @@ static uint32_t filter_fill(coarse_bucketer *b, uint32_t has_pixmap, uint32_t pi
 static uint32_t why(coarse_bucketer *b, const uint32_t *file, size_t words, coarse_setup setup, uint32_t layer) {
     coarse_question question = {0, 0, layer, 0};
     coarse_reason result;
-    return coarse_why(&b->state, file, words, setup, &question, &b->tables, &result);
+    return coarse_why(&b->state, COARSE_EDITION_ONE, file, words, setup, &question, &b->tables, &result);
 }
 
 /* A reset of the screen that it is, in any setup. */
@@ -127,7 +127,7 @@ static uint32_t reset(coarse_bucketer *b, coarse_rect v, coarse_setup setup) {
 
 /* A recording into its tables, in any setup. */
 static uint32_t record(coarse_bucketer *b, const uint32_t *file, size_t words, coarse_setup setup) {
-    return coarse_bucket_recording(&b->state, file, words, setup, &b->tables);
+    return coarse_bucket_recording(&b->state, COARSE_EDITION_ONE, file, words, setup, &b->tables);
 }
 
 /* All words of a bucketer, as one number that a change of any changes. */
@@ -188,11 +188,11 @@ static void snapped_screen(void) {
     /* A recording's viewport is read in the bucketer's mode: 510 x 3 pixels are 128 tiles of one row. */
     const uint32_t file[] = {1, 0, 0, 510, 3, 1, 1, 1, 0, 0, 1, 0, 0, 0, 128, 0, 1, 0, 0, 1, 0, 0, 3, 0, 0, 1, 0, 1, 0, 1, 0, 1};
     coarse_reason reason = {7, 7, 7, 7};
-    expect("a recording", COARSE_DONE, coarse_bucketer_bucket_commands(&b, file, 32));
+    expect("a recording", COARSE_DONE, coarse_bucketer_bucket_commands(&b, COARSE_EDITION_ONE, file, 32));
     expect("on a screen of 4 buckets", 4, (uint32_t)coarse_bucketer_buckets(&b));
-    expect("its last tile", COARSE_DONE, coarse_bucketer_why(&b, file, 32, 0, 127, 0, 0, &reason));
+    expect("its last tile", COARSE_DONE, coarse_bucketer_why(&b, COARSE_EDITION_ONE, file, 32, 0, 127, 0, 0, &reason));
     expect("shows the draw", COARSE_SHOWN, reason.reason);
-    expect("a tile past it", COARSE_BAD_RUN, coarse_bucketer_why(&b, file, 32, 0, 128, 0, 0, &reason));
+    expect("a tile past it", COARSE_BAD_RUN, coarse_bucketer_why(&b, COARSE_EDITION_ONE, file, 32, 0, 128, 0, 0, &reason));
     expect("exact, it is refused", COARSE_BAD_VIEWPORT, record(&b, file, 32, small));
     expect("and so is the question", COARSE_BAD_VIEWPORT, why(&b, file, 32, small, 0));
     coarse_bucketer_free(&b);
@@ -365,10 +365,10 @@ static void owned_tables(void) {
 
     /* A recording on a viewport of its own: one refused by 3 leaves the screen, one that is done brings its tables. */
     const uint32_t file[] = {1, 0, 0, 512, 4, 1, 1, 1, 0, 0, 1, 0, 0, 0, 128, 0, 1, 0, 0, 1, 0, 0, 3, 0, 0, 1, 0, 1, 0, 1, 0, 1};
-    expect("a cut recording", COARSE_BAD_FORM, coarse_bucketer_bucket_commands(&b, file, 31));
+    expect("a cut recording", COARSE_BAD_FORM, coarse_bucketer_bucket_commands(&b, COARSE_EDITION_ONE, file, 31));
     expect("the screen stays", 2, (uint32_t)coarse_bucketer_buckets(&b));
     expect("its fills stay", 3, (uint32_t)coarse_bucketer_paint_attr_count(&b));
-    expect("a recording", COARSE_DONE, coarse_bucketer_bucket_commands(&b, file, 32));
+    expect("a recording", COARSE_DONE, coarse_bucketer_bucket_commands(&b, COARSE_EDITION_ONE, file, 32));
     expect("brings its screen", 4, (uint32_t)coarse_bucketer_buckets(&b));
     expect("and its fill", 1, (uint32_t)coarse_bucketer_paint_attr_count(&b));
     expect("painted", COARSE_DONE, coarse_bucketer_begin_painting(&b));
@@ -377,18 +377,18 @@ static void owned_tables(void) {
 
     /* Why a tile of it shows what it shows: tiles 0 to 128 of one row, filled by one draw. */
     coarse_reason reason = {7, 7, 7, 7};
-    expect("a tile past the end", COARSE_BAD_RUN, coarse_bucketer_why(&b, file, 32, 0, 128, 0, 0, &reason));
-    expect("a row past the end", COARSE_BAD_RUN, coarse_bucketer_why(&b, file, 32, 1, 0, 0, 0, &reason));
-    expect("a cut recording's tile", COARSE_BAD_FORM, coarse_bucketer_why(&b, file, 31, 1, 0, 0, 0, &reason));
+    expect("a tile past the end", COARSE_BAD_RUN, coarse_bucketer_why(&b, COARSE_EDITION_ONE, file, 32, 0, 128, 0, 0, &reason));
+    expect("a row past the end", COARSE_BAD_RUN, coarse_bucketer_why(&b, COARSE_EDITION_ONE, file, 32, 1, 0, 0, 0, &reason));
+    expect("a cut recording's tile", COARSE_BAD_FORM, coarse_bucketer_why(&b, COARSE_EDITION_ONE, file, 31, 1, 0, 0, 0, &reason));
     expect("refused, no reason", 7, reason.reason);
     expect("nor a panel", 7, reason.panel);
     expect("the screen is the recording's", 4, (uint32_t)coarse_bucketer_buckets(&b));
-    expect("its last tile", COARSE_DONE, coarse_bucketer_why(&b, file, 32, 0, 127, 0, 0, &reason));
+    expect("its last tile", COARSE_DONE, coarse_bucketer_why(&b, COARSE_EDITION_ONE, file, 32, 0, 127, 0, 0, &reason));
     expect("shows the draw", COARSE_SHOWN, reason.reason);
     expect("in its first place", 0, reason.number);
-    expect("of panel 0, as every recording", 0, reason.panel);
+    expect("of panel 0, as all of edition one", 0, reason.panel);
     expect("hidden by none", 0, reason.hider_panel);
-    expect("a layer's attribute", COARSE_DONE, coarse_bucketer_why(&b, file, 32, 0, 127, 1, 0, &reason));
+    expect("a layer's attribute", COARSE_DONE, coarse_bucketer_why(&b, COARSE_EDITION_ONE, file, 32, 0, 127, 1, 0, &reason));
     expect("is not there", COARSE_UNKNOWN_ATTRIBUTE, reason.reason);
     expect("and has no panel", 0, reason.panel);
     expect("neither draw nor layer", COARSE_BAD_RECORD, why(&b, file, 32, small, 2));
@@ -398,12 +398,113 @@ static void owned_tables(void) {
     /* Two such draws: the second hides the first. */
     const uint32_t two[] = {1, 0, 0, 512, 4, 1, 1, 1, 0, 0, 1, 0, 0, 0, 128, 0, 2, 0, 0, 1, 0, 0, 3, 0, 0, 0, 1, 0, 0, 3, 0, 0, 1, 0, 2, 0, 1, 0, 1};
     reason = (coarse_reason){7, 7, 7, 7};
-    expect("the first of two", COARSE_DONE, coarse_bucketer_why(&b, two, 39, 0, 5, 0, 0, &reason));
+    expect("the first of two", COARSE_DONE, coarse_bucketer_why(&b, COARSE_EDITION_ONE, two, 39, 0, 5, 0, 0, &reason));
     expect("is hidden", COARSE_HIDDEN, reason.reason);
     expect("by the second", 1, reason.number);
     expect("its panel", 0, reason.panel);
     expect("and the second's", 0, reason.hider_panel);
     coarse_bucketer_free(&b);
+}
+
+/* Recordings of either edition, told apart by the number alone. In edition two a draw has its panel, and so has what is painted of it. */
+static void editions(void) {
+    /* Two draws over one another on 128 tiles of one row; in edition two of the panels 5 and 255. */
+    const uint32_t one[] = {1, 0, 0, 512, 4, 1, 1, 1, 0, 0, 1, 0, 0, 0, 128, 0, 2, 0, 0, 1, 0, 0, 3, 0, 0, 0, 1, 0, 0, 3, 0, 0, 1, 0, 2, 0, 1, 0, 1};
+    uint32_t two[] = {1, 2, 1, 0, 0, 512, 4, 1, 1, 1, 0, 0, 1, 0, 0, 0, 128, 0, 2, 0, 0, 1, 0, 0, 3, 0, 5, 0, 0, 1, 0, 0, 3, 0, 255, 0, 1, 0, 2, 0, 1, 0, 1};
+    /* A layer of panel 7 with a draw of panel 9 in it, and a filter layer of panel 8 with a picture. */
+    const uint32_t layers[] = {1, 2, 1, 0, 0, 512, 4, 1, 1, 1, 0, 0, 1, 0, 0, 0, 128, 0, 1, 0, 0, 1, 0, 0, 3, 0, 9,
+                               2, 0, 0, 1, 0, 3, 0x3f800000, 0, 0, 0, 0, 0, 0, 0, 0, 0, 0, 0, 0, 0, 0, 0, 0, 7,
+                               1, 0, 0, 0, 3, 0x3f800000, 0, 0, 0, 0, 0, 0, 0, 0, 0, 1, 0, 0, 8, 3, 4, 0, 8, 3, 0, 1, 0, 0, 0, 1, 0, 0, 2, 1, 1, 3};
+    /* Words that have the form of both editions: with no draws and layers, or with four draws. */
+    const uint32_t both[] = {1, 2, 1, 254, 7, 0, 0, 4, 0, 0, 0, 0, 0, 0, 0, 0, 0, 0, 0, 0, 0, 0, 0, 0, 2, 0, 0, 0, 0, 0, 0, 0, 0, 0, 0, 0, 0, 0, 1, 0, 0};
+    const coarse_piece *pieces;
+    coarse_bucketer b;
+    coarse_reason reason = {7, 7, 7, 7};
+    coarse_setup no_width = {8, 8, COARSE_EXACT, 7}, no_mode = {8, 8, 2, COARSE_128};
+    size_t count = 0;
+    uint32_t held, number;
+    expect("a screen", COARSE_DONE, coarse_bucketer_new(&b, (coarse_rect){0, 0, 256, 8}, small));
+    expect("edition one", COARSE_DONE, coarse_bucketer_bucket_commands(&b, COARSE_EDITION_ONE, one, 39));
+    expect("edition two", COARSE_DONE, coarse_bucketer_bucket_commands(&b, COARSE_EDITION_TWO, two, 43));
+    expect("brings its screen", 4, (uint32_t)coarse_bucketer_buckets(&b));
+    expect("the first draw's panel", 5, coarse_bucketer_paint_attrs(&b, 0).panel);
+    expect("the second's", 255, coarse_bucketer_paint_attrs(&b, 1).panel);
+    expect("painting", COARSE_DONE, coarse_bucketer_begin_painting(&b));
+    expect("its row", COARSE_DONE, coarse_bucketer_paint_row(&b, 0, &pieces, &count));
+    expect("the second alone", 1, (uint32_t)count);
+    expect("whose it is", 255, count ? pieces[0].panel : 0);
+    expect("why the first is hidden", COARSE_DONE, coarse_bucketer_why(&b, COARSE_EDITION_TWO, two, 43, 0, 5, 0, 0, &reason));
+    expect("it is hidden", COARSE_HIDDEN, reason.reason);
+    expect("it is of panel 5", 5, reason.panel);
+    expect("below panel 255", 255, reason.hider_panel);
+
+    /* The number is believed, and judged before all else. */
+    held = sum(&b);
+    expect("one is not two", COARSE_BAD_FORM, coarse_bucketer_bucket_commands(&b, COARSE_EDITION_TWO, one, 39));
+    expect("two is not one", COARSE_BAD_FORM, coarse_bucketer_bucket_commands(&b, COARSE_EDITION_ONE, two, 43));
+    for (number = 0; number < 5; number++) {
+        if (number == COARSE_EDITION_ONE || number == COARSE_EDITION_TWO)
+            continue;
+        expect("no edition", COARSE_BAD_FORM, coarse_bucketer_bucket_commands(&b, number, one, 39));
+        expect("no edition of two either", COARSE_BAD_FORM, coarse_bucketer_bucket_commands(&b, number, two, 43));
+        expect("nor a reason of it", COARSE_BAD_FORM, coarse_bucketer_why(&b, number, two, 43, 0, 5, 0, 0, &reason));
+        expect("before a width that is none", COARSE_BAD_FORM, coarse_bucket_recording(&b.state, number, one, 39, no_width, &b.tables));
+        expect("before a mode that is none", COARSE_BAD_FORM, coarse_bucket_recording(&b.state, number, one, 39, no_mode, &b.tables));
+    }
+    expect("a width that is none", COARSE_BAD_VIEWPORT, coarse_bucket_recording(&b.state, COARSE_EDITION_TWO, two, 43, no_width, &b.tables));
+    expect("of one it is none", COARSE_BAD_FORM, coarse_bucket_recording(&b.state, COARSE_EDITION_TWO, one, 39, no_width, &b.tables));
+    expect("nothing changes", held, sum(&b));
+    two[34] = 256;
+    expect("a panel of 256", COARSE_BAD_RECORD, coarse_bucketer_bucket_commands(&b, COARSE_EDITION_TWO, two, 43));
+
+    /* A layer's panel goes to its attribute, and a filter layer's to what its picture is drawn with. */
+    expect("layers", COARSE_DONE, coarse_bucketer_bucket_commands(&b, COARSE_EDITION_TWO, layers, 87));
+    expect("the draw's", 9, coarse_bucketer_paint_attrs(&b, 0).panel);
+    expect("the picture's", 8, coarse_bucketer_paint_attrs(&b, 1).panel);
+    expect("the layer's", 7, coarse_bucketer_layer_attrs(&b, 0).panel);
+
+    /* Words of both editions are those of the edition that is told: 2 to 254 pixels with bad draws, or 254 to 0. */
+    coarse_bucketer_free(&b);
+    expect("a screen that snaps", COARSE_DONE, coarse_bucketer_new(&b, (coarse_rect){0, 0, 256, 8}, snapping));
+    expect("both, as one", COARSE_BAD_RECORD, coarse_bucketer_bucket_commands(&b, COARSE_EDITION_ONE, both, 41));
+    expect("both, as two", COARSE_BAD_VIEWPORT, coarse_bucketer_bucket_commands(&b, COARSE_EDITION_TWO, both, 41));
+    coarse_bucketer_free(&b);
+}
+
+/* A recording in the other edition. Done, its words stand first, and no word after them changes; refused, none changes. */
+static void conversions(void) {
+    const uint32_t one[] = {1, 0, 0, 510, 3, 1, 1, 1, 0, 7, 1, 0, 0, 0, 128, 0, 1, 0, 0, 1, 0, 0, 3, 0, 0, 1, 0, 1, 0, 1, 0, 1};
+    uint32_t two[] = {1, 2, 1, 0, 0, 510, 3, 1, 1, 1, 0, 7, 1, 0, 0, 0, 128, 0, 1, 0, 0, 1, 0, 0, 3, 0, 0, 0, 1, 0, 1, 0, 1, 0, 1};
+    uint32_t out[40], i;
+    size_t words = 77;
+    for (i = 0; i < 40; i++)
+        out[i] = 1000 + i;
+    expect("exact, it is refused", COARSE_BAD_VIEWPORT, coarse_to_edition_two(one, 32, COARSE_EXACT, out, 40, &words));
+    expect("no such mode", COARSE_BAD_RECORD, coarse_to_edition_two(one, 32, 2, out, 40, &words));
+    expect("the form before it", COARSE_BAD_FORM, coarse_to_edition_two(one, 31, 2, out, 40, &words));
+    expect("no words", COARSE_BAD_FORM, coarse_to_edition_two(NULL, 0, COARSE_EXACT, out, 40, &words));
+    expect("two is not one", COARSE_BAD_FORM, coarse_to_edition_two(two, 35, COARSE_SNAPPING, out, 40, &words));
+    expect("one is not two", COARSE_BAD_FORM, coarse_to_edition_one(one, 32, COARSE_SNAPPING, out, 40, &words));
+    expect("one is not two in no mode", COARSE_BAD_FORM, coarse_to_edition_one(one, 32, 2, out, 40, &words));
+    expect("a word too few", COARSE_NO_ROOM, coarse_to_edition_two(one, 32, COARSE_SNAPPING, out, 34, &words));
+    expect("no list", COARSE_NO_ROOM, coarse_to_edition_two(one, 32, COARSE_SNAPPING, NULL, 0, &words));
+    two[26] = 9;
+    expect("a panel", COARSE_HAS_PANELS, coarse_to_edition_one(two, 35, COARSE_SNAPPING, out, 40, &words));
+    expect("before the room", COARSE_HAS_PANELS, coarse_to_edition_one(two, 35, COARSE_SNAPPING, NULL, 0, &words));
+    two[26] = 256;
+    expect("a panel that is none", COARSE_BAD_RECORD, coarse_to_edition_one(two, 35, COARSE_SNAPPING, out, 40, &words));
+    two[26] = 0;
+    expect("how many", 77, (uint32_t)words);
+    for (i = 0; i < 40; i++)
+        expect("a word", 1000 + i, out[i]);
+    expect("to edition two", COARSE_DONE, coarse_to_edition_two(one, 32, COARSE_SNAPPING, out, 35, &words));
+    expect("three words more", 35, (uint32_t)words);
+    for (i = 0; i < 40; i++)
+        expect("each", i < 35 ? two[i] : 1000 + i, out[i]);
+    expect("and back", COARSE_DONE, coarse_to_edition_one(two, 35, COARSE_SNAPPING, out, 40, &words));
+    expect("to as many", 32, (uint32_t)words);
+    for (i = 0; i < 40; i++)
+        expect("each", i < 32 ? one[i] : i < 35 ? two[i] : 1000 + i, out[i]);
 }
 
 /* A row of 20 pieces on 2 buckets, which are more than a list holds at first: a depth fill over bucket 0, the fill below it, which shows in bucket 1
@@ -483,7 +584,7 @@ static void kept_rows(void) {
     expect("nothing has changed", before, sum(&b));
     blocks = 0;
     expect("no memory for other tables", COARSE_NO_MEMORY, coarse_bucketer_reset(&b, (coarse_rect){0, 0, 256, 8}));
-    expect("nor for a recording's", COARSE_NO_MEMORY, coarse_bucketer_bucket_commands(&b, one_draw, 32));
+    expect("nor for a recording's", COARSE_NO_MEMORY, coarse_bucketer_bucket_commands(&b, COARSE_EDITION_ONE, one_draw, 32));
     expect("the screen is as it was", before, sum(&b));
     blocks = SIZE_MAX;
     rest_of_20(&b, 0);
@@ -557,11 +658,11 @@ static void coordinates(void) {
 
     /* One draw over the tiles 8 to 60 of row 3, in a recording of that viewport. */
     const uint32_t file[] = {1, 20, 8, 276, 16, 1, 1, 1, 0, 0, 1, 0, 3, 8, 60, 0, 1, 0, 0, 1, 0, 0, 3, 0, 0, 1, 0, 1, 0, 1, 0, 1};
-    expect("row 1, tile 3", COARSE_DONE, coarse_bucketer_why(&b, file, 32, 1, 3, 0, 0, &reason));
+    expect("row 1, tile 3", COARSE_DONE, coarse_bucketer_why(&b, COARSE_EDITION_ONE, file, 32, 1, 3, 0, 0, &reason));
     expect("is its first", COARSE_SHOWN, reason.reason);
-    expect("row 1, tile 55", COARSE_DONE, coarse_bucketer_why(&b, file, 32, 1, 55, 0, 0, &reason));
+    expect("row 1, tile 55", COARSE_DONE, coarse_bucketer_why(&b, COARSE_EDITION_ONE, file, 32, 1, 55, 0, 0, &reason));
     expect("is past its end", COARSE_NO_SEGMENT, reason.reason);
-    expect("row 3", COARSE_BAD_RUN, coarse_bucketer_why(&b, file, 32, 3, 8, 0, 0, &reason));
+    expect("row 3", COARSE_BAD_RUN, coarse_bucketer_why(&b, COARSE_EDITION_ONE, file, 32, 3, 8, 0, 0, &reason));
     coarse_bucketer_free(&b);
 }
 
@@ -916,11 +1017,11 @@ static void all_attributes(void) {
 /* Each number has its words, and no two the same; numbers that are none share theirs. */
 static void words_of_numbers(void) {
     uint32_t i, k;
-    for (i = 0; i <= COARSE_NO_ROOM + 1; i++)
+    for (i = 0; i <= COARSE_HAS_PANELS + 1; i++)
         for (k = 0; k < i; k++)
             expect("two answers", 0, strcmp(coarse_answer_text(i), coarse_answer_text(k)) == 0);
-    expect("memory that runs out", 0, strcmp(coarse_answer_text(COARSE_NO_MEMORY), coarse_answer_text(COARSE_NO_ROOM + 1)) == 0);
-    expect("no answer", 1, strcmp(coarse_answer_text(COARSE_NO_MEMORY + 1), coarse_answer_text(COARSE_NO_ROOM + 1)) == 0);
+    expect("memory that runs out", 0, strcmp(coarse_answer_text(COARSE_NO_MEMORY), coarse_answer_text(COARSE_HAS_PANELS + 1)) == 0);
+    expect("no answer", 1, strcmp(coarse_answer_text(COARSE_NO_MEMORY + 1), coarse_answer_text(COARSE_HAS_PANELS + 1)) == 0);
     for (i = 0; i <= COARSE_POP_BUF; i++)
         for (k = 0; k < i; k++)
             expect("two tags", 0, strcmp(coarse_tag_text(i), coarse_tag_text(k)) == 0);
@@ -947,6 +1048,87 @@ static void default_blend(void) {
     expect("fixed", 3, fixed.compose);
 }
 
+/* The same screen by single fills and by a list of them; how many of `count` are done. */
+static size_t listed(coarse_bucketer *single, coarse_bucketer *list, const coarse_draw *draws, size_t count, uint32_t want) {
+    const coarse_segment segments[] = {{0, 0, 0, 64, 0}, {1, 1, 8, 56, 160}, {0, 0, 0, 64, 0}};
+    uint32_t answer = COARSE_DONE;
+    size_t i, done = 99, row;
+    expect("reset", COARSE_DONE, coarse_bucketer_reset(single, (coarse_rect){0, 0, 256, 8}));
+    expect("reset too", COARSE_DONE, coarse_bucketer_reset(list, (coarse_rect){0, 0, 256, 8}));
+    for (i = 0; i < count && answer == COARSE_DONE; i++)
+        answer = coarse_bucketer_generate_fill(single, paints, 2, segments, 3, &draws[i]);
+    expect("one by one", want, answer);
+    expect("as a list", want, coarse_bucketer_generate_fills(list, paints, 2, segments, 3, draws, count, &done));
+    expect("the same state", 0, (uint32_t)(memcmp(&single->state, &list->state, sizeof single->state) != 0));
+    expect("the same attributes", 0,
+           (uint32_t)(memcmp(single->tables.paint_attrs, list->tables.paint_attrs, 4 * single->tables.paint_attrs_len) != 0));
+    expect("painting", COARSE_DONE, coarse_bucketer_begin_painting(single));
+    expect("painting it", COARSE_DONE, coarse_bucketer_begin_painting(list));
+    for (row = 0; row < 2; row++) {
+        const coarse_piece *a, *b;
+        size_t n, m;
+        expect("a row", COARSE_DONE, coarse_bucketer_paint_row(single, row, &a, &n));
+        expect("the other's", COARSE_DONE, coarse_bucketer_paint_row(list, row, &b, &m));
+        expect("as many pieces", (uint32_t)n, (uint32_t)m);
+        expect("the same", 0, (uint32_t)(n == m && memcmp(a, b, n * sizeof *a) != 0));
+    }
+    return done;
+}
+
+/* Lists of fills are single fills up to the first that is refused; more than are handed over at once, too. */
+static void lists(void) {
+    const coarse_draw good = {.start = 0, .end = 2, .paint = 0, .blend = COARSE_DEFAULT_BLEND, .panel = 3};
+    coarse_draw draws[3 * COARSE_DRAWS_AT_ONCE];
+    uint32_t words[2 * COARSE_DRAW] = {0}, paint[COARSE_PAINT] = {1, 7, 0, 0}, segment[COARSE_SEGMENT] = {0, 0, 0, 64, 0};
+    coarse_bucketer single, list;
+    coarse_draws some = {words, 2 * COARSE_DRAW, 0, 2};
+    const size_t most = sizeof draws / sizeof *draws;
+    size_t i, done = 99;
+    const coarse_piece *pieces;
+    size_t count;
+    expect("a screen", COARSE_DONE, coarse_bucketer_new(&single, (coarse_rect){0, 0, 256, 8}, (coarse_setup){200, 200, COARSE_EXACT, COARSE_128}));
+    expect("another", COARSE_DONE, coarse_bucketer_new(&list, (coarse_rect){0, 0, 256, 8}, (coarse_setup){200, 200, COARSE_EXACT, COARSE_128}));
+    for (i = 0; i < most; i++)
+        draws[i] = good;
+    expect("none", 0, (uint32_t)listed(&single, &list, draws, 0, COARSE_DONE));
+    expect("all", (uint32_t)most, (uint32_t)listed(&single, &list, draws, most, COARSE_DONE));
+    for (i = 0; i < most; i += most / 3 - 1) {
+        draws[i].panel = 256;
+        expect("up to one of no panel", (uint32_t)i, (uint32_t)listed(&single, &list, draws, most, COARSE_BAD_RECORD));
+        draws[i] = good;
+    }
+    draws[2].end = SIZE_MAX;
+    expect("up to one that ends nowhere", 2, (uint32_t)listed(&single, &list, draws, most, COARSE_BAD_RECORD));
+    draws[2] = good;
+    draws[1].start = 1, draws[1].end = 3;
+    expect("up to one out of order", 1, (uint32_t)listed(&single, &list, draws, most, COARSE_BAD_ORDER));
+
+    /* The call beneath: its words, its range; an empty one while painting goes on. */
+    coarse_put_draw(words, &good), coarse_put_draw(words + COARSE_DRAW, &good);
+    words[2] = 1, words[COARSE_DRAW + 2] = 1;
+    expect("a whole list", COARSE_DONE, coarse_fill_list(&list.state, &list.tables, paint, COARSE_PAINT, segment, COARSE_SEGMENT, &some, &done));
+    expect("of two", 2, (uint32_t)done);
+    some.words_len--;
+    expect("a word short", COARSE_BAD_RECORD, coarse_fill_list(&list.state, &list.tables, paint, COARSE_PAINT, segment, COARSE_SEGMENT, &some, &done));
+    expect("none done", 0, (uint32_t)done);
+    some.words_len++, some.start = 2, some.end = 1, done = 99;
+    expect("backwards", COARSE_BAD_RECORD, coarse_fill_list(&list.state, &list.tables, paint, COARSE_PAINT, segment, COARSE_SEGMENT, &some, &done));
+    expect("none then", 0, (uint32_t)done);
+    some.start = 0, some.end = 3, done = 99;
+    expect("past its end", COARSE_BAD_RECORD, coarse_fill_list(&list.state, &list.tables, paint, COARSE_PAINT, segment, COARSE_SEGMENT, &some, &done));
+    expect("none there", 0, (uint32_t)done);
+    expect("painting", COARSE_DONE, coarse_bucketer_begin_painting(&list));
+    some.start = 2, some.end = 2, done = 99;
+    expect("an empty range", COARSE_DONE, coarse_fill_list(&list.state, &list.tables, paint, COARSE_PAINT, segment, COARSE_SEGMENT, &some, &done));
+    expect("is none", 0, (uint32_t)done);
+    expect("and painting goes on", COARSE_DONE, coarse_bucketer_paint_row(&list, 0, &pieces, &count));
+    some.start = 1;
+    expect("one fill", COARSE_DONE, coarse_fill_list(&list.state, &list.tables, paint, COARSE_PAINT, segment, COARSE_SEGMENT, &some, &done));
+    expect("ends it", COARSE_OPEN, coarse_bucketer_paint_row(&list, 0, &pieces, &count));
+    coarse_bucketer_free(&single);
+    coarse_bucketer_free(&list);
+}
+
 int main(void) {
     null_pointers();
     owned_tables();
@@ -960,6 +1142,9 @@ int main(void) {
     coordinates();
     named_sizes();
     panels();
+    lists();
+    editions();
+    conversions();
     stored_commands();
     all_attributes();
     words_of_numbers();

@@ -39,7 +39,7 @@ static struct results {
 
 static uint32_t segments[MOST_SEGMENTS * COARSE_SEGMENT];
 static uint32_t paints[4 * COARSE_PAINT];
-static uint32_t files[FILES][FILE_WORDS], file[FILE_WORDS];
+static uint32_t files[FILES][FILE_WORDS], file[2 * FILE_WORDS], edition;
 static size_t file_words[FILES], words, file_count;
 static coarse_rect viewport;
 static coarse_setup setup;
@@ -171,12 +171,36 @@ static size_t some_paints(void) {
     return 1 + below(4);
 }
 
-/* A recording: one of the files, now and then with a word of another number, or cut. */
+/* A file of edition one as one of edition two, at times with panels. */
+static void widen(const uint32_t *from, size_t n) {
+    uint32_t last = once_in(2) ? COARSE_LAST_PANEL : 0;
+    static const size_t each[] = {4, 4, 5, 7, 22, 3, 2};
+    size_t section, at = 0;
+    file[0] = 1, file[1] = 2, words = 2;
+    for (section = 0; section < sizeof each / sizeof each[0] && at < n; section++) {
+        uint32_t count = from[at++], k;
+        file[words++] = count;
+        for (k = 0; k < count && at + each[section] <= n; k++) {
+            memcpy(file + words, from + at, each[section] * sizeof(uint32_t));
+            at += each[section], words += each[section];
+            if (section == 3 || section == 4)
+                file[words++] = about(last);
+        }
+    }
+}
+
+/* A recording: one of the files, in either edition, now and then told to be of another, with a word of another number, or cut. */
 static void some_file(void) {
     size_t which = below((uint32_t)file_count);
     uint32_t k, n = is_tame ? 0 : below(3);
+    edition = 1 + below(2);
     words = file_words[which];
-    memcpy(file, files[which], words * sizeof(uint32_t));
+    if (edition == COARSE_EDITION_TWO)
+        widen(files[which], words);
+    else
+        memcpy(file, files[which], words * sizeof(uint32_t));
+    if (odd(20))
+        edition = about(3);
     for (k = 0; k < n; k++)
         file[below((uint32_t)words)] = about(300);
     if (odd(6))
@@ -202,12 +226,21 @@ static uint32_t call_sizes(void) {
 
 static uint32_t call_reset(void) { return coarse_reset(SCREEN_STATE, viewport, setup, &lent.tables); }
 
-static uint32_t call_recording(void) { return coarse_bucket_recording(SCREEN_STATE, file, words, setup, &lent.tables); }
+static uint32_t call_recording(void) { return coarse_bucket_recording(SCREEN_STATE, edition, file, words, setup, &lent.tables); }
 
 static uint32_t call_why(void) {
     coarse_question question = {0, 0, 0, 0};
     question.row = about(6), question.tile = about(200), question.layer = about(1), question.attribute = about(4);
-    return coarse_why(SCREEN_STATE, file, words, setup, &question, &lent.tables, &results.reason);
+    return coarse_why(SCREEN_STATE, edition, file, words, setup, &question, &lent.tables, &results.reason);
+}
+
+/* To the other edition, or at times to its own. */
+static uint32_t call_to_two(void) {
+    return coarse_to_edition_two(file, words, setup.mode, LENT(LIST), &results.count);
+}
+
+static uint32_t call_to_one(void) {
+    return coarse_to_edition_one(file, words, setup.mode, LENT(LIST), &results.count);
 }
 
 static uint32_t call_fill(void) {
@@ -304,12 +337,15 @@ static void ready_reset(void) {
 static void ready_file(void) {
     some_setup(), some_file();
     setup.c += 40, setup.d += 40;
-    if (words > 4) {
-        memcpy(&viewport, file + 1, sizeof viewport);
+    if (words > 6) {
+        memcpy(&viewport, file + (edition == COARSE_EDITION_TWO ? 3 : 1), sizeof viewport);
         if (!screen_for(viewport))
             memset(part[STATE], 0, sizeof(coarse_state));
     }
 }
+
+/* Words alone: the screen stays. */
+static void ready_words(void) { some_setup(), some_file(); }
 
 #define ROWS_TOO (1 << STATE | 1 << ROWS | 1 << RENDER_CMDS | 1 << DEPTH_CMDS)
 
@@ -324,6 +360,8 @@ static struct {
     {"coarse_reset", ready_reset, call_reset, SCREEN, 6, 0, 0},
     {"coarse_bucket_recording", ready_file, call_recording, SCREEN, 3, 0, 0},
     {"coarse_why", ready_file, call_why, SCREEN | RESULTS, 3, 0, 0},
+    {"coarse_to_edition_two", ready_words, call_to_two, LISTED, 3, 0, 0},
+    {"coarse_to_edition_one", ready_words, call_to_one, LISTED, 3, 0, 0},
     {"coarse_fill", ready_none, call_fill, ROWS_TOO | 1 << PAINT_ATTRS, 40, 0, 0},
     {"coarse_push_layer", ready_none, call_push, ROWS_TOO | 1 << LAYERS | 1 << OPACITIES, 14, 0, 0},
     {"coarse_pop_layer", ready_none, call_pop, ROWS_TOO | 1 << LAYERS | 1 << OPACITIES | 1 << LAYER_ATTRS, 20, 0, 0},
@@ -369,7 +407,7 @@ static void one(unsigned long number, size_t which) {
     memcpy(&held_results, &results, sizeof results);
     memcpy(&held_lent, &lent, sizeof lent);
     answer = calls[which].make();
-    hold(answer <= COARSE_NO_ROOM, number, name, answer, "no answer of the header");
+    hold(answer <= COARSE_HAS_PANELS, number, name, answer, "no answer of the header");
     hold(guards_hold(), number, name, answer, "a word between the tables has changed");
     hold(memcmp(&lent, &held_lent, sizeof lent) == 0, number, name, answer, "it has changed a pointer or a length");
     writes = answer == COARSE_DONE ? calls[which].writes : answer > COARSE_BAD_FORM ? calls[which].writes & SCREEN : 0;
@@ -399,7 +437,7 @@ static size_t pick(void) {
     at = below(all);
     for (i = 0; at >= (uint32_t)calls[i].often; i++)
         at -= (uint32_t)calls[i].often;
-    return calls[i].ready == ready_file && file_count == 0 ? 1 : i;
+    return (calls[i].ready == ready_file || calls[i].ready == ready_words) && file_count == 0 ? 1 : i;
 }
 
 static void read_file(const char *name) {
@@ -428,7 +466,7 @@ int main(int argc, char **argv) {
     for (k = 0; k < count; k++)
         one(k, pick());
     for (i = 0; i < CALLS; i++) {
-        int is_tried = calls[i].ready != ready_file || file_count > 0;
+        int is_tried = (calls[i].ready != ready_file && calls[i].ready != ready_words) || file_count > 0;
         printf("%-28s %8lu done %8lu refused\n", calls[i].name, calls[i].done, calls[i].refused);
         done += calls[i].done;
         hold(!is_tried || (calls[i].done > 0 && calls[i].refused > 0), k, calls[i].name, 0, "it was never done, or never refused");

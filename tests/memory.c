@@ -88,8 +88,8 @@ static uint32_t call(scene *s, int which, size_t row) {
     case ROW: return coarse_bucketer_paint_row(&s->screen, row, &s->pieces, &s->count);
     case UNSET: return coarse_bucketer_unset_runs(&s->screen, row, 0, TILES, &s->runs, &s->count);
     case VISIBLE: return coarse_bucketer_visible_runs(&s->screen, row, 0, TILES, 3, &s->runs, &s->count);
-    case RECORDING: return coarse_bucketer_bucket_commands(&s->screen, file, WORDS);
-    case WHY: return coarse_bucketer_why(&s->screen, file, WORDS, 0, 5, 0, 0, &s->reason);
+    case RECORDING: return coarse_bucketer_bucket_commands(&s->screen, COARSE_EDITION_ONE, file, WORDS);
+    case WHY: return coarse_bucketer_why(&s->screen, COARSE_EDITION_ONE, file, WORDS, 0, 5, 0, 0, &s->reason);
     case RESET: return coarse_bucketer_reset(&s->screen, small);
     default: return coarse_bucketer_reset(&s->screen, large);
     }

@@ -237,7 +237,7 @@ static uint32_t with_record(const uint32_t *record, size_t size, size_t before_e
         return COARSE_NO_ROOM;
     memcpy(copy, file, words * sizeof *copy);
     memcpy(copy + (words - before_end), record, size * sizeof *copy);
-    return coarse_bucketer_bucket_commands(&judge, copy, words);
+    return coarse_bucketer_bucket_commands(&judge, COARSE_EDITION_ONE, copy, words);
 }
 
 /* The recorder's answer to a record, and the judge's to the file that has it: the same where either refuses. */

@@ -8,8 +8,10 @@ A line is a call; `#` starts a comment. What is left out is 0; a blend is 0 3, a
     sequence NAME                                  what follows is called on a screen of its own
     paints opaque|clear HANDLE, ..                 the paints that fills are lent from here on
     segments solid|alpha ROW FIRST END [ALPHA], .. the segments that fills and pops are lent; none without any
+    draws START END PAINT [PANEL], ..              the draws that lists of fills are lent
     reset X0 Y0 X1 Y1 C D [snap] [width N]
     fill START END PAINT [thread T] [blend MIX COMPOSE] [mask M] [panel P]
+    fills START END [words N]                      of the draws; of their words only N are lent
     push [blend MIX COMPOSE] [opacity X] [mask M] [clip X0 Y0 X1 Y1 START END THREAD] [panel P]
     pop
     filter [picture HANDLE] [dest X0 Y0 X1 Y1] [source X Y] [paints N] [panel P]
@@ -74,6 +76,18 @@ class Line:
         except (ValueError, OverflowError):
             self.fail(f"{word!r} is no opacity")
 
+    def draws(self):
+        """Draws between commas, as their words."""
+        found = []
+        for record in " ".join(self.words).split(","):
+            words = record.split()
+            if not 3 <= len(words) <= 4 or not all(word.isdigit() for word in words):
+                self.fail(f"{record.strip()!r} is no draw")
+            start, end, paint, panel = map(int, [*words, 0][:4])
+            found += [0, start, end, paint, 0, 3, 0, panel]
+        self.words = []
+        return found
+
     def records(self, widths):
         """Records between commas: a kind's name, then numbers; what is left out at the end is 0."""
         records = []
@@ -89,6 +103,12 @@ class Line:
         return records
 
 
+def lists(lent):
+    """The paints and the segments, each after their number."""
+    both = [lent["paints"], lent["segments"]]
+    return [word for records in both for word in [len(records), *(word for record in records for word in record)]]
+
+
 def call(line, kind, lent):
     if kind == "reset":
         box, rooms = line.numbers(4), line.numbers(2)
@@ -97,8 +117,12 @@ def call(line, kind, lent):
     if kind == "fill":
         start, end, paint = line.numbers(3)
         found = line.options({"thread": [0], "blend": [0, 3], "mask": [0], "panel": [0]})
-        lists = [word for records in lent.values() for word in [len(records), *(word for record in records for word in record)]]
-        return [1, *found["thread"], start, end, paint, *found["blend"], *found["mask"], *found["panel"], *lists]
+        return [1, *found["thread"], start, end, paint, *found["blend"], *found["mask"], *found["panel"], *lists(lent)]
+    if kind == "fills":
+        range_ = line.numbers(2)
+        found = line.options({"words": [len(lent["draws"])]})
+        draws = lent["draws"][: found["words"][0]]
+        return [16, *range_, len(draws), *draws, *lists(lent)]
     if kind == "push":
         found = line.options({"blend": [0, 3], "opacity": [0x3F800000], "mask": [0], "clip": [0] * 7, "panel": [0]})
         return [2, *found["blend"], *found["opacity"], *found["mask"], int("clip" in line.seen), *found["clip"], *found["panel"]]
@@ -145,12 +169,12 @@ def main():
         if kind == "sequence":
             line.words = []
             sequences.append([])
-            lent = {"paints": [], "segments": []}
+            lent = {"paints": [], "segments": [], "draws": []}
             continue
         if not sequences:
             line.fail("a sequence is expected first")
         if kind in lent:
-            lent[kind] = line.records((2, 4) if kind == "paints" else (4, 5))
+            lent[kind] = line.draws() if kind == "draws" else line.records((2, 4) if kind == "paints" else (4, 5))
         else:
             sequences[-1] += call(line, kind, lent)
         if line.words:

@@ -1,29 +1,33 @@
 #!/usr/bin/env python3
 """A readable text form of a recording file, and back.
 
-    tools/rec.py text < FILE.rec > FILE.txt
-    tools/rec.py file < FILE.txt > FILE.rec
+    tools/rec.py text [--edition N] < FILE.rec > FILE.txt        N is 1 or 2, and 1 without it: the file's edition is told, not found out
+    tools/rec.py file < FILE.txt > FILE.rec                      of the edition that a line of the text says, else of edition 1
 
 A line is a record; `#` starts a comment. Records of a kind are numbered from 0 in the order of their lines, and kinds may be mixed.
 
+    edition N
     viewport X0 Y0 X1 Y1
     paint opaque|clear HANDLE [shift DX DY]
     segment solid|alpha row R tiles FIRST END [index ALPHA]
-    draw segments START END paint P [blend MIX COMPOSE] [mask M] [thread T]
+    draw segments START END paint P [blend MIX COMPOSE] [mask M] [thread T] [panel N]
     layer regular|filter [nodes START END] [blend MIX COMPOSE] [opacity X] [mask M]
-          [clip] [box X0 Y0 X1 Y1] [segments START END] [thread T] [pixmap P] [dest X0 Y0 X1 Y1] [source X Y]
+          [clip] [box X0 Y0 X1 Y1] [segments START END] [thread T] [pixmap P] [dest X0 Y0 X1 Y1] [source X Y] [panel N]
     node draws START END [layer ID]
     root START END
 
 What is left out is 0, or not there at all (a node's layer, a filter layer's pixmap, whose handles count from 0); a blend is 0 3 and an opacity 1.0. A kind, a flag or a layer's clip flag (`clip N`) can be a number, an opacity
-its bits (`opacity bits N`). The way there and back is exact for every file whose sections are exactly counted.
+its bits (`opacity bits N`). A panel is there in edition 2 alone. The way there and back is exact for every file whose sections are exactly counted.
 """
 import math
 import os
 import struct
 import sys
 
-SIZES = [('viewport', 4), ('paint', 4), ('segment', 5), ('draw', 7), ('layer', 22), ('node', 3), ('root', 2)]
+SIZES = {1: [('viewport', 4), ('paint', 4), ('segment', 5), ('draw', 7), ('layer', 22), ('node', 3), ('root', 2)],
+         2: [('viewport', 4), ('paint', 4), ('segment', 5), ('draw', 8), ('layer', 23), ('node', 3), ('root', 2)]}
+# What stands before the sections.
+HEAD = {1: (), 2: (1, 2)}
 KINDS = {'segment': ('solid', 'alpha'), 'layer': ('regular', 'filter'), 'paint': ('clear', 'opaque')}
 ONE = 0x3F800000
 
@@ -84,6 +88,7 @@ def line_of(kind, w):
         add('blend', w[4:6], [0, 3])
         add('mask', w[6:7])
         add('thread', w[0:1])
+        add('panel', w[7:])
     elif kind == 'layer':
         out.append(name_of('layer', w[0]))
         add('nodes', w[1:3])
@@ -99,18 +104,22 @@ def line_of(kind, w):
         add_choice('pixmap', w[15])
         add('dest', w[16:20])
         add('source', w[20:22])
+        add('panel', w[22:])
     elif kind == 'node':
         out += ['draws', str(w[0]), str(w[1])]
         add_choice('layer', w[2])
     return ' '.join(out)
 
 
-def to_text(data):
+def to_text(data, edition):
     if len(data) % 4:
         bad('%d bytes are no whole words' % len(data))
     words = struct.unpack('<%dI' % (len(data) // 4), data)
-    at, lines = 0, []
-    for kind, size in SIZES:
+    head = HEAD[edition]
+    if words[:len(head)] != head:
+        bad('the file does not begin as one of edition %d' % edition)
+    at, lines = len(head), [] if edition == 1 else ['edition %d' % edition]
+    for kind, size in SIZES[edition]:
         if at >= len(words):
             bad('the file ends before its %s section' % kind)
         count = words[at]
@@ -209,7 +218,7 @@ def record_of(kind, r):
             r.expect('index')
             w[4] = r.word()
     elif kind == 'draw':
-        w = [0] * 7
+        w = [0] * 8
         w[4:6] = [0, 3]
         while r.fields:
             key = r.key()
@@ -223,13 +232,15 @@ def record_of(kind, r):
                 w[6] = r.word()
             elif key == 'thread':
                 w[0] = r.word()
+            elif key == 'panel':
+                w[7] = r.word()
             else:
                 r.fail('a draw has no %s' % key)
     elif kind == 'layer':
-        w = [r.kind('layer')] + [0] * 21
+        w = [r.kind('layer')] + [0] * 22
         w[3:6] = [0, 3, ONE]
         places = {'nodes': (1, 3), 'blend': (3, 5), 'mask': (6, 7), 'box': (8, 12), 'segments': (12, 14), 'thread': (14, 15),
-                  'dest': (16, 20), 'source': (20, 22)}
+                  'dest': (16, 20), 'source': (20, 22), 'panel': (22, 23)}
         while r.fields:
             key = r.key()
             if key in places:
@@ -254,16 +265,37 @@ def record_of(kind, r):
     return w
 
 
+def edition_of(reader):
+    edition = reader.word()
+    if edition not in SIZES:
+        reader.fail('there is no edition %d' % edition)
+    if reader.fields:
+        reader.fail('%r is too much' % reader.fields[0])
+    return edition
+
+
 def to_file(text):
-    sections = {kind: [] for kind, _ in SIZES}
+    sections = {kind: [] for kind, _ in SIZES[1]}
+    edition, with_panel = None, None
     for number, line in enumerate(text.splitlines(), 1):
         fields = line.split('#')[0].split()
-        if fields:
-            if fields[0] not in sections:
-                bad('line %d: %r is no record' % (number, fields[0]))
-            sections[fields[0]].append(record_of(fields[0], Reader(number, fields[1:])))
-    words = []
-    for kind, _ in SIZES:
+        if not fields:
+            continue
+        kind, reader = fields[0], Reader(number, fields[1:])
+        if kind == 'edition':
+            if edition:
+                reader.fail('an edition is said already')
+            edition = edition_of(reader)
+        elif kind in sections:
+            sections[kind].append(record_of(kind, reader))
+            with_panel = with_panel or ('panel' in reader.keys and number)
+        else:
+            reader.fail('%r is no record' % kind)
+    edition = edition or 1
+    if edition == 1 and with_panel:
+        bad('line %d: edition 1 has no panels' % with_panel)
+    words = list(HEAD[edition])
+    for kind, size in SIZES[edition]:
         records = sections[kind]
         if kind in ('viewport', 'root') and len(records) != 1:
             bad('a file has one %s' % kind)
@@ -271,7 +303,7 @@ def to_file(text):
             bad('more than 4,096 lines of %s' % kind)
         words.append(len(records))
         for record in records:
-            words += record
+            words += record[:size]
     return struct.pack('<%dI' % len(words), *words)
 
 
@@ -279,6 +311,9 @@ def main(args):
     if args in (['--help'], ['-h']):
         print(__doc__.strip())
         return
+    edition = 1
+    if args[:2] == ['text', '--edition'] and args[2:] in (['1'], ['2']):
+        edition, args = int(args[2]), ['text']
     if args not in (['text'], ['file']):
         print('rec: %s' % ('text or file is expected' if not args else '%r is neither text nor file' % ' '.join(args)), file=sys.stderr)
         print(__doc__.strip(), file=sys.stderr)
@@ -288,7 +323,7 @@ def main(args):
     except OSError as error:
         bad('cannot read standard input: %s' % error.strerror)
     if args == ['text']:
-        out = to_text(given).encode()
+        out = to_text(given, edition).encode()
     else:
         try:
             out = to_file(given.decode())

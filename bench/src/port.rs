@@ -1,8 +1,8 @@
 //! The port, by the wrapper that a host links.
 
 use coarse::{
-    BlendMode, CommandBucketer, LayerClip, LayerProps, Paint, Piece, RecordedFill, Rect, Segment,
-    Setup,
+    BlendMode, CommandBucketer, Edition, LayerClip, LayerProps, Paint, Piece, RecordedFill, Rect,
+    Segment, Setup,
 };
 use oracle::generate::draft::Draft;
 use oracle::painting;
@@ -47,7 +47,7 @@ impl Port {
 
     /// False where the file is too long to be a recording.
     pub(crate) fn record(&mut self, file: &[u32]) -> bool {
-        self.bucketer.bucket_commands(file).is_ok()
+        self.bucketer.bucket_commands(Edition::One, file).is_ok()
     }
 
     pub(crate) fn build(&mut self, steps: &[Step]) {

@@ -1,6 +1,7 @@
 //! A panel over a banner, drawn by two program modules: whose each piece of a row is, and what its tiles receive.
 
-use coarse::{Answer, CommandBucketer, Paint, Piece, RecordedFill, Segment, Setup};
+use coarse::{CommandBucketer, Paint, Piece, RecordedFill, Segment, Setup};
+use std::error::Error;
 
 const NAMES: [&str; 2] = ["banner", "panel"];
 
@@ -18,7 +19,7 @@ fn received(pieces: &[Piece], paints: &[u32], tile: u32) -> String {
     names.join(", then ")
 }
 
-fn main() -> Result<(), Answer> {
+fn main() -> Result<(), Box<dyn Error>> {
     // A screen of 512 x 4 pixels: one row of 128 tiles, in 4 depth buckets of 32.
     let mut screen = CommandBucketer::from_wh(512, 4, Setup::new(64, 64))?;
 
@@ -39,8 +40,7 @@ fn main() -> Result<(), Answer> {
         panel: DIALOGS,
         ..RecordedFill::default()
     };
-    screen.generate_fill(&paints, &segments, &banner)?;
-    screen.generate_fill(&paints, &segments, &panel)?;
+    screen.generate_fills(&paints, &segments, &[banner, panel])?;
 
     // The row is painted to its end. A piece says which module drew it.
     screen.begin_painting()?;

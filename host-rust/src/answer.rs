@@ -22,7 +22,7 @@ pub enum Answer {
     /// 2: as the mode reads it the viewport has a side that is no multiple of 4, an end before its start or past 32,768, or is wider than
     /// 4,096 or higher than 2,048 pixels.
     BadViewport,
-    /// 3: a recording is not exactly its counted sections, or a section would have more than 4,096 records.
+    /// 3: a recording is not exactly the counted sections of its edition, or a section would have more than 4,096 records.
     BadForm,
     /// 4: a field, a range, a handle or a panel is out of bounds.
     BadRecord,
@@ -46,13 +46,15 @@ pub enum Answer {
     Open,
     /// 14: a list of the caller's own is shorter than the result.
     NoRoom,
+    /// 15: towards edition one: a draw or a layer has a panel that is not 0.
+    HasPanels,
     /// A number that no call of the library gives: the archive is not the one that this crate was written for.
     Unknown(u32),
 }
 
 impl Answer {
     /// The refusals by their numbers, from 1 on.
-    const REFUSALS: [Answer; 14] = [
+    const REFUSALS: [Answer; 15] = [
         Answer::BadArena,
         Answer::BadViewport,
         Answer::BadForm,
@@ -67,9 +69,10 @@ impl Answer {
         Answer::BadRun,
         Answer::Open,
         Answer::NoRoom,
+        Answer::HasPanels,
     ];
 
-    /// The rules' number of it, as the calls of `include/coarse.h` answer it: 1 to 14.
+    /// The rules' number of it, as the calls of `include/coarse.h` answer it: 1 to 15.
     #[must_use]
     pub fn number(self) -> u32 {
         match self {
@@ -105,7 +108,7 @@ impl Answer {
         match self {
             Answer::BadArena => "BadArena: the table of render commands, depth fills or depth words has another length than the screen needs, or C or D is not from 1 to 1,024",
             Answer::BadViewport => "BadViewport: the viewport is not made of multiples of 4 in order up to 32,768, or is wider than 4,096 or higher than 2,048, or a bucket's width is not 64, 128 or 256",
-            Answer::BadForm => "BadForm: the recording is not exactly its counted sections, or a count is out of range",
+            Answer::BadForm => "BadForm: the recording is not exactly the counted sections of its edition, or a count is out of range, or there is no such edition",
             Answer::BadRecord => "BadRecord: a field, a range or a table that the call reads is out of bounds",
             Answer::BadOrder => "BadOrder: a segment list is not in order, or its segments overlap",
             Answer::Deep => "Deep: 16 layers are open already",
@@ -117,6 +120,7 @@ impl Answer {
             Answer::BadRun => "BadRun: no such row, tile or command, or a range out of order or past its limit, or id 0 where an id is written",
             Answer::Open => "Open: a layer is still open, or painting has not begun",
             Answer::NoRoom => "NoRoom: the result list is shorter than the result",
+            Answer::HasPanels => "HasPanels: a draw or a layer has a panel that is not 0, and edition one has none",
             Answer::Unknown(_) => "an answer that no call of this library gives",
         }
     }
@@ -135,5 +139,26 @@ impl core::error::Error for Answer {}
 impl From<Answer> for std::io::Error {
     fn from(answer: Answer) -> Self {
         Self::new(std::io::ErrorKind::InvalidInput, answer)
+    }
+}
+
+/// Where a list of fills stopped: see [`CommandBucketer::generate_fills`](crate::CommandBucketer::generate_fills).
+#[derive(Debug, Clone, Copy, PartialEq, Eq, Hash)]
+pub struct Stopped {
+    /// How many fills are done.
+    pub done: usize,
+    /// Why the next one is refused.
+    pub answer: Answer,
+}
+
+impl fmt::Display for Stopped {
+    fn fmt(&self, f: &mut fmt::Formatter<'_>) -> fmt::Result {
+        write!(f, "fill {}: {}", self.done, self.answer)
+    }
+}
+
+impl core::error::Error for Stopped {
+    fn source(&self) -> Option<&(dyn core::error::Error + 'static)> {
+        Some(&self.answer)
     }
 }

@@ -1,9 +1,9 @@
 //! A screen that owns its tables.
 
-use crate::answer::Answer;
+use crate::answer::{Answer, Stopped};
 use crate::canvas::{Brush, Canvas, Piece, Runs};
 use crate::input::{
-    FilterLayerPlacement, LayerProps, Paint, RecordedFill, Rect, Segment, Setup, Width,
+    Edition, FilterLayerPlacement, LayerProps, Paint, RecordedFill, Rect, Segment, Setup, Width,
 };
 use crate::reason::{Attribute, Reason};
 use crate::stored::{
@@ -24,6 +24,25 @@ pub(crate) const OPEN_LAYER: usize = 17;
 
 /// The most layers open at once. Their opacities stand before those of the layer attributes.
 pub(crate) const MOST_LAYERS: usize = 16;
+
+/// A place of a list as a word; one that no word holds is past the end of any list, and so is the largest word.
+fn place(place: usize) -> u32 {
+    u32::try_from(place).unwrap_or(u32::MAX)
+}
+
+/// The words of a draw in a list, as `include/coarse.h` has them.
+fn draw_words(fill: &RecordedFill) -> [u32; 8] {
+    [
+        fill.thread_idx,
+        place(fill.start),
+        place(fill.end),
+        fill.paint,
+        fill.blend_mode.mix,
+        fill.blend_mode.compose,
+        fill.mask,
+        fill.panel,
+    ]
+}
 
 /// A record of `repr(C)` with 32-bit fields alone, as words.
 fn paint_words(paints: &[Paint]) -> (*const u32, usize) {
@@ -275,15 +294,28 @@ impl CommandBucketer {
         (self.lent, self.stored, self.brush.words) = self.tables.lent();
     }
 
-    /// Rule 2: a recording file's words, bucketed from a fresh screen of its own viewport. Its viewport and boxes are in pixels, its segments in tiles,
-    /// all of the scene. [`Recorder`](crate::Recorder) makes such words.
+    /// Rule 2: the words of a recording file of an edition, bucketed from a fresh screen of its own viewport. Its viewport and boxes are in pixels, its
+    /// segments in tiles, all of the scene. [`Recorder`](crate::Recorder) makes such words, of edition one.
+    ///
+    /// ```
+    /// use coarse::{CommandBucketer, Edition, Setup};
+    ///
+    /// // One draw of panel 7 over the 128 tiles of one row.
+    /// let words = [
+    ///     1, 2, 1, 0, 0, 512, 4, 1, 1, 1, 0, 0, 1, 0, 0, 0, 128, 0, 1, 0, 0, 1, 0, 0, 3, 0, 7, 0, 1, 0, 1, 0, 1, 0, 1,
+    /// ];
+    /// let mut screen = CommandBucketer::from_wh(512, 4, Setup::new(64, 64))?;
+    /// screen.bucket_commands(Edition::Two, &words)?;
+    /// assert_eq!(screen.paint_attr(0).map(|attrs| attrs.panel), Some(7));
+    /// # Ok::<(), coarse::Answer>(())
+    /// ```
     ///
     /// # Errors
     /// [`Answer::BadForm`], then [`Answer::BadViewport`]: nothing changes. Then [`Answer::BadRecord`], [`Answer::BadOrder`] or what the first refused
     /// step of the recording answers: a fresh screen of the recording's viewport is left.
-    pub fn bucket_commands(&mut self, file: &[u32]) -> Result<(), Answer> {
-        self.on_own_screen(file, |state, setup, tables| {
-            record(state, file, setup, tables)
+    pub fn bucket_commands(&mut self, edition: Edition, file: &[u32]) -> Result<(), Answer> {
+        self.on_own_screen(edition, file, |state, setup, tables| {
+            record(state, edition, file, setup, tables)
         })
     }
 
@@ -294,24 +326,38 @@ impl CommandBucketer {
     /// The recording's own, then [`Answer::BadRun`] for a row or a tile off the screen.
     pub fn why(
         &mut self,
+        edition: Edition,
         file: &[u32],
         row: u32,
         tile: u32,
         attribute: Attribute,
     ) -> Result<Reason, Answer> {
-        self.on_own_screen(file, |state, setup, tables| {
-            explain(state, file, setup, row, tile, attribute, tables)
+        let (layer, attribute) = match attribute {
+            Attribute::Draw(attribute) => (0, attribute),
+            Attribute::Layer(attribute) => (1, attribute),
+        };
+        let question = sys::QuestionWords {
+            row,
+            tile,
+            layer,
+            attribute,
+        };
+        self.on_own_screen(edition, file, |state, setup, tables| {
+            explain(state, edition, file, setup, question, tables)
         })
     }
 
     /// A recording call, with tables for the file's own viewport. They are kept unless it is refused by 1 to 3.
     fn on_own_screen<T>(
         &mut self,
+        edition: Edition,
         file: &[u32],
         call: impl FnOnce(&mut sys::StateWords, Setup, &mut sys::TableWords) -> Result<T, Answer>,
     ) -> Result<T, Answer> {
-        let viewport = match file {
-            [_, x0, y0, x1, y1, ..] => Rect::new(*x0, *y0, *x1, *y1),
+        // The viewport stands after its count, and in edition two after two words more.
+        let viewport = match (edition, file) {
+            (Edition::One, [_, x0, y0, x1, y1, ..])
+            | (Edition::Two, [_, _, _, x0, y0, x1, y1, ..]) => Rect::new(*x0, *y0, *x1, *y1),
             _ => return Err(Answer::BadForm),
         };
         match sizes(viewport, self.setup) {
@@ -365,6 +411,53 @@ impl CommandBucketer {
                 &draw,
             )
         })
+    }
+
+    /// [`generate_fill`](Self::generate_fill) for each of the fills, in order, up to the first that is refused; the fills before it stand.
+    ///
+    /// ```
+    /// use coarse::{Answer, CommandBucketer, Paint, RecordedFill, Segment, Setup};
+    ///
+    /// let mut screen = CommandBucketer::from_wh(512, 4, Setup::new(64, 64))?;
+    /// let segments = [Segment::solid(0, 0, 128), Segment::solid(0, 20, 70)];
+    /// let fill = |i, panel| RecordedFill { start: i, end: i + 1, panel, ..RecordedFill::default() };
+    /// let fills = [fill(0, 3), fill(1, 256)];
+    /// let stopped = screen.generate_fills(&[Paint::new(true, 1)], &segments, &fills).unwrap_err();
+    /// assert_eq!((stopped.done, stopped.answer), (1, Answer::BadRecord));
+    /// assert_eq!(screen.paint_attrs().len(), 1);
+    /// # Ok::<(), Answer>(())
+    /// ```
+    ///
+    /// # Errors
+    /// [`Stopped`] says how many fills are done, and why the next is refused, as [`generate_fill`](Self::generate_fill) refuses it.
+    pub fn generate_fills(
+        &mut self,
+        paints: &[Paint],
+        segments: &[Segment],
+        fills: &[RecordedFill],
+    ) -> Result<(), Stopped> {
+        let words: Vec<u32> = fills.iter().flat_map(draw_words).collect();
+        let (paints, paints_len) = paint_words(paints);
+        let (segments, segments_len) = segment_words(segments);
+        let draws = sys::DrawsWords {
+            words: sys::Read::of(&words),
+            start: 0,
+            end: fills.len(),
+        };
+        let mut done = 0;
+        Answer::check(unsafe {
+            sys::coarse_fill_list(
+                &mut self.state,
+                &mut self.lent,
+                paints,
+                paints_len,
+                segments,
+                segments_len,
+                &draws,
+                &mut done,
+            )
+        })
+        .map_err(|answer| Stopped { done, answer })
     }
 
     /// Rule 8: opens a layer. The clip's box is in pixels of the scene; its segments are read at the pop.
@@ -707,38 +800,36 @@ impl CommandBucketer {
 
 fn record(
     state: &mut sys::StateWords,
+    edition: Edition,
     file: &[u32],
     setup: Setup,
     tables: &mut sys::TableWords,
 ) -> Result<(), Answer> {
     Answer::check(unsafe {
-        sys::coarse_bucket_recording(state, file.as_ptr(), file.len(), setup.into(), tables)
+        sys::coarse_bucket_recording(
+            state,
+            edition as u32,
+            file.as_ptr(),
+            file.len(),
+            setup.into(),
+            tables,
+        )
     })
 }
 
 fn explain(
     state: &mut sys::StateWords,
+    edition: Edition,
     file: &[u32],
     setup: Setup,
-    row: u32,
-    tile: u32,
-    attribute: Attribute,
+    question: sys::QuestionWords,
     tables: &mut sys::TableWords,
 ) -> Result<Reason, Answer> {
-    let (layer, attribute) = match attribute {
-        Attribute::Draw(attribute) => (0, attribute),
-        Attribute::Layer(attribute) => (1, attribute),
-    };
-    let question = sys::QuestionWords {
-        row,
-        tile,
-        layer,
-        attribute,
-    };
     let mut reason = sys::ReasonWords::default();
     Answer::check(unsafe {
         sys::coarse_why(
             state,
+            edition as u32,
             file.as_ptr(),
             file.len(),
             setup.into(),

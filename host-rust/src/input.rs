@@ -21,6 +21,17 @@ impl Rect {
     }
 }
 
+/// The edition of a recording file: the words of `coarse_edition`. It is told with the file, and nothing of the words says it.
+#[derive(Debug, Clone, Copy, PartialEq, Eq)]
+#[repr(u32)]
+#[non_exhaustive]
+pub enum Edition {
+    /// Its draws have 7 words and its layers 22: all have panel 0.
+    One = 1,
+    /// It begins with a 1 and a 2, and a draw and a layer have one word more, for their panel.
+    Two = 2,
+}
+
 /// How a viewport is read: the words of `coarse_mode`.
 #[derive(Debug, Clone, Copy, PartialEq, Eq, Default)]
 #[repr(u32)]

@@ -26,7 +26,7 @@
 //! counted from the viewport's corner. No box, range or run has its end in it.
 //!
 //! A *panel* is the number, 0 to [`LAST_PANEL`], of the program module that drew a fill or a layer. It goes with it to its attribute, its pieces and its
-//! reasons. Above is [`Answer::BadRecord`]; left out it is 0, as in every recording.
+//! reasons. Above is [`Answer::BadRecord`]; left out it is 0, as in every recording of edition one.
 //!
 //! # Buffers
 //!
@@ -69,6 +69,7 @@ extern crate alloc;
 mod answer;
 mod bucketer;
 mod canvas;
+mod editions;
 mod input;
 mod reason;
 mod recorder;
@@ -76,12 +77,13 @@ mod stored;
 mod sys;
 mod version;
 
-pub use answer::Answer;
+pub use answer::{Answer, Stopped};
 pub use bucketer::{split_opaque_span, CommandBucketer};
 pub use canvas::{Canvas, Piece, Runs};
+pub use editions::{to_edition_one, to_edition_two};
 pub use input::{
-    BlendMode, FilterLayerPlacement, LayerClip, LayerProps, Mode, Paint, RecordedFill, Rect,
-    Segment, Setup, Width, LAST_PANEL,
+    BlendMode, Edition, FilterLayerPlacement, LayerClip, LayerProps, Mode, Paint, RecordedFill,
+    Rect, Segment, Setup, Width, LAST_PANEL,
 };
 pub use reason::{Attribute, Reason};
 pub use recorder::Recorder;

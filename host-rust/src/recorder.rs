@@ -27,7 +27,7 @@ const SCENE_END: u32 = 4 * TILE_END;
 /// The words of a layer's record.
 const LAYER: usize = 22;
 
-/// Makes a recording: the words that [`CommandBucketer::bucket_commands`] and [`CommandBucketer::why`] take, and that a file of it has. So a host that
+/// Makes a recording of edition one: the words that [`CommandBucketer::bucket_commands`] and [`CommandBucketer::why`] take, and that a file of it has. So a host that
 /// draws by direct calls can ask why: it records what it draws.
 ///
 /// Paints and segments are recorded first; a fill and a clip name them by their places. Each record is refused where the recording would be, as far as
@@ -35,10 +35,10 @@ const LAYER: usize = 22;
 /// by [`BadOrder`](Answer::BadOrder) for its segments. A refused record is not there. The viewport, and whether there is room on the screen, only
 /// `bucket_commands` can judge.
 ///
-/// A recording has no panels: those of fills and layers are judged and not kept.
+/// A recording of edition one has no panels: those of fills and layers are judged and not kept.
 ///
 /// ```
-/// use coarse::{Attribute, CommandBucketer, Paint, Reason, RecordedFill, Recorder, Rect, Segment, Setup};
+/// use coarse::{Attribute, CommandBucketer, Edition, Paint, Reason, RecordedFill, Recorder, Rect, Segment, Setup};
 ///
 /// let mut recorder = Recorder::new(Rect::new(0, 0, 512, 4));
 /// let paint = recorder.paint(Paint::new(true, 1))?;
@@ -49,7 +49,7 @@ const LAYER: usize = 22;
 /// let words = recorder.words()?;
 ///
 /// let mut screen = CommandBucketer::from_wh(512, 4, Setup::new(64, 64))?;
-/// let reason = screen.why(&words, 0, 5, Attribute::Draw(0))?;
+/// let reason = screen.why(Edition::One, &words, 0, 5, Attribute::Draw(0))?;
 /// assert_eq!(reason, Reason::HiddenBy { attribute: 1, hider_panel: 0, panel: 0 });
 /// # Ok::<(), coarse::Answer>(())
 /// ```
@@ -377,7 +377,7 @@ impl Recorder {
         self.open.len() - 1
     }
 
-    /// The recording's words. A file of it has them in little-endian order.
+    /// The recording's words, of edition one. A file of it has them in little-endian order.
     ///
     /// # Errors
     /// [`Answer::Open`] while a layer is open.

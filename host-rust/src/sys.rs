@@ -70,6 +70,15 @@ impl<T> Clone for Read<T> {
     }
 }
 
+impl<T> Read<T> {
+    pub fn of(words: &[T]) -> Self {
+        Self {
+            at: words.as_ptr(),
+            len: words.len(),
+        }
+    }
+}
+
 impl<T> Lent<T> {
     pub fn of(words: &mut [T]) -> Self {
         Self {
@@ -116,6 +125,15 @@ pub struct TableWords {
     pub paint_attrs: Lent<u32>,
     pub layer_attrs: Lent<u32>,
     pub filter_paints: Lent<i32>,
+}
+
+/// Draws `start` to `end` of a list, as they cross.
+#[repr(C)]
+#[derive(Clone, Copy, Debug)]
+pub struct DrawsWords {
+    pub words: Read<u32>,
+    pub start: usize,
+    pub end: usize,
 }
 
 /// What painting only reads.
@@ -308,6 +326,9 @@ pub type Paint = unsafe extern "C" fn(
     *mut PaintedWords,
 ) -> u32;
 
+/// A call that converts a recording: `coarse_to_edition_two`, `coarse_to_edition_one`.
+pub type Convert = unsafe extern "C" fn(*const u32, usize, u32, *mut u32, usize, *mut usize) -> u32;
+
 extern "C" {
     pub fn coarse_sizes(viewport: Corners, setup: SetupWords, sizes: *mut Lengths) -> u32;
 
@@ -320,6 +341,7 @@ extern "C" {
 
     pub fn coarse_bucket_recording(
         state: *mut StateWords,
+        edition: u32,
         file: *const u32,
         file_len: usize,
         setup: SetupWords,
@@ -328,12 +350,31 @@ extern "C" {
 
     pub fn coarse_why(
         state: *mut StateWords,
+        edition: u32,
         file: *const u32,
         file_len: usize,
         setup: SetupWords,
         question: *const QuestionWords,
         tables: *mut TableWords,
         reason: *mut ReasonWords,
+    ) -> u32;
+
+    pub fn coarse_to_edition_two(
+        file: *const u32,
+        file_len: usize,
+        mode: u32,
+        out: *mut u32,
+        out_len: usize,
+        words: *mut usize,
+    ) -> u32;
+
+    pub fn coarse_to_edition_one(
+        file: *const u32,
+        file_len: usize,
+        mode: u32,
+        out: *mut u32,
+        out_len: usize,
+        words: *mut usize,
     ) -> u32;
 
     pub fn coarse_fill(
@@ -344,6 +385,17 @@ extern "C" {
         segments: *const u32,
         segments_len: usize,
         draw: *const DrawWords,
+    ) -> u32;
+
+    pub fn coarse_fill_list(
+        state: *mut StateWords,
+        tables: *mut TableWords,
+        paints: *const u32,
+        paints_len: usize,
+        segments: *const u32,
+        segments_len: usize,
+        draws: *const DrawsWords,
+        done: *mut usize,
     ) -> u32;
 
     pub fn coarse_push_layer(

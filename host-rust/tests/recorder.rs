@@ -1,8 +1,8 @@
 //! What is recorded is what is drawn by direct calls, and a record is refused where the recording would be.
 
 use coarse::{
-    Answer, Attribute, BlendMode, CommandBucketer, FilterLayerPlacement, LayerClip, LayerProps,
-    Paint, Reason, RecordedFill, Recorder, Rect, RenderCmd, Segment, Setup,
+    Answer, Attribute, BlendMode, CommandBucketer, Edition, FilterLayerPlacement, LayerClip,
+    LayerProps, Paint, Reason, RecordedFill, Recorder, Rect, RenderCmd, Segment, Setup,
 };
 
 const SETUP: Setup = Setup {
@@ -211,7 +211,7 @@ fn a_recording_is_the_direct_calls() {
             both.scene(&mut numbers, 2);
             let words = both.recorder.words().unwrap();
             let mut screen = CommandBucketer::from_wh(4, 4, SETUP).unwrap();
-            screen.bucket_commands(&words).unwrap();
+            screen.bucket_commands(Edition::One, &words).unwrap();
             assert_eq!(told(&mut screen), told(&mut both.screen));
             layers += screen.layer_attrs().len();
             filters += screen.filter_paints().len();
@@ -241,7 +241,7 @@ fn why_of_what_was_drawn() {
     recorder.pop_layer().unwrap();
     let words = recorder.words().unwrap();
     let mut screen = CommandBucketer::from_wh(4, 4, SETUP).unwrap();
-    let mut why = |row, tile, attribute| screen.why(&words, row, tile, attribute);
+    let mut why = |row, tile, attribute| screen.why(Edition::One, &words, row, tile, attribute);
     let panel = 0;
     assert_eq!(
         why(0, 40, Attribute::Draw(0)),
@@ -315,7 +315,7 @@ fn props() -> LayerProps {
 /// What the recording call says of such words.
 fn judged(words: &[u32]) -> Answer {
     let mut screen = CommandBucketer::from_wh(4, 4, SETUP).unwrap();
-    screen.bucket_commands(words).unwrap_err()
+    screen.bucket_commands(Edition::One, words).unwrap_err()
 }
 
 /// A record, by the recorder with `record` and by the recording call with the words of the last record of a section changed: refused by both by the same
@@ -655,6 +655,6 @@ fn layers_that_are_too_deep() {
     }
     let words = recorder.words().unwrap();
     let mut screen = CommandBucketer::from_wh(4, 4, SETUP).unwrap();
-    screen.bucket_commands(&words).unwrap();
+    screen.bucket_commands(Edition::One, &words).unwrap();
     assert_eq!(screen.layer_attrs().len(), 17);
 }

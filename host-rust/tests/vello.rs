@@ -2,8 +2,8 @@
 //! that name it.
 
 use coarse::{
-    Answer, BlendMode, Canvas, CommandBucketer, FilterLayerPlacement, LayerFillAttrs, LayerProps,
-    Paint, PaintFillAttrs, Piece, RecordedFill, Recorder, Rect, Segment, Setup,
+    Answer, BlendMode, Canvas, CommandBucketer, Edition, FilterLayerPlacement, LayerFillAttrs,
+    LayerProps, Paint, PaintFillAttrs, Piece, RecordedFill, Recorder, Rect, Segment, Setup,
 };
 use std::cell::RefCell;
 use std::ops::Range;
@@ -292,7 +292,7 @@ fn the_call_site() -> Result<(), Answer> {
     recorded.filter_layer(&layers[2], FilterContext.picture(2), &placement)?;
     recorded.filter_layer(&layers[3], FilterContext.picture(3), &placement)?;
     let mut screen = CommandBucketer::from_wh(4, 4, Setup::snapping(1024, 1024))?;
-    screen.bucket_commands(&recorded.words()?)?;
+    screen.bucket_commands(Edition::One, &recorded.words()?)?;
     screen.begin_painting()?;
     let mut pieces = Vec::new();
     for row in 0..screen.rows().len() {

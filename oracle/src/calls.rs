@@ -43,6 +43,13 @@ pub enum Call {
         paints: Vec<[u32; 4]>,
         segments: Vec<[u32; 5]>,
     },
+    /// A list of fills: the words of its draws, eight a draw, and which of them are done.
+    Fills {
+        draws: Vec<u32>,
+        range: [u32; 2],
+        paints: Vec<[u32; 4]>,
+        segments: Vec<[u32; 5]>,
+    },
     Push {
         mix: u32,
         compose: u32,
@@ -115,6 +122,16 @@ impl Call {
                 paints,
                 segments,
             } => [&[1], &draw[..], &list(paints), &list(segments)].concat(),
+            Self::Fills {
+                draws,
+                range,
+                paints,
+                segments,
+            } => {
+                let count = u32::try_from(draws.len()).expect("few");
+                let own = [&[16], &range[..], &[count], draws].concat();
+                [own, list(paints), list(segments)].concat()
+            }
             Self::Push {
                 mix,
                 compose,
@@ -270,6 +287,16 @@ impl Call {
                 Self::NextId(id)
             }
             12 => Self::Show,
+            16 => {
+                let range = take(rest)?;
+                let draws = records::<1>(rest)?.concat();
+                Self::Fills {
+                    draws,
+                    range,
+                    paints: records(rest)?,
+                    segments: records(rest)?,
+                }
+            }
             _ => return None,
         })
     }
@@ -396,6 +423,12 @@ impl Sequence {
             Call::Fill { .. } | Call::Push { .. } | Call::Pop { .. } | Call::Filter { .. } => {
                 vec![self.build(call)]
             }
+            Call::Fills {
+                draws,
+                range,
+                paints,
+                segments,
+            } => self.fills(draws, *range, paints, segments),
             Call::NextId(id) => {
                 self.screen.set_next_id(*id);
                 self.done.push(call.clone());
@@ -486,6 +519,31 @@ impl Sequence {
         self.ledger.must_agree(&*self.screen);
         self.panels.must_agree(&*self.screen);
         answer
+    }
+
+    /// One fill after the other, up to the first that is refused; how many are done. 4 for words that are no whole draws or for a bad range of them.
+    fn fills(
+        &mut self,
+        draws: &[u32],
+        [start, end]: [u32; 2],
+        paints: &[[u32; 4]],
+        segments: &[[u32; 5]],
+    ) -> Vec<u32> {
+        let (draws, rest) = draws.as_chunks::<8>();
+        let (true, Some(draws)) = (rest.is_empty(), draws.get(start as usize..end as usize)) else {
+            return vec![BAD_RECORD, 0];
+        };
+        for (done, draw) in (0..).zip(draws) {
+            let answer = self.build(&Call::Fill {
+                draw: *draw,
+                paints: paints.to_vec(),
+                segments: segments.to_vec(),
+            });
+            if answer != 0 {
+                return vec![answer, done];
+            }
+        }
+        vec![0, end - start]
     }
 
     /// A step that was done, in the account of panels. The box that fills are cut to is the same before and after a filter fill.

@@ -1,8 +1,9 @@
 //! The recording file: its form, its records, and whether they are good.
 
+use crate::editions::Edition;
 use crate::limits::{
     BAD_FORM, BAD_ORDER, BAD_RECORD, BAD_VIEWPORT, HANDLES, LAST_PIXEL, LAST_TILE, MOST_BYTES,
-    MOST_RECORDS, MOST_ROWS, THREADS,
+    MOST_RECORDS, MOST_ROWS, PANELS, THREADS,
 };
 use crate::viewport::Mode;
 use crate::width::Width;
@@ -17,7 +18,7 @@ pub struct Recording {
     pub layers: Vec<[u32; 22]>,
     pub nodes: Vec<[u32; 3]>,
     pub root: [u32; 2],
-    /// The panels of its draws and of its layers, by their numbers. A file has none; what has none here is of panel 0.
+    /// The panels of its draws and of its layers, by their numbers. A file of edition one has none; what has none here is of panel 0.
     pub draw_panels: Vec<u32>,
     pub layer_panels: Vec<u32>,
 }
@@ -49,12 +50,43 @@ pub(crate) fn split(length: u32, bytes: &[u8]) -> (&[u8], &[u8]) {
     bytes.split_at(length.min(bytes.len()))
 }
 
-/// A file that is good up to the order of its segment lists, or the number that refuses it. A bucket of no good width is refused as a viewport is.
+/// A file of edition one that `rowlist` takes, good up to the order of its segment lists, or the number that refuses it. A bucket of no good width is refused
+/// as a viewport is.
 pub(crate) fn judged(bytes: &[u8], mode: Mode, width: Option<Width>) -> Result<Recording, u32> {
-    let recording = sections(bytes).ok_or(BAD_FORM)?;
+    judged_in(Some(Edition::One), bytes, mode, width)
+}
+
+/// The same of a file of an edition; an edition that is none is refused by 3.
+pub(crate) fn judged_in(
+    edition: Option<Edition>,
+    bytes: &[u8],
+    mode: Mode,
+    width: Option<Width>,
+) -> Result<Recording, u32> {
+    let edition = edition.ok_or(BAD_FORM)?;
+    if bytes.len() > MOST_BYTES {
+        return Err(BAD_FORM);
+    }
+    let recording = sections(bytes, edition).ok_or(BAD_FORM)?;
     if width.is_none() || !few_rows(recording.viewport, mode) {
         Err(BAD_VIEWPORT)
-    } else if !good_records(&recording) {
+    } else {
+        judged_records(recording)
+    }
+}
+
+/// A file of an edition, whatever its length and rows.
+pub(crate) fn judged_for(bytes: &[u8], edition: Edition, mode: Mode) -> Result<Recording, u32> {
+    let recording = sections(bytes, edition).ok_or(BAD_FORM)?;
+    if mode.held(recording.viewport).is_none() {
+        Err(BAD_VIEWPORT)
+    } else {
+        judged_records(recording)
+    }
+}
+
+fn judged_records(recording: Recording) -> Result<Recording, u32> {
+    if !good_records(&recording) {
         Err(BAD_RECORD)
     } else if !good_order(&recording) {
         Err(BAD_ORDER)
@@ -64,26 +96,46 @@ pub(crate) fn judged(bytes: &[u8], mode: Mode, width: Option<Width>) -> Result<R
 }
 
 /// The counted sections, with nothing missing and nothing left over.
-fn sections(bytes: &[u8]) -> Option<Recording> {
-    if bytes.len() > MOST_BYTES || !bytes.len().is_multiple_of(4) {
+fn sections(bytes: &[u8], edition: Edition) -> Option<Recording> {
+    if !bytes.len().is_multiple_of(4) {
         return None;
     }
     let words: Vec<u32> = bytes
         .chunks(4)
         .map(|b| u32::from_le_bytes([b[0], b[1], b[2], b[3]]))
         .collect();
-    let mut rest = &words[..];
+    let mut rest = words.strip_prefix(edition.head())?;
+    let (viewport, paints, segments) = (only(&mut rest)?, section(&mut rest)?, section(&mut rest)?);
+    let ((draws, draw_panels), (layers, layer_panels)) = match edition {
+        Edition::One => (
+            (section(&mut rest)?, Vec::new()),
+            (section(&mut rest)?, Vec::new()),
+        ),
+        Edition::Two => (
+            with_panels::<8, 7>(&mut rest)?,
+            with_panels::<23, 22>(&mut rest)?,
+        ),
+    };
     let recording = Recording {
-        viewport: only(&mut rest)?,
-        paints: section(&mut rest)?,
-        segments: section(&mut rest)?,
-        draws: section(&mut rest)?,
-        layers: section(&mut rest)?,
+        viewport,
+        paints,
+        segments,
+        draws,
+        layers,
         nodes: section(&mut rest)?,
         root: only(&mut rest)?,
-        ..Recording::default()
+        draw_panels,
+        layer_panels,
     };
     rest.is_empty().then_some(recording)
+}
+
+/// A section of records that end in a panel, which is kept apart from the others' words.
+fn with_panels<const N: usize, const M: usize>(
+    rest: &mut &[u32],
+) -> Option<(Vec<[u32; M]>, Vec<u32>)> {
+    let parts = |record: [u32; N]| (*record.first_chunk::<M>().expect("its words"), record[M]);
+    Some(section::<N>(rest)?.into_iter().map(parts).unzip())
 }
 
 /// A count, then that many records of N words.
@@ -139,6 +191,8 @@ fn good_records(r: &Recording) -> bool {
         && r.layers.iter().all(|layer| good_layer(r, layer))
         && r.nodes.iter().all(|node| good_node(r, node))
         && good_range(r.root[0], r.root[1], r.nodes.len())
+        && r.draw_panels.iter().all(|&panel| panel < PANELS)
+        && r.layer_panels.iter().all(|&panel| panel < PANELS)
 }
 
 pub(crate) fn good_segment(&[kind, row, first, end, alpha]: &[u32; 5]) -> bool {

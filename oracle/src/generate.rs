@@ -7,6 +7,7 @@ mod damage;
 pub mod draft;
 mod edges;
 pub mod edits;
+pub mod files;
 pub mod forged;
 pub mod questions;
 mod reasons;

@@ -9,6 +9,7 @@ mod coarse_64;
 pub mod colours;
 pub mod composited;
 pub mod edited;
+pub mod editions;
 pub mod file;
 mod filter;
 pub mod generate;

@@ -16,6 +16,7 @@ const FULL_DEPTH: u32 = 11;
 pub(crate) const BAD_RUN: u32 = 12;
 pub(crate) const OPEN: u32 = 13;
 pub(crate) const NO_ROOM: u32 = 14;
+pub(crate) const HAS_PANELS: u32 = 15;
 
 /// The last pixel edge and the last tile edge.
 pub(crate) const LAST_PIXEL: u32 = 32_768;

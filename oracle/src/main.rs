@@ -1,22 +1,27 @@
 //! Answers of the original Rust, to hold the definitions and the port against.
 
+use oracle::editions::{self, Edition};
 use oracle::questions::{self, Answerer, Question};
 use oracle::viewport::Mode;
 use oracle::why::Kind;
 use oracle::width::Width;
 use oracle::{calls, edited, file, generate, leaves, print, walk};
+use std::collections::BTreeMap;
 use std::io::{Read, Write};
 
-const USAGE: &str = "usage: oracle rowlist [--snap] [--width N] [--first-id N] < FILE
-       oracle rowdump [--snap] [--width N] [--panels] [--first-id N] < STREAM
-       oracle lines [--snap] [--width N] [--first-id N] < STREAM
+const USAGE: &str = "usage: oracle rowlist [--snap] [--width N] [--edition N] [--first-id N] < FILE
+       oracle rowdump [--snap] [--width N] [--edition N] [--panels] [--first-id N] < STREAM
+       oracle lines [--snap] [--width N] [--edition N] [--first-id N] < STREAM
        oracle generate SEED COUNT [all|edges|scenes|damaged|snapped|wide|heavy|ids] > STREAM
        oracle names SEED COUNT [KIND]
        oracle edits [--rows|--moved] SEED COUNT > STREAM
        oracle edited ROWS < DUMP
-       oracle why [--snap] [--width N] [--first-id N] [--tally] ROW TILE [draw|layer N] < FILE
-       oracle why [--snap] [--width N] [--first-id N] [--tally] --stream < QUESTIONS
+       oracle why [--snap] [--width N] [--edition N] [--first-id N] [--tally] ROW TILE [draw|layer N] < FILE
+       oracle why [--snap] [--width N] [--edition N] [--first-id N] [--tally] --stream < QUESTIONS
        oracle questions [--width N] SEED COUNT [KIND] > QUESTIONS
+       oracle editions [--snap] new|old < FILE > FILE
+       oracle editions [--snap] [--tally] --stream new|old < STREAM > STREAM
+       oracle files SEED COUNT new|old > STREAM
        oracle leaves [--text] [SEED [COUNT]]
        oracle calls SEED COUNT [MOST] > CALLS
        oracle answers < CALLS
@@ -29,8 +34,9 @@ fn main() {
     let first_id = option(&mut words, "--first-id").unwrap_or(1);
     let mode = mode(&mut words);
     let width = width(&mut words);
+    let edition = edition(&mut words);
     let panels = panels(&mut words);
-    let mut player = walk::Player::new(mode, first_id).at(width);
+    let mut player = walk::Player::new(mode, first_id).at(width).told(edition);
     let words: Vec<&str> = words.iter().map(String::as_str).collect();
     let mut agreed = true;
     let out = match words[..] {
@@ -61,6 +67,12 @@ fn main() {
             agreed = report.agreed();
             report.text().into_bytes()
         }
+        ["editions", ref given @ ..] => converted(given, mode),
+        ["files", seed, count, to] => generate::stream(&generate::files::files(
+            number(seed),
+            number(count),
+            before(to),
+        )),
         ["leaves", ..] => leaves_of(&words[1..]),
         ["calls", seed, count] => generate::calls::stream(number(seed), number(count), u32::MAX),
         ["calls", seed, count, most] => {
@@ -93,7 +105,11 @@ fn main() {
 
 /// Takes `--snap` out of the arguments of a command that reads recordings.
 fn mode(words: &mut Vec<String>) -> Mode {
-    if flag(words, "--snap", &["rowlist", "rowdump", "lines", "why"]) {
+    if flag(
+        words,
+        "--snap",
+        &["rowlist", "rowdump", "lines", "why", "editions"],
+    ) {
         Mode::Snapping
     } else {
         Mode::Exact
@@ -117,16 +133,72 @@ fn flag(words: &mut Vec<String>, name: &str, commands: &[&str]) -> bool {
     words.len() < all
 }
 
-/// Takes `--width N` out of the arguments of a command that reads recordings or asks about them: pixels a bucket. Of several the last counts.
+/// Takes `--width N` out of the arguments of a command that reads recordings or asks about them: pixels a bucket.
 fn width(words: &mut Vec<String>) -> u32 {
     let takes = ["rowlist", "rowdump", "lines", "why", "questions"];
-    let mut width = 128;
-    if words.first().is_some_and(|word| takes.contains(&&word[..])) {
-        while let Some(given) = option(words, "--width") {
-            width = given;
+    last(words, "--width", &takes, 128)
+}
+
+/// Takes `--edition N` out of the arguments of a command that reads recordings.
+fn edition(words: &mut Vec<String>) -> u32 {
+    let takes = ["rowlist", "rowdump", "lines", "why"];
+    last(words, "--edition", &takes, 1)
+}
+
+/// Takes `NAME NUMBER` out of the arguments of one of these commands. Of several the last counts.
+fn last(words: &mut Vec<String>, name: &str, commands: &[&str], without: u32) -> u32 {
+    let mut number = without;
+    if words
+        .first()
+        .is_some_and(|word| commands.contains(&&word[..]))
+    {
+        while let Some(given) = option(words, name) {
+            number = given;
         }
     }
-    width
+    number
+}
+
+/// The edition of the files that are to be made new or old.
+fn before(to: &str) -> Edition {
+    match to {
+        "new" => Edition::One,
+        "old" => Edition::Two,
+        _ => usage(),
+    }
+}
+
+/// A file as one of the other edition, or a stream of files; refused, a file is a line on standard error and the status 1. The tally goes to standard error.
+fn converted(words: &[&str], mode: Mode) -> Vec<u8> {
+    let tally = words.contains(&"--tally");
+    let words: Vec<&str> = words
+        .iter()
+        .copied()
+        .filter(|word| *word != "--tally")
+        .collect();
+    match words[..] {
+        [to] if !tally => {
+            editions::converted(&input(), before(to), mode).unwrap_or_else(|number| {
+                eprintln!("refused {number}");
+                std::process::exit(1);
+            })
+        }
+        ["--stream", to] => {
+            let bytes = input();
+            let out = editions::stream(&file::stream(&bytes), before(to), mode);
+            if tally {
+                let mut counts = BTreeMap::new();
+                for said in editions::answers(&out) {
+                    *counts.entry(said.err().unwrap_or(0)).or_insert(0) += 1;
+                }
+                for (number, count) in counts {
+                    eprintln!("{count} answer {number}");
+                }
+            }
+            out
+        }
+        _ => usage(),
+    }
 }
 
 fn usage() -> ! {

@@ -1,5 +1,6 @@
 //! A recording's steps in draw order, and a screen on which the Rust's own calls take them, with the limits looked at after each step.
 
+use crate::editions::Edition;
 use crate::file;
 use crate::limits::{within, ROOM};
 use crate::panels::{draws, Panels};
@@ -21,17 +22,20 @@ pub struct Player {
     mode: Mode,
     /// None for a number of pixels that no bucket has: then every recording is refused.
     width: Option<Width>,
+    /// None for a number that is no edition's: then every recording is refused, before all else.
+    edition: Option<Edition>,
     first_id: u32,
     panels: Panels,
 }
 
 impl Player {
-    /// With 128 pixels a bucket.
+    /// With 128 pixels a bucket, for files of edition one.
     pub fn new(mode: Mode, first_id: u32) -> Self {
         Self {
             screen: Width::Of128.screen(rect([0; 4])),
             mode,
             width: Some(Width::Of128),
+            edition: Some(Edition::One),
             first_id,
             panels: Panels::default(),
         }
@@ -43,6 +47,14 @@ impl Player {
         Self {
             screen: width.unwrap_or(Width::Of128).screen(rect([0; 4])),
             width,
+            ..self
+        }
+    }
+
+    /// For files of the edition of a number.
+    pub fn told(self, number: u32) -> Self {
+        Self {
+            edition: Edition::of(number),
             ..self
         }
     }
@@ -59,7 +71,7 @@ impl Player {
 
     /// A recording that is good up to the order of its segment lists, or the number that refuses it.
     pub(crate) fn judged(&self, bytes: &[u8]) -> Result<Scene, u32> {
-        let recording = file::judged(bytes, self.mode, self.width)?;
+        let recording = file::judged_in(self.edition, bytes, self.mode, self.width)?;
         Ok(scene(&recording, self.mode))
     }
 

@@ -44,3 +44,7 @@ module _ (l : Layout) (ws : List ℕ) where
   pub segment_count : length (recorded l ws).segments ≡ l.segments.count
   unfolding recorded
   segment_count = each-length segment_from 5 ws l.segments.at l.segments.count
+
+  pub draw_count : length (recorded l ws).draws ≡ l.draws.count
+  unfolding recorded
+  draw_count = each-length (draw_from l.edition) (draw-size l.edition) ws l.draws.at l.draws.count

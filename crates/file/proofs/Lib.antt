@@ -8,3 +8,4 @@ pub mod Heldness
 pub mod Laws
 pub mod Listed
 pub mod Orders
+pub mod Drawn

@@ -4,6 +4,7 @@ ghost use Rattle.sizes.specs.Refusals.{answer_number};
 ghost use Rattle.rules.specs.Inputs as rule;
 ghost use Rattle.rules.specs.Recording as rules;
 ghost use Rattle.rules.specs.Recording.{in-one};
+ghost use Rattle.sizes.specs.Editions.{draw-size};
 ghost use Rattle.rect.specs.Rects.{box_of};
 ghost use Rattle.segments.specs.Segs.{segs-of};
 ghost use Rattle.inputs.specs.Inputs.{draw-of};
@@ -48,7 +49,7 @@ pub struct Recording<'a> {
 }
 
 impl Recording<'_> {
-    ghost use Rattle.file.specs.Held.{held, paints-in, FitsIn, HeldOf};
+    ghost use Rattle.file.specs.Held.{held, paints-in, FitsIn, HeldOf, edition-of, DrawsIn};
 
     /// The recording of a file, or BadForm, 3: its words are not exactly those of a file of its edition.
     pub fn read(file: File<'_>) -> Result<Recording<'_>, Refusal>
@@ -96,6 +97,23 @@ impl Recording<'_> {
     {
         let segments = self.layout.segments;
         &self.words[segments.at..segments.at + SEGMENT * segments.count]
+    }
+
+    /// The edition that its words are read in.
+    pub fn edition(&self) -> Edition
+        ensures { result ≡ edition-of self.now }
+    {
+        self.layout.edition
+    }
+
+    /// The draws' words, as many each as the edition says.
+    pub fn draws(&self) -> &[u32]
+        requires { FitsIn self.now }
+        ensures read { DrawsIn self.now result.now }
+        ensures long { length result.now ≡ draw-size (edition-of self.now) * length (held self.now).draws }
+    {
+        let draws = self.layout.draws;
+        &self.words[draws.at..draws.at + self.layout.edition.draw() * draws.count]
     }
 
     /// Draw i, counted from 0.

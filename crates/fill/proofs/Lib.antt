@@ -11,3 +11,6 @@ pub mod Running
 pub mod Rising
 pub mod Judged
 pub mod Sure
+pub mod InOrder
+pub mod Still
+pub mod DoneOnes

@@ -12,6 +12,10 @@ use Rattle.fill.specs.declared.rows.FillJob.{FillJob}
 use Rattle.fill.specs.Filling.{puts, done, Roomy}
 use Rattle.fill.specs.Fills.{FillLent, fill_lent}
 use Rattle.fill.specs.Tallies.{Rowed}
+use Rattle.sizes.specs.declared.edition.Edition.{Edition}
+use Rattle.inputs.specs.declared.Draw.{Draw}
+use Rattle.fill.specs.declared.list.Draws.{Draws}
+use Rattle.fill.specs.Lists.{FillsOut, draws_in, fills_listed}
 
 -- a screen and the words that a fill writes, as they are lent
 abbrev pub fill_lent_of : Screen → Rows → List ℕ → FillLent
@@ -48,3 +52,15 @@ GoodAt ws i = (5 * i + 5 ≤ length ws) × (good-segment (seg-at ws i) ≡ true)
 -- segment i has alpha values
 abbrev pub NotSolid : List ℕ → ℕ → Type 0
 NotSolid ws i = (seg-at ws i).kind ≡ 0 → ⊥
+
+-- how many draws are asked for
+abbrev pub asked : Draws → ℕ
+asked d = d.end - d.start
+
+-- .. and which, in an edition
+abbrev pub draws-of : Edition → Draws → List Draw
+draws-of e d = draws_in e d.words.now d.start (asked d)
+
+-- what a list's fills give
+abbrev pub fills-of : List ℕ → List ℕ → Draws → FillLent → FillsOut
+fills-of ps ss d l = fills_listed ps ss d.words.now d.start d.end l

@@ -157,7 +157,13 @@ fn has_room_at(rows: &[u32], job: FillJob, row: u32, segments: usize, split: usi
 
 // Yes only where the exact number is 0: rows rise, each segment is good and in order, and each row has room for the most that its segments come
 // to, looked at once for all of them.
-fn is_sure(rows: &[u32], list: &[u32], start: usize, end: usize, job: FillJob) -> bool
+fn is_sure<const LISTED: bool>(
+    rows: &[u32],
+    list: &[u32],
+    start: usize,
+    end: usize,
+    job: FillJob,
+) -> bool
     requires rows { RecordsOf job rows.now }
     requires range { start < «end» }
     requires list { InList list.now «end» }
@@ -207,7 +213,7 @@ fn is_sure(rows: &[u32], list: &[u32], start: usize, end: usize, job: FillJob) -
 
 /// The segments from start to end of a list: BadRecord for a bad one or for the bad record of a row that gets one, then BadOrder, at once; else what was found
 /// of the rows, whether one passes C, or D.
-pub fn judge_list(
+pub fn judge_list<const LISTED: bool>(
     rows: &[u32],
     list: &[u32],
     start: usize,
@@ -219,7 +225,7 @@ pub fn judge_list(
     requires list { InList list.now «end» }
     ensures { Listed (number_in job rows.now list.now start «end») result }
 {
-    if start < end && is_sure(rows, list, start, end, job) {
+    if start < end && is_sure::<LISTED>(rows, list, start, end, job) {
         return Ok(Fault::Nothing);
     }
     match judge_each(rows, list, start, end, job)? {

@@ -26,7 +26,9 @@ use sizes::answers::Refusal;
 use sizes::{HANDLE_END, LAST_ID, MOST_ATTRS, MOST_RECORDS, PAINT, PAINT_TABLE, SEGMENT};
 
 pub mod judge;
+pub mod list;
 pub mod rows;
+pub mod turns;
 
 // Whether a paint's opaque flag and handle are in their bounds.
 fn is_good_paint(paints: &[u32], paint: usize) -> bool
@@ -109,9 +111,26 @@ fn judge_lent(
     Ok(())
 }
 
+// The same, unless they are judged.
+fn judge_first<const LISTED: bool>(
+    screen: Screen,
+    rows: &Rows<'_>,
+    paint_attrs: &[u32],
+    paints: &[u32],
+    segments: &[u32],
+) -> Result<(), Refusal>
+    requires { LISTED ≡ true → first-of-lent (fill_lent_of screen rows.now paint_attrs.now) paints.now segments.now ≡ 0 }
+    ensures { answer_number result ≡ first-of-lent (fill_lent_of screen rows.now paint_attrs.now) paints.now segments.now }
+{
+    if LISTED {
+        return Ok(());
+    }
+    judge_lent(screen, rows, paint_attrs, paints, segments)
+}
+
 // A fill, before anything is done: BadViewport, BadArena, BadRecord, BadOrder, Ids, FullAttrs if there is a segment, FullRow, FullDepth, in this order. It
 // gives what its segments have in common.
-fn judge_fill(
+fn judge_fill<const LISTED: bool>(
     screen: Screen,
     rows: &Rows<'_>,
     paint_attrs: &[u32],
@@ -119,16 +138,17 @@ fn judge_fill(
     segments: &[u32],
     draw: Draw,
 ) -> Result<FillJob, Refusal>
+    requires { LISTED ≡ true → first-of-lent (fill_lent_of screen rows.now paint_attrs.now) paints.now segments.now ≡ 0 }
     ensures job { IfOk result (λ j. j ≡ job_of screen paints.now draw) }
     ensures number { answer_number result
         ≡ fill_number (fill_lent_of screen rows.now paint_attrs.now) paints.now segments.now draw }
 {
-    judge_lent(screen, rows, paint_attrs, paints, segments)?;
+    judge_first::<LISTED>(screen, rows, paint_attrs, paints, segments)?;
     if !is_good_fill(paints, segments, draw) {
         return Err(Refusal::BadRecord);
     }
     let job = job_of(screen, paints, draw);
-    let fault = judge_list(rows.state, segments, draw.start, draw.end, job)?;
+    let fault = judge_list::<LISTED>(rows.state, segments, draw.start, draw.end, job)?;
     if LAST_ID < screen.next_draw_id {
         return Err(Refusal::Ids);
     }
@@ -142,8 +162,51 @@ fn judge_fill(
     Ok(job)
 }
 
+// A fill, alone or LISTED: one of a list, whose screen, tables and lists are judged before. Each has machine code of its own, in which the loops over segments
+// keep their registers.
+fn fill_one<const LISTED: bool>(
+    screen: &mut Screen,
+    rows: &mut Rows<'_>,
+    paint_attrs: &mut [u32],
+    paints: &[u32],
+    segments: &[u32],
+    draw: Draw,
+) -> Result<(), Refusal>
+    requires { LISTED ≡ true → first-of-lent (fill_lent_of screen.old rows.old paint_attrs.old) paints.now segments.now ≡ 0 }
+    ensures same { SameRows rows.old rows.new }
+    ensures refused { answer_number result
+        ≡ fill_number (fill_lent_of screen.old rows.old paint_attrs.old) paints.now segments.now draw }
+    ensures unchanged { OnErr result
+        (fill_lent_of screen.new rows.new paint_attrs.new ≡ fill_lent_of screen.old rows.old paint_attrs.old) }
+    ensures done { OnOk result (fill_lent_of screen.new rows.new paint_attrs.new
+        ≡ fill_done (fill_lent_of screen.old rows.old paint_attrs.old) paints.now segments.now draw) }
+    ensures filled { answer (answer_number result) (fill_lent_of screen.new rows.new paint_attrs.new)
+        ≡ filled (fill_lent_of screen.old rows.old paint_attrs.old) paints.now segments.now draw }
+{
+    let job = judge_fill::<LISTED>(*screen, rows, paint_attrs, paints, segments, draw)?;
+    if draw.start == draw.end {
+        screen.take_fill(0);
+        return Ok(());
+    }
+    let attrs = PaintFillAttrs {
+        paint: draw.paint,
+        blend: draw.blend,
+        mask: draw.mask,
+        draw_id: screen.next_draw_id,
+        thread_idx: draw.thread,
+        origin_x: screen.viewport.x0,
+        origin_y: screen.viewport.y0,
+        panel: draw.panel,
+    };
+    put_paint_attrs(paint_attrs, screen.paint_attrs as usize, attrs);
+    fill_rows::<LISTED>(rows, segments, draw.start, draw.end, job);
+    screen.take_fill(1);
+    Ok(())
+}
+
 /// Rules 3 to 7. The lists are lent as words, PAINT a paint and SEGMENT a segment. BadViewport, BadArena, BadRecord, BadOrder, Ids, FullAttrs, FullRow or
 /// FullDepth: refused, the screen and every lent word stay. What is done is what the rules' `plan-fill` says.
+#[inline(never)]
 pub fn fill(
     screen: &mut Screen,
     rows: &mut Rows<'_>,
@@ -162,23 +225,5 @@ pub fn fill(
     ensures filled { answer (answer_number result) (fill_lent_of screen.new rows.new paint_attrs.new)
         ≡ filled (fill_lent_of screen.old rows.old paint_attrs.old) paints.now segments.now draw }
 {
-    let job = judge_fill(*screen, rows, paint_attrs, paints, segments, draw)?;
-    if draw.start == draw.end {
-        screen.take_fill(0);
-        return Ok(());
-    }
-    let attrs = PaintFillAttrs {
-        paint: draw.paint,
-        blend: draw.blend,
-        mask: draw.mask,
-        draw_id: screen.next_draw_id,
-        thread_idx: draw.thread,
-        origin_x: screen.viewport.x0,
-        origin_y: screen.viewport.y0,
-        panel: draw.panel,
-    };
-    put_paint_attrs(paint_attrs, screen.paint_attrs as usize, attrs);
-    fill_rows(rows, segments, draw.start, draw.end, job);
-    screen.take_fill(1);
-    Ok(())
+    fill_one::<false>(screen, rows, paint_attrs, paints, segments, draw)
 }

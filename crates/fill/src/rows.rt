@@ -42,12 +42,12 @@ pub struct SegmentRun {
 
 // What is left of a segment, drawn on its row.
 #[derive(Clone, Copy)]
-struct Stroke {
+struct Stroke<const LISTED: bool> {
     job: FillJob,
     stretch: Stretch,
 }
 
-impl RowAct for Stroke {
+impl<const LISTED: bool> RowAct for Stroke<LISTED> {
     ghost made = { λ a w. draws a.job (tiles a.stretch.tiles) a.stretch.alpha w };
 
     ghost Asks = { λ a w. Short (tiles a.stretch.tiles) × (a.job.layers ≤ most-layers) };
@@ -60,7 +60,7 @@ impl RowAct for Stroke {
             row.push_paint(stretch.tiles, stretch.alpha, job.attr);
             return;
         }
-        push_fill(
+        push_fill::<LISTED>(
             row,
             job.layers,
             job.eligible,
@@ -73,7 +73,7 @@ impl RowAct for Stroke {
 }
 
 // One segment of the list.
-fn fill_segment(rows: &mut Rows<'_>, segs: &[u32], i: usize, job: FillJob)
+fn fill_segment<const LISTED: bool>(rows: &mut Rows<'_>, segs: &[u32], i: usize, job: FillJob)
     requires fits { Fits job (count-rows rows.old.state.now) (all-held rows.old) }
     requires segment { GoodAt segs.now i }
     requires room { RoomFor job (one-put job segs.now i) (held_rows job rows.old) }
@@ -82,7 +82,7 @@ fn fill_segment(rows: &mut Rows<'_>, segs: &[u32], i: usize, job: FillJob)
         ≡ done job (one-put job segs.now i) (held_rows job rows.old) }
 {
     if let Some(placed) = place(segment_at(segs, i), job.scene) {
-        let stroke = Stroke {
+        let stroke = Stroke::<LISTED> {
             job,
             stretch: placed.stretch,
         };
@@ -99,7 +99,7 @@ fn fill_segment(rows: &mut Rows<'_>, segs: &[u32], i: usize, job: FillJob)
 }
 
 // The alpha segments of a run, in a row: a command each, on the row's own words. It gives the first segment after them.
-fn push_run(
+fn push_run<const LISTED: bool>(
     state: &mut [u32],
     render_cmds: &mut [u32],
     depth_cmds: &mut [u32],
@@ -136,7 +136,7 @@ fn push_run(
 }
 
 // The same on the whole screen, from a segment that is not solid: its row is found once for all. Where nothing is left of it, it alone.
-fn fill_run(
+fn fill_run<const LISTED: bool>(
     state: &mut [u32],
     render_cmds: &mut [u32],
     depth_cmds: &mut [u32],
@@ -162,7 +162,7 @@ fn fill_run(
         end,
         row: first.row,
     };
-    push_run(
+    push_run::<LISTED>(
         &mut state[p.x0..p.x1],
         &mut render_cmds[p.y0..p.y1],
         &mut depth_cmds[p.z0..p.z1],
@@ -173,7 +173,13 @@ fn fill_run(
 }
 
 /// The segments from start to end of a list that is judged: solid ones one by one, those with alpha in runs.
-pub fn fill_rows(rows: &mut Rows<'_>, segs: &[u32], start: usize, end: usize, job: FillJob)
+pub fn fill_rows<const LISTED: bool>(
+    rows: &mut Rows<'_>,
+    segs: &[u32],
+    start: usize,
+    end: usize,
+    job: FillJob,
+)
     requires { FillReady job (count-rows rows.old.state.now) segs.now start «end» (all-held rows.old) }
     ensures same { SameRows rows.old rows.new }
     ensures rows { all-held rows.new ≡ lay (rows_after job segs.now start «end» (held_rows job rows.old)) }
@@ -181,10 +187,10 @@ pub fn fill_rows(rows: &mut Rows<'_>, segs: &[u32], start: usize, end: usize, jo
     let mut i = start;
     while i < end {
         if segs[SEGMENT * i] == 0 {
-            fill_segment(rows, segs, i, job);
+            fill_segment::<LISTED>(rows, segs, i, job);
             i += 1;
         } else {
-            i = fill_run(
+            i = fill_run::<LISTED>(
                 rows.state,
                 rows.render_cmds,
                 rows.depth_cmds,

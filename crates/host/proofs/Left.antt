@@ -4,9 +4,9 @@ use Rattle.screen.specs.declared.Screen.{Screen}
 use Rattle.layers.specs.Push.{OnlyLayers}
 use Rattle.layers.specs.Filter.{OnlyPaints}
 use Rattle.host.specs.declared.state.StateWords.{StateWords}
-use Rattle.host.specs.State.{screen-at, screen_of, screen-words, width_word}
+use Rattle.host.specs.State.{screen-at, screen_of, width_word}
 use Rattle.host.specs.Held.{words_in}
-use Rattle.host.specs.OneLook.{Framed, PushLeaves, FilterLeaves}
+use Rattle.host.specs.OneLook.{PushLeaves, FilterLeaves}
 use Rattle.host.proofs.Words.{written_back}
 
 -- w stands for a screen

@@ -16,3 +16,5 @@ pub mod Words
 pub mod ScreenAsked
 pub mod OneLook
 pub mod Left
+pub mod Conversions
+pub mod FillLists

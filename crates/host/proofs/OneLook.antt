@@ -1,5 +1,5 @@
 -- Where the one look says yes, the exact judge says 0. Assumes nothing.
-use mathlib.Core.Path.{◌≡◌, sym, ◌∙◌}
+use mathlib.Core.Path.{◌≡◌}
 use mathlib.Core.Bool.{true, false, ◌&&◌}
 use Prim.Native.Nat.{ℕ, ◌*◌, ◌-◌}
 use lib.Dec.{leb, eqb}

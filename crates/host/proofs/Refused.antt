@@ -26,15 +26,15 @@ use Rattle.paint.specs.Judging.{begin_number}
 use Rattle.paint.specs.Beginning.{canvas, begun, beginning}
 use Rattle.host.specs.declared.state.SetupWords.{SetupWords}
 use Rattle.host.specs.State.{screen_of}
-use Rattle.host.specs.Asked.{asked_setup, in-setup}
+use Rattle.host.specs.Asked.{asked_setup, granted}
 use Rattle.host.specs.Building.{tables-left, reset_in, reset_call, fill-left, fill_call, push-left, push_call, pop-left, pop_call, filter-left, filter_call}
 use Rattle.host.specs.Painting.{begin-left, begin_call}
 use Rattle.host.proofs.Words.{written_back}
 use Rattle.host.proofs.Kept.{at-screen}
 
 -- a call in the setup that is asked for
-pub asked-kept : {T : Type 0} (o : Result Setup Refusal) (n : Refusal → ℕ) (t : T) (f : Setup → Answer T) → ((q : Setup) → Refused (f q) → (f q).value ≡ t)
-    → Refused (in-setup o n t f) → (in-setup o n t f).value ≡ t
+pub asked-kept : {A T : Type 0} (o : Result A Refusal) (n : Refusal → ℕ) (t : T) (f : A → Answer T) → ((x : A) → Refused (f x) → (f x).value ≡ t)
+    → Refused (granted o n t f) → (granted o n t f).value ≡ t
 asked-kept (Err r) n t f k e = refl
 asked-kept (Ok q) n t f k e = k q e
 

@@ -27,7 +27,7 @@ use Rattle.layers.specs.Filter.{FilterGiven, filtered}
 use Rattle.walk.specs.Reading.{props_in}
 use Rattle.host.specs.declared.state.SetupWords.{SetupWords}
 use Rattle.host.specs.State.{screen-words, on}
-use Rattle.host.specs.Asked.{asked_setup, in-setup}
+use Rattle.host.specs.Asked.{FileWords, asked_setup, told_file, granted}
 use Rattle.host.specs.Border.{unasked_number}
 
 -- all tables
@@ -39,14 +39,17 @@ unfoldable pub reset_in : Rect → Setup → List ℕ → Tables → Answer (Lis
 reset_in v q st t = on true st (st, t) (λ s. tables-left (reset_to (frame q (box_of v)) (screen_lent s t)))
 
 unfoldable pub reset_call : Rect → SetupWords → List ℕ → Tables → Answer (List ℕ × Tables)
-reset_call v w st t = in-setup (asked_setup w) number_of (st, t) (λ q. reset_in v q st t)
+reset_call v w st t = granted (asked_setup w) number_of (st, t) (λ q. reset_in v q st t)
 
--- a recording, likewise; 3 for the file's form before all
+-- a recording, likewise: 3 for a number that says no edition before all, then 3 for the file's form
 unfoldable pub recording_in : File → Setup → List ℕ → Tables → Answer (List ℕ × Tables)
 recording_in file q st t = on true st (st, t) (λ s. tables-left (recorded file q (screen_lent s t)))
 
-unfoldable pub recording_call : File → SetupWords → List ℕ → Tables → Answer (List ℕ × Tables)
-recording_call file w st t = in-setup (asked_setup w) (unasked_number file) (st, t) (λ q. recording_in file q st t)
+unfoldable pub recording_asked : File → SetupWords → List ℕ → Tables → Answer (List ℕ × Tables)
+recording_asked file w st t = granted (asked_setup w) (unasked_number file) (st, t) (λ q. recording_in file q st t)
+
+unfoldable pub recording_call : FileWords → SetupWords → List ℕ → Tables → Answer (List ℕ × Tables)
+recording_call f w st t = granted (told_file f) number_of (st, t) (λ file. recording_asked file w st t)
 
 -- the rows and the paint attributes
 abbrev pub draw : ℕ → ℕ → ℕ → ℕ → ℕ → ℕ → ℕ → ℕ → Draw

@@ -21,9 +21,10 @@ use Rattle.host.specs.declared.reasons.ReasonWords.{ReasonWords}
 use Rattle.host.specs.declared.results.PaintedWords.{PaintedWords}
 use Rattle.host.specs.Held.{words_in, draw_in, props_of, filter_of, painted_in, one, reason_in}
 use Rattle.host.specs.Lent.{rows_in}
+use Rattle.host.specs.Asked.{FileWords}
 use Rattle.host.specs.Building.{fill_call, push_call, filter_call}
 use Rattle.host.specs.Painting.{step_call, row_call, write_call}
-use Rattle.host.specs.Reasons.{why_call}
+use Rattle.host.specs.Reasons.{why_asked, why_call}
 
 -- a fill: the state, the rows and the paint attributes
 abbrev pub fill_out : StateWords → Lent → List ℕ × Words × List ℕ
@@ -50,7 +51,10 @@ filter_on f w t = filter_call f.has_pixmap (filter_of f) (words_in w) (rows_in t
 abbrev pub why_out : StateWords → Lent → ReasonWords → List ℕ × Tables × List ℕ
 why_out w t r = (words_in w, tables_in t, reason_in r)
 
-abbrev pub why_on : File → SetupWords → QuestionWords → StateWords → Lent → ReasonWords → Answer (List ℕ × Tables × List ℕ)
+abbrev pub why_of : File → SetupWords → QuestionWords → StateWords → Lent → ReasonWords → Answer (List ℕ × Tables × List ℕ)
+why_of file s q w t r = why_asked file s q.row q.tile q.layer q.attribute (words_in w) (tables_in t) (reason_in r)
+
+abbrev pub why_on : FileWords → SetupWords → QuestionWords → StateWords → Lent → ReasonWords → Answer (List ℕ × Tables × List ℕ)
 why_on file s q w t r = why_call file s q.row q.tile q.layer q.attribute (words_in w) (tables_in t) (reason_in r)
 
 -- painting: the canvas, the list and the result

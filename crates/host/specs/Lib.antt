@@ -12,3 +12,5 @@ pub mod Asked
 pub mod Results
 pub mod Called
 pub mod Reading
+pub mod Editions
+pub mod FillLists

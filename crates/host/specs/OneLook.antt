@@ -4,7 +4,6 @@ use Rattle.sizes.specs.Sizes.{most-attrs, most-filters, most-width, row-size, sc
 use Rattle.rules.specs.Boxes.{Box, box, good_viewport}
 use Rattle.rules.specs.Walk.{good-room}
 use Rattle.rect.specs.Rects.{same-box}
-use Rattle.row.specs.Words.{Words}
 use Rattle.screen.specs.declared.Screen.{Screen}
 use Rattle.screen.specs.declared.lent.Lent.{Lent}
 use Rattle.screen.specs.Screens.{in-tiles}
@@ -17,7 +16,7 @@ use Rattle.host.specs.declared.state.Corners.{Corners}
 use Rattle.host.specs.declared.state.StateWords.{StateWords}
 use Rattle.host.specs.declared.layer.PropsWords.{PropsWords}
 use Rattle.host.specs.declared.layer.FilterWords.{FilterWords}
-use Rattle.host.specs.State.{bit, width_word, screen-at, screen_of}
+use Rattle.host.specs.State.{width_word, screen-at, screen_of}
 use Rattle.host.specs.Held.{words_in, rect_of}
 use Rattle.host.specs.Lent.{rows_in}
 use Rattle.host.specs.Border.{step-judged}

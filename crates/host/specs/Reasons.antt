@@ -1,5 +1,6 @@
 -- Why a tile of a recording shows what it shows, on a host's words: the call's own definition at the screen that the words stand for.
 use Rattle.std.specs.Prelude.{ℕ, ◌&&◌, List, [], ◌∷◌, length, leb, eqb}
+use Rattle.sizes.specs.Refusals.{number_of}
 use Rattle.rules.specs.Recording.{File}
 use Rattle.rules.specs.Answers.{Answer, answer, settle}
 use Rattle.rules.specs.Setups.{Setup}
@@ -9,7 +10,7 @@ use Rattle.screen.specs.Tables.{Tables, screen_lent}
 use Rattle.tile.specs.Explained.{Explained, explained}
 use Rattle.host.specs.declared.state.SetupWords.{SetupWords}
 use Rattle.host.specs.State.{screen-words, on}
-use Rattle.host.specs.Asked.{asked_setup, in-setup}
+use Rattle.host.specs.Asked.{FileWords, asked_setup, told_file, granted}
 use Rattle.host.specs.Border.{unasked_number}
 
 -- the case, the attribute that hides or the place in the tile's list, the asked attribute's panel, the panel of the attribute that hides
@@ -45,6 +46,11 @@ why_in file q row tile layer attribute st t result =
     (λ (s : Screen). why-left result (explained file q row tile (asked layer attribute) (screen_lent s t)))
 
 -- as a host's words ask
-unfoldable pub why_call : File → SetupWords → ℕ → ℕ → ℕ → ℕ → List ℕ → Tables → List ℕ → Answer (List ℕ × Tables × List ℕ)
-why_call file w row tile layer attribute st t result =
-    in-setup (asked_setup w) (unasked_number file) (st, t, result) (λ q. why_in file q row tile layer attribute st t result)
+unfoldable pub why_asked : File → SetupWords → ℕ → ℕ → ℕ → ℕ → List ℕ → Tables → List ℕ → Answer (List ℕ × Tables × List ℕ)
+why_asked file w row tile layer attribute st t result =
+    granted (asked_setup w) (unasked_number file) (st, t, result) (λ q. why_in file q row tile layer attribute st t result)
+
+-- .. and in the edition that their number says
+unfoldable pub why_call : FileWords → SetupWords → ℕ → ℕ → ℕ → ℕ → List ℕ → Tables → List ℕ → Answer (List ℕ × Tables × List ℕ)
+why_call f w row tile layer attribute st t result =
+    granted (told_file f) number_of (st, t, result) (λ file. why_asked file w row tile layer attribute st t result)

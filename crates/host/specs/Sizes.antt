@@ -11,7 +11,7 @@ use Rattle.rect.specs.declared.Rect.{Rect}
 use Rattle.rect.specs.Rects.{box_of}
 use Rattle.screen.specs.declared.lent.Lengths.{Lengths}
 use Rattle.host.specs.declared.state.SetupWords.{SetupWords}
-use Rattle.host.specs.Asked.{asked_setup, in-setup}
+use Rattle.host.specs.Asked.{asked_setup, granted}
 
 -- layers, opacities, paint attributes, layer attributes, filter paints
 abbrev pub fixed : List ℕ
@@ -56,4 +56,4 @@ sizes-of f ss = settle (size_number f (length ss)) ss (size-words f)
 
 -- as a host's words ask
 unfoldable pub size_call : Rect → SetupWords → List ℕ → Answer (List ℕ)
-size_call v w ss = in-setup (asked_setup w) number_of ss (λ q. sizes-of (frame q (box_of v)) ss)
+size_call v w ss = granted (asked_setup w) number_of ss (λ q. sizes-of (frame q (box_of v)) ss)

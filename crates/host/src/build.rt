@@ -1,21 +1,21 @@
 //! The calls of reset, of the building steps and of a recording. A state has a screen's numbers; `screen::Lent` has the ten tables.
 ghost use Rattle.std.specs.Prelude.{◌≡◌};
 ghost use Rattle.rules.specs.Answers.{answer};
-ghost use Rattle.rules.specs.Recording.{in-one};
 ghost use Rattle.screen.specs.Tables.{Tables};
 ghost use Rattle.screen.specs.Tables.{answer_of};
 ghost use Rattle.screen.specs.Lent.{tables_in, SameLent};
+ghost use Rattle.host.specs.Asked.{told};
 ghost use Rattle.host.specs.Held.{words_in, rect_of, draw_in, props_of};
 ghost use Rattle.host.specs.Lent.{pop_in, FillKeeps, PushKeeps, PopKeeps, FilterKeeps};
 ghost use Rattle.host.specs.Called.{fill_on, fill_out, push_on, push_out, filter_on, filter_out};
 ghost use Rattle.host.specs.Building.{tables-left, reset_call, recording_call, pop_call, picture};
 
 use crate::border::{refuse_build, refuse_recording, refuse_reset, refuse_setup};
+use crate::editions::read_file;
 use crate::state::{
     Corners, SetupWords, StateWords, box_of, leave, put_screen, read_setup, screen_of,
 };
 use cmd::blend::Blend;
-use file::File;
 use fill::fill;
 use inputs::{Draw, Filter};
 use layers::{FilterFill, filter_fill, push_layer};
@@ -103,20 +103,25 @@ pub extern "C" fn coarse_reset(
     put_reset(state, screen, done)
 }
 
-/// Rule 2: the words of a recording file, in a setup. Words that ask for no setup are refused by 2 or 4, after 3 for the file's form.
+/// Rule 2: the words of a recording file of an edition, 1 or 2, in a setup. Another number is refused by 3; then come 3 for the file's form, and 2 or 4 for words
+/// that ask for no setup.
 #[unsafe(no_mangle)]
-#[tactic(auto, using(crate::proofs::HostAsked::recording_unasked))]
+#[tactic(auto, using(crate::proofs::HostAsked::recording_untold))]
 pub extern "C" fn coarse_bucket_recording(
     state: &mut StateWords,
+    edition: u32,
     file: &[u32],
     setup: SetupWords,
     tables: &mut Lent<'_>,
 ) -> u32
     ensures same { SameLent tables.old tables.new }
     ensures recorded { answer result (words_in state.new, tables_in tables.new)
-        ≡ recording_call (in-one file.now) setup (words_in state.old) (tables_in tables.old) }
+        ≡ recording_call (told edition file.now) setup (words_in state.old) (tables_in tables.old) }
 {
-    let file = File::in_one(file);
+    let file = match read_file(edition, file) {
+        Ok(file) => file,
+        Err(refusal) => return refusal.number(),
+    };
     let asked = match read_setup(setup) {
         Ok(asked) => asked,
         Err(refusal) => return refuse_setup(file, refusal),

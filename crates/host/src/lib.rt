@@ -5,8 +5,10 @@
 
 mod border;
 pub mod build;
+pub mod editions;
 pub mod layer;
 pub mod lengths;
+pub mod list;
 pub mod painting;
 pub mod reading;
 pub mod reasons;

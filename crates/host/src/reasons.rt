@@ -2,15 +2,17 @@
 ghost use Rattle.std.specs.Prelude.{◌≡◌, ◌&&◌, [], ◌∷◌, length, leb, eqb};
 ghost use Rattle.sizes.specs.Refusals.{answer_number};
 ghost use Rattle.rules.specs.Answers.{answer};
-ghost use Rattle.rules.specs.Recording.{in-one};
 ghost use Rattle.tile.specs.Reasons.{reason-of};
 ghost use Rattle.tile.specs.Explained.{reason_said};
 ghost use Rattle.screen.specs.Lent.{SameLent};
+ghost use Rattle.file.specs.Held.{file_of};
+ghost use Rattle.host.specs.Asked.{told};
 ghost use Rattle.host.specs.Held.{reason_in};
-ghost use Rattle.host.specs.Called.{why_on, why_out};
+ghost use Rattle.host.specs.Called.{why_of, why_on, why_out};
 ghost use Rattle.host.specs.Reasons.{reason-words, reason-size, result-left};
 
 use crate::border::{refuse_recording, refuse_setup};
+use crate::editions::read_file;
 use crate::state::{SetupWords, StateWords, put_screen, read_setup, screen_of};
 use file::File;
 use screen::Lent;
@@ -81,22 +83,22 @@ fn is_good_question(layer: u32, n: usize) -> bool
     layer <= 1 && n == REASON
 }
 
-/// A recording is bucketed, and answers for a paint's attribute or a layer's at one tile. Refused as the recording call, by 4 also where layer is above 1;
-/// then by 12 off the screen.
-#[unsafe(no_mangle)]
+// The question about a file whose edition is read. Its locals take some 55 KB of the stack: it is no part of a function that returns before them, since clang
+// spoils a register there where it makes room for so many after a test.
+#[inline(never)]
 #[tactic(auto, using(crate::proofs::HostAsked::why_unasked))]
-pub extern "C" fn coarse_why(
+fn why_asked(
     state: &mut StateWords,
-    file: &[u32],
+    file: File<'_>,
     setup: SetupWords,
     question: &QuestionWords,
     tables: &mut Lent<'_>,
     reason: &mut ReasonWords,
 ) -> u32
     ensures same { SameLent tables.old tables.new }
-    ensures explained { answer result (why_out state.new tables.new reason.new) ≡ why_on (in-one file.now) setup question.now state.old tables.old reason.old }
+    ensures explained { answer result (why_out state.new tables.new reason.new)
+        ≡ why_of (file_of file.entry) setup question.now state.old tables.old reason.old }
 {
-    let file = File::in_one(file);
     let wanted = match read_setup(setup) {
         Ok(wanted) => wanted,
         Err(refusal) => return refuse_setup(file, refusal),
@@ -120,4 +122,26 @@ pub extern "C" fn coarse_why(
     );
     put_screen(state, screen);
     put_reason(told, reason)
+}
+
+/// A recording of an edition, 1 or 2, is bucketed, and answers for a paint's attribute or a layer's at one tile. Refused as the recording call, by 4 also where
+/// layer is above 1; then by 12 off the screen.
+#[unsafe(no_mangle)]
+#[tactic(auto, using(crate::proofs::HostAsked::why_untold))]
+pub extern "C" fn coarse_why(
+    state: &mut StateWords,
+    edition: u32,
+    file: &[u32],
+    setup: SetupWords,
+    question: &QuestionWords,
+    tables: &mut Lent<'_>,
+    reason: &mut ReasonWords,
+) -> u32
+    ensures same { SameLent tables.old tables.new }
+    ensures explained { answer result (why_out state.new tables.new reason.new) ≡ why_on (told edition file.now) setup question.now state.old tables.old reason.old }
+{
+    match read_file(edition, file) {
+        Ok(file) => why_asked(state, file, setup, question, tables, reason),
+        Err(refusal) => refusal.number(),
+    }
 }

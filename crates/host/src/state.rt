@@ -51,8 +51,8 @@ pub struct SetupWords {
     pub width: u32,
 }
 
-// The mode of a word that is 0 or 1.
-fn mode_at(word: u32) -> Mode
+/// The mode of a word that is 0 or 1.
+pub fn mode_at(word: u32) -> Mode
     ensures { mode_of result ≡ mode-at word }
 {
     match word {

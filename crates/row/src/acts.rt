@@ -44,7 +44,13 @@ fn push_edge(row: &mut Row<'_>, edge: Option<TileSpan>, attrs_idx: u32)
 
 // Rule 7: an eligible span, split over buckets. No caller has a span that starts after its end; it would stay whole.
 #[tactic(auto, using(crate::proofs::ActsLaws::whole_is))]
-fn push_opaque(row: &mut Row<'_>, span: TileSpan, attrs_idx: u32, draw_id: u32, width: Width)
+fn push_opaque<const LISTED: bool>(
+    row: &mut Row<'_>,
+    span: TileSpan,
+    attrs_idx: u32,
+    draw_id: u32,
+    width: Width,
+)
     requires short { Short (tiles span) }
     requires room { Room (held row.old) (parted (bucket-tiles width) attrs_idx draw_id (tiles span) (held row.old)) }
     ensures same { Same row.old row.new }
@@ -77,7 +83,7 @@ pub fn is_unsplit(eligible: bool, alpha: Option<u32>) -> bool
 
 /// Rules 5 to 7 (bucketer.rs, push_fill): what is left of a segment, on its row. `eligible` is rule 6's, for the whole draw; tiles are the screen's.
 #[tactic(auto, using(crate::proofs::ActsLaws::first_room, crate::proofs::ActsLaws::one_done, crate::proofs::ActsLaws::parts_done))]
-pub fn push_fill(
+pub fn push_fill<const LISTED: bool>(
     row: &mut Row<'_>,
     n: u32,
     eligible: bool,
@@ -96,6 +102,6 @@ pub fn push_fill(
     if is_unsplit(eligible, stretch.alpha) {
         row.push_paint(stretch.tiles, stretch.alpha, attrs_idx);
     } else {
-        push_opaque(row, stretch.tiles, attrs_idx, draw_id, width);
+        push_opaque::<LISTED>(row, stretch.tiles, attrs_idx, draw_id, width);
     }
 }

@@ -1,4 +1,5 @@
 //! The words of the answers.
+use fill::list::Stopped;
 use paint::Stepped;
 use sizes::answers::Refusal;
 
@@ -62,6 +63,20 @@ impl Answers<'_> {
             Err(refusal) => self.put_all(&[refusal.number(), 0, 0]),
         }
         self.put_all(list);
+    }
+
+    /// The number, and how many fills of a list are done: all `count`, where none is refused.
+    pub fn put_fills(&mut self, done: Result<(), Stopped>, count: usize) {
+        match done {
+            Ok(()) => {
+                self.put(0);
+                self.put_count(count);
+            }
+            Err(stopped) => {
+                self.put(stopped.refusal.number());
+                self.put_count(stopped.done);
+            }
+        }
     }
 
     /// The number, and 1 for yes.

@@ -1,7 +1,8 @@
 //! The building steps of a sequence.
-use crate::call::Step;
+use crate::call::{FillList, Step};
 use crate::tables::Shape;
 use fill::fill;
+use fill::list::{Stopped, fill_list};
 use layers::{filter_fill, push_layer};
 use pop::pop_layer;
 use rect::{NOWHERE, Rect};
@@ -65,5 +66,22 @@ impl Step<'_> {
                 given,
             ),
         }
+    }
+}
+
+impl FillList<'_> {
+    /// On the screen's own tables.
+    pub fn run(self, screen: &mut Screen, lent: &mut Lent<'_>) -> Result<(), Stopped> {
+        let mut rows = Rows {
+            state: lent.rows,
+            render_cmds: lent.render_cmds,
+            depth_cmds: lent.depth_cmds,
+        };
+        let FillList {
+            draws,
+            paints,
+            segments,
+        } = self;
+        fill_list(screen, &mut rows, lent.paint_attrs, paints, segments, draws)
     }
 }

@@ -1,5 +1,6 @@
 //! A call of a sequence.
 use crate::tables::Table;
+use fill::list::Draws;
 use inputs::Draw;
 use layers::FilterFill;
 use rect::Rect;
@@ -11,6 +12,7 @@ use span::{BucketRange, TileSpan};
 #[derive(Clone, Copy)]
 pub enum Call<'a> {
     Build(Step<'a>),
+    FillList(FillList<'a>),
     Paint(Painting),
     // A step of a row, lent `room` words of a list.
     PaintStep { row: usize, room: usize },
@@ -43,6 +45,14 @@ pub enum Step<'a> {
         segments: &'a [u32],
     },
     FilterFill(FilterFill),
+}
+
+/// A list of fills.
+#[derive(Clone, Copy)]
+pub struct FillList<'a> {
+    pub draws: Draws<'a>,
+    pub paints: &'a [u32],
+    pub segments: &'a [u32],
 }
 
 /// A painting call that is no step of a row. What lists something is lent `room` words of a list.

@@ -3,9 +3,10 @@ ghost use Rattle.std.specs.Prelude.{length};
 ghost use Rattle.std.specs.Iterator.{at_most};
 ghost use Rattle.test_calls.specs.Words.{Passes};
 
-use crate::call::{Call, Forgery, Painting, Step};
+use crate::call::{Call, FillList, Forgery, Painting, Step};
 use crate::tables::Table;
 use crate::words::Words;
+use fill::list::Draws;
 use inputs::{Draw, Filter};
 use layers::FilterFill;
 use rect::Mode;
@@ -145,6 +146,23 @@ fn read_step<'a>(kind: u32, words: &mut Words<'a>) -> Step<'a>
     }
 }
 
+// The range of draws before their words.
+fn read_fill_list<'a>(words: &mut Words<'a>) -> FillList<'a>
+    ensures { Passes words.old words.new }
+{
+    let start = words.index();
+    let end = words.index();
+    FillList {
+        draws: Draws {
+            words: words.records(1),
+            start,
+            end,
+        },
+        paints: words.records(4),
+        segments: words.records(5),
+    }
+}
+
 // Kinds 5 and 7 to 10.
 fn read_painting(kind: u32, words: &mut Words<'_>) -> Painting
     ensures { Passes words.old words.new }
@@ -193,6 +211,7 @@ impl<'a> Call<'a> {
             13 => Call::Forge(read_forgery(words)),
             14 => Call::LendShort(Table::numbered(words.word())),
             15 => Call::Sum,
+            16 => Call::FillList(read_fill_list(words)),
             _ => Call::Unknown,
         }
     }

@@ -32,6 +32,11 @@ impl Stand {
                 let mut lent = tables.lend(step.shape(self.screen), self.short);
                 answers.put(answer_number(step.run(&mut self.screen, &mut lent)));
             }
+            Call::FillList(list) => {
+                let mut lent = tables.lend(Shape::of_screen(self.screen), self.short);
+                let done = list.run(&mut self.screen, &mut lent);
+                answers.put_fills(done, list.draws.end.saturating_sub(list.draws.start));
+            }
             Call::Paint(painting) => {
                 let mut lent = tables.lend(Shape::of_screen(self.screen), self.short);
                 painting.run(&mut self.screen, &mut lent, answers);

@@ -25,7 +25,8 @@ use Rattle.theorem_picture.proofs.Rows.{row-reached}
 use Rattle.theorem_picture.proofs.Recorded.{recorded-reached}
 use Rattle.layers.specs.Filter.{given}
 use Rattle.theorem_border.specs.Held.{host-of, Holds}
-use Rattle.theorem_border.specs.Hosted.{Host, Asks, Hosted, by-reset, by-recording, by-fill, by-push, by-pop, by-filter, by-begin, by-paint, by-write}
+use Rattle.host.specs.Asked.{FileWords}
+use Rattle.theorem_border.specs.Hosted.{Host, Asks, Says, Hosted, by-reset, by-recording, by-fill, by-push, by-pop, by-filter, by-begin, by-paint, by-write}
 use Rattle.theorem_border.specs.Hosted.{Call, one-step, whole_row, place, reset-at, recording-at, fill-at, push_at, pop-at, filter-at, begin-at, paint-out, paint-at, write-at}
 use Rattle.theorem_border.proofs.Words.{hosted, reset-on, recording_on, Known, nothing, these, known, reset-never, recording-never, fill_on, push-on, pop-on, filter-on, begin-on, call-of, paint-done, paint-kept, write_done, write_kept}
 
@@ -78,18 +79,18 @@ reset-holds v w q h a e (these l s) =
     let f = frame q (box_of v) in
     made _ (reset_to f l) k (reached.by-reset f l (number_of _ (reset_to f l) k e))
 
-recording-holds : (file : File) (w : SetupWords) (q : Setup) (h : Host) (r : Readable file) → Asks w q → (recording-at file w h).number ≡ Done → Known h
-    → Holds (frame-of (place q h) (said r)) (history (place q h) (said r)) (recording-at file w h).value
-recording-holds file w q h r a e (nothing n) = absurd (recording-never h n w q a file e)
-recording-holds file w q h r a e (these l s) =
-    let k = ap (recording-at file w) s ∙ recording_on w q a l file in
+recording-holds : (f : FileWords) (file : File) (w : SetupWords) (q : Setup) (h : Host) (r : Readable file) → Says f file → Asks w q
+    → (recording-at f w h).number ≡ Done → Known h → Holds (frame-of (place q h) (said r)) (history (place q h) (said r)) (recording-at f w h).value
+recording-holds f file w q h r y a e (nothing n) = absurd (recording-never h n w q a f file y e)
+recording-holds f file w q h r y a e (these l s) =
+    let k = ap (recording-at f w) s ∙ recording_on w q a l f file y in
     let z = recorded-reached file q l (number_of _ (recorded file q l) k e) in
     made _ (recorded file q l) k (rw (s, said-once r z.words) z.reached)
 
 -- Whatever calls a host has made, its words are those of a screen reached by the same steps.
 pub holds : {f : Frame} {xs : List Step} {h : Host} → Hosted f xs h → Holds f xs h
 holds (by-reset v w q h a e) = reset-holds v w q h a e (known h)
-holds (by-recording file w q h r a e) = recording-holds file w q h r a e (known h)
+holds (by-recording f file w q h r y a e) = recording-holds f file w q h r y a e (known h)
 holds (by-fill ps ss d r e) =
     let z = holds r in
     let q = ap (fill-at ps ss d) z.same ∙ fill_on z.words ps ss d in

@@ -3,10 +3,9 @@ use Rattle.std.proofs.Common.{ℕ, ◌≡◌, refl, ap, ◌∙◌, Bool, true, f
 use Rattle.sizes.specs.Sizes.{state-size}
 use Rattle.sizes.specs.declared.answers.Refusal.{Refusal}
 use Rattle.rules.specs.Answers.{Answer, BadRecord}
-use Rattle.rules.specs.Setups.{Setup}
 use Rattle.screen.specs.declared.Screen.{Screen}
 use Rattle.host.specs.State.{screen-at, good-words, screen_of, before_4, refused_at, at_held, on}
-use Rattle.host.specs.Asked.{in-setup}
+use Rattle.host.specs.Asked.{granted}
 
 -- what is 1, 2, 3 or 4 stays
 again : (n : ℕ) → before_4 n ≡ before_4 (before_4 n)
@@ -33,7 +32,7 @@ module _ {T : Type 0} (good : Bool) (st : List ℕ) (t : T) (f : Screen → Answ
       go true = refl
       go false = again (f (screen-at st)).number ∙ ap before_4 (refused-17 st (λ (s : Screen). (f s).number) long)
 
--- .. in the setup that its words ask for
-pub kept_in : {T : Type 0} (o : Result Setup Refusal) (q : Setup) (n : Refusal → ℕ) (t : T) (f : Setup → Answer T) (own : ℕ) → Ok q ≡ o
-    → before_4 own ≡ before_4 (f q).number → before_4 own ≡ before_4 (in-setup o n t f).number
+-- .. in the setup that its words ask for, or for the file that its number and words say
+pub kept_in : {A T : Type 0} (o : Result A Refusal) (q : A) (n : Refusal → ℕ) (t : T) (f : A → Answer T) (own : ℕ) → Ok q ≡ o
+    → before_4 own ≡ before_4 (f q).number → before_4 own ≡ before_4 (granted o n t f).number
 kept_in o q n t f own e h = rw (← e, h)

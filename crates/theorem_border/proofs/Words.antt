@@ -32,19 +32,19 @@ use Rattle.walk.specs.Recorded.{recorded}
 use Rattle.walk.specs.Steps.{rows_words, pop-part}
 use Rattle.host.specs.State.{screen-words, screen-at, screen_of, before_4, refused_at, at_held, on}
 use Rattle.host.specs.declared.state.SetupWords.{SetupWords}
-use Rattle.host.specs.Asked.{asked_setup}
+use Rattle.host.specs.Asked.{FileWords, asked_setup, told_file}
 use Rattle.host.proofs.Words.{read_back, written_back}
 use Rattle.host.specs.Border.{unasked, unasked_number}
 use Rattle.host.specs.Building.{tables-left, reset_in, recording_in, fill-left, fill_call, props, push-left, push_call, pop-left, pop_call, filter-in, picture, filter-left, filter_call}
 use Rattle.host.specs.Results.{skip-left}
 use Rattle.host.specs.Painting.{begin-left, begin_call, step_left, step_call, row_call, write_call, skip_call}
-use Rattle.host.proofs.HostAsked.{reset_unasked, recording_unasked, reset_asked, recording_asked}
+use Rattle.host.proofs.HostAsked.{reset_unasked, recording_unasked, recording_untold, reset_asked, recording-asked, recording_told}
 use Rattle.host.proofs.Kept.{step-refused, row-refused, write-refused}
 use Rattle.theorem_picture.specs.Calls as calls
 use Rattle.theorem_picture.specs.Reached as reached
 use Rattle.theorem_picture.specs.Rows as rows
 use Rattle.theorem_border.specs.Held.{host-of}
-use Rattle.theorem_border.specs.Hosted.{Host, host, Asks, with_rows, with-painting, reset-at, recording-at, fill-at, push_at, pop-at, filter-at, begin-at, Turn, Call, one-step, whole_row, turn_in, paint-out, paint-at, write-at}
+use Rattle.theorem_border.specs.Hosted.{Host, host, Asks, Says, with_rows, with-painting, reset-at, recording-at, fill-at, push_at, pop-at, filter-at, begin-at, Turn, Call, one-step, whole_row, turn_in, paint-out, paint-at, write-at}
 
 abbrev pub hosted : Answer ScreenLent → Answer Host
 hosted a = answer a.number (host-of a.value)
@@ -95,19 +95,36 @@ asking w = go (asked_setup w) refl
     go (Err r) e = for-none r e
     go (Ok q) e = for_some q e
 
+-- the file that a host's number and words say
+pub data Telling (f : FileWords) : Type 0 where
+  of-none : (r : Refusal) → Err r ≡ told_file f → Telling f
+  of_some : (file : File) → Says f file → Telling f
+
+pub telling : (f : FileWords) → Telling f
+telling f = go (told_file f) refl
+  where
+    go : (o : Result File Refusal) → o ≡ told_file f → Telling f
+    go (Err r) e = of-none r e
+    go (Ok file) e = of_some file e
+
 -- a call's answer as what the host then holds
 abbrev holding : Answer (List ℕ × Tables) → Answer Host
 holding a = answer a.number (host a.value.0 a.value.1)
 
--- asked for no setup, a reset and a recording leave everything as it was
+-- told no edition, a recording leaves everything as it was
+pub recording-untold : (f : FileWords) (r : Refusal) → Err r ≡ told_file f → (w : SetupWords) (h : Host) → recording-at f w h ≡ answer (number_of r) h
+unfolding recording-at
+recording-untold f r e w h = sym (ap holding (recording_untold f w r e h.state h.tables))
+
+-- asked for no setup, so do a reset and a recording
 module _ (w : SetupWords) (r : Refusal) (e : Err r ≡ asked_setup w) (h : Host) where
   pub reset-none : (v : Rect) → reset-at v w h ≡ answer (number_of r) h
   unfolding reset-at
   reset-none v = sym (ap holding (reset_unasked w r e v h.state h.tables))
 
-  pub recording-none : (file : File) → recording-at file w h ≡ answer (unasked_number file r) h
+  pub recording-none : (f : FileWords) (file : File) → Says f file → recording-at f w h ≡ answer (unasked_number file r) h
   unfolding recording-at
-  recording-none file = sym (ap holding (recording_unasked w r e file h.state h.tables))
+  recording-none f file s = sym (ap holding (recording_told f w file s h.state h.tables (recording_unasked w r e file h.state h.tables)))
 
 pub unasked-late : (r : Refusal) (file : File) → unasked_number file r ≡ Done → ⊥
 unfolding unasked_number
@@ -123,9 +140,9 @@ module _ (w : SetupWords) (q : Setup) (a : Asks w q) where
   unfolding reset-at
   reset-is v h = sym (ap holding (reset_asked w q a v h.state h.tables refl))
 
-  recording-is : (file : File) (h : Host) → recording-at file w h ≡ holding (recording_in file q h.state h.tables)
+  recording-is : (f : FileWords) (file : File) → Says f file → (h : Host) → recording-at f w h ≡ holding (recording_in file q h.state h.tables)
   unfolding recording-at
-  recording-is file h = sym (ap holding (recording_asked w q a file h.state h.tables refl))
+  recording-is f file s h = sym (ap holding (recording_told f w file s h.state h.tables (recording-asked w q a file h.state h.tables refl)))
 
   module _ (l : ScreenLent) where
     pub reset-on : (v : Rect) → reset-at v w (host-of l) ≡ hosted (reset_to (frame q (box_of v)) l)
@@ -134,10 +151,10 @@ module _ (w : SetupWords) (q : Setup) (a : Asks w q) where
         reset-is v (host-of l)
         ∙ ap holding (on-screen (screen-words l.screen, l.tables) (λ (s : Screen). tables-left (reset_to (frame q (box_of v)) (screen_lent s l.tables))) l.screen)
 
-    pub recording_on : (file : File) → recording-at file w (host-of l) ≡ hosted (recorded file q l)
+    pub recording_on : (f : FileWords) (file : File) → Says f file → recording-at f w (host-of l) ≡ hosted (recorded file q l)
     unfolding recording_in
-    recording_on file =
-        recording-is file (host-of l)
+    recording_on f file s =
+        recording-is f file s (host-of l)
         ∙ ap holding (on-screen (screen-words l.screen, l.tables) (λ (s : Screen). tables-left (recorded file q (screen_lent s l.tables))) l.screen)
 
 -- words that are a screen's, or no call on them is done
@@ -160,17 +177,17 @@ module _ (h : Host) (n : None ≡ screen_of true h.state) (w : SetupWords) (q : 
       let d : (reset_in v q h.state h.tables).number ≡ Done = sym (ap (λ (x : Answer Host). x.number) (reset-is w q a v h)) ∙ e in
       never_done h.state _ (rw (← n) at d)
 
-  pub recording-never : (file : File) → (recording-at file w h).number ≡ Done → ⊥
+  pub recording-never : (f : FileWords) (file : File) → Says f file → (recording-at f w h).number ≡ Done → ⊥
   unfolding recording_in
-  recording-never file e =
-      let d : (recording_in file q h.state h.tables).number ≡ Done = sym (ap (λ (x : Answer Host). x.number) (recording-is w q a file h)) ∙ e in
+  recording-never f file s e =
+      let d : (recording_in file q h.state h.tables).number ≡ Done = sym (ap (λ (x : Answer Host). x.number) (recording-is w q a f file s h)) ∙ e in
       never_done h.state _ (rw (← n) at d)
 
-  pub recording-left : (file : File) → (recording-at file w h).value ≡ h
+  pub recording-left : (f : FileWords) (file : File) → Says f file → (recording-at f w h).value ≡ h
   unfolding recording_in
-  recording-left file =
+  recording-left f file s =
       let d : (holding (recording_in file q h.state h.tables)).value ≡ h = rw (← n) in
-      ap (λ (x : Answer Host). x.value) (recording-is w q a file h) ∙ d
+      ap (λ (x : Answer Host). x.value) (recording-is w q a f file s h) ∙ d
 
 -- the building calls on a screen's words
 module _ (l : ScreenLent) where

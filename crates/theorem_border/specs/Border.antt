@@ -18,9 +18,10 @@ use Rattle.rules_picture.specs.Turns.{Gave, from, said-finished}
 use Rattle.rules_picture.specs.Recorded.{history, Readable, said}
 use Rattle.theorem_picture.specs.Turns.{pieces-in}
 use Rattle.host.specs.declared.state.SetupWords.{SetupWords}
+use Rattle.host.specs.Asked.{FileWords}
 use Rattle.host.specs.State.{screen-at}
 use Rattle.host.specs.Painting.{skip_call}
-use Rattle.theorem_border.specs.Hosted.{Host, Hosted, Asks, Call, one-step, turn_in, paint-out, paint-at, place, reset-at, recording-at, begin-at}
+use Rattle.theorem_border.specs.Hosted.{Host, Hosted, Asks, Says, Call, one-step, turn_in, paint-out, paint-at, place, reset-at, recording-at, begin-at}
 
 -- What a host reads after a painting call of row r. Done: the first result word is 1 where the row has finished, the second says how many
 -- pieces stand in the list. Refused: nothing.
@@ -72,19 +73,23 @@ Clear h =
     → (x : ℕ) → t.first ≤ x → x < t.end
     → get_or (part (wide (screen-at h.state)) r h.tables.depth) (x / bucket-tiles (screen-at h.state).width) 0 ≤ id
 
--- What a recording leaves. Accepted: its words asked for a setup; words that are `Hosted` by the steps of its walk, and painting can begin there.
-pub record Accepted (file : File) (w : SetupWords) (h : Host) : Type 0 where
+-- What a recording leaves. Accepted: its number said an edition, its words asked for a setup; words that are `Hosted` by the steps of its walk, and painting can
+-- begin there.
+pub record Accepted (f : FileWords) (w : SetupWords) (h : Host) : Type 0 where
+  pub file : File
+  pub says : Says f file
   pub setup : Setup
   pub asks : Asks w setup
   pub words : Readable file
-  pub hosted : Hosted (frame-of (place setup h) (said words)) (history (place setup h) (said words)) (recording-at file w h).value
-  pub begins : (begin-at (recording-at file w h).value).number ≡ Done
+  pub hosted : Hosted (frame-of (place setup h) (said words)) (history (place setup h) (said words)) (recording-at f w h).value
+  pub begins : (begin-at (recording-at f w h).value).number ≡ Done
 
 -- Refused: every word as it was; or, with a number past 3, what a reset to the file's viewport leaves.
-pub data Refused (file : File) (w : SetupWords) (h : Host) : Type 0 where
-  kept : (recording-at file w h).value ≡ h → Refused file w h
-  emptied : (words : Readable file) → BadForm < (recording-at file w h).number → (reset-at (rect-of (said words).viewport) w h).number ≡ Done
-      → (recording-at file w h).value ≡ (reset-at (rect-of (said words).viewport) w h).value → Refused file w h
+pub data Refused (f : FileWords) (w : SetupWords) (h : Host) : Type 0 where
+  kept : (recording-at f w h).value ≡ h → Refused f w h
+  emptied : (file : File) → Says f file → (words : Readable file) → BadForm < (recording-at f w h).number
+      → (reset-at (rect-of (said words).viewport) w h).number ≡ Done
+      → (recording-at f w h).value ≡ (reset-at (rect-of (said words).viewport) w h).value → Refused f w h
 
 -- Painting ends: once `coarse_begin_painting` has answered 0, there are painting calls after which every row has finished.
 abbrev pub Finishes : Type 0
@@ -94,17 +99,17 @@ Finishes =
 
 -- An accepted recording leaves hosted words, reached by the steps of its walk, and painting can begin there: the picture speaks of it.
 abbrev pub RecordingAccepted : Type 0
-RecordingAccepted = (file : File) (w : SetupWords) (h : Host) → (recording-at file w h).number ≡ Done → Accepted file w h
+RecordingAccepted = (f : FileWords) (w : SetupWords) (h : Host) → (recording-at f w h).number ≡ Done → Accepted f w h
 
 -- A refused one leaves every word as it was, or what a reset to the file's viewport leaves.
 abbrev pub RecordingRefused : Type 0
-RecordingRefused = (file : File) (w : SetupWords) (h : Host) → ((recording-at file w h).number ≡ Done → ⊥) → Refused file w h
+RecordingRefused = (f : FileWords) (w : SetupWords) (h : Host) → ((recording-at f w h).number ≡ Done → ⊥) → Refused f w h
 
 -- With 1, 2 or 3 it leaves them as they were.
 abbrev pub RecordingEarly : Type 0
 RecordingEarly =
-    (file : File) (w : SetupWords) (h : Host) → 0 < (recording-at file w h).number → (recording-at file w h).number ≤ 3
-    → (recording-at file w h).value ≡ h
+    (f : FileWords) (w : SetupWords) (h : Host) → 0 < (recording-at f w h).number → (recording-at f w h).number ≤ 3
+    → (recording-at f w h).value ≡ h
 
 -- A done reset was asked for a setup.
 abbrev pub ResetAsks : Type 0

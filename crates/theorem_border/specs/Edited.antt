@@ -12,7 +12,8 @@ use Rattle.rules_picture.specs.Recorded.{Readable, said}
 use Rattle.rules_picture.specs.Edited.{EditedFile}
 use Rattle.theorem_picture.specs.Edited.{frame-in}
 use Rattle.host.specs.declared.state.SetupWords.{SetupWords}
-use Rattle.theorem_border.specs.Hosted.{Host, Asks, Call, recording-at, begin-at}
+use Rattle.host.specs.Asked.{FileWords}
+use Rattle.theorem_border.specs.Hosted.{Host, Asks, Says, Call, recording-at, begin-at}
 use Rattle.theorem_border.specs.Border.{log, finished}
 
 -- What two hosts' words have in common, of screens of the frame f: of row i the render words, the depth fill words and the record; the state's words, the next id
@@ -26,28 +27,32 @@ pub record SameLine (f : Frame) (i : ℕ) (h k : Host) : Type 0 where
   pub layer-attrs : h.tables.layer-attrs ≡ k.tables.layer-attrs
   pub filter-paints : h.tables.filter-paints ≡ k.tables.filter-paints
 
--- `coarse_bucket_recording` of two files into any words, asked for one setup, answers 0 both times. They are edits of one another outside row i of the screen:
+-- `coarse_bucket_recording` of two files, each of either edition, into any words, asked for one setup, answers 0 both times. They are edits of one another outside row i of the screen:
 -- outside that row of the scene, which is so many rows further on as the viewport's first row says.
-pub record EditedPair (file edit : File) (w : SetupWords) (q : Setup) (i : ℕ) (h k : Host) : Type 0 where
+pub record EditedPair (f g : FileWords) (w : SetupWords) (q : Setup) (i : ℕ) (h k : Host) : Type 0 where
   pub asks : Asks w q
+  pub file : File
+  pub edit : File
+  pub says_one : Says f file
+  pub says_other : Says g edit
   pub one : Readable file
   pub other : Readable edit
-  pub one_done : (recording-at file w h).number ≡ Done
-  pub other_done : (recording-at edit w k).number ≡ Done
+  pub one_done : (recording-at f w h).number ≡ Done
+  pub other_done : (recording-at g w k).number ≡ Done
   pub there : i < rows_of (frame-in q one).viewport
   pub edited : EditedFile (i + (frame-in q one).viewport.y0 / 4) (said one) (said other)
 
 -- Then that row is the same, ..
 abbrev pub LineWords : Type 0
 LineWords =
-    (file edit : File) (w : SetupWords) (q : Setup) (i : ℕ) (h k : Host) (e : EditedPair file edit w q i h k)
-    → SameLine (frame-in q e.one) i (recording-at file w h).value (recording-at edit w k).value
+    (f g : FileWords) (w : SetupWords) (q : Setup) (i : ℕ) (h k : Host) (e : EditedPair f g w q i h k)
+    → SameLine (frame-in q e.one) i (recording-at f w h).value (recording-at g w k).value
 
 -- .. and painting gives the same pieces of it, by any painting calls after which it has finished, on either side its own.
 abbrev pub LinePieces : Type 0
 LinePieces =
-    (file edit : File) (w : SetupWords) (q : Setup) (i : ℕ) (h k : Host) → EditedPair file edit w q i h k
+    (f g : FileWords) (w : SetupWords) (q : Setup) (i : ℕ) (h k : Host) → EditedPair f g w q i h k
     → (cs ds : List Call)
-    → finished i cs (begin-at (recording-at file w h).value).value ≡ true
-    → finished i ds (begin-at (recording-at edit w k).value).value ≡ true
-    → from i (log cs (begin-at (recording-at file w h).value).value) ≡ from i (log ds (begin-at (recording-at edit w k).value).value)
+    → finished i cs (begin-at (recording-at f w h).value).value ≡ true
+    → finished i ds (begin-at (recording-at g w k).value).value ≡ true
+    → from i (log cs (begin-at (recording-at f w h).value).value) ≡ from i (log ds (begin-at (recording-at g w k).value).value)

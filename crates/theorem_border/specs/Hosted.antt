@@ -23,7 +23,7 @@ use Rattle.walk.specs.Steps.{rows_words}
 use Rattle.rules_picture.specs.Recorded.{history, Readable, said}
 use Rattle.theorem_picture.specs.Calls.{fill-said, pop-said, filter-said}
 use Rattle.host.specs.declared.state.SetupWords.{SetupWords}
-use Rattle.host.specs.Asked.{asked_setup}
+use Rattle.host.specs.Asked.{FileWords, asked_setup, told_file}
 use Rattle.host.specs.Building.{reset_call, recording_call, fill_call, said-props, props, push_call, pop_call, filter-in, picture, filter_call}
 use Rattle.host.specs.Painting.{begin_call, step_call, row_call, write_call}
 
@@ -48,13 +48,17 @@ with-painting t depth painting =
 abbrev pub Asks : SetupWords → Setup → Type 0
 Asks w q = Ok q ≡ asked_setup w
 
+-- the file that a host's number and words say
+abbrev pub Says : FileWords → File → Type 0
+Says f file = Ok file ≡ told_file f
+
 -- `coarse_reset`
 unfoldable pub reset-at : Rect → SetupWords → Host → Answer Host
 reset-at v w h = let a = reset_call v w h.state h.tables in answer a.number (host a.value.0 a.value.1)
 
--- `coarse_bucket_recording`
-unfoldable pub recording-at : File → SetupWords → Host → Answer Host
-recording-at file w h = let a = recording_call file w h.state h.tables in answer a.number (host a.value.0 a.value.1)
+-- `coarse_bucket_recording`: any number as the edition, any words
+unfoldable pub recording-at : FileWords → SetupWords → Host → Answer Host
+recording-at f w h = let a = recording_call f w h.state h.tables in answer a.number (host a.value.0 a.value.1)
 
 -- `coarse_fill`: any words as paints and as segments
 unfoldable pub fill-at : List ℕ → List ℕ → Draw → Host → Answer Host
@@ -137,11 +141,12 @@ place q h = record { limit = most-rows; setup = q; arenas = arenas (lengths h.ta
 -- what the last one left; xs are the steps that the done building calls say, in order. f is the frame that the reset makes of what it is asked: in
 -- snapping mode it has the snapped box, and everything said of f speaks of that box. Painting calls and writing runs may come between, done or
 -- refused. The other calls write nothing but their results; a refused building call leaves every word as it was, and a refused recording too, or
--- it is a reset (`recording-refused`): they need no case. A done reset or recording was asked for some setup (`reset-asks`, `recording-accepted`).
+-- it is a reset (`recording-refused`): they need no case. A done reset or recording was asked for some setup, and a recording's number said an edition
+-- (`reset-asks`, `recording-accepted`).
 pub data Hosted : Frame → List Step → Host → Type 0 where
   by-reset : (v : Rect) (w : SetupWords) (q : Setup) (h : Host) → Asks w q → (reset-at v w h).number ≡ Done → Hosted (frame q (box_of v)) [] (reset-at v w h).value
-  by-recording : (file : File) (w : SetupWords) (q : Setup) (h : Host) (r : Readable file) → Asks w q → (recording-at file w h).number ≡ Done
-      → Hosted (frame-of (place q h) (said r)) (history (place q h) (said r)) (recording-at file w h).value
+  by-recording : (f : FileWords) (file : File) (w : SetupWords) (q : Setup) (h : Host) (r : Readable file) → Says f file → Asks w q
+      → (recording-at f w h).number ≡ Done → Hosted (frame-of (place q h) (said r)) (history (place q h) (said r)) (recording-at f w h).value
   by-fill : {f : Frame} {xs : List Step} {h : Host} (ps ss : List ℕ) (d : Draw) → Hosted f xs h → (fill-at ps ss d h).number ≡ Done
       → Hosted f (xs ++ (fill-said ps ss d ∷ [])) (fill-at ps ss d h).value
   by-push : {f : Frame} {xs : List Step} {h : Host} (mix compose opacity mask flag : ℕ) (clip : Clip) (panel : ℕ) → Hosted f xs h

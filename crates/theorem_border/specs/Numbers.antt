@@ -30,19 +30,20 @@ use Rattle.paint.specs.Running.{row-painted}
 use Rattle.paint.specs.DirectRuns.{unset-of, visible-of, write-of, skip-of-row}
 use Rattle.paint.specs.StoredCmds.{lengths-of-row, command-of-row, depth-of-row, progress-of-row}
 use Rattle.host.specs.declared.state.SetupWords.{SetupWords}
+use Rattle.host.specs.Asked.{FileWords}
 use Rattle.host.specs.State.{screen-at, before_4}
 use Rattle.host.specs.Reasons.{asked, why_call}
 use Rattle.host.specs.Building.{reset_call, recording_call, fill_call, push_call, pop_call, filter_call}
 use Rattle.host.specs.Painting.{begin_call, step_call, row_call, unset_call, visible_call, write_call, skip_call}
 use Rattle.host.specs.Spans.{runs_of, spans_call}
 use Rattle.host.specs.Reading.{lengths_call, cmd_call, depth_call, progress_call}
-use Rattle.theorem_border.specs.Hosted.{Asks}
+use Rattle.theorem_border.specs.Hosted.{Asks, Says}
 
 -- n: what the border answers on the state's words st; own: the call's own number. `before_4` leaves 1, 2 and 3, and makes a 4 of every other number.
 abbrev pub Keeps : List ℕ → ℕ → ℕ → Type 0
 Keeps st own n = length st ≡ state-size → before_4 own ≡ before_4 n
 
--- where the host's words ask for a setup: without one the number is the setup's own
+-- where the host's words ask for a setup, and its number says an edition: without either the number is the setup's own, or 3
 abbrev pub ResetKeeps : Type 0
 ResetKeeps =
     (v : Rect) (w : SetupWords) (q : Setup) (st : List ℕ) (t : Tables) → Asks w q
@@ -50,13 +51,14 @@ ResetKeeps =
 
 abbrev pub RecordingKeeps : Type 0
 RecordingKeeps =
-    (file : File) (w : SetupWords) (q : Setup) (st : List ℕ) (t : Tables) → Asks w q
-    → Keeps st (recorded file q (screen_lent (screen-at st) t)).number (recording_call file w st t).number
+    (f : FileWords) (file : File) (w : SetupWords) (q : Setup) (st : List ℕ) (t : Tables) → Says f file → Asks w q
+    → Keeps st (recorded file q (screen_lent (screen-at st) t)).number (recording_call f w st t).number
 
 abbrev pub WhyKeeps : Type 0
 WhyKeeps =
-    (file : File) (w : SetupWords) (q : Setup) (row tile layer attribute : ℕ) (st : List ℕ) (t : Tables) (res : List ℕ) → Asks w q
-    → Keeps st (explained file q row tile (asked layer attribute) (screen_lent (screen-at st) t)).number (why_call file w row tile layer attribute st t res).number
+    (f : FileWords) (file : File) (w : SetupWords) (q : Setup) (row tile layer attribute : ℕ) (st : List ℕ) (t : Tables) (res : List ℕ)
+    → Says f file → Asks w q
+    → Keeps st (explained file q row tile (asked layer attribute) (screen_lent (screen-at st) t)).number (why_call f w row tile layer attribute st t res).number
 
 abbrev pub FillKeeps : Type 0
 FillKeeps =

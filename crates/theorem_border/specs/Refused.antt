@@ -1,7 +1,6 @@
 -- A refused `coarse_` call leaves the state's words, and everything else that it was lent, as they were: each call by the definition that its contract
 -- cites, at any words whatever. Of a refused recording `RecordingRefused` says what it leaves, since it may have reset the screen.
 use Rattle.std.specs.Prelude.{ℕ, ◌≡◌, List, Float, ℤ}
-use Rattle.rules.specs.Recording.{File}
 use Rattle.rules.specs.Spans.{Span}
 use Rattle.span.specs.declared.TileSpan.{TileSpan}
 use Rattle.rect.specs.declared.Rect.{Rect}
@@ -15,6 +14,8 @@ use Rattle.paint.specs.Painting as paint
 use Rattle.paint.specs.Stepping.{Attributes}
 use Rattle.theorem_picture.specs.Kept.{Refused}
 use Rattle.host.specs.declared.state.SetupWords.{SetupWords}
+use Rattle.host.specs.Asked.{FileWords}
+use Rattle.host.specs.Editions.{two_call, one_call}
 use Rattle.host.specs.Sizes.{size_call}
 use Rattle.host.specs.Reasons.{why_call}
 use Rattle.host.specs.Building.{reset_call, fill_call, push_call, pop_call, filter_call}
@@ -106,5 +107,12 @@ SizesRefused = (v : Rect) (w : SetupWords) (old : List ℕ) → Refused (size_ca
 -- `coarse_why`: its result words. The rest is what `coarse_bucket_recording` leaves.
 abbrev pub WhyRefused : Type 0
 WhyRefused =
-    (file : File) (w : SetupWords) (row tile layer attribute : ℕ) (st : List ℕ) (t : Tables) (old : List ℕ)
-    → Refused (why_call file w row tile layer attribute st t old) → (why_call file w row tile layer attribute st t old).value.2 ≡ old
+    (f : FileWords) (w : SetupWords) (row tile layer attribute : ℕ) (st : List ℕ) (t : Tables) (old : List ℕ)
+    → Refused (why_call f w row tile layer attribute st t old) → (why_call f w row tile layer attribute st t old).value.2 ≡ old
+
+-- the list and the result word
+abbrev pub ToTwoRefused : Type 0
+ToTwoRefused = (ws : List ℕ) (mode : ℕ) (out n : List ℕ) → Refused (two_call ws mode out n) → (two_call ws mode out n).value ≡ (out, n)
+
+abbrev pub ToOneRefused : Type 0
+ToOneRefused = (ws : List ℕ) (mode : ℕ) (out n : List ℕ) → Refused (one_call ws mode out n) → (one_call ws mode out n).value ≡ (out, n)

@@ -8,9 +8,11 @@ use Rattle.screen.specs.Lent.{tables_in}
 use Rattle.pop.specs.Pop.{PopLent}
 use Rattle.host.specs.declared.state.StateWords.{StateWords}
 use Rattle.paint.specs.declared.canvas.stored.Canvas.{Canvas}
+use Rattle.host.specs.Asked.{FileWords, told}
 use Rattle.host.specs.Held.{words_in, painted_in, reason_in, one}
 use Rattle.host.specs.Lent.{rows_in, pop_in}
 use Rattle.host.specs.Called.{canvas_out, write_out}
+use Rattle.theorem_once.specs.declared.border.building.RecordingHost.{RecordingHost}
 use Rattle.theorem_once.specs.declared.border.building.WhyHost.{WhyHost}
 use Rattle.theorem_once.specs.declared.border.building.FillHost.{FillHost}
 use Rattle.theorem_once.specs.declared.border.painting.PaintHost.{PaintHost}
@@ -21,8 +23,15 @@ use Rattle.theorem_once.specs.declared.border.painting.SkipHost.{SkipHost}
 abbrev pub screen-words : StateWords → Lent → List ℕ × Tables
 screen-words w t = (words_in w, tables_in t)
 
-abbrev pub recording-words : List ℕ → StateWords → Lent → List ℕ × List ℕ × Tables
-recording-words file w t = (file, words_in w, tables_in t)
+abbrev pub recording-words : RecordingHost → FileWords × List ℕ × Tables
+recording-words h = (told h.edition h.file.now, words_in h.state, tables_in h.tables)
+
+-- a conversion: the file, the list, and how many words are written
+abbrev pub conversion-words : List ℕ → List ℕ → ℕ → List ℕ × List ℕ × List ℕ
+conversion-words file out words = (file, out, one words)
+
+abbrev pub conversion-left : List ℕ → ℕ → List ℕ × List ℕ
+conversion-left out words = (out, one words)
 
 abbrev pub pop-words : List ℕ → StateWords → Lent → List ℕ × List ℕ × PopLent
 pop-words segments w t = (segments, words_in w, pop_in t)
@@ -33,8 +42,8 @@ pop-left w t = (words_in w, pop_in t)
 abbrev pub begin-words : StateWords → Canvas → List ℕ × List ℕ × List ℕ
 begin-words w c = (words_in w, c.depth.now, c.painting.now)
 
-abbrev pub why-words : WhyHost → List ℕ × Tables × List ℕ × List ℕ
-why-words h = (words_in h.state, tables_in h.tables, h.file.now, reason_in h.reason)
+abbrev pub why-words : WhyHost → List ℕ × Tables × FileWords × List ℕ
+why-words h = (words_in h.state, tables_in h.tables, told h.edition h.file.now, reason_in h.reason)
 
 abbrev pub fill-words : FillHost → List ℕ × Words × List ℕ × List ℕ × List ℕ
 fill-words h = (words_in h.state, rows_in h.tables, h.tables.paint_attrs.now, h.paints.now, h.segments.now)

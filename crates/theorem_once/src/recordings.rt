@@ -1,9 +1,12 @@
-//! A recording, and `why`.
+//! A recording, `why`, and the conversions of a recording's file.
 ghost use Rattle.std.specs.Prelude.{◌≡◌};
+ghost use Rattle.convert.specs.Placed.{placed};
 ghost use Rattle.theorem_once.specs.Lent.{recording-words};
 
 use crate::Twice;
+use convert::{to_edition_one, to_edition_two};
 use file::File;
+use rect::Mode;
 use screen::{Lent, Screen, Setup};
 use sizes::answers::Refusal;
 use tile::{Asked, Reason, why};
@@ -47,5 +50,37 @@ pub fn why_twice(
     (
         why(&mut a.screen, a.file, setup, row, tile, asked, &mut a.lent),
         why(&mut b.screen, b.file, setup, row, tile, asked, &mut b.lent),
+    )
+}
+
+/// Two calls of `to_edition_two`: the number, how many words, and the list.
+pub fn to_two_twice(
+    a_file: &[u32],
+    a_out: &mut [u32],
+    b_file: &[u32],
+    b_out: &mut [u32],
+    mode: Mode,
+) -> Twice<Result<usize, Refusal>>
+    ensures { (a_file.now ≡ b_file.now) × (a_out.old ≡ b_out.old) → placed result.0 a_out.new ≡ placed result.1 b_out.new }
+{
+    (
+        to_edition_two(a_file, mode, a_out),
+        to_edition_two(b_file, mode, b_out),
+    )
+}
+
+/// Two calls of `to_edition_one`.
+pub fn to_one_twice(
+    a_file: &[u32],
+    a_out: &mut [u32],
+    b_file: &[u32],
+    b_out: &mut [u32],
+    mode: Mode,
+) -> Twice<Result<usize, Refusal>>
+    ensures { (a_file.now ≡ b_file.now) × (a_out.old ≡ b_out.old) → placed result.0 a_out.new ≡ placed result.1 b_out.new }
+{
+    (
+        to_edition_one(a_file, mode, a_out),
+        to_edition_one(b_file, mode, b_out),
     )
 }

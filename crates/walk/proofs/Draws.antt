@@ -1,28 +1,61 @@
--- A run of draws, one more draw at a time.
-use Rattle.std.proofs.Common.{ℕ, ◌+◌, ◌≤◌, ◌<◌, ◌≡◌, sym, [], length, get_or}
+-- A run of draws: a list of fills on a part of what is lent is the run on the whole.
+use Rattle.std.proofs.Common.{ℕ, zero, suc, ◌+◌, ◌-◌, ◌*◌, ◌≤◌, ◌<◌, ◌≡◌, refl, sym, ap, ◌∙◌, arith, Bool, true, false, cond, List, [], length, get_or, eqb, eqb-true, eq-eqb}
+use Rattle.sizes.specs.declared.edition.Edition.{Edition}
+use Rattle.sizes.specs.Editions.{draw-size}
 use Rattle.rules.specs.Lists.{slice}
 use Rattle.rules.specs.Answers.{Answer, answer}
-use Rattle.rules.specs.Recording.{Recording, draw-rec}
 use Rattle.rules.specs.Inputs as rule
-use Rattle.rules.specs.Walk.{each}
+use Rattle.rules.specs.Recording.{Recording, draw-rec}
+use Rattle.rules.specs.Walk.{◌then◌, each, go_on}
 use Rattle.screen.specs.Tables.{ScreenLent}
-use Rattle.walk.specs.Steps.{draw_step}
+use Rattle.inputs.specs.declared.Draw.{Draw}
+use Rattle.inputs.specs.Inputs.{draw-of}
+use Rattle.inputs.specs.Draws.{draw_at}
+use Rattle.fill.specs.Fills.{FillLent, filled}
+use Rattle.fill.specs.Lists.{FillsOut, draws_in, fills_in_order}
+use Rattle.fill.proofs.DoneOnes.{in-order-each}
+use Rattle.walk.specs.Reading.{draw_in}
+use Rattle.walk.specs.Steps.{fill-part, fill-into, with_value, draw_step}
+use Rattle.walk.proofs.Calls.{fill_step}
+use Rattle.walk.proofs.Lists.{Lent, same_filled}
 use Rattle.walk.proofs.Runs.{ended, refused, turned}
 
 abbrev pub some-draw : rule.Draw
 some-draw = draw-rec []
 
--- the draws from i to b at a state
-abbrev pub filled_from : Recording → ℕ → ℕ → ScreenLent → Answer ScreenLent
-filled_from r i b x = each (draw_step r) (slice i b r.draws) x
+module _ (r : Recording) (e : Edition) (ws ps ss : List ℕ) (k : Lent r ps ss)
+    (there : (i : ℕ) (d : rule.Draw) → i < length r.draws → draw-of (draw_at e ws (draw-size e * i)) ≡ get_or r.draws i d) where
+  abbrev one : Draw → FillLent → Answer FillLent
+  one d x = filled x ps ss d
 
-module _ (r : Recording) (i b : ℕ) (y : ScreenLent) where
-  pub all_filled : b ≤ i → answer 0 y ≡ filled_from r i b y
-  all_filled h = sym (ended (draw_step r) r.draws i b y h)
+  -- the fill of draw i is the recording's step
+  one-step : (i : ℕ) (l : ScreenLent) → i < length r.draws
+      → let a = one (draw_at e ws (draw-size e * i)) (fill-part l) in answer a.number (fill-into l.tables a.value) ≡ draw_step r (get_or r.draws i some-draw) l
+  one-step i l h =
+      fill_step l _ r (get_or r.draws i some-draw) _
+      (same_filled r (fill-part l) ps ss k (ap draw_in (there i some-draw h)))
 
-  module _ (h : i < b) (k : b ≤ length r.draws) (n : ℕ) (z : ScreenLent) (e : answer n z ≡ draw_step r (get_or r.draws i some-draw) y) where
-    pub draw_refused : (n ≡ 0 → ⊥) → answer n z ≡ filled_from r i b y
-    draw_refused q = refused (draw_step r) r.draws i b y some-draw h k n z e q
+  run : (n i b : ℕ) (l : ScreenLent) → b ≡ i + n → b ≤ length r.draws
+      → with_value (fill-into l.tables) (each one (draws_in e ws i n) (fill-part l)) ≡ each (draw_step r) (slice i b r.draws) l
+  unfolding each draws_in ◌then◌
+  run zero i b l h q = sym (ended (draw_step r) r.draws i b l (omega arith))
+  run (suc n) i b l h q = go (eqb a.number 0) refl (λ y. run n (i + 1) b y (omega arith) q)
+    where
+      a : Answer FillLent
+      a = one (draw_at e ws (draw-size e * i)) (fill-part l)
 
-    pub draw_turned : n ≡ 0 → filled_from r (i + 1) b z ≡ filled_from r i b y
-    draw_turned q = sym (turned (draw_step r) r.draws i b y some-draw h k n z e q)
+      go : (t : Bool) → eqb a.number 0 ≡ t
+          → ((y : ScreenLent) → with_value (fill-into y.tables) (each one (draws_in e ws (i + 1) n) (fill-part y)) ≡ each (draw_step r) (slice (i + 1) b r.draws) y)
+          → with_value (fill-into l.tables) (go_on t a (each one (draws_in e ws (i + 1) n))) ≡ each (draw_step r) (slice i b r.draws) l
+      go true z m = m (fill-into l.tables a.value) ∙ sym (turned (draw_step r) r.draws i b l some-draw (omega arith) q _ _ (one-step i l (omega arith)) (eqb-true a.number 0 z))
+      go false z m =
+          refused (draw_step r) r.draws i b l some-draw (omega arith) q _ _ (one-step i l (omega arith))
+          (λ y. let w : ◌≡◌ {A = ℕ} 1 0 = ap (λ (x : Bool). cond x 0 1) (sym z ∙ eq-eqb a.number 0 y) in omega arith)
+
+  -- what the list of fills gave
+  pub walked : (i b : ℕ) (l : ScreenLent) → i ≤ b → b ≤ length r.draws → (o : FillsOut) → o ≡ fills_in_order ps ss (draws_in e ws i (b - i)) (fill-part l)
+      → answer o.number (fill-into l.tables o.value) ≡ each (draw_step r) (slice i b r.draws) l
+  walked i b l h q o w =
+      ap (λ (x : FillsOut). answer x.number (fill-into l.tables x.value)) w
+      ∙ ap (with_value (fill-into l.tables)) (in-order-each ps ss (draws_in e ws i (b - i)) (fill-part l))
+      ∙ run (b - i) i b l (omega arith) q

@@ -1,9 +1,9 @@
-//! The building steps of a recording, called from its records: a draw's fill and a run of them, a push, a pop, a filter layer. Parts: callers have read the
+//! The building steps of a recording, called from its records: the fills of a run of draws, a push, a pop, a filter layer. Parts: callers have read the
 //! form and judged the records. Paints and segments are parts of the file's words, handed on. Each step refuses as the call that it makes.
-ghost use Rattle.std.specs.Prelude.{◌≡◌, ◌≤◌, ◌<◌, length, get_or};
+ghost use Rattle.std.specs.Prelude.{◌≡◌, ◌≤◌, length};
 ghost use Rattle.sizes.specs.Refusals.{answer_number};
 ghost use Rattle.rules.specs.Answers.{answer};
-ghost use Rattle.rules.specs.Inputs.{Props, Draw as RuleDraw};
+ghost use Rattle.rules.specs.Inputs.{Props};
 ghost use Rattle.rules.specs.Plans.{a-push, a-pop};
 ghost use Rattle.rules.specs.Walk.{walk-filter};
 ghost use Rattle.screen.specs.Tables.{ScreenLent};
@@ -13,11 +13,11 @@ ghost use Rattle.file.specs.Records.{layer-of};
 ghost use Rattle.file.specs.Held.{held, FitsIn};
 ghost use Rattle.layers.specs.Filter.{given, given_of};
 ghost use Rattle.walk.specs.Reading.{props_in};
-ghost use Rattle.walk.specs.Steps.{filter_in, call_at, draw_step, filter_step, draws-walked};
+ghost use Rattle.walk.specs.Steps.{filter_in, call_at, filter_step, draws-walked};
 
 use crate::read::{needs_buffer, to_props};
 use file::{Layer, Recording};
-use fill::fill;
+use fill::list::{Draws, fill_each};
 use inputs::Filter;
 use layers::{FilterFill, filter_fill, push_layer};
 use pop::pop_layer;
@@ -38,34 +38,6 @@ fn to_filter(filter: Filter, paints: usize, panel: u32) -> FilterFill
     }
 }
 
-// The fill of draw i.
-fn fill_draw(
-    screen: &mut Screen,
-    file: &Recording<'_>,
-    i: usize,
-    lent: &mut Lent<'_>,
-) -> Result<(), Refusal>
-    requires fits { FitsIn file.now }
-    requires there { i < length (held file.now).draws }
-    ensures same { SameLent lent.old lent.new }
-    ensures filled { (d : RuleDraw) → answer (answer_number result) (whole screen.new lent.new)
-        ≡ draw_step (held file.now) (get_or (held file.now).draws i d) (whole screen.old lent.old) }
-{
-    let mut rows = Rows {
-        state: lent.rows,
-        render_cmds: lent.render_cmds,
-        depth_cmds: lent.depth_cmds,
-    };
-    fill(
-        screen,
-        &mut rows,
-        lent.paint_attrs,
-        file.paints(),
-        file.segments(),
-        file.draw(i),
-    )
-}
-
 /// The fills of draws a to b, in order, up to the first that is refused.
 pub fn walk_draws(
     screen: &mut Screen,
@@ -81,10 +53,29 @@ pub fn walk_draws(
     ensures walked { answer (answer_number result) (whole screen.new lent.new)
         ≡ draws-walked (held file.now) a b (whole screen.old lent.old) }
 {
-    for i in a..b {
-        fill_draw(screen, file, i, lent)?;
+    let mut rows = Rows {
+        state: lent.rows,
+        render_cmds: lent.render_cmds,
+        depth_cmds: lent.depth_cmds,
+    };
+    let draws = Draws {
+        words: file.draws(),
+        start: a,
+        end: b,
+    };
+    let done = fill_each(
+        screen,
+        &mut rows,
+        lent.paint_attrs,
+        file.paints(),
+        file.segments(),
+        draws,
+        file.edition(),
+    );
+    match done {
+        Ok(()) => Ok(()),
+        Err(stopped) => Err(stopped.refusal),
     }
-    Ok(())
 }
 
 /// A push of what a layer says.

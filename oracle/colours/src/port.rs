@@ -1,8 +1,8 @@
 //! The port's rows composited, by the wrapper that a host links: by painting steps and the nesting after each, and by stored commands.
 
 use coarse::{
-    Answer, Canvas, CommandBucketer, DepthFill, LayerFill, LayerFillAttrs, Mode as PortMode,
-    PaintFill, PaintFillAttrs, Piece, RenderCmd, Row, Setup, TileSpan, Width,
+    Answer, Canvas, CommandBucketer, DepthFill, Edition, LayerFill, LayerFillAttrs,
+    Mode as PortMode, PaintFill, PaintFillAttrs, Piece, RenderCmd, Row, Setup, TileSpan, Width,
 };
 use oracle::colours::{Buffers, Colours, LayerSaid, PaintSaid};
 use oracle::plain::{Hiding, Picture};
@@ -47,7 +47,7 @@ pub(crate) fn screen(bytes: &[u8], mode: Mode, width: u32) -> Result<CommandBuck
         ..Setup::new(ROOM, ROOM).with_width(width)
     };
     let mut screen = CommandBucketer::from_wh(0, 0, setup)?;
-    screen.bucket_commands(&words)?;
+    screen.bucket_commands(Edition::One, &words)?;
     screen.begin_painting()?;
     Ok(screen)
 }

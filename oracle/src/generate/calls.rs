@@ -191,6 +191,7 @@ fn edges() -> Vec<Vec<Call>> {
     all.extend(others.into_iter().flatten());
     all.extend(viewports.map(|(calls, width)| at(calls, width.pixels())));
     all.extend(width_edges());
+    all.extend(list_edges());
     all = all.into_iter().map(panelled).collect();
     all.extend(panel_edges());
     all
@@ -1063,6 +1064,123 @@ fn skips() -> Vec<Call> {
     calls
 }
 
+/// A list of fills with one paint: the words of its draws, and which of them are done.
+fn fills(draws: &[[u32; 8]], range: [u32; 2], segments: &[[u32; 5]]) -> Call {
+    Call::Fills {
+        draws: draws.concat(),
+        range,
+        paints: vec![OPAQUE],
+        segments: segments.to_vec(),
+    }
+}
+
+/// The draw of segments from start to end, for a panel.
+fn drawn(start: u32, end: u32, panel: u32) -> [u32; 8] {
+    [0, start, end, 0, DEFAULT[0], DEFAULT[1], 0, panel]
+}
+
+/// Lists of fills: bad ranges, empty ranges while painting goes on, the first, a middle and the last draw refused, by what they are and by what is full.
+fn list_edges() -> Vec<Vec<Call>> {
+    let wide = [solid(0, 0, 64), solid(1, 8, 56), solid(1, 0, 8)];
+    let good = [drawn(0, 2, 1), drawn(0, 1, 2), drawn(1, 2, 3)];
+    let start = || reset(256, 8, 8, 8);
+    let bad = [
+        drawn(0, 1, 256),
+        drawn(0, 4, 0),
+        drawn(2, 1, 0),
+        drawn(1, 3, 0),
+        [256, 0, 1, 0, 0, 3, 0, 0],
+        [0, 0, 1, 1, 0, 3, 0, 0],
+        [0, 0, 1, 0, 16, 3, 0, 0],
+        [0, 0, 1, 0, 0, 14, 0, 0],
+        [0, 0, 1, 0, 0, 3, 1 << 31, 0],
+    ];
+    let mut all = Vec::new();
+    for range in [
+        [0, 0],
+        [3, 3],
+        [0, 3],
+        [1, 2],
+        [2, 1],
+        [0, 4],
+        [4, 4],
+        [u32::MAX, u32::MAX],
+        [0, u32::MAX],
+    ] {
+        all.push(vec![start(), fills(&good, range, &wide), Call::Show]);
+        all.push(vec![
+            start(),
+            alpha(0, 0, 4),
+            Call::Begin,
+            step(0),
+            fills(&good, range, &wide),
+            step(0),
+            Call::Show,
+        ]);
+    }
+    for more in [1, 7] {
+        let mut draws = good.concat();
+        draws.truncate(16 + more);
+        all.push(vec![
+            start(),
+            Call::Fills {
+                draws,
+                range: [0, 0],
+                paints: vec![OPAQUE],
+                segments: wide.to_vec(),
+            },
+            Call::Show,
+        ]);
+    }
+    for refused in bad {
+        for at in 0..3 {
+            let mut draws = good;
+            draws[at] = refused;
+            all.push(vec![
+                start(),
+                fills(&draws, [0, 3], &wide),
+                Call::Show,
+                fills(&draws, [0, 3], &wide),
+                Call::Show,
+            ]);
+        }
+    }
+    // Commands and depth fills of a row, and ids, are full at a draw behind others.
+    let narrow = [solid(0, 1, 2), solid(0, 0, 64)];
+    let few = [drawn(0, 1, 0), drawn(0, 1, 1), drawn(0, 1, 2)];
+    let whole = [drawn(1, 2, 0), drawn(1, 2, 1), drawn(1, 2, 2)];
+    for room in 1..4 {
+        all.push(vec![
+            reset(256, 4, room, 8),
+            fills(&few, [0, 3], &narrow),
+            Call::Show,
+        ]);
+        all.push(vec![
+            reset(256, 4, 8, room),
+            fills(&whole, [0, 3], &narrow),
+            Call::Show,
+        ]);
+        all.push(vec![
+            start(),
+            Call::NextId(LAST_ID + 1 - room),
+            fills(&few, [0, 3], &narrow),
+            fills(&few, [1, 1], &narrow),
+            Call::Show,
+        ]);
+    }
+    // In a layer, and on a screen without rows.
+    all.push(vec![
+        start(),
+        push(),
+        fills(&good, [0, 3], &wide),
+        pop(&[]),
+        Call::Show,
+    ]);
+    all.push(vec![fills(&good, [0, 3], &wide), Call::Show]);
+    all.push(vec![fills(&[], [0, 0], &[]), fills(&[], [0, 1], &[])]);
+    all
+}
+
 // Random sequences.
 
 /// What a sequence has on its screen so far, as far as it is known without doing it.
@@ -1193,7 +1311,8 @@ fn build(sketch: &mut Sketch, random: &mut Random) {
             let call = again(sketch, random);
             sketch.calls.push(call);
         }
-        0..55 => sketch.calls.push(any_fill(sketch, random)),
+        0..46 => sketch.calls.push(any_fill(sketch, random)),
+        46..55 => sketch.calls.push(any_fills(sketch, random)),
         55..70 => open(sketch, random),
         70..80 => close(sketch, random),
         80..92 => sketch.calls.push(any_filter(sketch, random)),
@@ -1323,6 +1442,52 @@ fn any_fill(sketch: &Sketch, random: &mut Random) -> Call {
             mask,
             any_panel(random),
         ],
+        paints,
+        segments,
+    }
+}
+
+/// A list of fills over the same paints and segments, mostly of good draws; at times a bad draw, a bad range, or words that are no whole draws.
+fn any_fills(sketch: &Sketch, random: &mut Random) -> Call {
+    let Call::Fill {
+        draw,
+        paints,
+        segments,
+    } = any_fill(sketch, random)
+    else {
+        unreachable!()
+    };
+    let count = random.below(6);
+    let mut draws = Vec::new();
+    for _ in 0..count {
+        let [_, start, end, ..] = draw;
+        let from = random.from(start, end);
+        let (mix, compose) = blend(random, 85);
+        let mut own = [
+            random.below(256) * random.below(2),
+            from,
+            random.from(from, end),
+            random.below(u32::try_from(paints.len()).expect("few")),
+            mix,
+            compose,
+            0,
+            any_panel(random),
+        ];
+        if random.chance(4) {
+            change(random, &mut own);
+        }
+        draws.extend(own);
+    }
+    let mut range = [0, count];
+    if random.chance(20) {
+        range = [random.below(count + 1), random.below(count + 2)];
+    }
+    if random.chance(3) {
+        draws.push(0);
+    }
+    Call::Fills {
+        draws,
+        range,
         paints,
         segments,
     }

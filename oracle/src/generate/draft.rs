@@ -1,5 +1,6 @@
 //! A recording under construction.
 
+use crate::editions::Edition;
 use crate::file::Recording;
 
 /// 1.0 and 0.5 as bits.
@@ -110,18 +111,41 @@ impl Draft {
         self
     }
 
+    /// As a file of edition one, with no panels.
     pub fn words(&self) -> Vec<u32> {
+        self.words_in(Edition::One)
+    }
+
+    /// As a file of an edition.
+    pub fn words_in(&self, edition: Edition) -> Vec<u32> {
         fn section<const N: usize>(records: &[[u32; N]]) -> Vec<u32> {
             std::iter::once(count(records))
                 .chain(records.iter().flatten().copied())
                 .collect()
         }
+        fn with_panels<const N: usize>(
+            records: &[[u32; N]],
+            panel: impl Fn(usize) -> u32,
+        ) -> Vec<u32> {
+            let with_panel = |(i, record): (usize, &[u32; N])| [&record[..], &[panel(i)]].concat();
+            std::iter::once(count(records))
+                .chain(records.iter().enumerate().flat_map(with_panel))
+                .collect()
+        }
+        let (draws, layers) = match edition {
+            Edition::One => (section(&self.draws), section(&self.layers)),
+            Edition::Two => (
+                with_panels(&self.draws, |i| self.draw_panel(i)),
+                with_panels(&self.layers, |i| self.layer_panel(i)),
+            ),
+        };
         [
+            edition.head().to_vec(),
             section(&[self.viewport]),
             section(&self.paints),
             section(&self.segments),
-            section(&self.draws),
-            section(&self.layers),
+            draws,
+            layers,
             section(&self.nodes),
             section(&[self.root]),
         ]
@@ -132,22 +156,33 @@ impl Draft {
         bytes(&self.words())
     }
 
-    /// The place of a record's field among the words: sections from 0 (viewport) to 6 (root).
+    /// How many records each section has, from the viewport's to the root's.
+    pub fn counts(&self) -> [usize; 7] {
+        [
+            1,
+            self.paints.len(),
+            self.segments.len(),
+            self.draws.len(),
+            self.layers.len(),
+            self.nodes.len(),
+            1,
+        ]
+    }
+
+    /// The place of a record's field among the words of a file of edition one: sections from 0 (viewport) to 6 (root).
     pub fn place(&self, section: usize, record: usize, field: usize) -> usize {
-        let sizes = [
-            (4, 1),
-            (4, self.paints.len()),
-            (5, self.segments.len()),
-            (7, self.draws.len()),
-            (22, self.layers.len()),
-            (3, self.nodes.len()),
-            (2, 1),
-        ];
+        self.place_in(Edition::One, section, record, field)
+    }
+
+    /// The same in an edition.
+    pub fn place_in(&self, edition: Edition, section: usize, record: usize, field: usize) -> usize {
+        let sizes = edition.sizes();
         let before: usize = sizes[..section]
             .iter()
+            .zip(self.counts())
             .map(|(words, records)| 1 + words * records)
             .sum();
-        before + 1 + sizes[section].0 * record + field
+        edition.head().len() + before + 1 + sizes[section] * record + field
     }
 }
 

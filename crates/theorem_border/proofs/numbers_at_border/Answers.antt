@@ -1,5 +1,6 @@
 use Rattle.std.proofs.Common.{sym, ap, ◌∙◌, true, ◌&&◌, leb, eqb, length}
 use Rattle.sizes.specs.Refusals.{number_of}
+use Rattle.rules.specs.Recording.{File}
 use Rattle.rules.specs.Setups.{Setup, frame}
 use Rattle.rules.proofs.laws.Answers.{settle-number}
 use Rattle.rect.specs.Rects.{box_of}
@@ -20,11 +21,11 @@ use Rattle.paint.specs.Stepping.{stepped}
 use Rattle.paint.specs.Running.{row-painted}
 use Rattle.paint.specs.DirectRuns.{unset-of, visible-of, write-of, skip-of-row}
 use Rattle.host.specs.State.{screen-at, before_4}
-use Rattle.host.specs.Asked.{asked_setup}
+use Rattle.host.specs.Asked.{asked_setup, told_file}
 use Rattle.host.specs.Border.{unasked_number}
-use Rattle.host.specs.Reasons.{reason-words, reason-size, asked, why-left, why_in, why_call}
+use Rattle.host.specs.Reasons.{reason-words, reason-size, asked, why-left, why_in, why_asked, why_call}
 use Rattle.host.specs.Results.{skip-left}
-use Rattle.host.specs.Building.{tables-left, reset_in, reset_call, recording_in, recording_call, fill-left, fill_call, push-left, push_call, pop-left, pop_call, filter-left, filter_call}
+use Rattle.host.specs.Building.{tables-left, reset_in, reset_call, recording_in, recording_asked, recording_call, fill-left, fill_call, push-left, push_call, pop-left, pop_call, filter-left, filter_call}
 use Rattle.host.specs.Painting.{begin-left, begin_call, step_left, step_call, row_call, runs-left, unset_call, visible_call, write-left, write_call, skip_call}
 use Rattle.host.specs.Spans.{runs_of, spans-left, spans_call}
 use Rattle.theorem_border.proofs.Numbers.{kept-on, kept_in}
@@ -37,17 +38,20 @@ returns-clause-reset c = λ v w q st t a long. kept_in (asked_setup w) q number_
     (kept-on true st (st, t) (λ (s : Screen). tables-left (reset_to (frame q (box_of v)) (screen_lent s t))) long)
 
 pub returns-clause-bucket_recording : goal.returns-clause-bucket_recording
-unfolding recording_call recording_in
-returns-clause-bucket_recording c = λ file w q st t a long. kept_in (asked_setup w) q (unasked_number file) (st, t) (λ (q : Setup). recording_in file q st t) _ a
-    (kept-on true st (st, t) (λ (s : Screen). tables-left (recorded file q (screen_lent s t))) long)
+unfolding recording_call recording_asked recording_in
+returns-clause-bucket_recording c = λ f file w q st t y a long.
+    kept_in (told_file f) file number_of (st, t) (λ (file : File). recording_asked file w st t) _ y
+    (kept_in (asked_setup w) q (unasked_number file) (st, t) (λ (q : Setup). recording_in file q st t) _ a
+    (kept-on true st (st, t) (λ (s : Screen). tables-left (recorded file q (screen_lent s t))) long))
 
 pub returns-clause-why : goal.returns-clause-why
-unfolding why_call why_in
-returns-clause-why c = λ file w q row tile layer attribute st t res a long. let z = asked layer attribute in
+unfolding why_call why_asked why_in
+returns-clause-why c = λ f file w q row tile layer attribute st t res y a long. let z = asked layer attribute in
     let e = explained file q row tile z (screen_lent (screen-at st) t) in
-    kept_in (asked_setup w) q (unasked_number file) (st, t, res) (λ (q : Setup). why_in file q row tile layer attribute st t res) e.number a
+    kept_in (told_file f) file number_of (st, t, res) (λ (file : File). why_asked file w row tile layer attribute st t res) e.number y
+    (kept_in (asked_setup w) q (unasked_number file) (st, t, res) (λ (q : Setup). why_in file q row tile layer attribute st t res) e.number a
     (sym (ap before_4 (settle-number e.number res (reason-words e.reason)))
-    ∙ kept-on (leb layer 1 && eqb (length res) reason-size) st (st, t, res) (λ (s : Screen). why-left res (explained file q row tile z (screen_lent s t))) long)
+    ∙ kept-on (leb layer 1 && eqb (length res) reason-size) st (st, t, res) (λ (s : Screen). why-left res (explained file q row tile z (screen_lent s t))) long))
 
 pub returns-clause-fill : goal.returns-clause-fill
 unfolding fill_call

@@ -32,22 +32,27 @@ pub fn reset_twice(
     )
 }
 
+/// What a recording reads and writes: the number of its edition and its words, beside what else is lent.
+#[derive(Drop)]
+pub struct RecordingHost<'a> {
+    pub state: StateWords,
+    pub tables: Lent<'a>,
+    pub edition: u32,
+    pub file: &'a [u32],
+}
+
 /// Two calls of `coarse_bucket_recording`.
 pub fn recording_twice(
-    a_state: &mut StateWords,
-    a_file: &[u32],
-    a_tables: &mut Lent<'_>,
-    b_state: &mut StateWords,
-    b_file: &[u32],
-    b_tables: &mut Lent<'_>,
+    a: &mut RecordingHost<'_>,
+    b: &mut RecordingHost<'_>,
     setup: SetupWords,
 ) -> Twice<u32>
-    ensures { recording-words a_file.now a_state.old a_tables.old ≡ recording-words b_file.now b_state.old b_tables.old
-        → (result.0 ≡ result.1) × (screen-words a_state.new a_tables.new ≡ screen-words b_state.new b_tables.new) }
+    ensures { recording-words a.old ≡ recording-words b.old
+        → (result.0 ≡ result.1) × (screen-words a.new.state a.new.tables ≡ screen-words b.new.state b.new.tables) }
 {
     (
-        coarse_bucket_recording(a_state, a_file, setup, a_tables),
-        coarse_bucket_recording(b_state, b_file, setup, b_tables),
+        coarse_bucket_recording(&mut a.state, a.edition, a.file, setup, &mut a.tables),
+        coarse_bucket_recording(&mut b.state, b.edition, b.file, setup, &mut b.tables),
     )
 }
 
@@ -56,6 +61,7 @@ pub fn recording_twice(
 pub struct WhyHost<'a> {
     pub state: StateWords,
     pub tables: Lent<'a>,
+    pub edition: u32,
     pub file: &'a [u32],
     pub reason: ReasonWords,
 }
@@ -73,6 +79,7 @@ pub fn why_twice(
     (
         coarse_why(
             &mut a.state,
+            a.edition,
             a.file,
             setup,
             &question,
@@ -81,6 +88,7 @@ pub fn why_twice(
         ),
         coarse_why(
             &mut b.state,
+            b.edition,
             b.file,
             setup,
             &question,

@@ -5,7 +5,7 @@ use Rattle.fill.proofs.Runs.{after_run, kind-read}
 use Rattle.fill.proofs.rows.fill_rows.Goals as goal
 
 pub fill_segment-requires : goal.fill_segment-requires
-fill_segment-requires c =
+fill_segment-requires g c =
     let held = c.loop-i.invariant.1 in
     rw (rows-counted _ _ held.rest.fits.arenas.long.state)
     (record {
@@ -15,7 +15,7 @@ fill_segment-requires c =
     })
 
 pub loop-i-preserved-then-segs-i-eq0 : goal.loop-i-preserved-then-segs-i-eq0
-loop-i-preserved-then-segs-i-eq0 c =
+loop-i-preserved-then-segs-i-eq0 g c =
     let held = c.loop-i.invariant.1 in (
       search rules,
       again held c.loop-i-test.true _ (long_after _ _ _ held.rest.fits.arenas.long (search rules) (search rules) (search rules))
@@ -23,12 +23,12 @@ loop-i-preserved-then-segs-i-eq0 c =
     )
 
 pub fill_run-i-requires : goal.fill_run-i-requires
-fill_run-i-requires c =
+fill_run-i-requires g c =
     let held = c.loop-i.invariant.1 in
     rw (rows-counted _ _ held.rest.fits.arenas.long.state) (record { ready = held.rest; some = c.loop-i-test.true; alpha = kind-read _ _ c.if-segs-i-eq0.false })
 
 pub loop-i-preserved : goal.loop-i-preserved
-loop-i-preserved c =
+loop-i-preserved g c =
     let held = c.loop-i.invariant.1 in
     let r = c.fill_run-i.ensures in (
       search rules,
@@ -37,4 +37,4 @@ loop-i-preserved c =
     )
 
 pub returns : goal.returns
-returns c = record { same = c.loop-i.invariant.0; rows = filled c.loop-i.invariant.1 c.loop-i-test.false }
+returns g c = record { same = c.loop-i.invariant.0; rows = filled c.loop-i.invariant.1 c.loop-i-test.false }

@@ -6,7 +6,7 @@ use Rattle.fill.proofs.RowsLaws.{Filling}
 use Rattle.fill.proofs.rows.fill_rows.Given as goal
 
 abbrev pub invariant-loop-i : goal.invariant-loop-i
-invariant-loop-i l = SameRows l.initial.rows l.rows × Filling l.job (count-rows l.initial.rows.state.now) l.segs l.start l.end (all-held l.initial.rows) l.i (all-held l.rows)
+invariant-loop-i g l = SameRows l.initial.rows l.rows × Filling l.job (count-rows l.initial.rows.state.now) l.segs l.start l.end (all-held l.initial.rows) l.i (all-held l.rows)
 
 abbrev pub decreases-loop-i : goal.decreases-loop-i
-decreases-loop-i l = l.end - l.i
+decreases-loop-i g l = l.end - l.i

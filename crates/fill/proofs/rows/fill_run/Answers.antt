@@ -7,24 +7,24 @@ use Rattle.fill.proofs.Runs.{row-there, run_lent, run-back, nothing_put}
 use Rattle.fill.proofs.rows.fill_run.Goals as goal
 
 pub place-requires : goal.place-requires
-place-requires c = (ap good-segment c.segment_at-first.ensures ∙ good-first _ _ _ c.requires.some c.requires.ready.good, c.requires.ready.fits.starts)
+place-requires g c = (ap good-segment c.segment_at-first.ensures ∙ good-first _ _ _ c.requires.some c.requires.ready.good, c.requires.ready.fits.starts)
 
 pub place_of-p-requires : goal.place_of-p-requires
-place_of-p-requires c =
+place_of-p-requires g c =
     let o = c.requires.ready.fits.arenas in
     (o.c, o.d, omega (arith, o.rows, row-there c.requires.ready c.requires.some _ (rw c.segment_at-first.ensures at c.in-Some.ensures)))
 
 pub slice_bounds-push_run-end : goal.slice_bounds-push_run-end
-slice_bounds-push_run-end c =
+slice_bounds-push_run-end g c =
     x-end c.requires.ready.fits.arenas (row-there c.requires.ready c.requires.some _ (rw c.segment_at-first.ensures at c.in-Some.ensures)) c.place_of-p.ensures
 
 pub push_run-requires : goal.push_run-requires
-push_run-requires c =
+push_run-requires g c =
     run_lent c.requires.ready c.requires.some _ (rw c.segment_at-first.ensures at c.in-Some.ensures) (ap (λ (s : Segment). s.row) c.segment_at-first.ensures)
     c.place_of-p.ensures c.requires.alpha
 
 pub returns : goal.returns
-returns c =
+returns g c =
     let r = c.push_run.ensures in
     record {
       after = r.after;
@@ -34,12 +34,12 @@ returns c =
     }
 
 pub returns-in_default : goal.returns-in_default
-returns-in_default c =
+returns-in_default g c =
     record {
       after = (omega arith, omega (arith, c.requires.some));
       rows = nothing_put c.args.job c.args.segs.now c.args.start _ (rw c.segment_at-first.ensures at c.in_default.ensures);
     }
 
 pub slice_bounds-push_run-end-3 : goal.slice_bounds-push_run-end-3
-slice_bounds-push_run-end-3 c =
+slice_bounds-push_run-end-3 g c =
     z-end c.requires.ready.fits.arenas (row-there c.requires.ready c.requires.some _ (rw c.segment_at-first.ensures at c.in-Some.ensures)) c.place_of-p.ensures

@@ -1,28 +1,6 @@
--- Words that ask for no setup are refused. Where the state's words stand for no screen, or the question is none, the border answers; else the call's own
--- equation, carried over to the words.
-use Rattle.rules.specs.Recording.{in-one}
-use Rattle.std.proofs.Common.{rules}
-use Rattle.screen.specs.Screens.{setup-of}
-use Rattle.screen.specs.Tables.{Tables}
-use Rattle.screen.specs.Lent.{tables_in}
-use Rattle.host.specs.Held.{words_in, reason_in}
-use Rattle.host.proofs.HostAsked.{why_asked}
-use Rattle.host.proofs.Questions.{why_unheld, why_built}
+-- The question about the file that is told.
+use Rattle.host.proofs.HostAsked.{why_told}
 use Rattle.host.proofs.reasons.coarse_why.Goals as goal
 
-pub returns-in_default-clause-explained : goal.returns-in_default-clause-explained
-returns-in_default-clause-explained c =
-    let t : Tables = tables_in c.args.tables.now in
-    let q = setup-of c.in-Ok.wanted in
-    let a = c.args in
-    let e = why_asked _ q c.in-Ok.ensures (in-one a.file.now) a.question.now.row a.question.now.tile a.question.now.layer a.question.now.attribute (words_in a.state.now) t (reason_in a.reason.now)
-    (why_unheld (in-one a.file.now) q a.question.now.row a.question.now.tile a.question.now.layer a.question.now.attribute (words_in a.state.now) t (reason_in a.reason.now) _ (rw c.is_good_question-good.ensures at c.in_default.ensures) (rw c.in_one-file.ensures at c.refuse_recording.ensures)) in
-    search (rules, e)
-
-pub returns-clause-explained : goal.returns-clause-explained
-returns-clause-explained c =
-    let t : Tables = tables_in c.args.tables.now in
-    let e = why_asked _ (setup-of c.in-Ok.wanted) c.in-Ok.ensures _ _ _ _ _ _ t _
-    (why_built _ _ _ _ _ _ _ t _ _ _ _ _ _ _ _ _
-    (rw c.is_good_question-good.ensures at c.in-Some.ensures) c.put_screen.ensures c.put_reason.ensures (rw c.in_one-file.ensures at c.why-told.ensures.explained)) in
-    search (rules, e)
+pub returns-in-Ok-clause-explained : goal.returns-in-Ok-clause-explained
+returns-in-Ok-clause-explained c = why_told _ _ _ c.in-Ok.ensures _ _ _ _ _ _ _ c.why_asked.ensures.explained

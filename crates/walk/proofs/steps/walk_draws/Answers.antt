@@ -1,22 +1,25 @@
-use Rattle.std.proofs.Common.{refl, rules, ◌∙◌}
-use Rattle.std.proofs.lemmas.Result.{err_from_is_err_and}
-use Rattle.sizes.proofs.Refusals.{not_done}
-use Rattle.file.specs.Held.{held}
-use Rattle.walk.proofs.Draws.{some-draw, all_filled, draw_refused, draw_turned}
+-- The list of fills on its part of what is lent is the run of the recording's draws on the whole.
+use Rattle.std.proofs.Common.{rules}
+use Rattle.screen.specs.Lent.{whole}
+use Rattle.file.specs.Held.{held, edition-of}
+use Rattle.walk.proofs.Lists.{Lent}
+use Rattle.walk.proofs.Draws.{walked}
 use Rattle.walk.proofs.steps.walk_draws.Goals as goal
 
-pub returns-in_err-fill_draw-clause-walked : goal.returns-in_err-fill_draw-clause-walked
-returns-in_err-fill_draw-clause-walked c =
-    let p = err_from_is_err_and c.from_residual.result c.from_residual.ensures.1 in
-    rw (p.1, p.2)
-    (draw_refused (held c.args.file.now) _ _ _ c.loop-i-test.true c.requires.ends _ _ (c.in_err-fill_draw.ensures.filled some-draw) (not_done _)
-    ∙ c.loop-i.invariant.1)
+pub returns-in-Ok-clause-walked : goal.returns-in-Ok-clause-walked
+returns-in-Ok-clause-walked c =
+    let r = held c.args.file.now in
+    let lists : Lent r c.paints.result.now c.segments.result.now = record { paints = c.paints.ensures.read; paints-long = c.paints.ensures.long; segments = c.segments.ensures.read; segments-long = c.segments.ensures.long } in
+    let e =
+    walked r (edition-of c.args.file.now) c.draws.result.now _ _ lists c.draws.ensures.read c.args.a c.args.b (whole c.args.screen.now c.args.lent.now) c.requires.order c.requires.ends _
+    (rw c.edition.ensures at c.in-Ok.ensures.filled) in
+    search (rules, e)
 
-pub loop-i-preserved : goal.loop-i-preserved
-loop-i-preserved c = (
-  search rules,
-  draw_turned (held c.args.file.now) _ _ _ c.loop-i-test.true c.requires.ends _ _ (c.in_ok-fill_draw.ensures.filled some-draw) refl ∙ c.loop-i.invariant.1,
-)
-
-pub returns-clause-walked : goal.returns-clause-walked
-returns-clause-walked c = all_filled (held c.args.file.now) _ _ _ c.loop-i-test.false ∙ c.loop-i.invariant.1
+pub returns-in-Err-clause-walked : goal.returns-in-Err-clause-walked
+returns-in-Err-clause-walked c =
+    let r = held c.args.file.now in
+    let lists : Lent r c.paints.result.now c.segments.result.now = record { paints = c.paints.ensures.read; paints-long = c.paints.ensures.long; segments = c.segments.ensures.read; segments-long = c.segments.ensures.long } in
+    let e =
+    walked r (edition-of c.args.file.now) c.draws.result.now _ _ lists c.draws.ensures.read c.args.a c.args.b (whole c.args.screen.now c.args.lent.now) c.requires.order c.requires.ends _
+    (rw c.edition.ensures at c.in-Err.ensures.filled) in
+    search (rules, e)

@@ -1,0 +1,11 @@
+pub mod Records
+pub mod Parsing
+pub mod Kept
+pub mod Resized
+pub mod Putting
+pub mod Standing
+pub mod Steps
+pub mod Converting
+pub mod Back
+pub mod Alike
+pub mod Theorems

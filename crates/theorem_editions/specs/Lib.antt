@@ -1,0 +1,3 @@
+-- The conversions' calls; the calls that take a file.
+pub mod Conversions
+pub mod Recordings

@@ -4,6 +4,8 @@
 #![tactic(auto)]
 
 #[cfg(test)]
+mod editions;
+#[cfg(test)]
 mod fakes;
 #[cfg(test)]
 mod programs;

@@ -6,7 +6,7 @@ use std::test::*;
 // Usages: nothing is read or written, and the first line says which word is wrong.
 #[test]
 fn a_usage_names_the_word_that_is_wrong(rt: HostRuntime) -> Result<(), Fail> {
-    let cases: [(Program, &[&str], &str); 21] = [
+    let cases: [(Program, &[&str], &str); 24] = [
         (Program::Rowlist, &["--wdith"], "--wdith is no option"),
         (Program::Rowlist, &["--panels"], "--panels is no option"),
         (
@@ -15,6 +15,17 @@ fn a_usage_names_the_word_that_is_wrong(rt: HostRuntime) -> Result<(), Fail> {
             "--width wants a number after it",
         ),
         (Program::Rowlist, &["--width", "+64"], "+64 is no number"),
+        (
+            Program::Rowlist,
+            &["--snap", "--edition"],
+            "--edition wants a number after it",
+        ),
+        (Program::Rowdump, &["--edition", "x"], "x is no number"),
+        (
+            Program::Why,
+            &["--edition", "4294967296", "3", "70"],
+            "4294967296 is no number",
+        ),
         (
             Program::Rowlist,
             &["--snap", "--help"],
@@ -101,15 +112,15 @@ fn help_prints_the_usage_and_reads_nothing(rt: HostRuntime) -> Result<(), Fail> 
     let programs: [(Program, &[u8]); 3] = [
         (
             Program::Rowlist,
-            b"usage: rowlist [--snap] [--width N] < FILE\n",
+            b"usage: rowlist [--snap] [--width N] [--edition N] < FILE\n",
         ),
         (
             Program::Rowdump,
-            b"usage: rowdump [--snap] [--width N] [--panels] < STREAM\n",
+            b"usage: rowdump [--snap] [--width N] [--edition N] [--panels] < STREAM\n",
         ),
         (
             Program::Why,
-            b"usage: why [--snap] [--width N] ROW TILE [draw N | layer N] < FILE\n",
+            b"usage: why [--snap] [--width N] [--edition N] ROW TILE [draw N | layer N] < FILE\n",
         ),
     ];
     for (program, line) in programs {
@@ -125,8 +136,9 @@ fn help_prints_the_usage_and_reads_nothing(rt: HostRuntime) -> Result<(), Fail> 
             assert_eq!(rt; end, End::Done);
             assert!(rt; held.as_slice().starts_with(line));
             assert!(rt;
-                held.as_slice()
-                    .ends_with(b"  14: the list has no room for the result\n")
+                held.as_slice().ends_with(
+                    b"  15: a draw or a layer has a panel, and edition one has none\n"
+                )
             );
         }
     }

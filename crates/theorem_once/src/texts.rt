@@ -13,11 +13,11 @@ use row::Rows;
 use screen::{Lent, Screen, Setup};
 use sizes::answers::Refusal;
 use text::{
-    FileText, Size, Tables, attrs_text, list_screen, no_width_refusal, recording_text,
+    FileBytes, FileText, Size, Tables, attrs_text, list_screen, no_width_refusal, recording_text,
     refusal_line, row_text, size_of,
 };
-use text_programs::file_text;
-use text_programs::tables::Tables as FileTables;
+use text_files::file_text;
+use text_files::tables::Tables as FileTables;
 
 /// Two calls of `list_screen`.
 pub fn list_twice(
@@ -135,23 +135,23 @@ pub fn recording_text_twice(
 }
 
 /// Two calls of `no_width_refusal`.
-pub fn no_width_twice(a: &[u8], b: &[u8]) -> Twice<Refusal>
-    ensures { a.now ≡ b.now → result.0 ≡ result.1 }
+pub fn no_width_twice(a: FileBytes<'_>, b: FileBytes<'_>) -> Twice<Refusal>
+    ensures { (a.entry.edition ≡ b.entry.edition) × (a.entry.bytes.now ≡ b.entry.bytes.now) → result.0 ≡ result.1 }
 {
     (no_width_refusal(a), no_width_refusal(b))
 }
 
 /// Two calls of `file_text`, each over tables of its own, which may hold anything.
 pub fn file_text_twice(
-    a: &[u8],
+    a: FileBytes<'_>,
     a_tables: &mut FileTables,
     a_bytes: &mut [u8],
-    b: &[u8],
+    b: FileBytes<'_>,
     b_tables: &mut FileTables,
     b_bytes: &mut [u8],
     setup: Setup,
 ) -> Twice<FileText>
-    ensures { (a.now ≡ b.now) × (a_bytes.old ≡ b_bytes.old)
+    ensures { (a.entry.edition ≡ b.entry.edition) × (a.entry.bytes.now ≡ b.entry.bytes.now) × (a_bytes.old ≡ b_bytes.old)
         → (result.0 ≡ result.1) × (a_bytes.new ≡ b_bytes.new) }
 {
     (

@@ -10,3 +10,4 @@ pub mod Colours
 pub mod Why
 pub mod Sized
 pub mod Panel
+pub mod FillLists

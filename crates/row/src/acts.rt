@@ -44,7 +44,13 @@ fn push_edge(row: &mut Row<'_>, edge: Option<TileSpan>, attrs_idx: u32)
 
 // Rule 7: an eligible span, split over buckets. No caller has a span that starts after its end; it would stay whole.
 #[tactic(auto, using(crate::proofs::ActsLaws::whole_is))]
-fn push_opaque<const LISTED: bool>(row: &mut Row<'_>, span: TileSpan, attrs_idx: u32, draw_id: u32, width: Width)
+fn push_opaque<const LISTED: bool>(
+    row: &mut Row<'_>,
+    span: TileSpan,
+    attrs_idx: u32,
+    draw_id: u32,
+    width: Width,
+)
     requires short { Short (tiles span) }
     requires room { Room (held row.old) (parted (bucket-tiles width) attrs_idx draw_id (tiles span) (held row.old)) }
     ensures same { Same row.old row.new }

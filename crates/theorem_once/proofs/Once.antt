@@ -19,7 +19,7 @@ once {A} {B} same call e f =
 one-refusal : (r q : Refusal) → number_of r ≡ number_of q → r ≡ q
 one-refusal r q e =
     let f : ◌≡◌ {A = Result ℕ Refusal} (Err r) (Err q) = sym (refusal_there 0 r) ∙ ap (λ (n : ℕ). result_of n 0) e ∙ refusal_there 0 q in
-    ap (λ (x : Result ℕ Refusal). elim x [ | Ok _ ↦ r | Err z ↦ z ]) f
+    ap (λ (x : Result ℕ Refusal). elim x [ Ok _ ↦ r | Err z ↦ z ]) f
 
 same-stopped : (s t : Stopped) → s.done ≡ t.done → s.refusal ≡ t.refusal → s ≡ t
 same-stopped s t e f =

@@ -94,7 +94,7 @@ pub fn fill_each(
 }
 
 /// Rules 3 to 7 for each of a range of draws, eight words each, in order. BadRecord, with nothing judged or done, where the words are no whole draws or the
-/// range is none of them; else as the first fill that is refused: the fills before it are done, it and the ones behind it change nothing. An empty range is done.
+/// range is none of them; else as the first fill that is refused: the fills before it are done, it and those behind it change nothing. An empty range is done.
 #[tactic(auto, unfolding(crate::specs::Lists::fills_listed))]
 pub fn fill_list(
     screen: &mut Screen,

@@ -1,0 +1,2 @@
+-- What is answered.
+use Rattle.std.proofs.Common.{ℕ, ◌≡◌}

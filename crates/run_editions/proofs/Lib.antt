@@ -1,0 +1,5 @@
+mod Putting
+mod Long
+mod Snaps
+mod Items
+mod Answering

@@ -9,12 +9,12 @@ mod widths;
 
 use measured::{
     original_build, original_paint, original_recording, original_reset, port_build, port_by_steps,
-    port_paint, port_recording, port_reset,
+    port_list, port_paint, port_recording, port_reset,
 };
 use oracle::original::Original;
 use oracle::painting::Piece;
 use oracle::sizes;
-use oracle::steps::steps;
+use oracle::steps::{steps, Step};
 use port::Port;
 use std::hint::black_box;
 use timing::Race;
@@ -47,8 +47,13 @@ fn race(it: &scenes::Scene, rounds: usize) {
     let mut original = Original::new(&it.draft);
     let steps = steps(&it.draft);
     let mut port = Port::new(&it.draft, it.setup());
-    let [mut reset, mut build, mut paint, mut by_steps] = [(); 4].map(|()| Race::new());
+    let fills_alone = is_fills_in_order(&steps, it.draft.draws.len());
+    let [mut reset, mut build, mut list, mut paint, mut by_steps] = [(); 5].map(|()| Race::new());
     for _ in 0..rounds {
+        if fills_alone {
+            port.reset();
+            list.port(|| port_list(&mut port));
+        }
         reset.original(|| original_reset(&mut original));
         reset.port(|| port_reset(&mut port));
         build.original(|| original_build(&mut original, &steps));
@@ -59,9 +64,17 @@ fn race(it: &scenes::Scene, rounds: usize) {
     }
     reset.line(it.name, "reset");
     build.line(it.name, "build");
+    if fills_alone {
+        list.against(&build).line(it.name, "list");
+    }
     paint.line(it.name, "paint");
     by_steps.against(&paint).line(it.name, "by steps");
     let pieces = compared(it.name, &mut original, &mut port);
+    if fills_alone {
+        port.reset();
+        port.fill_list();
+        compared(it.name, &mut original, &mut port);
+    }
 
     let file = it.draft.words();
     if port.record(&file) {
@@ -81,6 +94,12 @@ fn race(it: &scenes::Scene, rounds: usize) {
         pieces
     );
     words(it, &original, &reset, &build, &paint, pieces, rounds);
+}
+
+/// Whether a scene is its draws, each once, in order: then a list of fills builds it.
+fn is_fills_in_order(steps: &[Step], draws: usize) -> bool {
+    let fill = |(at, step): (usize, &Step)| matches!(*step, Step::Fill(i) if i == at);
+    steps.len() == draws && steps.iter().enumerate().all(fill)
 }
 
 /// How many pieces both sides give of the scene that they hold: they must be the same, of the same panels.

@@ -27,6 +27,11 @@ pub(crate) fn port_build(port: &mut Port, steps: &[Step]) {
 }
 
 #[inline(never)]
+pub(crate) fn port_list(port: &mut Port) {
+    port.fill_list();
+}
+
+#[inline(never)]
 pub(crate) fn original_paint(original: &mut Original) {
     original.paint(read);
 }

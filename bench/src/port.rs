@@ -1,8 +1,8 @@
 //! The port, by the wrapper that a host links.
 
 use coarse::{
-    BlendMode, CommandBucketer, Edition, LayerClip, LayerProps, Paint, Piece, RecordedFill, Rect,
-    Segment, Setup,
+    BlendMode, CommandBucketer, Edition, FillList, LayerClip, LayerProps, Paint, Piece,
+    RecordedFill, Rect, Segment, Setup,
 };
 use oracle::generate::draft::Draft;
 use oracle::painting;
@@ -14,6 +14,7 @@ pub(crate) struct Port {
     paints: Vec<Paint>,
     segments: Vec<Segment>,
     draws: Vec<RecordedFill>,
+    list: FillList,
     layers: Vec<LayerProps>,
     bucketer: CommandBucketer,
 }
@@ -21,6 +22,10 @@ pub(crate) struct Port {
 impl Port {
     pub(crate) fn new(draft: &Draft, setup: Setup) -> Self {
         let viewport = rect(draft.viewport);
+        let draws: Vec<RecordedFill> = (0..)
+            .zip(&draft.draws)
+            .map(|(i, words)| draw(words, draft.draw_panel(i)))
+            .collect();
         Self {
             viewport,
             paints: draft
@@ -29,10 +34,8 @@ impl Port {
                 .map(|&[opaque, handle, ..]| Paint::new(opaque == 1, handle))
                 .collect(),
             segments: draft.segments.iter().map(segment).collect(),
-            draws: (0..)
-                .zip(&draft.draws)
-                .map(|(i, words)| draw(words, draft.draw_panel(i)))
-                .collect(),
+            list: draws.iter().collect(),
+            draws,
             layers: (0..)
                 .zip(&draft.layers)
                 .map(|(i, words)| layer(words, draft.layer_panel(i)))
@@ -62,6 +65,13 @@ impl Port {
             }
             .expect("a step within the limits");
         }
+    }
+
+    /// The fills of a scene that has nothing else, by one call.
+    pub(crate) fn fill_list(&mut self) {
+        self.bucketer
+            .generate_fill_list(&self.paints, &self.segments, &self.list, 0..self.list.len())
+            .expect("fills within the limits");
     }
 
     /// The depth fills of all rows.

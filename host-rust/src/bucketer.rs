@@ -2,6 +2,7 @@
 
 use crate::answer::{Answer, Stopped};
 use crate::canvas::{Brush, Canvas, Piece, Runs};
+use crate::fills::FillList;
 use crate::input::{
     Edition, FilterLayerPlacement, LayerProps, Paint, RecordedFill, Rect, Segment, Setup, Width,
 };
@@ -14,6 +15,7 @@ use crate::{sys, version};
 use alloc::vec;
 use alloc::vec::Vec;
 use core::mem::size_of_val;
+use core::ops::Range;
 use core::sync::atomic::{AtomicU64, Ordering};
 
 /// The words of one record of a table, as `include/coarse.h` has them.
@@ -24,25 +26,6 @@ pub(crate) const OPEN_LAYER: usize = 17;
 
 /// The most layers open at once. Their opacities stand before those of the layer attributes.
 pub(crate) const MOST_LAYERS: usize = 16;
-
-/// A place of a list as a word; one that no word holds is past the end of any list, and so is the largest word.
-fn place(place: usize) -> u32 {
-    u32::try_from(place).unwrap_or(u32::MAX)
-}
-
-/// The words of a draw in a list, as `include/coarse.h` has them.
-fn draw_words(fill: &RecordedFill) -> [u32; 8] {
-    [
-        fill.thread_idx,
-        place(fill.start),
-        place(fill.end),
-        fill.paint,
-        fill.blend_mode.mix,
-        fill.blend_mode.compose,
-        fill.mask,
-        fill.panel,
-    ]
-}
 
 /// A record of `repr(C)` with 32-bit fields alone, as words.
 fn paint_words(paints: &[Paint]) -> (*const u32, usize) {
@@ -413,7 +396,8 @@ impl CommandBucketer {
         })
     }
 
-    /// [`generate_fill`](Self::generate_fill) for each of the fills, in order, up to the first that is refused; the fills before it stand.
+    /// [`generate_fill`](Self::generate_fill) for each of the fills, in order, up to the first that is refused; the fills before it stand. It makes a
+    /// [`FillList`] of them; a list that is filled more than once is better made once.
     ///
     /// ```
     /// use coarse::{Answer, CommandBucketer, Paint, RecordedFill, Segment, Setup};
@@ -436,13 +420,26 @@ impl CommandBucketer {
         segments: &[Segment],
         fills: &[RecordedFill],
     ) -> Result<(), Stopped> {
-        let words: Vec<u32> = fills.iter().flat_map(draw_words).collect();
+        self.generate_fill_list(paints, segments, &fills.iter().collect(), 0..fills.len())
+    }
+
+    /// The same for a range of the fills of a list. An empty range judges nothing and changes nothing.
+    ///
+    /// # Errors
+    /// As [`generate_fills`](Self::generate_fills); [`Answer::BadRecord`] with none done where the range is none of the list's.
+    pub fn generate_fill_list(
+        &mut self,
+        paints: &[Paint],
+        segments: &[Segment],
+        fills: &FillList,
+        range: Range<usize>,
+    ) -> Result<(), Stopped> {
         let (paints, paints_len) = paint_words(paints);
         let (segments, segments_len) = segment_words(segments);
         let draws = sys::DrawsWords {
-            words: sys::Read::of(&words),
-            start: 0,
-            end: fills.len(),
+            words: sys::Read::of(fills.words()),
+            start: range.start,
+            end: range.end,
         };
         let mut done = 0;
         Answer::check(unsafe {

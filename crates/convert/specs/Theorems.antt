@@ -1,4 +1,4 @@
--- What conversions keep. They are read from a file of edition d to one of edition e; the two public calls are those from one to two and from two to one.
+-- What conversions keep, each of a file of edition d to one of edition e. The two public calls are those from one to two and from two to one.
 use Rattle.std.specs.Prelude.{ℕ, ◌≤◌, ◌≡◌, ◌↔◌, Bool, true, ◌&&◌, List, length, eqb, option_map, Some}
 use Rattle.sizes.specs.declared.edition.Edition.{Edition}
 use Rattle.sizes.specs.declared.edition.Edition.TheVariants.{One, Two}

@@ -1,4 +1,4 @@
-//! Conversions of a recording file between its editions (docs/RULES.md, The recording file). A converted file says the same recording: the viewport's words
+//! Conversions of a recording file between its editions (docs/RULES.md, Recordings). A converted file says the same recording: the viewport's words
 //! stand as they were, not snapped, paints keep their shifts, and a NaN its pattern.
 #![tactic(auto)]
 

@@ -225,13 +225,13 @@ pub extern "C" fn coarse_progress(
     put_progress(row_progress(screen, row, canvas.painting), progress)
 }
 
-/// 0.1.0, as the file `VERSION` says it.
-const VERSION: u32 = 256;
+/// 0.2.0, as the file `VERSION` says it.
+const VERSION: u32 = 512;
 
 /// The version of the library: 65,536 x the first number + 256 x the second + the third.
 #[unsafe(no_mangle)]
 pub extern "C" fn coarse_version() -> u32
-    ensures { result ≡ 256 }
+    ensures { result ≡ VERSION }
 {
     VERSION
 }

@@ -151,13 +151,13 @@ fn version_prints_one_line_and_reads_nothing(rt: HostRuntime) -> Result<(), Fail
     let programs: [(Program, &[u8]); 3] = [
         (
             Program::Rowlist,
-            b"rowlist 0.1.0 rattle-kit-13f dac8208d650f15bf\n",
+            b"rowlist 0.2.0 rattle-kit-13f dac8208d650f15bf\n",
         ),
         (
             Program::Rowdump,
-            b"rowdump 0.1.0 rattle-kit-13f dac8208d650f15bf\n",
+            b"rowdump 0.2.0 rattle-kit-13f dac8208d650f15bf\n",
         ),
-        (Program::Why, b"why 0.1.0 rattle-kit-13f dac8208d650f15bf\n"),
+        (Program::Why, b"why 0.2.0 rattle-kit-13f dac8208d650f15bf\n"),
     ];
     let reads = [Fails(ErrorKind::Other)];
     for (program, line) in programs {

@@ -11,3 +11,4 @@ pub mod Why
 pub mod Sized
 pub mod Panel
 pub mod Conversions
+pub mod FillLists

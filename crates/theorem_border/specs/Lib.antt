@@ -9,3 +9,4 @@ pub mod Colours
 pub mod Edited
 pub mod Panel
 pub mod Computing
+pub mod FillLists

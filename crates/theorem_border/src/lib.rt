@@ -9,6 +9,7 @@ ghost use Rattle.theorem_border.specs.Border.{Picture, Clear, Finishes, Recordin
 ghost use Rattle.theorem_border.specs.Refused.{BeginRefused, FillRefused, FilterRefused, PopRefused, PushRefused, ResetRefused, RowRefused, LengthsRefused, CmdRefused, DepthRefused, ProgressRefused, SizesRefused, SkipRefused, SpansRefused, SplitRefused, StepRefused, UnsetRefused, VisibleRefused, WhyRefused, WriteRefused, ToTwoRefused, ToOneRefused};
 ghost use Rattle.theorem_border.specs.Numbers.{BeginKeeps, FillKeeps, FilterKeeps, PopKeeps, PushKeeps, RecordingKeeps, ResetKeeps, RowKeeps, SkipKeeps, SpansKeeps, StepKeeps, UnsetKeeps, VisibleKeeps, WhyKeeps, WriteKeeps, LengthsKeeps, CmdKeeps, DepthKeeps, ProgressKeeps};
 ghost use Rattle.theorem_border.specs.Words.{ScreenReadBack, SizesFit, WordsWrittenBack};
+ghost use Rattle.theorem_border.specs.FillLists.{FillsHosted};
 ghost use Rattle.theorem_border.specs.Held.{HostedReached};
 ghost use Rattle.theorem_border.specs.Reading.{HostedStands, LengthsRead, CmdsRead, NoCmdRead, DepthsRead, NoDepthRead, ProgressRead};
 ghost use Rattle.theorem_border.specs.Colours as colours;
@@ -106,6 +107,7 @@ pub fn words_at_border()
     ensures screen_read { ScreenReadBack }
     ensures words_written { WordsWrittenBack }
     ensures reached { HostedReached }
+    ensures fills { FillsHosted }
     ensures sizes { SizesFit }
 {}
 

@@ -6,6 +6,7 @@ use Rattle.screen.specs.declared.lent.Lent.{Lent}
 use Rattle.screen.specs.Tables.{Tables}
 use Rattle.screen.specs.Lent.{tables_in}
 use Rattle.pop.specs.Pop.{PopLent}
+use Rattle.fill.specs.declared.list.Draws.{Draws}
 use Rattle.host.specs.declared.state.StateWords.{StateWords}
 use Rattle.paint.specs.declared.canvas.stored.Canvas.{Canvas}
 use Rattle.host.specs.Asked.{FileWords, told}
@@ -47,6 +48,10 @@ why-words h = (words_in h.state, tables_in h.tables, told h.edition h.file.now, 
 
 abbrev pub fill-words : FillHost → List ℕ × Words × List ℕ × List ℕ × List ℕ
 fill-words h = (words_in h.state, rows_in h.tables, h.tables.paint_attrs.now, h.paints.now, h.segments.now)
+
+-- .. and a list of draws
+abbrev pub list-words : FillHost → Draws → (List ℕ × Words × List ℕ × List ℕ × List ℕ) × List ℕ × ℕ × ℕ
+list-words h d = (fill-words h, d.words.now, d.start, d.end)
 
 -- the state, what is stored, the canvas, the list and the result
 abbrev pub paint-words : PaintHost → List ℕ × List ℕ × List ℕ × List ℕ × List ℕ × List ℕ × List ℕ × List ℕ × List ℕ × List ℕ

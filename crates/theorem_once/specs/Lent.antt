@@ -6,6 +6,7 @@ use Rattle.row.specs.Words.{Words}
 use Rattle.row.specs.Rows.{all-held}
 use Rattle.screen.specs.declared.Screen.{Screen}
 use Rattle.screen.specs.Tables.{ScreenLent}
+use Rattle.fill.specs.declared.list.Draws.{Draws}
 use Rattle.screen.specs.Lent.{whole}
 use Rattle.theorem_once.specs.declared.building.FillLent.{FillLent}
 use Rattle.theorem_once.specs.declared.building.PushLent.{PushLent}
@@ -15,6 +16,10 @@ use Rattle.theorem_once.specs.declared.recordings.RecordingLent.{RecordingLent}
 
 abbrev pub fill-words : FillLent → Screen × Words × List ℕ × List ℕ × List ℕ
 fill-words l = (l.screen, all-held l.rows, l.paint_attrs.now, l.paints.now, l.segments.now)
+
+-- .. and a list of draws
+abbrev pub list-words : FillLent → Draws → (Screen × Words × List ℕ × List ℕ × List ℕ) × List ℕ × ℕ × ℕ
+list-words l d = (fill-words l, d.words.now, d.start, d.end)
 
 abbrev pub push-words : PushLent → Screen × Words × List ℕ × List Float
 push-words l = (l.screen, all-held l.rows, l.layers.table.now, l.layers.opacities.now)

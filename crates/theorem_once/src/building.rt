@@ -1,10 +1,11 @@
 //! Each building call.
 ghost use Rattle.std.specs.Prelude.{◌≡◌};
 ghost use Rattle.screen.specs.Lent.{tables_in};
-ghost use Rattle.theorem_once.specs.Lent.{fill-words, push-words, pop-words, filter-words};
+ghost use Rattle.theorem_once.specs.Lent.{fill-words, list-words, push-words, pop-words, filter-words};
 
 use crate::Twice;
 use fill::fill;
+use fill::list::{Draws, Stopped, fill_list};
 use inputs::Draw;
 use layers::filter::{FilterFill, filter_fill};
 use layers::push::push_layer;
@@ -63,6 +64,36 @@ pub fn fill_twice(
             b.paints,
             b.segments,
             draw,
+        ),
+    )
+}
+
+/// Two calls of `fill_list`.
+pub fn fill_list_twice(
+    a: &mut FillLent<'_>,
+    a_draws: Draws<'_>,
+    b: &mut FillLent<'_>,
+    b_draws: Draws<'_>,
+) -> Twice<Result<(), Stopped>>
+    ensures { list-words a.old a_draws.entry ≡ list-words b.old b_draws.entry
+        → (result.0 ≡ result.1) × (fill-words a.new ≡ fill-words b.new) }
+{
+    (
+        fill_list(
+            &mut a.screen,
+            &mut a.rows,
+            a.paint_attrs,
+            a.paints,
+            a.segments,
+            a_draws,
+        ),
+        fill_list(
+            &mut b.screen,
+            &mut b.rows,
+            b.paint_attrs,
+            b.paints,
+            b.segments,
+            b_draws,
         ),
     )
 }

@@ -3,6 +3,7 @@ pub mod Props
 pub mod Pieces
 pub mod Words
 pub mod Reached
+pub mod FillLists
 pub mod Answers
 pub mod Turns
 pub mod Picture

@@ -12,7 +12,7 @@ use Rattle.inputs.specs.declared.Draw.{Draw}
 use Rattle.layers.specs.Filter.{FilterGiven}
 use Rattle.walk.specs.Reading.{props_in, props_said}
 use Rattle.walk.specs.Steps.{call_at}
-use Rattle.theorem_picture.specs.Calls.{fill-at, push_at, pop-at, filter-at, fill-said, pop-said, filter-said}
+use Rattle.theorem_picture.specs.Calls.{fill-at, push_at, pop-at, filter-at, fill-said, pop-said, filter-said, fills-out, fills-left, fills-said}
 use Rattle.theorem_picture.specs.Reached.{Reached}
 
 -- Done, or lent whole records, a building call is the step that its words say. The properties of a done push are a step's: its opacity is an f32.
@@ -55,6 +55,12 @@ abbrev pub PushReached : Type 0
 PushReached =
     (f : Frame) (xs : List Step) (l : ScreenLent) (p : LayerProps) → T (fits binary32 p.opacity) → Reached f xs l → (push_at p l).number ≡ Done
     → Reached f (xs ++ (a-push (props_said p) ∷ [])) (push_at p l).value
+
+-- A list of fills, done or stopped, extends the history by the steps that its done fills say.
+abbrev pub FillsReached : Type 0
+FillsReached =
+    (f : Frame) (xs : List Step) (l : ScreenLent) (ps ss ws : List ℕ) (a b : ℕ) → Reached f xs l
+    → Reached f (xs ++ fills-said ps ss ws a (fills-out ps ss ws a b l).done) (fills-left ps ss ws a b l)
 
 -- What no rule reads is free: lists of paints that differ in their shift words alone say the same step.
 abbrev pub ShiftsFree : Type 0

@@ -17,7 +17,7 @@ ghost use Rattle.theorem_picture.specs.Skip.{Clear, FinishedFills, SkippedBucket
 ghost use Rattle.theorem_picture.specs.Alone.{AllShown, FinishedAlone, RowPicture, SaidFinished};
 ghost use Rattle.theorem_picture.specs.Answered.{CanvasAnswered, ReachedStands, StandsAnswered};
 ghost use Rattle.theorem_picture.specs.Stored.{CanvasStored, StandsStored};
-ghost use Rattle.theorem_picture.specs.Said.{CallsSaid, PropertiesGood, PushReached, RefusedKept, ShiftsFree, StepReached};
+ghost use Rattle.theorem_picture.specs.Said.{CallsSaid, FillsReached, PropertiesGood, PushReached, RefusedKept, ShiftsFree, StepReached};
 ghost use Rattle.theorem_picture.specs.Kept.{BeginKept, ResetKept, RowKept, StepKept, UnsetKept, VisibleKept, WriteKept};
 ghost use Rattle.theorem_picture.specs.Apart.{RowApart, StepApart};
 ghost use Rattle.theorem_picture.specs.Bounded.{FrameKept, RowsFew};
@@ -36,6 +36,7 @@ pub fn reached_words_are_the_rules_screen()
     ensures refused { RefusedKept }
     ensures steps { StepReached }
     ensures pushes { PushReached }
+    ensures fills { FillsReached }
     ensures properties { PropertiesGood }
     ensures shifts { ShiftsFree }
 {}

@@ -1,5 +1,6 @@
 use Rattle.host.proofs.Words.{read_back, written_back}
 use Rattle.theorem_border.proofs.Holds.{holds}
+use Rattle.theorem_border.proofs.FillLists.{fills-hosted}
 use Rattle.theorem_border.proofs.Sized.{sizes-fit}
 use Rattle.theorem_border.proofs.words_at_border.Goals as goal
 
@@ -14,3 +15,6 @@ returns-clause-reached c = λ f xs h hosted. holds hosted
 
 pub returns-clause-sizes : goal.returns-clause-sizes
 returns-clause-sizes c = sizes-fit
+
+pub returns-clause-fills : goal.returns-clause-fills
+returns-clause-fills c = λ f xs h ps ss ws a b n r e. fills-hosted ps ss ws a b n r e

@@ -1,15 +1,18 @@
 //! The calls of reset, of the building steps, of recordings and of questions about them.
 ghost use Rattle.std.specs.Prelude.{◌≡◌};
 ghost use Rattle.host.specs.Called.{fill_out, push_out, filter_out, why_out};
+ghost use Rattle.host.specs.FillLists.{list_out};
 ghost use Rattle.host.specs.Sizes.{length-words};
-ghost use Rattle.theorem_once.specs.Border.{screen-words, recording-words, pop-words, pop-left, fill-words, why-words};
+ghost use Rattle.theorem_once.specs.Border.{screen-words, recording-words, pop-words, pop-left, fill-words, list-words, why-words};
 
 use crate::Twice;
+use fill::list::Draws;
 use host::build::{DrawWords, coarse_bucket_recording, coarse_fill, coarse_reset};
 use host::layer::{
     FilterWords, PropsWords, coarse_filter_fill, coarse_pop_layer, coarse_push_layer,
 };
 use host::lengths::coarse_sizes;
+use host::list::coarse_fill_list;
 use host::reasons::{QuestionWords, ReasonWords, coarse_why};
 use host::state::{Corners, SetupWords, StateWords};
 use screen::{Lengths, Lent};
@@ -115,6 +118,38 @@ pub fn fill_twice(a: &mut FillHost<'_>, b: &mut FillHost<'_>, draw: DrawWords) -
     (
         coarse_fill(&mut a.state, &mut a.tables, a.paints, a.segments, &draw),
         coarse_fill(&mut b.state, &mut b.tables, b.paints, b.segments, &draw),
+    )
+}
+
+/// Two calls of `coarse_fill_list`.
+pub fn fill_list_twice(
+    a: &mut FillHost<'_>,
+    a_draws: &Draws<'_>,
+    a_done: &mut usize,
+    b: &mut FillHost<'_>,
+    b_draws: &Draws<'_>,
+    b_done: &mut usize,
+) -> Twice<u32>
+    ensures { list-words a.old a_draws.now ≡ list-words b.old b_draws.now
+        → (result.0 ≡ result.1) × (list_out a.new.state a.new.tables a_done.new ≡ list_out b.new.state b.new.tables b_done.new) }
+{
+    (
+        coarse_fill_list(
+            &mut a.state,
+            &mut a.tables,
+            a.paints,
+            a.segments,
+            a_draws,
+            a_done,
+        ),
+        coarse_fill_list(
+            &mut b.state,
+            &mut b.tables,
+            b.paints,
+            b.segments,
+            b_draws,
+            b_done,
+        ),
     )
 }
 

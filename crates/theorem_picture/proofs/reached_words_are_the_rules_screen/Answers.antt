@@ -2,6 +2,7 @@ use Rattle.walk.proofs.Given.{good-props-said, props-good}
 use Rattle.theorem_picture.proofs.Calls.{shifts-free}
 use Rattle.theorem_picture.proofs.Props.{push-reached}
 use Rattle.theorem_picture.proofs.Reached.{reached, step-reached}
+use Rattle.theorem_picture.proofs.FillLists.{fills-reached}
 use Rattle.theorem_picture.proofs.Answered.{stands-answered, calls-said, refused-kept}
 use Rattle.theorem_picture.proofs.Stored.{stands-stored}
 use Rattle.theorem_picture.proofs.reached_words_are_the_rules_screen.Goals as goal
@@ -26,6 +27,9 @@ returns-clause-steps c = λ f xs l x h e. step-reached x h e
 
 pub returns-clause-pushes : goal.returns-clause-pushes
 returns-clause-pushes c = λ f xs l p z r e. push-reached p z r e
+
+pub returns-clause-fills : goal.returns-clause-fills
+returns-clause-fills c = λ f xs l ps ss ws a b r. fills-reached ps ss ws a b r
 
 pub returns-clause-properties : goal.returns-clause-properties
 returns-clause-properties c = record { said = good-props-said; given = props-good }

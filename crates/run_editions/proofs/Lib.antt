@@ -2,4 +2,3 @@ mod Putting
 mod Long
 mod Snaps
 mod Items
-mod Answering

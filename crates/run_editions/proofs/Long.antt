@@ -1,5 +1,5 @@
 -- A long file's bytes, and how many words a converted file has at most.
-use Rattle.std.proofs.Common.{ℕ, zero, suc, ◌+◌, ◌*◌, ◌≤◌, ◌<◌, ◌%◌, ◌/◌, ◌≡◌, refl, sym, ap, ◌∙◌, arith, Bool, true, false, ◌&&◌, cond, List, [], ◌∷◌, ◌++◌, map, length, take, drop, leb, ltb, eqb, eqb-true, leb-true, leb-false, le-ltb, lt-ltb, length-append}
+use Rattle.std.proofs.Common.{ℕ, ◌+◌, ◌*◌, ◌≤◌, ◌%◌, ◌≡◌, refl, sym, ap, ◌∙◌, arith, Bool, true, false, ◌&&◌, cond, List, [], ◌∷◌, ◌++◌, length, take, drop, leb, ltb, eqb, eqb-true, leb-true, leb-false, le-ltb, lt-ltb, length-append}
 use Rattle.std.proofs.Common.{Option, None, Some, option_map, Result, Ok, Err}
 use Rattle.std.proofs.Math.Nat.{mul-le-mul_right}
 use Rattle.std.proofs.lemmas.List.{take_at}
@@ -11,7 +11,7 @@ use Rattle.rules.specs.Answers.{Answer, answer, settle, BadForm, Done}
 use Rattle.rules.specs.Setups.{Mode}
 use Rattle.rules.specs.Recording.{File, in-edition, shape, head, starts, good-count, records, sections, parsed}
 use Rattle.rules.specs.Lines.{words_of, bytes-of}
-use Rattle.rules.specs.Conversions.{written, file-of, resized, converted, judge-sections, conversion, convert-call, converted-bytes}
+use Rattle.rules.specs.Conversions.{written, file-of, converted, judge-sections, conversion, convert-call, converted-bytes}
 use Rattle.rules.proofs.All.{and_left}
 use Rattle.file.specs.Words.{Filled, filled, filled-with, words-in}
 use Rattle.file.proofs.Bytes.{first-words, rules-words}

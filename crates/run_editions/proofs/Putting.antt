@@ -16,9 +16,6 @@ abbrev pub Put : List ℕ → List ℕ → ℕ → List ℕ → Type 0
 Put ws old i now = now ≡ bytes-of (take i ws) ++ drop (4 * i) old
 
 module _ (ws old : List ℕ) where
-  pub put_none : Put ws old 0 old
-  put_none = refl
-
   pub put_next : (i : ℕ) (now next : List ℕ) → i < length ws → Put ws old i now
       → next ≡ take (4 * i) now ++ (word-bytes (get_or ws i 0) ++ drop (4 * i + 4) now) → Put ws old (i + 1) next
   put_next i now next h p e =

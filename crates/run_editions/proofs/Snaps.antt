@@ -1,8 +1,7 @@
 -- The option at the front of the arguments.
-use Rattle.std.proofs.Common.{◌≡◌, ◌≢◌, ℕ, Bool, true, false, List, [], ◌∷◌, codes, bytes_eq, refl}
+use Rattle.std.proofs.Common.{◌≡◌, ◌≢◌, ℕ, Bool, true, false, List, ◌∷◌, codes, bytes_eq, refl}
 use Rattle.std.proofs.lemmas.Slice.Eq.{bytes_eq-Decides}
-use Rattle.rules.specs.Setups.{Mode, snapping}
-use Rattle.run_editions.specs.Requests.{arguments, arguments_after, NoSnap, OneSnap}
+use Rattle.run_editions.specs.Requests.{NoSnap, OneSnap}
 
 -- a text that is not another
 other : (w v : List ℕ) → w ≢ v → bytes_eq w v ≡ false

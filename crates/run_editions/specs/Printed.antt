@@ -1,5 +1,5 @@
 -- What `editions` writes.
-use Rattle.std.specs.Prelude.{ℕ, List, [], codes, Some, None, Option}
+use Rattle.std.specs.Prelude.{ℕ, List, [], codes, Some, None}
 use Rattle.sizes.specs.Refusals.{number_of}
 use Rattle.rules.specs.Answers.{Answer, answer, Done}
 use Rattle.rules.specs.Setups.{Mode}

@@ -1,5 +1,7 @@
 //! What `editions` makes of a file's bytes: the bytes of the file that they become in the other edition, or a refusal, and an item of a stream of either.
-ghost use Rattle.std.specs.Prelude.{◌≡◌, ◌+◌, ◌*◌, ◌%◌, ◌≤◌, [], ◌∷◌, length, take, replicate, IfOk, OnOk};
+ghost use Rattle.std.specs.Prelude.{◌≡◌, ◌*◌, ◌≤◌, [], ◌∷◌, ◌++◌, length, take, vec_len, IfOk};
+ghost use Rattle.sizes.specs.Refusals.{number_of};
+ghost use Rattle.rules.specs.Lines.{word-bytes, bytes-of};
 ghost use Rattle.rules.specs.Recording.{in-edition};
 ghost use Rattle.rules.specs.Conversions.{convert-call, stream-item};
 ghost use Rattle.rect.specs.Rects.{mode_of};
@@ -47,21 +49,21 @@ pub struct Desk<'a> {
 
 /// Room for the words of the longest file.
 pub fn word_buffer(alloc: Global) -> Result<Vec<u32>, AllocError>
-    ensures { IfOk result (λ buffer. buffer.items ≡ replicate long-words 0) }
+    ensures { IfOk result (λ buffer. vec_len buffer ≡ long-words) }
 {
     Ok(vec![in alloc; 0; LONG_WORDS]?)
 }
 
 /// Room for the words of any converted file.
 pub fn converted_buffer(alloc: Global) -> Result<Vec<u32>, AllocError>
-    ensures { IfOk result (λ buffer. buffer.items ≡ replicate converted-words 0) }
+    ensures { IfOk result (λ buffer. vec_len buffer ≡ converted-words) }
 {
     Ok(vec![in alloc; 0; CONVERTED_WORDS]?)
 }
 
 /// Room for the longest item.
 pub fn item_buffer(alloc: Global) -> Result<Vec<u8>, AllocError>
-    ensures { IfOk result (λ buffer. buffer.items ≡ replicate item-room 0) }
+    ensures { IfOk result (λ buffer. vec_len buffer ≡ item-room) }
 {
     Ok(vec![in alloc; 0; ITEM_ROOM]?)
 }
@@ -125,6 +127,28 @@ fn file_text(
     Ok(put_words(&converted[..n], text))
 }
 
+// An item of words that a file becomes, put first in the text: their length in bytes, and they; how long it is.
+fn put_item(converted: &[u32], text: &mut [u8]) -> usize
+    requires few { length converted.now ≤ converted-words }
+    requires text { length text.old ≡ item-room }
+    ensures text { length text.new ≡ item-room }
+    ensures within { result ≤ item-room }
+    ensures value { take result text.new ≡ word-bytes (4 * length converted.now) ++ bytes-of converted.now }
+{
+    let head = put_words(&[4 * converted.len() as u32], text);
+    head + put_words(converted, &mut text[head..])
+}
+
+// .. of a refused file: the largest word, and the refusal's number.
+fn put_refusal(refusal: Refusal, text: &mut [u8]) -> usize
+    requires text { length text.old ≡ item-room }
+    ensures text { length text.new ≡ item-room }
+    ensures within { result ≤ item-room }
+    ensures value { take result text.new ≡ bytes-of (4294967295 ∷ number_of refusal ∷ []) }
+{
+    put_words(&[u32::MAX, refusal.number()], text)
+}
+
 // The item of a stream that a file's bytes become, put first in the text; how long it is.
 fn item_text(
     file: &[u8],
@@ -143,11 +167,8 @@ fn item_text(
     ensures value { take result text.new ≡ stream-item (file_converted job file.now) }
 {
     match convert_bytes(file, job, words, converted) {
-        Ok(n) => {
-            let head = put_words(&[4 * n as u32], text);
-            head + put_words(&converted[..n], &mut text[head..])
-        }
-        Err(refusal) => put_words(&[u32::MAX, refusal.number()], text),
+        Ok(n) => put_item(&converted[..n], text),
+        Err(refusal) => put_refusal(refusal, text),
     }
 }
 

@@ -3,7 +3,7 @@
 //! written; for a refused one there are two words, 4,294,967,295 and the refusal's number.
 #![tactic(auto)]
 
-ghost use Rattle.std.specs.Prelude.{◌≡◌, ◌↔◌, ◌⊎◌, [], length, map, replicate, string_bytes, None, IfOk, IfSome, IfErr, OnOk, IsErrAnd};
+ghost use Rattle.std.specs.Prelude.{◌≡◌, ◌↔◌, ◌⊎◌, [], length, map, string_bytes, vec_len, None, IfOk, IfSome, IfErr, OnOk, IsErrAnd};
 ghost use Rattle.std.specs.Io.KnownBytes.{Appends};
 ghost use Rattle.rules.specs.Conversions.{stream-item};
 ghost use Rattle.rect.specs.Rects.{mode_of};
@@ -55,7 +55,7 @@ pub enum Outcome {
 }
 
 fn long_buffer(alloc: Global) -> Result<Vec<u8>, AllocError>
-    ensures { IfOk result (λ buffer. buffer.items ≡ replicate long-room 0) }
+    ensures { IfOk result (λ buffer. vec_len buffer ≡ long-room) }
 {
     Ok(vec![in alloc; 0; LONG_ROOM]?)
 }

@@ -1,5 +1,5 @@
 -- One word more stands after the others.
-use Rattle.std.proofs.Common.{length, ap, ◌∙◌, arith, length-append, length-take, length-drop}
+use Rattle.std.proofs.Common.{◌∙◌, arith}
 use Rattle.run_editions.proofs.Putting.{put_next, put_all, next-long}
 use Rattle.run_editions.proofs.bytes.put_words.Goals as goal
 

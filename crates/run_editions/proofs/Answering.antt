@@ -1,2 +1,0 @@
--- What is answered.
-use Rattle.std.proofs.Common.{ℕ, ◌≡◌}

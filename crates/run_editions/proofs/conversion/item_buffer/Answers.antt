@@ -1,5 +1,0 @@
--- An element's clone is the element.
-use Rattle.run_editions.proofs.conversion.item_buffer.Goals as goal
-
-pub returns : goal.returns
-returns c = c.in_ok-vec.ensures.items_if_clones_equal (λ y same. same)

@@ -1,22 +1,23 @@
-/* A recorder: what a host draws by direct calls, kept as the words of a recording file of edition one, which coarse_bucketer_bucket_commands
- * and coarse_bucketer_why take. So a host that draws by direct calls can ask why a tile shows what it shows: it records what it draws.
+/* A recorder: what a host draws by direct calls, kept as the words of a recording file, which coarse_bucketer_bucket_commands and
+ * coarse_bucketer_why take. So a host that draws by direct calls can ask why a tile shows what it shows: it records what it draws.
  *
  * A record is refused at once by the number that the file would be refused by, where that is known at once: COARSE_BAD_FORM where its
  * section has 4,096 records already, then COARSE_BAD_RECORD for a field that is out of bounds or a place that nothing is recorded at yet,
  * then COARSE_BAD_ORDER for segments out of order. COARSE_DEEP and COARSE_NO_LAYER are as in direct calls, and COARSE_NO_MEMORY is where
  * memory ran out. Refused, nothing has changed. All else is said when the words are bucketed: the viewport, ids, attributes, rooms.
  *
- * Boxes are in pixels and segments in tiles, all of the scene. A recording of edition one has no panels: one above 255 is
- * COARSE_BAD_RECORD, and any other is not kept. */
+ * Boxes are in pixels and segments in tiles, all of the scene. Draws and layers are kept with their panels: coarse_recorder_bucket and
+ * coarse_recorder_why go by edition two, so that attributes and reasons have the panels that direct calls give them. The words may be had
+ * in either edition; edition one has none for a panel, and is refused by COARSE_HAS_PANELS where one is not 0. */
 #ifndef COARSE_RECORDER_H
 #define COARSE_RECORDER_H
 
 #include "coarse_bucketer.h"
 
-/* How many records a section has at most, and the words of those that coarse.h has no number for. */
+/* How many records a section has at most, and the words of those that coarse.h has no number for, as edition two has them: a layer's last
+ * word is its panel, as a draw's is. */
 #define COARSE_MOST_RECORDS 4096
-#define COARSE_DRAW_RECORD 7
-#define COARSE_LAYER_RECORD 22
+#define COARSE_LAYER_RECORD 23
 #define COARSE_NODE_RECORD 3
 
 /* Records of one kind, so many words each, one after the other. */
@@ -153,7 +154,7 @@ static inline uint32_t *coarse_recorder_node(coarse_recorder *r) {
 
 /* A draw in the innermost open layer: its paint and its segments are places of what is recorded. */
 static inline uint32_t coarse_recorder_draw(coarse_recorder *r, const coarse_draw *draw) {
-    uint32_t record[COARSE_DRAW_RECORD], answer, *node;
+    uint32_t record[COARSE_DRAW], answer, *node;
     if (coarse_recorder_is_full(r, &r->draws))
         return COARSE_BAD_FORM;
     if (draw->thread > 255 || draw->start > draw->end || draw->end > r->segments.count || draw->paint >= r->paints.count ||
@@ -161,13 +162,13 @@ static inline uint32_t coarse_recorder_draw(coarse_recorder *r, const coarse_dra
         return COARSE_BAD_RECORD;
     if (coarse_recorder_order(r, draw->start, draw->end) != COARSE_DONE)
         return COARSE_BAD_ORDER;
-    answer = coarse_recorder_room(r, &r->draws, COARSE_DRAW_RECORD);
+    answer = coarse_recorder_room(r, &r->draws, COARSE_DRAW);
     if (answer != COARSE_DONE)
         return answer;
     record[0] = draw->thread, record[1] = (uint32_t)draw->start, record[2] = (uint32_t)draw->end, record[3] = draw->paint;
-    record[4] = draw->blend.mix, record[5] = draw->blend.compose, record[6] = draw->mask;
+    record[4] = draw->blend.mix, record[5] = draw->blend.compose, record[6] = draw->mask, record[7] = draw->panel;
     node = coarse_recorder_node(r);
-    node[1] = coarse_records_add(&r->draws, COARSE_DRAW_RECORD, record) + 1; /* its draws are the last ones, up to this */
+    node[1] = coarse_records_add(&r->draws, COARSE_DRAW, record) + 1; /* its draws are the last ones, up to this */
     return COARSE_DONE;
 }
 
@@ -202,6 +203,7 @@ static inline uint32_t coarse_recorder_layer(coarse_recorder *r, const coarse_la
         record[16] = placement->dest.x0, record[17] = placement->dest.y0, record[18] = placement->dest.x1, record[19] = placement->dest.y1;
         record[20] = placement->source_x, record[21] = placement->source_y;
     }
+    record[22] = props->panel;
     node = coarse_recorder_node(r);
     node[2] = coarse_records_add(&r->layers, COARSE_LAYER_RECORD, record) + 1;
     return COARSE_DONE;
@@ -239,56 +241,78 @@ static inline uint32_t coarse_recorder_pop_layer(coarse_recorder *r) {
     return COARSE_DONE;
 }
 
-/* A filter layer: its picture drawn into a box, in a layer of these properties if they are not all the default ones. pixmap: the picture's
- * handle, or null for none. */
+/* A filter layer: its picture drawn into a box, in a layer of these properties if any but the panel is not the default one. What is drawn
+ * has the panel too. pixmap: the picture's handle, or null for none. */
 static inline uint32_t coarse_recorder_filter_layer(coarse_recorder *r, const coarse_layer_props *props, const uint32_t *pixmap,
                                                     const coarse_placement *placement) {
     return coarse_recorder_layer(r, props, 1, pixmap, placement);
 }
 
-/* A section at a place of the file's words, of two lists of records; the place after it. */
-static inline uint32_t *coarse_recorder_section(uint32_t *at, size_t size, const coarse_records *one, const coarse_records *other) {
-    size_t both = one->count + (other ? other->count : 0);
-    *at++ = (uint32_t)both;
-    if (one->count)
-        memcpy(at, one->words, one->count * size * sizeof *at);
-    at += one->count * size;
-    if (other && other->count)
-        memcpy(at, other->words, other->count * size * sizeof *at);
-    return at + (both - one->count) * size;
+/* Whether a draw or a layer has a panel, the last word of its record, that is not 0. */
+static inline int coarse_records_have_panels(const coarse_records *r, size_t size) {
+    size_t i;
+    for (i = 1; i <= r->count; i++)
+        if (r->words[i * size - 1] != 0)
+            return 1;
+    return 0;
 }
 
-/* The words of the recording file, of edition one, which stand until the next call of the recorder; more may be recorded after it. COARSE_OPEN with a layer
- * open. In a file they are little-endian. */
-static inline uint32_t coarse_recorder_words(coarse_recorder *r, const uint32_t **file, size_t *words) {
-    size_t nodes = r->nodes.count + r->pending.count;
-    size_t n = 13 + r->paints.count * COARSE_PAINT + r->segments.count * COARSE_SEGMENT + r->draws.count * COARSE_DRAW_RECORD +
-               r->layers.count * COARSE_LAYER_RECORD + nodes * COARSE_NODE_RECORD;
+/* The first words of each record, so many of them, at a place of the file's words; the place after them. */
+static inline uint32_t *coarse_records_put(uint32_t *at, const coarse_records *r, size_t size, size_t words) {
+    size_t i;
+    for (i = 0; i < r->count; i++, at += words)
+        memcpy(at, r->words + i * size, words * sizeof *at);
+    return at;
+}
+
+/* A section likewise: the count before its records. */
+static inline uint32_t *coarse_recorder_section(uint32_t *at, const coarse_records *r, size_t size, size_t words) {
+    *at++ = (uint32_t)r->count;
+    return coarse_records_put(at, r, size, words);
+}
+
+/* The words of the recording file, of a coarse_edition, which stand until the next call of the recorder; more may be recorded after it.
+ * In a file they are little-endian. Refused by COARSE_BAD_FORM for an edition that is none, then by COARSE_OPEN with a layer open, then, of
+ * edition one, by COARSE_HAS_PANELS where a draw or a layer has a panel that is not 0. */
+static inline uint32_t coarse_recorder_words(coarse_recorder *r, uint32_t edition, const uint32_t **file, size_t *words) {
+    size_t panel = edition == COARSE_EDITION_TWO ? 1 : 0, head = 2 * panel, nodes = r->nodes.count + r->pending.count;
+    size_t draw = COARSE_DRAW - 1 + panel, layer = COARSE_LAYER_RECORD - 1 + panel;
+    size_t n = head + 13 + r->paints.count * COARSE_PAINT + r->segments.count * COARSE_SEGMENT + r->draws.count * draw +
+               r->layers.count * layer + nodes * COARSE_NODE_RECORD;
     uint32_t *at, answer;
+    if (edition != COARSE_EDITION_ONE && edition != COARSE_EDITION_TWO)
+        return COARSE_BAD_FORM;
     if (r->open > 0)
         return COARSE_OPEN;
+    if (edition == COARSE_EDITION_ONE &&
+        (coarse_records_have_panels(&r->draws, COARSE_DRAW) || coarse_records_have_panels(&r->layers, COARSE_LAYER_RECORD)))
+        return COARSE_HAS_PANELS;
     answer = coarse_records_room(&r->file, 1, n);
     if (answer != COARSE_DONE)
         return answer;
     at = r->file.words;
+    if (head)
+        *at++ = 1, *at++ = 2;
     *at++ = 1, *at++ = r->viewport.x0, *at++ = r->viewport.y0, *at++ = r->viewport.x1, *at++ = r->viewport.y1;
-    at = coarse_recorder_section(at, COARSE_PAINT, &r->paints, NULL);
-    at = coarse_recorder_section(at, COARSE_SEGMENT, &r->segments, NULL);
-    at = coarse_recorder_section(at, COARSE_DRAW_RECORD, &r->draws, NULL);
-    at = coarse_recorder_section(at, COARSE_LAYER_RECORD, &r->layers, NULL);
-    at = coarse_recorder_section(at, COARSE_NODE_RECORD, &r->nodes, &r->pending);
+    at = coarse_recorder_section(at, &r->paints, COARSE_PAINT, COARSE_PAINT);
+    at = coarse_recorder_section(at, &r->segments, COARSE_SEGMENT, COARSE_SEGMENT);
+    at = coarse_recorder_section(at, &r->draws, COARSE_DRAW, draw);
+    at = coarse_recorder_section(at, &r->layers, COARSE_LAYER_RECORD, layer);
+    *at++ = (uint32_t)nodes;
+    at = coarse_records_put(at, &r->nodes, COARSE_NODE_RECORD, COARSE_NODE_RECORD);
+    at = coarse_records_put(at, &r->pending, COARSE_NODE_RECORD, COARSE_NODE_RECORD);
     *at++ = 1, *at++ = (uint32_t)r->nodes.count, *at++ = (uint32_t)nodes;
     *file = r->file.words;
     *words = (size_t)(at - r->file.words);
     return COARSE_DONE;
 }
 
-/* What is recorded, bucketed on the screen as coarse_bucketer_bucket_commands does it. */
+/* What is recorded, with its panels, bucketed on the screen as coarse_bucketer_bucket_commands does it. */
 static inline uint32_t coarse_recorder_bucket(coarse_recorder *r, coarse_bucketer *b) {
     const uint32_t *file;
     size_t words;
-    uint32_t answer = coarse_recorder_words(r, &file, &words);
-    return answer == COARSE_DONE ? coarse_bucketer_bucket_commands(b, COARSE_EDITION_ONE, file, words) : answer;
+    uint32_t answer = coarse_recorder_words(r, COARSE_EDITION_TWO, &file, &words);
+    return answer == COARSE_DONE ? coarse_bucketer_bucket_commands(b, COARSE_EDITION_TWO, file, words) : answer;
 }
 
 /* Why what is recorded shows an attribute at a tile or not, as coarse_bucketer_why says it: the screen is left bucketed. A host that wants
@@ -297,8 +321,8 @@ static inline uint32_t coarse_recorder_why(coarse_recorder *r, coarse_bucketer *
                                            coarse_reason *reason) {
     const uint32_t *file;
     size_t words;
-    uint32_t answer = coarse_recorder_words(r, &file, &words);
-    return answer == COARSE_DONE ? coarse_bucketer_why(b, COARSE_EDITION_ONE, file, words, row, tile, layer, attribute, reason) : answer;
+    uint32_t answer = coarse_recorder_words(r, COARSE_EDITION_TWO, &file, &words);
+    return answer == COARSE_DONE ? coarse_bucketer_why(b, COARSE_EDITION_TWO, file, words, row, tile, layer, attribute, reason) : answer;
 }
 
 #endif

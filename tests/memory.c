@@ -189,7 +189,7 @@ static uint64_t run(unsigned long which) {
 /* All that a recorder holds, but for room that has grown. */
 static uint64_t recorded(const coarse_recorder *r) {
     const coarse_records *sections[6];
-    static const size_t sizes[] = {COARSE_PAINT, COARSE_SEGMENT, COARSE_DRAW_RECORD, COARSE_LAYER_RECORD, COARSE_NODE_RECORD, COARSE_NODE_RECORD};
+    static const size_t sizes[] = {COARSE_PAINT, COARSE_SEGMENT, COARSE_DRAW, COARSE_LAYER_RECORD, COARSE_NODE_RECORD, COARSE_NODE_RECORD};
     uint64_t sum = sum_of(14695981039346656037u, &r->viewport, sizeof r->viewport);
     size_t i;
     sections[0] = &r->paints, sections[1] = &r->segments, sections[2] = &r->draws, sections[3] = &r->layers, sections[4] = &r->nodes, sections[5] = &r->pending;
@@ -216,6 +216,7 @@ static uint32_t record(coarse_recorder *r, int which, uint32_t *place, const uin
     memset(&layer, 0, sizeof layer);
     memset(&placement, 0, sizeof placement);
     draw.end = clip.end = 2;
+    draw.panel = 5, layer.panel = 6;
     draw.blend.compose = layer.blend.compose = 3;
     layer.clip = &clip;
     clip.box.x1 = clip.box.y1 = placement.dest.x1 = placement.dest.y1 = 8;
@@ -226,7 +227,7 @@ static uint32_t record(coarse_recorder *r, int which, uint32_t *place, const uin
     case PUSH: return coarse_recorder_push_layer(r, &layer);
     case POP: return coarse_recorder_pop_layer(r);
     case FILTER: return coarse_recorder_filter_layer(r, &layer, &picture, &placement);
-    default: return coarse_recorder_words(r, words, count);
+    default: return coarse_recorder_words(r, COARSE_EDITION_TWO, words, count);
     }
 }
 
@@ -245,6 +246,9 @@ static uint64_t run_recorder(unsigned long which) {
         uint64_t held = recorded(&r);
         const uint32_t *before = words;
         size_t counted = count;
+        unsigned long blocks = asked;
+        if (calls[i] == RECORDED && (coarse_recorder_words(&r, COARSE_EDITION_ONE, &words, &count) != COARSE_HAS_PANELS || asked != blocks))
+            fail("edition one", "it is not refused before memory is asked for");
         answer = record(&r, calls[i], &place, &words, &count);
         if (answer == COARSE_NO_MEMORY) {
             refused++;

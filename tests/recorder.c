@@ -1,12 +1,12 @@
-/* The recorder: scenes that are drawn by direct calls and recorded, whose recordings leave the same screen word for word; records with any numbers in
- * them, which the recorder refuses exactly where and as the file's judge refuses the file that has them; what is refused changes nothing. And of these screens:
- * a buffer is cleared over all that its own level fills and composites.
+/* The recorder: scenes that are drawn by direct calls and recorded, whose recordings leave the same screen word for word, panels too, of either edition that has
+ * words for them, and are what the conversions make of each other; records with any numbers in them, which the recorder refuses exactly where and as the file's
+ * judge refuses the file that has them; what is refused changes nothing. And of these screens: a buffer is cleared over all that its own level fills and composites.
  *     recorder [SCENES [SEED]]        400 scenes, seed 1
  * Prints each thing that does not hold; the status is 1 if anything does not. Wants coarse_recorder.h on the include path. */
 #include "coarse_recorder.h"
 #include <stdio.h>
 
-static unsigned long wrong, scenes, steps, judged, refused, buffered;
+static unsigned long wrong, scenes, steps, judged, refused, buffered, kept, lost;
 
 static void hold(int holds, const char *what, uint32_t number) {
     if (!holds && wrong++ < 20)
@@ -35,7 +35,7 @@ static uint32_t about(uint32_t n) {
 
 /* Scenes: each step is made by the direct call and recorded */
 
-enum { TILES = 100, ROWS = 6, LISTED = 40 };
+enum { TILES = 100, ROWS = 6, LISTED = 40, MOST_WORDS = 4096 };
 
 static const coarse_setup setup = {256, 64, COARSE_EXACT, COARSE_64};
 static const coarse_rect view = {8, 4, 8 + 4 * TILES, 4 + 4 * ROWS};
@@ -45,6 +45,13 @@ static coarse_recorder recorder;
 static coarse_paint paints[LISTED];
 static coarse_segment segments[LISTED];
 static size_t paint_count, segment_count;
+
+/* How many of the scene's draws and layers are of panel 0: all, most, or few; and whether one that is not was recorded. */
+enum { ALL, MOST, FEW };
+static uint32_t of_panel_0;
+static int has_panels;
+
+static uint32_t some_panel(void) { return of_panel_0 == FEW || (of_panel_0 == MOST && once_in(9)) ? below(256) : 0; }
 
 static coarse_blend some_blend(void) {
     coarse_blend blend = COARSE_DEFAULT_BLEND;
@@ -72,7 +79,7 @@ static void some_range(size_t *start, size_t *end) {
 static coarse_layer_props some_props(coarse_clip *clip) {
     coarse_layer_props props = {{0, 0}, 0, 0, NULL, 0};
     size_t start, end;
-    props.blend = some_blend(), props.opacity = some_opacity(), props.mask = once_in(3) ? below(90) : 0;
+    props.blend = some_blend(), props.opacity = some_opacity(), props.mask = once_in(3) ? below(90) : 0, props.panel = some_panel();
     if (once_in(2)) {
         some_range(&start, &end);
         clip->box.x0 = 4 * below(60), clip->box.y0 = 4 * below(5);
@@ -114,7 +121,9 @@ static void some_lists(void) {
 static void draw_step(void) {
     coarse_draw draw = {0, 0, 0, 0, {0, 0}, 0, 0};
     draw.thread = below(256), draw.paint = below((uint32_t)paint_count), draw.blend = some_blend(), draw.mask = once_in(4) ? below(90) : 0;
+    draw.panel = some_panel();
     some_range(&draw.start, &draw.end);
+    has_panels |= draw.panel != 0;
     expect("a draw", COARSE_DONE, coarse_bucketer_generate_fill(&direct, paints, paint_count, segments, segment_count, &draw));
     expect("it is recorded", COARSE_DONE, coarse_recorder_draw(&recorder, &draw));
 }
@@ -125,6 +134,7 @@ static void push_step(void) {
     uint32_t answer = coarse_bucketer_push_layer(&direct, &props);
     expect("a layer, or 16 are open", coarse_bucketer_open_layers(&direct) == 16 && answer ? COARSE_DEEP : COARSE_DONE, answer);
     expect("it is recorded, or refused too", answer, coarse_recorder_push_layer(&recorder, &props));
+    has_panels |= answer == COARSE_DONE && props.panel != 0;
 }
 
 static void pop_step(void) {
@@ -144,10 +154,11 @@ static void filter_step(void) {
     placement.source_x = below(70), placement.source_y = below(70);
     if (own)
         expect("a filter's layer", COARSE_DONE, coarse_bucketer_push_layer(&direct, &props));
-    expect("a filter", COARSE_DONE, coarse_bucketer_generate_filter_layer_fill(&direct, pixmap, &placement, (uint32_t)paint_count, 0));
+    expect("a filter", COARSE_DONE, coarse_bucketer_generate_filter_layer_fill(&direct, pixmap, &placement, (uint32_t)paint_count, props.panel));
     if (own)
         expect("its layer's end", COARSE_DONE, coarse_bucketer_pop_layer(&direct, segments, segment_count));
     expect("it is recorded", COARSE_DONE, coarse_recorder_filter_layer(&recorder, &props, pixmap, &placement));
+    has_panels |= props.panel != 0;
 }
 
 static size_t words_of(const coarse_bucketer *b) {
@@ -189,13 +200,43 @@ static void buffers_hold(const coarse_bucketer *b) {
     }
 }
 
+/* Both editions of the recording. Where no panel would be lost there are words of edition one: they leave the same screen, and either edition's words are what
+ * the conversion of the other's gives. Else edition one is refused, as the conversion to it is. */
+static void both_editions(void) {
+    static uint32_t two[MOST_WORDS], converted[MOST_WORDS];
+    const uint32_t *file = NULL;
+    size_t words = 0, two_words = 0, count = 0;
+    expect("the words of edition two", COARSE_DONE, coarse_recorder_words(&recorder, COARSE_EDITION_TWO, &file, &two_words));
+    hold(two_words <= MOST_WORDS, "more words than a scene has", (uint32_t)two_words);
+    if (two_words > MOST_WORDS)
+        return;
+    memcpy(two, file, two_words * sizeof *two);
+    file = NULL;
+    if (has_panels) {
+        expect("edition one", COARSE_HAS_PANELS, coarse_recorder_words(&recorder, COARSE_EDITION_ONE, &file, &words));
+        hold(!file && words == 0, "what a refused call gives", (uint32_t)words);
+        expect("as the conversion says", COARSE_HAS_PANELS, coarse_to_edition_one(two, two_words, setup.mode, converted, MOST_WORDS, &count));
+        lost++;
+        return;
+    }
+    expect("edition one", COARSE_DONE, coarse_recorder_words(&recorder, COARSE_EDITION_ONE, &file, &words));
+    expect("to edition two", COARSE_DONE, coarse_to_edition_two(file, words, setup.mode, converted, MOST_WORDS, &count));
+    hold(count == two_words && memcmp(converted, two, count * sizeof *two) == 0, "edition two is not the conversion", (uint32_t)count);
+    expect("to edition one", COARSE_DONE, coarse_to_edition_one(two, two_words, setup.mode, converted, MOST_WORDS, &count));
+    hold(count == words && memcmp(converted, file, count * sizeof *two) == 0, "edition one is not the conversion", (uint32_t)count);
+    expect("edition one's recording", COARSE_DONE, coarse_bucketer_bucket_commands(&recorded, COARSE_EDITION_ONE, file, words));
+    same_screens("another screen by edition one");
+    kept++;
+}
+
 static void scene(void) {
     uint32_t n = below(40), k;
-    const uint32_t *file;
+    const uint32_t *file = NULL;
     size_t words = 0;
     coarse_reason reason = {9, 9, 9, 9};
     expect("a screen", COARSE_DONE, coarse_bucketer_reset(&direct, view));
     coarse_recorder_clear(&recorder, view);
+    of_panel_0 = below(3), has_panels = 0;
     some_lists();
     for (k = 0; k < n; k++, steps++)
         switch (below(8)) {
@@ -205,8 +246,8 @@ static void scene(void) {
         default: draw_step();
         }
     if (coarse_bucketer_open_layers(&direct) > 0) {
-        expect("words with a layer open", COARSE_OPEN, coarse_recorder_words(&recorder, &file, &words));
-        expect("none are given", 0, (uint32_t)words);
+        expect("words with a layer open", COARSE_OPEN, coarse_recorder_words(&recorder, 1 + below(2), &file, &words));
+        hold(!file && words == 0, "none are given", (uint32_t)words);
     }
     while (coarse_bucketer_open_layers(&direct) > 0)
         pop_step();
@@ -217,6 +258,7 @@ static void scene(void) {
     expect("why", COARSE_DONE, coarse_recorder_why(&recorder, &recorded, below(ROWS), below(TILES), (int)below(2), below(9), &reason));
     hold(reason.reason <= COARSE_SHOWN, "a reason", reason.reason);
     same_screens("another screen once it was asked why");
+    both_editions();
     /* More may be recorded after its words were asked for. */
     draw_step();
     expect("and one more", COARSE_DONE, coarse_recorder_bucket(&recorder, &recorded));
@@ -227,17 +269,20 @@ static void scene(void) {
 
 static coarse_bucketer judge;
 
-/* The recording with this record in the place of the last one of its section, which stands so many words before the file's end. */
-static uint32_t with_record(const uint32_t *record, size_t size, size_t before_end) {
-    uint32_t copy[400];
+/* The recording, in an edition that has words for it, with this record in the place of the last one of its section, after which so many words stand. The last word
+ * of a draw or a layer is its panel, which edition one has not. */
+static uint32_t with_record(const uint32_t *record, size_t size, size_t after, int has_panel) {
+    uint32_t copy[400], edition = has_panel && record[size - 1] ? (uint32_t)COARSE_EDITION_TWO : 1 + below(2);
     const uint32_t *file = NULL;
     size_t words = 0;
-    expect("the recording's words", COARSE_DONE, coarse_recorder_words(&recorder, &file, &words));
-    if (words > 400 || before_end > words)
+    if (has_panel && edition == COARSE_EDITION_ONE)
+        size--;
+    expect("the recording's words", COARSE_DONE, coarse_recorder_words(&recorder, edition, &file, &words));
+    if (words > 400 || size + after > words)
         return COARSE_NO_ROOM;
     memcpy(copy, file, words * sizeof *copy);
-    memcpy(copy + (words - before_end), record, size * sizeof *copy);
-    return coarse_bucketer_bucket_commands(&judge, COARSE_EDITION_ONE, copy, words);
+    memcpy(copy + (words - after - size), record, size * sizeof *copy);
+    return coarse_bucketer_bucket_commands(&judge, edition, copy, words);
 }
 
 /* The recorder's answer to a record, and the judge's to the file that has it: the same where either refuses. */
@@ -263,16 +308,17 @@ enum { ROOT = 3, NODES = 1 + COARSE_NODE_RECORD, EMPTY = 1 };
 static void judged_draw(void) {
     static const coarse_draw good = {0, 0, 0, 0, COARSE_DEFAULT_BLEND_INIT, 0, 0};
     coarse_draw draw = good;
-    uint32_t record[COARSE_DRAW_RECORD], mine;
+    uint32_t record[COARSE_DRAW], mine;
     draw.start = about(5), draw.end = about(5), draw.thread = about(255), draw.paint = about(1);
     draw.blend.mix = about(15), draw.blend.compose = about(13), draw.mask = once_in(9) ? 0x80000000u : below(9);
+    draw.panel = once_in(2) ? 0 : about(COARSE_LAST_PANEL);
     record[0] = draw.thread, record[1] = (uint32_t)draw.start, record[2] = (uint32_t)draw.end, record[3] = draw.paint;
-    record[4] = draw.blend.mix, record[5] = draw.blend.compose, record[6] = draw.mask;
+    record[4] = draw.blend.mix, record[5] = draw.blend.compose, record[6] = draw.mask, record[7] = draw.panel;
     base();
     mine = coarse_recorder_draw(&recorder, &draw);
     if (mine != COARSE_DONE)
         expect("a good draw in its place", COARSE_DONE, coarse_recorder_draw(&recorder, &good));
-    same_answers("a draw", mine, with_record(record, COARSE_DRAW_RECORD, COARSE_DRAW_RECORD + EMPTY + NODES + ROOT));
+    same_answers("a draw", mine, with_record(record, COARSE_DRAW, EMPTY + NODES + ROOT, 1));
 }
 
 static void judged_layer(int is_filter) {
@@ -284,6 +330,7 @@ static void judged_layer(int is_filter) {
     for (i = 0; i < 8; i++)
         sides[i] = once_in(9) ? about(32768) : once_in(9) ? 32768 : 4 * below(9) + (i >= 4 && i % 2 ? below(4) : 0) + (i % 4 > 1 ? 40 : 0);
     props.blend.mix = about(15), props.blend.compose = about(13), props.mask = once_in(9) ? 0x80000000u : below(9);
+    props.panel = once_in(2) ? 0 : about(COARSE_LAST_PANEL);
     if (once_in(2)) {
         clip.box.x0 = sides[0], clip.box.y0 = sides[1], clip.box.x1 = sides[2], clip.box.y1 = sides[3];
         clip.start = about(5), clip.end = about(5), clip.thread = about(255);
@@ -302,6 +349,7 @@ static void judged_layer(int is_filter) {
         record[15] = pixmap ? handle + 1 : 0;
         memcpy(record + 16, &placement, sizeof placement);
     }
+    record[22] = props.panel;
     base();
     if (is_filter) {
         mine = coarse_recorder_filter_layer(&recorder, &props, pixmap, &placement);
@@ -313,7 +361,7 @@ static void judged_layer(int is_filter) {
             expect("a good layer in its place", COARSE_DONE, coarse_recorder_push_layer(&recorder, &good));
         expect("its end", COARSE_DONE, coarse_recorder_pop_layer(&recorder));
     }
-    same_answers(is_filter ? "a filter" : "a layer", mine, with_record(record, COARSE_LAYER_RECORD, COARSE_LAYER_RECORD + NODES + ROOT));
+    same_answers(is_filter ? "a filter" : "a layer", mine, with_record(record, COARSE_LAYER_RECORD, NODES + ROOT, 1));
 }
 
 static void judged_paint(void) {
@@ -326,7 +374,7 @@ static void judged_paint(void) {
     expect("its place, if it is recorded", mine ? 7 : 0, place);
     if (mine != COARSE_DONE)
         expect("a good paint in its place", COARSE_DONE, coarse_recorder_paint(&recorder, &good, &place));
-    same_answers("a paint", mine, with_record((const uint32_t *)&paint, COARSE_PAINT, COARSE_PAINT + 4 * EMPTY + ROOT));
+    same_answers("a paint", mine, with_record((const uint32_t *)&paint, COARSE_PAINT, 4 * EMPTY + ROOT, 0));
 }
 
 static void judged_segment(void) {
@@ -340,7 +388,7 @@ static void judged_segment(void) {
     expect("its place, if it is recorded", mine ? 7 : 0, place);
     if (mine != COARSE_DONE)
         expect("a good segment in its place", COARSE_DONE, coarse_recorder_segments(&recorder, &good, 1, &place));
-    same_answers("a segment", mine, with_record((const uint32_t *)&s, COARSE_SEGMENT, COARSE_SEGMENT + 3 * EMPTY + ROOT));
+    same_answers("a segment", mine, with_record((const uint32_t *)&s, COARSE_SEGMENT, 3 * EMPTY + ROOT, 0));
 }
 
 /* Known refusals, in order, with nothing changed */
@@ -376,7 +424,10 @@ static void full_sections(void) {
         expect("a draw", COARSE_DONE, coarse_recorder_draw(&recorder, &draw));
     expect("4,097 draws", COARSE_BAD_FORM, coarse_recorder_draw(&recorder, &draw));
     expect("before a bad one", COARSE_BAD_FORM, coarse_recorder_draw(&recorder, &bad));
-    expect("the words", COARSE_DONE, coarse_recorder_words(&recorder, &file, &words));
+    expect("the words", COARSE_DONE, coarse_recorder_words(&recorder, COARSE_EDITION_ONE, &file, &words));
+    expect("so many", 13 + COARSE_MOST_RECORDS * (COARSE_PAINT + COARSE_SEGMENT + COARSE_DRAW - 1) + COARSE_NODE_RECORD, (uint32_t)words);
+    expect("the words of edition two", COARSE_DONE, coarse_recorder_words(&recorder, COARSE_EDITION_TWO, &file, &words));
+    expect("so many", 15 + COARSE_MOST_RECORDS * (COARSE_PAINT + COARSE_SEGMENT + COARSE_DRAW) + COARSE_NODE_RECORD, (uint32_t)words);
     expect("one node for all draws", 1, (uint32_t)recorder.pending.count);
     expect("which are too many for the attributes", COARSE_FULL_ATTRS, coarse_recorder_bucket(&recorder, &judge));
     expect("as a reason says too", COARSE_FULL_ATTRS, coarse_recorder_why(&recorder, &judge, 0, 0, 0, 0, &reason));
@@ -394,7 +445,7 @@ static void full_sections(void) {
     for (i = 0; i < COARSE_MOST_LAYERS; i++)
         expect("a layer", COARSE_DONE, coarse_recorder_push_layer(&recorder, &props));
     expect("a 17th", COARSE_DEEP, coarse_recorder_push_layer(&recorder, &props));
-    expect("no words", COARSE_OPEN, coarse_recorder_words(&recorder, &file, &words));
+    expect("no words", COARSE_OPEN, coarse_recorder_words(&recorder, COARSE_EDITION_TWO, &file, &words));
     expect("no question", COARSE_OPEN, coarse_recorder_why(&recorder, &judge, 0, 0, 0, 0, &reason));
     for (i = 0; i < COARSE_MOST_LAYERS; i++)
         expect("its end", COARSE_DONE, coarse_recorder_pop_layer(&recorder));
@@ -402,21 +453,93 @@ static void full_sections(void) {
     expect("all closed", 16, (uint32_t)coarse_bucketer_layer_attr_count(&judge));
 }
 
-/* Panels are none of a recording's: above 255 they are refused, as a direct call does. */
-static void no_panels(void) {
+/* The words with a layer open or not, of each number for an edition: one that is none comes first, then the layer, then a panel. */
+static void each_edition(uint32_t one, uint32_t two) {
+    static const uint32_t numbers[] = {0, COARSE_EDITION_ONE, COARSE_EDITION_TWO, 3, 0x101, UINT32_MAX};
+    const uint32_t *file = NULL;
+    size_t words = 7, i;
+    for (i = 0; i < sizeof numbers / sizeof *numbers; i++) {
+        uint32_t want = numbers[i] == COARSE_EDITION_ONE ? one : numbers[i] == COARSE_EDITION_TWO ? two : (uint32_t)COARSE_BAD_FORM;
+        expect("the words of an edition", want, coarse_recorder_words(&recorder, numbers[i], &file, &words));
+        hold((want == COARSE_DONE) == (file != NULL) && (want == COARSE_DONE) == (words != 7), "whether there are words", numbers[i]);
+        file = NULL, words = 7;
+    }
+}
+
+/* Panels are kept, up to the last; above 255 they are refused, as a direct call does. Edition one is refused by the panel of a draw, of a layer or of a filter. */
+static void panels(void) {
+    static const coarse_placement nowhere = {{0, 0, 0, 0}, 0, 0};
     coarse_draw draw = {0, 0, 0, 5, COARSE_DEFAULT_BLEND_INIT, 0, 255};
     coarse_layer_props props = {COARSE_DEFAULT_BLEND_INIT, 1, 0, NULL, 256};
+    coarse_reason reason = {9, 9, 9, 9};
+    uint32_t which;
     base();
     expect("out of order", COARSE_BAD_ORDER, coarse_recorder_draw(&recorder, &draw));
     draw.panel = 256;
     expect("a bad panel before that", COARSE_BAD_RECORD, coarse_recorder_draw(&recorder, &draw));
     expect("of a layer", COARSE_BAD_RECORD, coarse_recorder_push_layer(&recorder, &props));
-    draw.end = 2, draw.panel = 255, props.panel = 255;
+    expect("of a filter", COARSE_BAD_RECORD, coarse_recorder_filter_layer(&recorder, &props, NULL, &nowhere));
+    each_edition(COARSE_DONE, COARSE_DONE);
+    draw.end = 2, draw.panel = 255, props.panel = 254;
     expect("the last panel", COARSE_DONE, coarse_recorder_draw(&recorder, &draw));
-    expect("of a layer", COARSE_DONE, coarse_recorder_push_layer(&recorder, &props));
+    expect("a layer's", COARSE_DONE, coarse_recorder_push_layer(&recorder, &props));
+    each_edition(COARSE_OPEN, COARSE_OPEN);
     expect("its end", COARSE_DONE, coarse_recorder_pop_layer(&recorder));
+    each_edition(COARSE_HAS_PANELS, COARSE_DONE);
     expect("the recording", COARSE_DONE, coarse_recorder_bucket(&recorder, &judge));
-    expect("has panel 0", 0, coarse_bucketer_paint_attrs(&judge, 0).panel + coarse_bucketer_layer_attrs(&judge, 0).panel);
+    expect("has the draw's panel", 255, coarse_bucketer_paint_attrs(&judge, 0).panel);
+    expect("and the layer's", 254, coarse_bucketer_layer_attrs(&judge, 0).panel);
+    expect("why", COARSE_DONE, coarse_recorder_why(&recorder, &judge, 0, 0, 1, 0, &reason));
+    expect("of the layer's panel", 254, reason.panel);
+
+    /* One panel alone: of none, a draw, a layer, a filter. */
+    for (which = 0; which < 4; which++) {
+        base();
+        draw.panel = which == 1 ? 1 : 0, props.panel = which == 2 ? 1 : 0;
+        expect("a draw", COARSE_DONE, coarse_recorder_draw(&recorder, &draw));
+        expect("a layer", COARSE_DONE, coarse_recorder_push_layer(&recorder, &props));
+        expect("a draw in it", COARSE_DONE, coarse_recorder_draw(&recorder, &draw));
+        expect("its end", COARSE_DONE, coarse_recorder_pop_layer(&recorder));
+        props.panel = which == 3 ? 1 : 0;
+        expect("a filter", COARSE_DONE, coarse_recorder_filter_layer(&recorder, &props, NULL, &nowhere));
+        each_edition(which ? COARSE_HAS_PANELS : COARSE_DONE, COARSE_DONE);
+    }
+}
+
+/* A layer of panel 7 with a draw of panel 9 in it, and a filter of panel 8 with a picture: word for word. Then the same without panels, in either edition. */
+static void known_words(void) {
+    uint32_t two[] = {1, 2, 1, 0, 0, 512, 4, 1, 1, 1, 0, 0, 1, 0, 0, 0, 128, 0, 1, 6, 0, 1, 0, 0, 3, 2, 9,
+                      2, 0, 0, 1, 0, 3, 0x3f800000, 4, 1, 0, 0, 64, 4, 0, 1, 5, 0, 0, 0, 0, 0, 0, 0, 7,
+                      1, 0, 0, 0, 3, 0x3f800000, 0, 0, 0, 0, 0, 0, 0, 0, 0, 12, 8, 3, 24, 9, 2, 1, 8, 3, 0, 1, 0, 0, 0, 1, 1, 1, 2, 1, 1, 3};
+    static const uint32_t one[] = {1, 0, 0, 512, 4, 1, 1, 1, 0, 0, 1, 0, 0, 0, 128, 0, 1, 6, 0, 1, 0, 0, 3, 2,
+                                   2, 0, 0, 1, 0, 3, 0x3f800000, 4, 1, 0, 0, 64, 4, 0, 1, 5, 0, 0, 0, 0, 0, 0, 0,
+                                   1, 0, 0, 0, 3, 0x3f800000, 0, 0, 0, 0, 0, 0, 0, 0, 0, 12, 8, 3, 24, 9, 2, 1, 3, 0, 1, 0, 0, 0, 1, 1, 1, 2, 1, 1, 3};
+    static const coarse_rect row = {0, 0, 512, 4};
+    static const coarse_paint paint = {1, 1, 0, 0};
+    static const coarse_segment segment = {0, 0, 0, 128, 0};
+    static const coarse_placement placement = {{8, 3, 24, 9}, 2, 1};
+    const coarse_clip clip = {{0, 0, 64, 4}, 0, 1, 5};
+    coarse_layer_props group = {COARSE_DEFAULT_BLEND_INIT, 1, 4, NULL, 7}, filter = {COARSE_DEFAULT_BLEND_INIT, 1, 0, NULL, 8};
+    coarse_draw draw = {6, 0, 0, 1, COARSE_DEFAULT_BLEND_INIT, 2, 9};
+    const uint32_t *file = NULL;
+    uint32_t place = 0, picture = 11;
+    size_t words = 0;
+    int again;
+    group.clip = &clip;
+    for (again = 0; again < 2; again++) {
+        coarse_recorder_clear(&recorder, row);
+        expect("a paint", COARSE_DONE, coarse_recorder_paint(&recorder, &paint, &place));
+        expect("a segment", COARSE_DONE, coarse_recorder_segments(&recorder, &segment, 1, &place));
+        expect("a layer", COARSE_DONE, coarse_recorder_push_layer(&recorder, &group));
+        expect("a draw", COARSE_DONE, coarse_recorder_draw(&recorder, &draw));
+        expect("its end", COARSE_DONE, coarse_recorder_pop_layer(&recorder));
+        expect("a filter", COARSE_DONE, coarse_recorder_filter_layer(&recorder, &filter, &picture, &placement));
+        expect("edition two", COARSE_DONE, coarse_recorder_words(&recorder, COARSE_EDITION_TWO, &file, &words));
+        hold(words == sizeof two / sizeof *two && memcmp(file, two, sizeof two) == 0, "the words of edition two", (uint32_t)words);
+        expect("edition one", again ? COARSE_DONE : COARSE_HAS_PANELS, coarse_recorder_words(&recorder, COARSE_EDITION_ONE, &file, &words));
+        two[26] = two[50] = two[73] = draw.panel = group.panel = filter.panel = 0;
+    }
+    hold(words == sizeof one / sizeof *one && memcmp(file, one, sizeof one) == 0, "the words of edition one", (uint32_t)words);
 }
 
 /* An empty recording; one of a viewport that is none, which the mode judges. */
@@ -445,9 +568,11 @@ int main(int argc, char **argv) {
         judged_layer(0), judged_layer(1);
     }
     full_sections();
-    no_panels();
+    panels();
+    known_words();
     empty();
     hold(buffered > count, "fills in buffers", (uint32_t)buffered);
+    hold(kept > count / 4 && lost > count / 4, "recordings with panels and without", (uint32_t)lost);
     hold(refused > judged / 10 && refused < judged - judged / 10, "records refused", (uint32_t)refused);
     printf("%lu scenes of %lu steps, %lu records judged, %lu of them refused; %lu things do not hold\n", count, steps, judged, refused, wrong);
     coarse_recorder_free(&recorder);

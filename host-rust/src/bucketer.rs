@@ -278,7 +278,7 @@ impl CommandBucketer {
     }
 
     /// Rule 2: the words of a recording file of an edition, bucketed from a fresh screen of its own viewport. Its viewport and boxes are in pixels, its
-    /// segments in tiles, all of the scene. [`Recorder`](crate::Recorder) makes such words, of edition one.
+    /// segments in tiles, all of the scene. [`Recorder`](crate::Recorder) makes such words, of either edition.
     ///
     /// ```
     /// use coarse::{CommandBucketer, Edition, Setup};

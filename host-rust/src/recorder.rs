@@ -3,8 +3,8 @@
 use crate::answer::Answer;
 use crate::bucketer::MOST_LAYERS;
 use crate::input::{
-    BlendMode, FilterLayerPlacement, LayerClip, LayerProps, Paint, RecordedFill, Rect, Segment,
-    LAST_PANEL,
+    BlendMode, Edition, FilterLayerPlacement, LayerClip, LayerProps, Paint, RecordedFill, Rect,
+    Segment, LAST_PANEL,
 };
 use alloc::vec;
 use alloc::vec::Vec;
@@ -24,34 +24,39 @@ const TILE_END: u32 = 8192;
 /// The edges of boxes and the places in pictures are at most it, in pixels.
 const SCENE_END: u32 = 4 * TILE_END;
 
-/// The words of a layer's record.
-const LAYER: usize = 22;
+/// The words of a draw's record as edition two has it, the panel last.
+const DRAW: usize = 8;
 
-/// Makes a recording of edition one: the words that [`CommandBucketer::bucket_commands`] and [`CommandBucketer::why`] take, and that a file of it has. So a host that
-/// draws by direct calls can ask why: it records what it draws.
+/// The words of a layer's record likewise.
+const LAYER: usize = 23;
+
+/// Makes a recording: the words that [`CommandBucketer::bucket_commands`] and [`CommandBucketer::why`] take, and that a file of it has. So a host that draws by
+/// direct calls can ask why: it records what it draws.
 ///
 /// Paints and segments are recorded first; a fill and a clip name them by their places. Each record is refused where the recording would be, as far as
 /// that can be known at once: by [`BadForm`](Answer::BadForm) where its section has 4,096 already, by [`BadRecord`](Answer::BadRecord) for its fields,
 /// by [`BadOrder`](Answer::BadOrder) for its segments. A refused record is not there. The viewport, and whether there is room on the screen, only
 /// `bucket_commands` can judge.
 ///
-/// A recording of edition one has no panels: those of fills and layers are judged and not kept.
+/// Fills and layers are kept with their panels. The words are of the edition that is asked for; edition one has none for a panel, so that it is refused by
+/// [`HasPanels`](Answer::HasPanels) where one is not 0.
 ///
 /// ```
-/// use coarse::{Attribute, CommandBucketer, Edition, Paint, Reason, RecordedFill, Recorder, Rect, Segment, Setup};
+/// use coarse::{Answer, Attribute, CommandBucketer, Edition, Paint, Reason, RecordedFill, Recorder, Rect, Segment, Setup};
 ///
 /// let mut recorder = Recorder::new(Rect::new(0, 0, 512, 4));
 /// let paint = recorder.paint(Paint::new(true, 1))?;
 /// let segments = recorder.segments(&[Segment::solid(0, 0, 128)])?;
 /// let fill = RecordedFill { start: segments.start, end: segments.end, paint, ..RecordedFill::default() };
-/// recorder.draw(&fill)?;
-/// recorder.draw(&fill)?;
-/// let words = recorder.words()?;
+/// recorder.draw(&RecordedFill { panel: 5, ..fill })?;
+/// recorder.draw(&RecordedFill { panel: 7, ..fill })?;
+/// let words = recorder.words(Edition::Two)?;
 ///
 /// let mut screen = CommandBucketer::from_wh(512, 4, Setup::new(64, 64))?;
-/// let reason = screen.why(Edition::One, &words, 0, 5, Attribute::Draw(0))?;
-/// assert_eq!(reason, Reason::HiddenBy { attribute: 1, hider_panel: 0, panel: 0 });
-/// # Ok::<(), coarse::Answer>(())
+/// let reason = screen.why(Edition::Two, &words, 0, 5, Attribute::Draw(0))?;
+/// assert_eq!(reason, Reason::HiddenBy { attribute: 1, hider_panel: 7, panel: 5 });
+/// assert_eq!(recorder.words(Edition::One), Err(Answer::HasPanels));
+/// # Ok::<(), Answer>(())
 /// ```
 ///
 /// [`CommandBucketer::bucket_commands`]: crate::CommandBucketer::bucket_commands
@@ -61,7 +66,7 @@ pub struct Recorder {
     viewport: Rect,
     paints: Vec<Paint>,
     segments: Vec<Segment>,
-    draws: Vec<[u32; 7]>,
+    draws: Vec<[u32; DRAW]>,
     layers: Vec<[u32; LAYER]>,
     /// The nodes of the closed layers, those of one layer side by side.
     nodes: Vec<Node>,
@@ -146,6 +151,14 @@ fn is_good_box(bounds: Rect) -> bool {
 fn words_of(bounds: Rect) -> [u32; 4] {
     let Rect { x0, y0, x1, y1 } = bounds;
     [x0, y0, x1, y1]
+}
+
+/// The words of a draw or a layer in an edition: edition one has no panel.
+fn written(record: &[u32], edition: Edition) -> &[u32] {
+    match (edition, record) {
+        (Edition::One, [fields @ .., _]) => fields,
+        _ => record,
+    }
 }
 
 impl Recorder {
@@ -258,6 +271,7 @@ impl Recorder {
             fill.blend_mode.mix,
             fill.blend_mode.compose,
             fill.mask,
+            fill.panel,
         ]);
         Ok(word(self.draws.len() - 1))
     }
@@ -319,6 +333,7 @@ impl Recorder {
             to_y1,
             placement.source_x,
             placement.source_y,
+            props.panel,
         ]);
         Ok(number - 1)
     }
@@ -357,8 +372,8 @@ impl Recorder {
     }
 
     /// Records a filter layer, whose picture, if it has one, is drawn into a box; how many layers were recorded before it. It is drawn as
-    /// [`CommandBucketer::generate_filter_layer_fill`](crate::CommandBucketer::generate_filter_layer_fill) does, within a layer of these properties unless
-    /// all are the default.
+    /// [`CommandBucketer::generate_filter_layer_fill`](crate::CommandBucketer::generate_filter_layer_fill) does, with the layer's panel, within a layer of
+    /// these properties unless all but the panel are the default.
     ///
     /// # Errors
     /// As [`push_layer`](Self::push_layer), and [`Answer::BadRecord`] for the picture's handle and the placement too.
@@ -377,24 +392,37 @@ impl Recorder {
         self.open.len() - 1
     }
 
-    /// The recording's words, of edition one. A file of it has them in little-endian order.
+    /// Whether a draw or a layer has a panel, the last word of its record, that is not 0.
+    fn has_panels(&self) -> bool {
+        let draws = self.draws.iter().map(|[.., panel]| panel);
+        let layers = self.layers.iter().map(|[.., panel]| panel);
+        draws.chain(layers).any(|panel| *panel != 0)
+    }
+
+    /// The recording's words, of an edition: in edition two with the panels. A file of it has them in little-endian order.
     ///
     /// # Errors
-    /// [`Answer::Open`] while a layer is open.
-    pub fn words(&self) -> Result<Vec<u32>, Answer> {
+    /// [`Answer::Open`] while a layer is open; then, of edition one, [`Answer::HasPanels`] where a fill or a layer has a panel that is not 0.
+    pub fn words(&self, edition: Edition) -> Result<Vec<u32>, Answer> {
         let [Level { nodes: root, .. }] = &self.open[..] else {
             return Err(Answer::Open);
         };
-        let mut words = vec![1];
+        let mut words = match edition {
+            Edition::One if self.has_panels() => return Err(Answer::HasPanels),
+            Edition::One => Vec::new(),
+            Edition::Two => vec![1, 2],
+        };
+        words.push(1);
         words.extend(words_of(self.viewport));
         words.push(word(self.paints.len()));
         words.extend(self.paints.iter().flat_map(|paint| paint.words()));
         words.push(word(self.segments.len()));
         words.extend(self.segments.iter().flat_map(|segment| segment.words()));
         words.push(word(self.draws.len()));
-        words.extend(self.draws.iter().flatten());
+        words.extend(self.draws.iter().flat_map(|draw| written(draw, edition)));
         words.push(word(self.layers.len()));
-        words.extend(self.layers.iter().flatten());
+        let layers = self.layers.iter();
+        words.extend(layers.flat_map(|layer| written(layer, edition)));
         words.push(word(self.count));
         for Node { start, end, layer } in self.nodes.iter().chain(root) {
             words.extend([*start, *end, *layer]);

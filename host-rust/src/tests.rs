@@ -215,6 +215,18 @@ fn panels_of_edition_two() {
         1, 2, 1, 0, 0, 512, 4, 1, 1, 1, 0, 0, 1, 0, 0, 0, 128, 0, 2, 0, 0, 1, 0, 0, 3, 0, 5, 0, 0,
         1, 0, 0, 3, 0, 255, 0, 1, 0, 2, 0, 1, 0, 1,
     ];
+    let mut recorder = Recorder::new(Rect::new(0, 0, 512, 4));
+    recorder.paint(Paint::new(true, 1)).unwrap();
+    recorder.segments(&[Segment::solid(0, 0, 128)]).unwrap();
+    for panel in [5, 255] {
+        let fill = RecordedFill {
+            panel,
+            ..fill(0, 1, 0)
+        };
+        recorder.draw(&fill).unwrap();
+    }
+    assert_eq!(recorder.words(Edition::Two).as_deref(), Ok(&file[..]));
+    assert_eq!(recorder.words(Edition::One), Err(Answer::HasPanels));
     let mut bucketer = CommandBucketer::from_wh(4, 4, Setup::new(8, 8)).unwrap();
     assert_eq!(
         bucketer.why(Edition::Two, &file, 0, 5, Attribute::Draw(0)),

@@ -1,14 +1,15 @@
-//! What is recorded is what is drawn by direct calls, and a record is refused where the recording would be.
+//! What is recorded is what is drawn by direct calls, panels too, and a record is refused where the recording would be.
 
 use coarse::{
-    Answer, Attribute, BlendMode, CommandBucketer, Edition, FilterLayerPlacement, LayerClip,
-    LayerProps, Paint, Reason, RecordedFill, Recorder, Rect, RenderCmd, Segment, Setup,
+    to_edition_one, to_edition_two, Answer, Attribute, BlendMode, CommandBucketer, Edition,
+    FilterLayerPlacement, LayerClip, LayerProps, Mode, Paint, Reason, RecordedFill, Recorder, Rect,
+    RenderCmd, Segment, Setup,
 };
 
 const SETUP: Setup = Setup {
     c: 1024,
     d: 1024,
-    mode: coarse::Mode::Exact,
+    mode: Mode::Exact,
     width: coarse::Width::W128,
 };
 
@@ -61,16 +62,31 @@ struct Both {
     recorder: Recorder,
     paints: Vec<Paint>,
     segments: Vec<Segment>,
+    /// One fill or layer in so many has a panel that may be another than 0; with 0 none has.
+    one_in: u32,
+    has_panels: bool,
 }
 
 impl Both {
-    fn new(viewport: Rect) -> Self {
+    fn new(viewport: Rect, one_in: u32) -> Self {
         Self {
             screen: CommandBucketer::new(viewport, SETUP).unwrap(),
             recorder: Recorder::new(viewport),
             paints: Vec::new(),
             segments: Vec::new(),
+            one_in,
+            has_panels: false,
         }
+    }
+
+    fn panel(&mut self, numbers: &mut Numbers) -> u32 {
+        let panel = match self.one_in {
+            0 => 0,
+            one_in if numbers.below(one_in) > 0 => 0,
+            _ => numbers.below(256),
+        };
+        self.has_panels |= panel != 0;
+        panel
     }
 
     fn list(&mut self, segments: &[Segment]) -> std::ops::Range<usize> {
@@ -100,7 +116,7 @@ impl Both {
             opacity: [1.0, 0.5, f32::from_bits(0x7fc0_0001)][numbers.below(3) as usize],
             mask: numbers.below(2) * 7,
             clip,
-            panel: 0,
+            panel: self.panel(numbers),
         }
     }
 
@@ -114,7 +130,7 @@ impl Both {
             paint: numbers.below(self.paints.len() as u32),
             blend_mode: numbers.blend(),
             mask: numbers.below(2) * 5,
-            panel: 0,
+            panel: self.panel(numbers),
         };
         self.recorder.draw(&fill).unwrap();
         self.screen
@@ -124,7 +140,10 @@ impl Both {
 
     fn filter(&mut self, numbers: &mut Numbers) {
         let props = if numbers.below(3) == 0 {
-            LayerProps::default()
+            LayerProps {
+                panel: self.panel(numbers),
+                ..LayerProps::default()
+            }
         } else {
             self.props(numbers)
         };
@@ -138,13 +157,13 @@ impl Both {
         self.recorder
             .filter_layer(&props, pixmap, &placement)
             .unwrap();
-        let layered = props != LayerProps::default();
+        let layered = LayerProps { panel: 0, ..props } != LayerProps::default();
         if layered {
             self.screen.push_layer(&props).unwrap();
         }
         let paints = self.paints.len() as u32;
         self.screen
-            .generate_filter_layer_fill(pixmap, &placement, paints, 0)
+            .generate_filter_layer_fill(pixmap, &placement, paints, props.panel)
             .unwrap();
         if layered {
             self.screen.pop_layer(&self.segments).unwrap();
@@ -195,13 +214,14 @@ fn told(screen: &mut CommandBucketer) -> String {
     told
 }
 
+/// In edition two every recording; in edition one those without panels, whose words the conversions make of those of edition two, and back.
 #[test]
 fn a_recording_is_the_direct_calls() {
     let mut numbers = Numbers(7);
-    let (mut layers, mut filters) = (0, 0);
+    let (mut layers, mut filters, mut kept, mut lost) = (0, 0, 0, 0);
     for viewport in [Rect::new(0, 0, 512, 48), Rect::new(20, 8, 404, 40)] {
-        for _ in 0..150 {
-            let mut both = Both::new(viewport);
+        for scene in 0..150 {
+            let mut both = Both::new(viewport, [0, 1, 9][scene % 3]);
             for i in 0..3 {
                 let paint = Paint::new(i % 2 == 0, i);
                 both.paints.push(paint);
@@ -209,15 +229,30 @@ fn a_recording_is_the_direct_calls() {
             }
             both.scene(&mut numbers, 4);
             both.scene(&mut numbers, 2);
-            let words = both.recorder.words().unwrap();
+            let words = both.recorder.words(Edition::Two).unwrap();
             let mut screen = CommandBucketer::from_wh(4, 4, SETUP).unwrap();
-            screen.bucket_commands(Edition::One, &words).unwrap();
-            assert_eq!(told(&mut screen), told(&mut both.screen));
+            screen.bucket_commands(Edition::Two, &words).unwrap();
+            let direct = told(&mut both.screen);
+            assert_eq!(told(&mut screen), direct);
             layers += screen.layer_attrs().len();
             filters += screen.filter_paints().len();
+
+            let one = both.recorder.words(Edition::One);
+            assert_eq!(to_edition_one(&words, Mode::Exact), one);
+            if both.has_panels {
+                assert_eq!(one, Err(Answer::HasPanels));
+                lost += 1;
+            } else {
+                let one = one.unwrap();
+                assert_eq!(to_edition_two(&one, Mode::Exact), Ok(words));
+                screen.bucket_commands(Edition::One, &one).unwrap();
+                assert_eq!(told(&mut screen), direct);
+                kept += 1;
+            }
         }
     }
     assert!(layers > 300 && filters > 100, "{layers} {filters}");
+    assert!(kept >= 100 && lost >= 100, "{kept} {lost}");
 }
 
 #[test]
@@ -227,49 +262,292 @@ fn why_of_what_was_drawn() {
     let list = recorder
         .segments(&[Segment::solid(0, 0, 128), Segment::solid(0, 20, 70)])
         .unwrap();
-    let fill = |start| RecordedFill {
+    let fill = |start, panel| RecordedFill {
         start,
         end: start + 1,
         paint,
+        panel,
         ..RecordedFill::default()
     };
-    assert_eq!(recorder.draw(&fill(list.start)), Ok(0));
-    assert_eq!(recorder.draw(&fill(list.start + 1)), Ok(1));
-    assert_eq!(recorder.push_layer(&LayerProps::default()), Ok(0));
+    let layer = LayerProps {
+        panel: 9,
+        ..LayerProps::default()
+    };
+    assert_eq!(recorder.draw(&fill(list.start, 3)), Ok(0));
+    assert_eq!(recorder.draw(&fill(list.start + 1, 4)), Ok(1));
+    assert_eq!(recorder.push_layer(&layer), Ok(0));
     assert_eq!(recorder.open_layers(), 1);
-    assert_eq!(recorder.words(), Err(Answer::Open));
+    assert_eq!(recorder.words(Edition::Two), Err(Answer::Open));
     recorder.pop_layer().unwrap();
-    let words = recorder.words().unwrap();
+    let words = recorder.words(Edition::Two).unwrap();
     let mut screen = CommandBucketer::from_wh(4, 4, SETUP).unwrap();
-    let mut why = |row, tile, attribute| screen.why(Edition::One, &words, row, tile, attribute);
-    let panel = 0;
+    let mut why = |row, tile, attribute| screen.why(Edition::Two, &words, row, tile, attribute);
     assert_eq!(
         why(0, 40, Attribute::Draw(0)),
         Ok(Reason::HiddenBy {
             attribute: 1,
-            hider_panel: 0,
-            panel
+            hider_panel: 4,
+            panel: 3
         })
     );
     assert_eq!(
         why(0, 25, Attribute::Draw(1)),
-        Ok(Reason::ShownAt { place: 1, panel })
+        Ok(Reason::ShownAt { place: 1, panel: 4 })
     );
     assert_eq!(
         why(1, 0, Attribute::Draw(0)),
-        Ok(Reason::NoSegment { panel })
+        Ok(Reason::NoSegment { panel: 3 })
     );
     assert_eq!(
         why(0, 0, Attribute::Layer(0)),
-        Ok(Reason::RowUntouched { panel })
+        Ok(Reason::RowUntouched { panel: 9 })
     );
     assert_eq!(why(2, 0, Attribute::Draw(0)), Err(Answer::BadRun));
     // The same recorder again, with nothing in it.
     recorder.clear(Rect::new(0, 0, 4, 4));
     assert_eq!(
-        recorder.words().unwrap(),
+        recorder.words(Edition::One).unwrap(),
         [1, 0, 0, 4, 4, 0, 0, 0, 0, 0, 1, 0, 0]
     );
+    assert_eq!(
+        recorder.words(Edition::Two).unwrap(),
+        [1, 2, 1, 0, 0, 4, 4, 0, 0, 0, 0, 0, 1, 0, 0]
+    );
+}
+
+/// A layer with a draw in it and a filter layer, of these panels.
+fn with_panels(draw: u32, layer: u32, filter: u32) -> Recorder {
+    let mut recorder = Recorder::new(Rect::new(0, 0, 512, 4));
+    recorder.paint(Paint::new(true, 1)).unwrap();
+    recorder.segments(&[Segment::solid(0, 0, 128)]).unwrap();
+    let group = LayerProps {
+        mask: 4,
+        clip: Some(LayerClip {
+            bbox: Rect::new(0, 0, 64, 4),
+            start: 0,
+            end: 1,
+            thread_idx: 5,
+        }),
+        panel: layer,
+        ..LayerProps::default()
+    };
+    recorder.push_layer(&group).unwrap();
+    let fill = RecordedFill {
+        thread_idx: 6,
+        end: 1,
+        mask: 2,
+        panel: draw,
+        ..RecordedFill::default()
+    };
+    recorder.draw(&fill).unwrap();
+    recorder.pop_layer().unwrap();
+    let props = LayerProps {
+        panel: filter,
+        ..LayerProps::default()
+    };
+    let placement = FilterLayerPlacement {
+        dest: Rect::new(8, 3, 24, 9),
+        source_x: 2,
+        source_y: 1,
+    };
+    recorder.filter_layer(&props, Some(11), &placement).unwrap();
+    recorder
+}
+
+/// Word for word; and what edition one is refused by, an open layer first.
+#[test]
+fn editions() {
+    let two = [
+        1,
+        2,
+        1,
+        0,
+        0,
+        512,
+        4,
+        1,
+        1,
+        1,
+        0,
+        0,
+        1,
+        0,
+        0,
+        0,
+        128,
+        0,
+        1,
+        6,
+        0,
+        1,
+        0,
+        0,
+        3,
+        2,
+        9,
+        2,
+        0,
+        0,
+        1,
+        0,
+        3,
+        0x3f80_0000,
+        4,
+        1,
+        0,
+        0,
+        64,
+        4,
+        0,
+        1,
+        5,
+        0,
+        0,
+        0,
+        0,
+        0,
+        0,
+        0,
+        7,
+        1,
+        0,
+        0,
+        0,
+        3,
+        0x3f80_0000,
+        0,
+        0,
+        0,
+        0,
+        0,
+        0,
+        0,
+        0,
+        0,
+        12,
+        8,
+        3,
+        24,
+        9,
+        2,
+        1,
+        8,
+        3,
+        0,
+        1,
+        0,
+        0,
+        0,
+        1,
+        1,
+        1,
+        2,
+        1,
+        1,
+        3,
+    ];
+    let one = [
+        1,
+        0,
+        0,
+        512,
+        4,
+        1,
+        1,
+        1,
+        0,
+        0,
+        1,
+        0,
+        0,
+        0,
+        128,
+        0,
+        1,
+        6,
+        0,
+        1,
+        0,
+        0,
+        3,
+        2,
+        2,
+        0,
+        0,
+        1,
+        0,
+        3,
+        0x3f80_0000,
+        4,
+        1,
+        0,
+        0,
+        64,
+        4,
+        0,
+        1,
+        5,
+        0,
+        0,
+        0,
+        0,
+        0,
+        0,
+        0,
+        1,
+        0,
+        0,
+        0,
+        3,
+        0x3f80_0000,
+        0,
+        0,
+        0,
+        0,
+        0,
+        0,
+        0,
+        0,
+        0,
+        12,
+        8,
+        3,
+        24,
+        9,
+        2,
+        1,
+        3,
+        0,
+        1,
+        0,
+        0,
+        0,
+        1,
+        1,
+        1,
+        2,
+        1,
+        1,
+        3,
+    ];
+    let all = with_panels(9, 7, 8);
+    assert_eq!(all.words(Edition::Two).unwrap(), two);
+    let none = with_panels(0, 0, 0);
+    assert_eq!(none.words(Edition::One).unwrap(), one);
+    assert_eq!(to_edition_two(&one, Mode::Exact), none.words(Edition::Two));
+    for (draw, layer, filter) in [(9, 7, 8), (1, 0, 0), (0, 1, 0), (0, 0, 255)] {
+        let mut recorder = with_panels(draw, layer, filter);
+        assert_eq!(recorder.words(Edition::One), Err(Answer::HasPanels));
+        recorder.push_layer(&LayerProps::default()).unwrap();
+        assert_eq!(recorder.words(Edition::One), Err(Answer::Open));
+        assert_eq!(recorder.words(Edition::Two), Err(Answer::Open));
+        recorder.pop_layer().unwrap();
+        assert_eq!(recorder.words(Edition::One), Err(Answer::HasPanels));
+        assert!(recorder.words(Edition::Two).is_ok());
+        // Nothing is lost where what had the panel is gone.
+        recorder.clear(Rect::new(0, 0, 4, 4));
+        assert!(recorder.words(Edition::One).is_ok());
+    }
 }
 
 /// Two paints, three segments of which two are in order, a draw and a layer.
@@ -312,10 +590,10 @@ fn props() -> LayerProps {
     }
 }
 
-/// What the recording call says of such words.
+/// What the recording call says of such words, of edition two.
 fn judged(words: &[u32]) -> Answer {
     let mut screen = CommandBucketer::from_wh(4, 4, SETUP).unwrap();
-    screen.bucket_commands(Edition::One, words).unwrap_err()
+    screen.bucket_commands(Edition::Two, words).unwrap_err()
 }
 
 /// A record, by the recorder with `record` and by the recording call with the words of the last record of a section changed: refused by both by the same
@@ -327,9 +605,9 @@ fn refused<T: std::fmt::Debug + PartialEq>(
     record: impl FnOnce(&mut Recorder) -> Result<T, Answer>,
 ) {
     let mut recorder = small();
-    let words = recorder.words().unwrap();
+    let words = recorder.words(Edition::Two).unwrap();
     assert_eq!(record(&mut recorder), Err(answer));
-    assert_eq!(recorder.words().unwrap(), words);
+    assert_eq!(recorder.words(Edition::Two).unwrap(), words);
     let mut patched = words;
     for &(field, word) in changed {
         patched[at + field] = word;
@@ -341,15 +619,15 @@ fn refused<T: std::fmt::Debug + PartialEq>(
 type Changed = &'static [(usize, u32)];
 
 /// Where the records stand among the words of `small`.
-const PAINT: usize = 6 + 4;
-const SEGMENT: usize = 15;
-const DRAW: usize = 31;
-const LAYER: usize = 39;
+const PAINT: usize = 8 + 4;
+const SEGMENT: usize = 17;
+const DRAW: usize = 33;
+const LAYER: usize = 42;
 
 #[test]
 fn refused_paints_and_segments() {
-    let words = small().words().unwrap();
-    assert_eq!((words[5], words[14], words[30], words[38]), (2, 3, 1, 1));
+    let words = small().words(Edition::Two).unwrap();
+    assert_eq!((words[7], words[16], words[32], words[41]), (2, 3, 1, 1));
     let bad = Answer::BadRecord;
     let paint = |opaque, handle| Paint {
         opaque,
@@ -396,7 +674,7 @@ fn refused_paints_and_segments() {
 
 #[test]
 fn refused_draws() {
-    let fills: [(Answer, Changed, RecordedFill); 9] = [
+    let fills: [(Answer, Changed, RecordedFill); 11] = [
         (
             Answer::BadRecord,
             &[(0, 256)],
@@ -450,8 +728,22 @@ fn refused_draws() {
                 ..FILL
             },
         ),
+        (
+            Answer::BadRecord,
+            &[(7, 256)],
+            RecordedFill { panel: 256, ..FILL },
+        ),
         (Answer::BadOrder, &[(2, 3)], RecordedFill { end: 3, ..FILL }),
         // Fields come before the order.
+        (
+            Answer::BadRecord,
+            &[(2, 3), (7, 256)],
+            RecordedFill {
+                end: 3,
+                panel: 256,
+                ..FILL
+            },
+        ),
         (
             Answer::BadRecord,
             &[(2, 3), (3, 2)],
@@ -465,8 +757,6 @@ fn refused_draws() {
     for (answer, changed, fill) in fills {
         refused(answer, DRAW, changed, |r| r.draw(&fill));
     }
-    let panel = RecordedFill { panel: 256, ..FILL };
-    assert_eq!(small().draw(&panel), Err(Answer::BadRecord));
     let panel = RecordedFill { panel: 255, ..FILL };
     assert_eq!(small().draw(&panel), Ok(1));
 }
@@ -594,11 +884,14 @@ fn refused_layers() {
             r.filter_layer(&props(), pixmap, &placement)
         });
     }
-    let panel = LayerProps {
-        panel: 256,
-        ..props()
-    };
-    assert_eq!(small().push_layer(&panel), Err(Answer::BadRecord));
+    let panel = |panel| LayerProps { panel, ..props() };
+    refused(Answer::BadRecord, LAYER, &[(22, 256)], |r| {
+        r.push_layer(&panel(256))
+    });
+    refused(Answer::BadRecord, LAYER, &[(0, 1), (22, 256)], |r| {
+        r.filter_layer(&panel(256), None, &placement)
+    });
+    assert_eq!(small().push_layer(&panel(255)), Ok(1));
     assert_eq!(small().pop_layer(), Err(Answer::NoLayer));
 }
 
@@ -625,7 +918,10 @@ fn full_sections() {
     }
     assert_eq!(recorder.push_layer(&props()), Err(Answer::BadForm));
     // So full it is a recording still, whose walk a screen refuses: the 1,025th draw finds no attribute and no room in its row, and attributes come first.
-    assert_eq!(judged(&recorder.words().unwrap()), Answer::FullAttrs);
+    assert_eq!(
+        judged(&recorder.words(Edition::Two).unwrap()),
+        Answer::FullAttrs
+    );
 
     // Layers that have a node of draws each: the nodes are full before the layers, with 1, then two for each layer, then one.
     let mut recorder = small();
@@ -639,7 +935,10 @@ fn full_sections() {
     assert_eq!(recorder.push_layer(&props()), Err(Answer::BadForm));
     recorder.pop_layer().unwrap();
     assert_eq!(recorder.draw(&FILL), Err(Answer::BadForm));
-    assert_eq!(judged(&recorder.words().unwrap()), Answer::FullRow);
+    assert_eq!(
+        judged(&recorder.words(Edition::Two).unwrap()),
+        Answer::FullRow
+    );
 }
 
 #[test]
@@ -653,8 +952,8 @@ fn layers_that_are_too_deep() {
     for _ in 0..16 {
         recorder.pop_layer().unwrap();
     }
-    let words = recorder.words().unwrap();
+    let words = recorder.words(Edition::Two).unwrap();
     let mut screen = CommandBucketer::from_wh(4, 4, SETUP).unwrap();
-    screen.bucket_commands(Edition::One, &words).unwrap();
+    screen.bucket_commands(Edition::Two, &words).unwrap();
     assert_eq!(screen.layer_attrs().len(), 17);
 }

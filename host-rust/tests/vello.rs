@@ -220,14 +220,20 @@ fn the_call_site() -> Result<(), Answer> {
         start,
         end,
         paint,
+        panel: paint + 1,
         ..RecordedFill::default()
     };
     let fills = [fill(0, 1, 0), fill(1, 3, 1), fill(1, 2, 0), fill(0, 3, 1)];
     let half = LayerProps {
         opacity: 0.5,
+        panel: 3,
         ..LayerProps::default()
     };
-    let layers = [half, LayerProps::default(), half, LayerProps::default()];
+    let whole = LayerProps {
+        panel: 4,
+        ..LayerProps::default()
+    };
+    let layers = [half, whole, half, whole];
     let placement = FilterLayerPlacement {
         dest: Rect::new(8, 3, 40, 12),
         ..FilterLayerPlacement::default()
@@ -292,7 +298,7 @@ fn the_call_site() -> Result<(), Answer> {
     recorded.filter_layer(&layers[2], FilterContext.picture(2), &placement)?;
     recorded.filter_layer(&layers[3], FilterContext.picture(3), &placement)?;
     let mut screen = CommandBucketer::from_wh(4, 4, Setup::snapping(1024, 1024))?;
-    screen.bucket_commands(Edition::One, &recorded.words()?)?;
+    screen.bucket_commands(Edition::Two, &recorded.words(Edition::Two)?)?;
     screen.begin_painting()?;
     let mut pieces = Vec::new();
     for row in 0..screen.rows().len() {

@@ -4,12 +4,13 @@ use Rattle.text_programs.specs.Arguments.{Wanted, asked_about, read_arguments, w
 use Rattle.text_programs.specs.Streams.{Item, stream_printed}
 use Rattle.text_programs.specs.declared.about.About.{About}
 use Rattle.text_programs.specs.Abouts.{about_text, said_or}
+use Rattle.text_programs.specs.Usages.{screen_lines}
 use Rattle.text_files.specs.Programs.{by_reading}
 use Rattle.text_dump.specs.Rowdump.{recording-line, file-lines-text}
 
 -- .. where it is asked about itself
 abbrev pub about : About → List ℕ
-about = about_text (codes "rowdump") (codes "usage: rowdump [--snap] [--width N] [--edition N] [--panels] < STREAM\noptions, in any order; the last of a repeated one counts:\n") (codes "  --panels     end each line that has a panel with it\n")
+about = about_text (codes "rowdump") (codes "usage: rowdump [--snap] [--width N] [--edition N] [--panels] < STREAM\noptions, in any order; the last of a repeated one counts:\n") (codes "  --panels     end each line that has a panel with it\n") screen_lines
 
 -- .. of recording i, a file's bytes
 abbrev pub recording_printed : Wanted → ℕ → List ℕ → List ℕ

@@ -6,6 +6,7 @@
 ghost use Rattle.std.specs.Prelude.{◌≡◌, ◌≢◌, ◌↔◌, ◌⊎◌, true, [], length, map, string_bytes, IfSome, IfErr, OnOk, IsErrAnd};
 ghost use Rattle.std.specs.Io.KnownBytes.{Appends};
 ghost use Rattle.text_files.specs.Programs.{first};
+ghost use Rattle.text_programs.specs.Rooms.{file-room};
 ghost use Rattle.text_programs.specs.Arguments.{asked_about, read_arguments, wanted_of};
 ghost use Rattle.text_programs.specs.Streams.{stream_printed, PrintsFirst};
 ghost use Rattle.text_programs.specs.Failures.{IsUsage, IsUnwritten, IsOfWriting, Begins};
@@ -22,7 +23,7 @@ use text_programs::about::{asked_about, print_about};
 use text_programs::failure::{Failure, Stop};
 use text_programs::options::{Reading, Want, read_options};
 use text_programs::stream::{Replies, answer_all};
-use text_programs::usage::{Usage, Wrong, wrong_option};
+use text_programs::usage::{SCREEN_OPTIONS, Usage, Wrong, wrong_option};
 use text_programs::{file_buffer, write_text};
 
 /// What it says of itself where it is asked.
@@ -30,6 +31,7 @@ pub const USAGE: Usage = Usage {
     program: "rowdump",
     calls: "usage: rowdump [--snap] [--width N] [--edition N] [--panels] < STREAM\noptions, in any order; the last of a repeated one counts:\n",
     options: "  --panels     end each line that has a panel with it\n",
+    screen: SCREEN_OPTIONS,
 };
 
 // The head of a recording in a stream: its length in bytes.
@@ -72,6 +74,8 @@ impl Replies for Dump<'_> {
     ghost reply = { λ dump i x. item_printed (wanted_of dump.want) i x };
 
     ghost ready = { λ dump. Ready dump.desk };
+
+    ghost room = { file-room };
 
     fn answer<W: Write>(
         &mut self,

@@ -18,7 +18,7 @@ use text_files::{no_edition_text, no_width_text, rowlist_text, usual};
 use text_programs::about::{asked_about, print_about};
 use text_programs::failure::{Failure, Stop};
 use text_programs::options::{Reading, Want, read_options};
-use text_programs::usage::{Usage, Wrong, wrong_option};
+use text_programs::usage::{SCREEN_OPTIONS, Usage, Wrong, wrong_option};
 use text_programs::{file_buffer, read_all, write_text};
 
 /// What it says of itself where it is asked.
@@ -26,6 +26,7 @@ pub const USAGE: Usage = Usage {
     program: "rowlist",
     calls: "usage: rowlist [--snap] [--width N] [--edition N] < FILE\noptions, in any order; the last of a repeated one counts:\n",
     options: "",
+    screen: SCREEN_OPTIONS,
 };
 
 // What is wanted, put first; how long it is.

@@ -34,7 +34,7 @@ answer-cut w q fs =
     by_reading-cut (λ e u gs. why-text e u gs q.row q.tile (question-of q.question)) (why-cut q.row q.tile (question-of q.question)) w.reading fs
 
 -- .. also after its question's line
-pub item-cut : (w : Wanted) (i : ℕ) (x : Item) → item_answer w i (short x) ≡ item_answer w i x
+pub item-cut : (w : Wanted) (i : ℕ) (x : Item) → item_answer w i (short 65537 x) ≡ item_answer w i x
 item-cut w i x = ap (λ ts. question-line i ++ ts) (answer-cut w (query_in x.head) x.file)
 
 -- nothing was answered of a stream

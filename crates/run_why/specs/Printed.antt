@@ -5,6 +5,7 @@ use Rattle.text_programs.specs.Arguments.{Wanted, Arguments, asked_about, read_a
 use Rattle.text_programs.specs.Streams.{Item, word_at, stream_printed}
 use Rattle.text_programs.specs.declared.about.About.{About}
 use Rattle.text_programs.specs.Abouts.{about_text, said_or}
+use Rattle.text_programs.specs.Usages.{screen_lines}
 use Rattle.text_files.specs.Programs.{by_reading}
 use Rattle.text_why.specs.declared.Question.TheVariants.{Every}
 use Rattle.text_why.specs.Questions.{question-of}
@@ -20,6 +21,7 @@ about =
     (codes "why")
     (codes "usage: why [--snap] [--width N] [--edition N] ROW TILE [draw N | layer N] < FILE\n       why [--snap] [--width N] [--edition N] --stream < STREAM\nROW and TILE count from 0 on the screen; draw N, layer N: the attribute asked about, every one without it\noptions, before the other arguments, in any order; the last of a repeated one counts:\n")
     []
+    screen_lines
 
 -- .. of a question about a file's bytes
 abbrev pub answer : Wanted → Query → List ℕ → List ℕ

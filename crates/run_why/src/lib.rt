@@ -25,7 +25,7 @@ use text_programs::about::{asked_about, print_about};
 use text_programs::failure::{Failure, Stop};
 use text_programs::options::{Reading, Want, read_options};
 use text_programs::stream::{Replies, answer_all, word};
-use text_programs::usage::Usage;
+use text_programs::usage::{SCREEN_OPTIONS, Usage};
 use text_programs::{file_buffer, read_all, write_text};
 use text_why::{Question, question_text, why_text};
 
@@ -38,6 +38,7 @@ pub const USAGE: Usage = Usage {
         ROW and TILE count from 0 on the screen; draw N, layer N: the attribute asked about, every one without it\n\
         options, before the other arguments, in any order; the last of a repeated one counts:\n",
     options: "",
+    screen: SCREEN_OPTIONS,
 };
 
 // The head of a question in a stream: the file's length in bytes, the row, the tile.
@@ -118,6 +119,8 @@ impl Replies for Desk<'_> {
     ghost reply = { λ desk i x. item_answer (wanted_of desk.want) i x };
 
     ghost ready = { λ desk. Ready desk };
+
+    ghost room = { file-room };
 
     fn answer<W: Write>(
         &mut self,

@@ -1,15 +1,8 @@
 use crate::fakes::Turn::Bytes;
-use crate::programs::{ANY, End, LIST, Program, WORKED, run};
+use crate::programs::{ANY, End, LIST, Program, WORKED, WORKED_TWO, run};
 use std::test::*;
 
-// samples/worked.rec in edition two: its draws for panel 5, its layer for panel 6.
-const WORKED_TWO: [u32; 74] = [
-    1, 2, 1, 0, 0, 256, 8, 1, 1, 1, 0, 0, 2, 0, 0, 10, 64, 0, 0, 1, 0, 8, 0, 2, 0, 0, 1, 0, 0, 3,
-    0, 5, 0, 1, 2, 0, 0, 3, 0, 5, 1, 0, 1, 2, 0, 3, 1056964608, 0, 0, 0, 0, 0, 0, 0, 0, 0, 0, 0, 0,
-    0, 0, 0, 0, 6, 2, 0, 1, 1, 1, 2, 0, 1, 0, 1,
-];
-
-// What is told of it in a stream, each line with its panel.
+// What is told of samples/worked.rec in edition two in a stream, each line with its panel.
 const DUMP_TWO: &[u8] =
     b"recording 0\nrows 2 buckets 2 ids 3\nrow 0 depth 1 render 1\nD 1 2 0\nP 10 32 - 0\nrow 1 depth 0 render 4\nB 0 64\n\
         P 0 8 - 1\nL 0 64 - 0\nE\npaint attributes 2\nA 0 0 3 0 1 0 0 0 5\nA 0 0 3 0 2 0 0 0 5\nlayer attributes 1\n\
@@ -63,9 +56,9 @@ fn a_file_is_of_the_edition_that_is_told(rt: HostRuntime) -> Result<(), Fail> {
     Ok(())
 }
 
-// The other two programs: of a stream each file is answered under its own line.
+// The other two programs that read recordings: of a stream each file is answered under its own line.
 #[test]
-fn every_program_takes_an_edition(rt: HostRuntime) -> Result<(), Fail> {
+fn every_reader_takes_an_edition(rt: HostRuntime) -> Result<(), Fail> {
     let cases: [(Program, &[&str], &[u32], &[u8]); 6] = [
         (
             Program::Rowdump,

@@ -1,5 +1,6 @@
-//! The three programs' `run` over readers and writers that fail, and what the original prints of a recording.
+//! The programs' `run` over readers and writers that fail, and what the original prints of a recording.
 use crate::fakes::{Input, Output, Turn};
+use run_editions::Outcome;
 use std::alloc::{AllocError, Global};
 use std::io::ErrorKind;
 use text_programs::failure::{Failure, Stop};
@@ -9,6 +10,13 @@ pub const WORKED: [u32; 69] = [
     1, 0, 0, 256, 8, 1, 1, 1, 0, 0, 2, 0, 0, 10, 64, 0, 0, 1, 0, 8, 0, 2, 0, 0, 1, 0, 0, 3, 0, 0,
     1, 2, 0, 0, 3, 0, 1, 0, 1, 2, 0, 3, 1056964608, 0, 0, 0, 0, 0, 0, 0, 0, 0, 0, 0, 0, 0, 0, 0, 0,
     2, 0, 1, 1, 1, 2, 0, 1, 0, 1,
+];
+
+/// .. in edition two, its draws for panel 5, its layer for panel 6.
+pub const WORKED_TWO: [u32; 74] = [
+    1, 2, 1, 0, 0, 256, 8, 1, 1, 1, 0, 0, 2, 0, 0, 10, 64, 0, 0, 1, 0, 8, 0, 2, 0, 0, 1, 0, 0, 3,
+    0, 5, 0, 1, 2, 0, 0, 3, 0, 5, 1, 0, 1, 2, 0, 3, 1056964608, 0, 0, 0, 0, 0, 0, 0, 0, 0, 0, 0, 0,
+    0, 0, 0, 0, 6, 2, 0, 1, 1, 1, 2, 0, 1, 0, 1,
 ];
 
 /// What the original lists of it.
@@ -31,12 +39,14 @@ pub enum Program {
     Rowlist,
     Rowdump,
     Why,
+    Editions,
 }
 
-/// How a run ended: done, a usage with its first line, or a failure of memory, of reading or of writing.
+/// How a run ended: done, a file refused, a usage with its first line, or a failure of memory, of reading or of writing.
 #[derive(Debug, Drop, PartialEq, Eq)]
 pub enum End {
     Done,
+    Refused(u32),
     Usage(String),
     NoMemory,
     Read(ErrorKind),
@@ -82,6 +92,15 @@ pub fn run(
         Program::Rowlist => run_rowlist::run(alloc, given.as_slice(), &mut input, &mut output),
         Program::Rowdump => run_rowdump::run(alloc, given.as_slice(), &mut input, &mut output),
         Program::Why => run_why::run(alloc, given.as_slice(), &mut input, &mut output),
+        Program::Editions => {
+            match run_editions::run(alloc, given.as_slice(), &mut input, &mut output) {
+                Ok(Outcome::Done) => Ok(()),
+                Ok(Outcome::Refused(refusal)) => {
+                    return Ok((End::Refused(refusal.number()), output.held));
+                }
+                Err(stop) => Err(stop),
+            }
+        }
     };
     let end = ended(alloc, ran)?;
     Ok((end, output.held))

@@ -73,7 +73,7 @@ fn no_call_is_made_for_no_bytes(rt: HostRuntime) {
     let mut from = input(&turns);
     assert_eq!(rt; read_all(&mut from, &mut buf).ok(), Some(4));
     assert_eq!(rt; read(&mut from, &mut buf, 0).ok(), Some(0));
-    assert!(rt; skip_rest(&mut from, FILE_ROOM).is_ok());
+    assert!(rt; skip_rest(&mut from, FILE_ROOM, FILE_ROOM).is_ok());
     assert_eq!(rt; from.turns.len(), 1);
     assert_eq!(rt;
         read(&mut from, &mut buf, 1).err().and_then(read_kind),
@@ -104,11 +104,11 @@ fn a_failed_read_is_told_with_its_kind(rt: HostRuntime) {
 fn the_rest_is_passed_over(rt: HostRuntime) {
     let turns = [Bytes(1), Fails(ErrorKind::Interrupted), Bytes(9), Bytes(9)];
     let mut from = input(&turns);
-    assert!(rt; skip_rest(&mut from, FILE_ROOM + 3).is_ok());
+    assert!(rt; skip_rest(&mut from, FILE_ROOM + 3, FILE_ROOM).is_ok());
     assert_eq!(rt; from.bytes.len(), 13);
     let failing = [Bytes(1), Fails(ErrorKind::Other)];
     assert_eq!(rt;
-        skip_rest(&mut input(&failing), FILE_ROOM + 3)
+        skip_rest(&mut input(&failing), FILE_ROOM + 3, FILE_ROOM)
             .err()
             .and_then(read_kind),
         Some(ErrorKind::Other)

@@ -6,7 +6,7 @@ use std::test::*;
 // Usages: nothing is read or written, and the first line says which word is wrong.
 #[test]
 fn a_usage_names_the_word_that_is_wrong(rt: HostRuntime) -> Result<(), Fail> {
-    let cases: [(Program, &[&str], &str); 24] = [
+    let cases: [(Program, &[&str], &str); 33] = [
         (Program::Rowlist, &["--wdith"], "--wdith is no option"),
         (Program::Rowlist, &["--panels"], "--panels is no option"),
         (
@@ -91,6 +91,43 @@ fn a_usage_names_the_word_that_is_wrong(rt: HostRuntime) -> Result<(), Fail> {
             &["3", "70", "--help"],
             "--help is neither draw nor layer",
         ),
+        (Program::Editions, &["--snap"], "new or old is missing"),
+        (Program::Editions, &["--stream"], "new or old is missing"),
+        (
+            Program::Editions,
+            &["newer"],
+            "newer is neither new nor old",
+        ),
+        (
+            Program::Editions,
+            &["--stream", "2", "new"],
+            "2 is neither new nor old",
+        ),
+        (
+            Program::Editions,
+            &["new", "--snap"],
+            "--snap is one argument too many",
+        ),
+        (
+            Program::Editions,
+            &["--snap", "--stream", "old", "x"],
+            "x is one argument too many",
+        ),
+        (
+            Program::Editions,
+            &["--width", "64", "new"],
+            "--width is no option",
+        ),
+        (
+            Program::Editions,
+            &["--edition", "2"],
+            "--edition is no option",
+        ),
+        (
+            Program::Editions,
+            &["--version", "new"],
+            "--version stands alone or not at all",
+        ),
     ];
     for (program, args, line) in cases {
         let (end, held) = run(
@@ -109,7 +146,11 @@ fn a_usage_names_the_word_that_is_wrong(rt: HostRuntime) -> Result<(), Fail> {
 
 #[test]
 fn help_prints_the_usage_and_reads_nothing(rt: HostRuntime) -> Result<(), Fail> {
-    let programs: [(Program, &[u8]); 3] = [
+    let programs: [(Program, &[u8]); 4] = [
+        (
+            Program::Editions,
+            b"usage: editions [--snap] new|old < FILE > CONVERTED\n       editions [--snap] --stream new|old < STREAM > CONVERTED\n",
+        ),
         (
             Program::Rowlist,
             b"usage: rowlist [--snap] [--width N] [--edition N] < FILE\n",

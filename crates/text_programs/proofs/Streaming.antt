@@ -42,11 +42,11 @@ headed k n mid h bs e f g t =
 front_there : (one : ℕ → Item → List ℕ) (k i : ℕ) (bs : List ℕ) → k ≤ length bs → front_printed one k i bs ≡ one i (first_item k bs)
 front_there one k i bs h = rw (le-ltb (length bs) k h)
 
-module _ (one : ℕ → Item → List ℕ) (cut : (i : ℕ) (x : Item) → one i (short x) ≡ one i x) (k i m n : ℕ) (mid rest : Option (List ℕ)) (h ts : List ℕ)
-    (e : k ≡ length h) (f : n ≤ length h) (g : n < k → ⊥) (w : m ≡ min (word_at h 0) 65537) (read : Takes m mid rest ts) where
+module _ (one : ℕ → Item → List ℕ) (room : ℕ) (cut : (i : ℕ) (x : Item) → one i (short room x) ≡ one i x) (k i m n : ℕ) (mid rest : Option (List ℕ)) (h ts : List ℕ)
+    (e : k ≡ length h) (f : n ≤ length h) (g : n < k → ⊥) (w : m ≡ min (word_at h 0) room) (read : Takes m mid rest ts) where
   item_read : (bs : List ℕ) → h ≡ take k bs → ts ≡ take m (drop k bs) → one i (record { head = h; file = ts }) ≡ one i (first_item k bs)
   item_read bs p t =
-      ap (one i) (ap (λ fs. record { head = h; file = fs }) (t ∙ read-cut m (word_at h 0) (drop k bs) w) ∙ ap (λ hs. record { head = hs; file = take 65537 (take (word_at hs 0) (drop k bs)) }) p)
+      ap (one i) (ap (λ fs. record { head = h; file = fs }) (t ∙ read-cut room m (word_at h 0) (drop k bs) w) ∙ ap (λ hs. record { head = hs; file = take room (take (word_at hs 0) (drop k bs)) }) p)
       ∙ cut i (first_item k bs)
 
   taken_of : (bs : List ℕ) → mid ≡ Some (drop k bs) → (ts ≡ take m (drop k bs)) × (rest ≡ Some (drop m (drop k bs)))
@@ -60,7 +60,7 @@ module _ (one : ℕ → Item → List ℕ) (cut : (i : ℕ) (x : Item) → one i
       subst (Begins a b) (item_read bs r.1 (taken_of bs t.1).0 ∙ sym (front_there one k i bs r.0)) p
 
   -- its whole answer was, and the file is passed over
-  pub front_done : (j : ℕ) (known new a b : Option (List ℕ)) → j ≡ word_at h 0 - 65537 → Takes k known mid (take n h) → Appends a b (one i (record { head = h; file = ts })) → Skips j rest new
+  pub front_done : (j : ℕ) (known new a b : Option (List ℕ)) → j ≡ word_at h 0 - room → Takes k known mid (take n h) → Appends a b (one i (record { head = h; file = ts })) → Skips j rest new
       → IfSome known (λ bs. (k ≤ length bs) × (new ≡ Some (after_item k bs)) × Appends a b (one i (first_item k bs)))
   front_done j None new a b q t p s = tt
   front_done j (Some bs) new a b q t p s =

@@ -16,10 +16,10 @@ kit = codes "rattle-kit-13f dac8208d650f15bf"
 abbrev pub version_text : List ℕ → List ℕ
 version_text program = program ++ (codes " " ++ (version ++ (codes " " ++ (kit ++ codes "\n"))))
 
--- what it says, given its name, how it is called, and the options that it has beside those of every program
-abbrev pub about_text : List ℕ → List ℕ → List ℕ → About → List ℕ
-about_text program calls own Usage = usage_text calls own
-about_text program calls own Version = version_text program
+-- what it says, given its name, how it is called, the options of its own, and those of a screen if it asks for one
+abbrev pub about_text : List ℕ → List ℕ → List ℕ → List ℕ → About → List ℕ
+about_text program calls own screen Usage = usage_text calls own screen
+about_text program calls own screen Version = version_text program
 
 -- what is printed: what a program is asked to say of itself, else what it answers
 abbrev pub said_or : Option About → (About → List ℕ) → List ℕ → List ℕ

@@ -2,7 +2,6 @@
 use Rattle.std.specs.Prelude.{◌≡◌, ℕ, zero, suc, ◌+◌, ◌-◌, ◌^◌, ◌≤◌, if◌then◌else◌, List, [], ◌∷◌, ◌++◌, length, take, drop, slice_index, Option, Some, None, IfSome, ⊤, nat_lt, nat_le}
 use Rattle.std.specs.Io.KnownBytes.{Appends}
 use Rattle.rules.specs.Lines.{word_of}
-use Rattle.text_programs.specs.Rooms.{file-room}
 
 -- the next n known bytes, or as many as are left, were taken: they are ts
 abbrev pub Takes : ℕ → Option (List ℕ) → Option (List ℕ) → List ℕ → Type 0
@@ -46,9 +45,9 @@ printed_from one i (x ∷ xs) = one i x ++ printed_from one (suc i) xs
 abbrev pub stream_printed : (ℕ → Item → List ℕ) → ℕ → List ℕ → List ℕ
 stream_printed one k stream = printed_from one 0 (items k (2 ^ 64 - 1) stream)
 
--- a file without what stands after the bytes that the programs read of it
-abbrev pub short : Item → Item
-short x = record { head = x.head; file = take file-room x.file }
+-- a file without what stands after its first n bytes
+abbrev pub short : ℕ → Item → Item
+short n x = record { head = x.head; file = take n x.file }
 
 -- what is printed of the file at the front of a stream, as file i; of less than a head, nothing
 abbrev pub front_printed : (ℕ → Item → List ℕ) → ℕ → ℕ → List ℕ → List ℕ

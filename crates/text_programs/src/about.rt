@@ -50,7 +50,7 @@ struct Said<'a> {
 }
 
 impl fmt::Display for Said<'_> {
-    ghost output = { λ said. Some (about_text said.usage.now.program.now said.usage.now.calls.now said.usage.now.options.now said.about) };
+    ghost output = { λ said. Some (about_text said.usage.now.program.now said.usage.now.calls.now said.usage.now.options.now said.usage.now.screen.now said.about) };
 
     fn fmt<W: fmt::Write>(&self, f: &mut fmt::Formatter<W>) -> fmt::Result {
         match self.about {
@@ -68,9 +68,9 @@ pub fn print_about<W: Write>(
     about: About,
 ) -> Result<(), Failure>
     ensures ok { OnOk result (Appends (W.contents output.old) (W.contents output.new)
-        (about_text usage.now.program.now usage.now.calls.now usage.now.options.now about)) }
+        (about_text usage.now.program.now usage.now.calls.now usage.now.options.now usage.now.screen.now about)) }
     ensures begun { Begins (W.contents output.old) (W.contents output.new)
-        (about_text usage.now.program.now usage.now.calls.now usage.now.options.now about) }
+        (about_text usage.now.program.now usage.now.calls.now usage.now.options.now usage.now.screen.now about) }
     ensures unwritten { IfErr result (λ e. IsOfWriting e ⊎ (output.new ≡ output.old)) }
 {
     let text = Said { usage, about }.to_string(alloc)?;

@@ -2,12 +2,11 @@
 //! that answers them.
 ghost use Rattle.std.specs.Prelude.{◌≡◌, ◌-◌, ◌≤◌, ◌<◌, ◌⊎◌, ℕ, List, ⊤, length, take, min, Ok, IfSome, IfOk, IfErr, IsOk, OnOk, MatchBool};
 ghost use Rattle.std.specs.Io.KnownBytes.{Appends};
-ghost use Rattle.text_programs.specs.Rooms.{file-room};
 ghost use Rattle.text_programs.specs.Streams.{Takes, Skips, word_at, Item, Answered, short, front_printed, stream_printed, PrintsFirst};
 ghost use Rattle.text_programs.specs.Failures.{IsOfReading, IsOfWriting, Begins, Loses};
 
 use crate::failure::Failure;
-use crate::{FILE_ROOM, read_all};
+use crate::read_all;
 use std::io::{Read, Write};
 
 /// Reads up to k bytes to the start of the buffer; how many were read.
@@ -57,14 +56,14 @@ fn skip<R: Read>(input: &mut R, n: usize) -> Result<(), Failure>
     Ok(())
 }
 
-/// A file of so many bytes was read into the programs' buffer. One that is longer has filled it, which is too long, and the rest is passed over.
-pub fn skip_rest<R: Read>(input: &mut R, size: usize) -> Result<(), Failure>
-    ensures ok { OnOk result (Skips (size - file-room) (R.remaining input.old) (R.remaining input.new)) }
-    ensures gone { Loses (size - file-room) (R.remaining input.old) (R.remaining input.new) }
-    ensures none_asked { size ≤ file-room → IsOk result }
+/// A file of so many bytes was read into a buffer of `room` bytes. One that is longer has filled it, which is too long, and the rest is passed over.
+pub fn skip_rest<R: Read>(input: &mut R, size: usize, room: usize) -> Result<(), Failure>
+    ensures ok { OnOk result (Skips (size - room) (R.remaining input.old) (R.remaining input.new)) }
+    ensures gone { Loses (size - room) (R.remaining input.old) (R.remaining input.new) }
+    ensures none_asked { size ≤ room → IsOk result }
     ensures err { IfErr result IsOfReading }
 {
-    skip(input, size.saturating_sub(FILE_ROOM))
+    skip(input, size.saturating_sub(room))
 }
 
 /// What answers the files of a stream.
@@ -74,7 +73,10 @@ pub trait Replies {
 
     ghost ready: { Self → Type 0 } = { λ _. ⊤ };
 
-    // A file is lent as far as the programs' buffer takes it; what is written of it does not depend on the rest.
+    // Bytes of the buffer that a file is read to.
+    ghost room: { ℕ };
+
+    // A file is lent as far as that buffer takes it; what is written of it does not depend on the rest.
     fn answer<W: Write>(
         &mut self,
         i: u64,
@@ -85,7 +87,7 @@ pub trait Replies {
         requires { ready self.old }
         ensures ready { ready self.new }
         ensures same { (j : ℕ) (x : Item) → reply self.new j x ≡ reply self.old j x }
-        ensures cut { (j : ℕ) (x : Item) → reply self.old j (short x) ≡ reply self.old j x }
+        ensures cut { (j : ℕ) (x : Item) → reply self.old j (short room x) ≡ reply self.old j x }
         ensures ok { OnOk result (Appends (W.contents output.old) (W.contents output.new) (reply self.old i (record { head = head.now; file = file.now }))) }
         ensures begun { Begins (W.contents output.old) (W.contents output.new) (reply self.old i (record { head = head.now; file = file.now })) }
         ensures err { IfErr result IsOfWriting };
@@ -100,7 +102,7 @@ fn answer_next<R: Read, W: Write, D: Replies>(
     buffer: &mut [u8],
     desk: &mut D,
 ) -> Result<bool, Failure>
-    requires { D.ready desk.old × (length buffer.old ≡ file-room) }
+    requires { D.ready desk.old × (length buffer.old ≡ D.room) }
     ensures ready { D.ready desk.new }
     ensures same { (j : ℕ) (x : Item) → D.reply desk.new j x ≡ D.reply desk.old j x }
     ensures ok { IfOk result (λ more. IfSome (R.remaining input.old) (λ bs. MatchBool more
@@ -111,17 +113,18 @@ fn answer_next<R: Read, W: Write, D: Replies>(
     ensures unread { IfErr result (λ e. IsOfWriting e ⊎ (output.new ≡ output.old)) }
     ensures err { IfErr result (λ e. IsOfReading e ⊎ IsOfWriting e) }
 {
+    let room = buffer.len();
     if read_all(input, head)? < head.len() {
         return Ok(false);
     }
     let size = word(head, 0) as usize;
     let n = read(input, buffer, size)?;
-    skip_rest(input, size)?;
+    skip_rest(input, size, room)?;
     desk.answer(i, head, &buffer[..n], output)?;
     Ok(true)
 }
 
-/// Answers each file of a stream, from number 0 on. The head is as long as each file's is; the buffer is the programs' own. Nothing says that a stream ends:
+/// Answers each file of a stream, from number 0 on. The head is as long as each file's is; the buffer has the room that a file is read to. Nothing says that a stream ends:
 /// the files are counted up to a number that no run reaches.
 pub fn answer_all<R: Read, W: Write, D: Replies>(
     input: &mut R,
@@ -130,7 +133,7 @@ pub fn answer_all<R: Read, W: Write, D: Replies>(
     buffer: &mut [u8],
     desk: &mut D,
 ) -> Result<(), Failure>
-    requires { D.ready desk.old × (length buffer.old ≡ file-room) }
+    requires { D.ready desk.old × (length buffer.old ≡ D.room) }
     ensures ok { OnOk result (IfSome (R.remaining input.old) (λ stream.
         Appends (W.contents output.old) (W.contents output.new) (stream_printed (D.reply desk.old) (length head.old) stream))) }
     ensures begun { IfSome (R.remaining input.old) (λ stream.

@@ -18,6 +18,8 @@ pub enum Wrong<'a> {
     Unfollowed(&'a str),
     // It stands where `draw` or `layer` has to.
     NoKind(&'a str),
+    // It stands where `new` or `old` has to.
+    NoWay(&'a str),
     // It asks what the program says of itself, and other arguments stand beside it.
     NotAlone(&'a str),
     TooMany(&'a str),
@@ -32,6 +34,7 @@ impl fmt::Display for Wrong<'_> {
             Wrong::NoNumber(word) => write!(f, "{word} is no number"),
             Wrong::Unfollowed(word) => write!(f, "{word} wants a number after it"),
             Wrong::NoKind(word) => write!(f, "{word} is neither draw nor layer"),
+            Wrong::NoWay(word) => write!(f, "{word} is neither new nor old"),
             Wrong::NotAlone(word) => write!(f, "{word} stands alone or not at all"),
             Wrong::TooMany(word) => write!(f, "{word} is one argument too many"),
         }
@@ -52,19 +55,24 @@ pub fn wrong_option(args: &[String]) -> Option<Wrong<'_>> {
     }
 }
 
+/// The options that every program has that asks for a screen.
+pub const SCREEN_OPTIONS: &str =
+    "  --snap       read the viewport in snapping mode\n  --width N    N pixels a depth bucket: 64, 128 or 256; without it 128\n  \
+    --edition N  files of edition N, 1 or 2; without it 1\n";
+
 // The options that every program has, and the line before the refusals.
 const COMMON: &str =
-    "  --snap       read the viewport in snapping mode\n  --width N    N pixels a depth bucket: 64, 128 or 256; without it 128\n  \
-    --edition N  files of edition N, 1 or 2; without it 1\n  \
-    --help       print this; so does -h; no other argument may stand beside it\n  \
+    "  --help       print this; so does -h; no other argument may stand beside it\n  \
     --version    print the version, and the kit that it is proved with; likewise alone\nwhat `refused N` stands for:\n";
 
-/// A program's usage: its name, how it is called, up to its options, and a line for each option that not every program has.
+/// A program's usage: its name, how it is called, up to its options, a line for each option of its own, and those of the options of a screen, if it asks
+/// for one.
 #[derive(Clone, Copy)]
 pub struct Usage {
     pub program: &'static str,
     pub calls: &'static str,
     pub options: &'static str,
+    pub screen: &'static str,
 }
 
 // What the number of a refusal stands for: a line for each.
@@ -83,11 +91,12 @@ impl fmt::Display for Numbers {
 }
 
 impl fmt::Display for Usage {
-    ghost output = { λ usage. Some (usage_text usage.calls.now usage.options.now) };
+    ghost output = { λ usage. Some (usage_text usage.calls.now usage.options.now usage.screen.now) };
 
     fn fmt<W: fmt::Write>(&self, f: &mut fmt::Formatter<W>) -> fmt::Result {
         f.write_str(self.calls)?;
         f.write_str(self.options)?;
+        f.write_str(self.screen)?;
         f.write_str(COMMON)?;
         write!(f, "{}", Numbers)
     }

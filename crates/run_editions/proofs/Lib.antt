@@ -1,0 +1,4 @@
+mod Putting
+mod Long
+mod Snaps
+mod Items

@@ -1,5 +1,5 @@
 //! Judging a fill's segments and the rows that they come to (BadRecord, BadOrder, FullRow and FullDepth), in one pass, before anything is done: by a sure look,
-//! and exactly where that look is not sure.
+//! and exactly where that look is not sure. LISTED is `fill_one`'s: it changes nothing of what is said.
 ghost use Rattle.std.specs.Prelude.{◌≡◌, true, ◌≤◌, ◌<◌, length};
 ghost use Rattle.sizes.specs.Sizes.{most-layers, most-room, row-size};
 ghost use Rattle.rules.specs.Segments.{good-segment};

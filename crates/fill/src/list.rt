@@ -47,7 +47,7 @@ pub struct Stopped {
     pub refusal: Refusal,
 }
 
-/// The fills of draws that are in the list, in order, up to the first that is refused. The screen, the tables and the lists are judged once: a fill that is done
+/// The fills of draws that are in the list, in order, up to the first that is refused. The screen, the tables and the lists are judged once: a done fill
 /// leaves them good.
 pub fn fill_each(
     screen: &mut Screen,
@@ -93,8 +93,8 @@ pub fn fill_each(
     Ok(())
 }
 
-/// Rules 3 to 7 for each of a range of draws, eight words each, in order. BadRecord, with nothing judged or done, where the words are no whole draws or the range
-/// is none of them; else as the first fill that is refused: the fills before it are done, it and the ones behind it change nothing. An empty range is done.
+/// Rules 3 to 7 for each of a range of draws, eight words each, in order. BadRecord, with nothing judged or done, where the words are no whole draws or the
+/// range is none of them; else as the first fill that is refused: the fills before it are done, it and those behind it change nothing. An empty range is done.
 #[tactic(auto, unfolding(crate::specs::Lists::fills_listed))]
 pub fn fill_list(
     screen: &mut Screen,

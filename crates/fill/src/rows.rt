@@ -1,5 +1,5 @@
 //! The doing half of a fill (rules 3 to 7; bucketer.rs, generate and push_fill), over a whole screen's words. Each function has a `requires`, which `fill` has
-//! judged.
+//! judged. LISTED is `fill_one`'s: it changes nothing of what is done.
 ghost use Rattle.std.specs.Prelude.{◌≡◌, ◌≤◌, ◌<◌};
 ghost use Rattle.sizes.specs.Sizes.{most-layers};
 ghost use Rattle.span.specs.Spans.{tiles};

@@ -19,7 +19,8 @@ use Rattle.depth.specs.Listing as depth
 use Rattle.sizes.specs.declared.answers.Refusal.{Refusal}
 use Rattle.sizes.specs.Refusals.{number_of}
 use Rattle.paint.specs.declared.pieces.Brush.{Brush}
-use Rattle.paint.specs.Pieces.{laid, Fits, run_at, runs-at}
+use Rattle.cmd.specs.Pieces.{laid}
+use Rattle.paint.specs.Pieces.{Fits, run_at, runs-at}
 use Rattle.paint.specs.Summaries.{shown_runs}
 use Rattle.paint.specs.Answers.{Painted, Advanced, advanced}
 use Rattle.paint.specs.Painting.{word, out, painter-at, refused, listed, fill-shown, settled}

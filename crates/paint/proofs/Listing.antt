@@ -15,7 +15,8 @@ use Rattle.sizes.proofs.Refusals.{not_done}
 use Rattle.depth.specs.Listing.{RunsOut, out, numbers, over, listing}
 use Rattle.depth.proofs.Filling.{length-numbers}
 use Rattle.paint.specs.declared.pieces.Brush.{Brush}
-use Rattle.paint.specs.Pieces.{piece-words, laid, run_at, runs-at}
+use Rattle.cmd.specs.Pieces.{piece-words, laid}
+use Rattle.paint.specs.Pieces.{run_at, runs-at}
 use Rattle.paint.proofs.Spreading.{length-pieces, piece}
 use Rattle.paint.proofs.Within.{Each, each_at}
 

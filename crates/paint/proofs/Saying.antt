@@ -16,7 +16,7 @@ use Rattle.depth.specs.Listing.{over}
 use Rattle.rules.proofs.All.{and_both}
 use Rattle.cmd.proofs.Commands.{tag-1, tag-2, tag-3, tag-4, tag-5, tag-6, tag-7}
 use Rattle.paint.specs.Summaries.{shown_runs}
-use Rattle.paint.specs.Pieces.{tag_of, index_of, piece-words}
+use Rattle.cmd.specs.Pieces.{tag-of, index_of, piece-words}
 use Rattle.paint.specs.Painting.{good-paint, good-layer, out, fill-shown, command-shown, command-step, settled, listed}
 use Rattle.paint.specs.declared.command.marks.Mark.{Mark}
 use Rattle.paint.specs.Reading.{paint_mark, layer_mark}
@@ -35,7 +35,7 @@ stay (Some a) n = ap Some (omega arith)
 
 -- the words of a fill
 abbrev fill-words : Bool → Option ℕ → ℕ → ℕ → CmdWords
-fill-words layer a w i = record { tag = tag_of layer a; span = record { 0 = w }; alpha = index_of a; attrs_idx = i }
+fill-words layer a w i = record { tag = tag-of layer a; span = record { 0 = w }; alpha = index_of a; attrs_idx = i }
 
 -- at v tiles a bucket
 module _ (v : ℕ) (attrs : Attrs) (u : Summary) (D : List ℕ) (m : ℕ) where

@@ -9,7 +9,8 @@ use Rattle.rules.specs.Painting.{Piece}
 use Rattle.cmd.specs.Attrs.{words-at}
 use Rattle.cmd.proofs.Tables.{length_at, at-below}
 use Rattle.paint.specs.declared.pieces.Brush.{Brush}
-use Rattle.paint.specs.Pieces.{piece-words, laid, brush-piece, Fits, run_at, runs-at}
+use Rattle.cmd.specs.Pieces.{piece-words, laid}
+use Rattle.paint.specs.Pieces.{brush-piece, Fits, run_at, runs-at}
 
 module _ {A B : Type 0} (f : A → List B) where
   join-append : (xs ys : List A) → join f (xs ++ ys) ≡ join f xs ++ join f ys

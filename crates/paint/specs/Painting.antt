@@ -15,7 +15,7 @@ use Rattle.cmd.specs.DepthFills.{depth_words_at, read-depth-words}
 use Rattle.rules.specs.Attributes.{PaintAttr, LayerAttr, Attrs}
 use Rattle.rules.specs.Painting as rules
 use Rattle.rules.specs.Painting.{Painter, paint-id, paint-panel, layer-id, layer-panel, gives, fill-piece, paint-depth, paint-command}
-use Rattle.paint.specs.Pieces.{laid}
+use Rattle.cmd.specs.Pieces.{laid}
 use Rattle.paint.specs.Answers.{Painted}
 pub use Rattle.paint.specs.Answers.{word, refused, listed}
 use Rattle.paint.specs.Summaries.{good-summary, summary-at, shown_runs}

@@ -1,36 +1,9 @@
--- Pieces as words.
-use Rattle.std.specs.Prelude.{ℕ, zero, suc, ◌+◌, ◌-◌, ◌*◌, ◌≤◌, ◌<◌, Bool, true, false, List, [], ◌∷◌, ◌++◌, get_or}
-use Rattle.std.specs.Prelude.{Option, None, Some}
-use Rattle.rules.specs.Lists.{join}
+-- What a step's pieces are, by the code's brush and the runs in a list.
+use Rattle.std.specs.Prelude.{ℕ, zero, suc, ◌+◌, ◌-◌, ◌*◌, ◌≤◌, ◌<◌, List, [], ◌∷◌, ◌++◌, get_or}
 use Rattle.rules.specs.Spans.{Span, span, moved}
 use Rattle.rules.specs.Painting.{Piece}
 use Rattle.span.specs.Spans.{Moves}
-use Rattle.depth.specs.Listing.{over}
 use Rattle.paint.specs.declared.pieces.Brush.{Brush}
-use Rattle.paint.specs.declared.pieces.PieceWords.{PieceWords}
-
--- 1 paint solid, 2 paint alpha, 3 layer solid, 4 layer alpha
-abbrev pub tag_of : Bool → Option ℕ → ℕ
-tag_of false None = 1
-tag_of false (Some a) = 2
-tag_of true None = 3
-tag_of true (Some a) = 4
-
-abbrev pub index_of : Option ℕ → ℕ
-index_of None = 0
-index_of (Some a) = a
-
--- a piece's words: tag, attribute, first tile, end tile, alpha index or 0, nesting, panel
-abbrev pub piece-words : Piece → List ℕ
-piece-words p =
-    tag_of p.layer p.alpha ∷ p.attribute ∷ p.tiles.first ∷ p.tiles.end ∷ index_of p.alpha ∷ p.nesting ∷ p.panel ∷ []
-
-abbrev pub words_of : PieceWords → List ℕ
-words_of p = p.tag ∷ p.attrs_idx ∷ p.first ∷ p.end ∷ p.alpha ∷ p.nesting ∷ p.panel ∷ []
-
--- the pieces at a list's start; what stands after them stays
-abbrev pub laid : List Piece → List ℕ → List ℕ
-laid ps l = over (join piece-words ps) l
 
 -- a piece over the tiles r
 abbrev pub brush-piece : Brush → Span → Piece

@@ -6,10 +6,12 @@ ghost use Rattle.rules.specs.Spans.{Span, span};
 ghost use Rattle.rules.specs.Depth.{tiles-of};
 ghost use Rattle.span.specs.Spans.{Moves};
 ghost use Rattle.cmd.specs.Attrs.{words-at};
-ghost use Rattle.paint.specs.Pieces.{tag_of, words_of, piece-words, brush-piece, Fits, run_at, runs-at, laid};
+ghost use Rattle.cmd.specs.Pieces.{words_of, piece-words, laid};
+ghost use Rattle.paint.specs.Pieces.{brush-piece, Fits, run_at, runs-at};
 ghost use Rattle.paint.specs.Answers.{word, painted_of, listed, advanced};
 ghost use Rattle.paint.specs.Named.{CanStep};
 
+use cmd::piece::{PieceWords, tag_of};
 use sizes::PIECE;
 
 /// What a step has painted. finished: no step was left. pieces: how many stand in the list.
@@ -30,36 +32,6 @@ pub fn advance(painting: &mut [u32], nesting: u32, pieces: usize) -> Stepped
     Stepped {
         finished: false,
         pieces,
-    }
-}
-
-/// A piece as it stands in the list. `tag`: 1 and 2 paint, solid and alpha, 3 and 4 layer; tiles from `first` to `end`; `alpha`: its alpha index, or 0.
-/// `nesting`: how many buffers are open.
-#[derive(Clone, Copy, Debug, PartialEq, Eq)]
-pub struct PieceWords {
-    pub tag: u32,
-    pub attrs_idx: u32,
-    pub first: u32,
-    pub end: u32,
-    pub alpha: u32,
-    pub nesting: u32,
-    pub panel: u32,
-}
-
-impl PieceWords {
-    /// Written as piece k of the list.
-    pub fn put(self, list: &mut [u32], k: usize)
-        requires { piece-size * k + piece-size ≤ length list.old }
-        ensures { list.new ≡ words-at list.old (piece-size * k) (words_of self) }
-    {
-        let at = PIECE * k;
-        list[at] = self.tag;
-        list[at + 1] = self.attrs_idx;
-        list[at + 2] = self.first;
-        list[at + 3] = self.end;
-        list[at + 4] = self.alpha;
-        list[at + 5] = self.nesting;
-        list[at + 6] = self.panel;
     }
 }
 
@@ -101,18 +73,6 @@ impl<'a> Pieces<'a> {
     }
 }
 
-// Paint or layer, solid or alpha, as a tag.
-fn tag(layer: bool, alpha: Option<u32>) -> u32
-    ensures { result ≡ tag_of layer alpha }
-{
-    match (layer, alpha) {
-        (false, None) => 1,
-        (false, Some(_)) => 2,
-        (true, None) => 3,
-        (true, Some(_)) => 4,
-    }
-}
-
 /// What the pieces of one step have in common. `first` is the tile that the alpha index belongs to.
 #[derive(Clone, Copy, Debug, PartialEq, Eq)]
 pub struct Brush {
@@ -133,7 +93,7 @@ impl Brush {
     {
         let alpha = span::moved(self.alpha, a - self.first);
         PieceWords {
-            tag: tag(self.layer, alpha),
+            tag: tag_of(self.layer, alpha),
             attrs_idx: self.attrs_idx,
             first: a,
             end: b,

@@ -18,7 +18,7 @@ use Rattle.file.specs.Judging.{judged}
 use Rattle.walk.specs.Recorded.{or-fresh, played, recorded-in, of-sections, recorded}
 use Rattle.rules.proofs.laws.Answers.{settle-number}
 use Rattle.refine_steps.proofs.Refined.{Refines, reset-refines, step-refines}
-use Rattle.refine_steps.proofs.Walks.{Both, Follow, walk-follows}
+use Rattle.rules.proofs.Follows.{Both, Follow, walk-follows}
 use Rattle.refine_file.specs.Played.{place, unaltered, made, Plays}
 
 module _ (S : Type 0) (step : Step → S → Answer S) (fresh-state : Frame → S) (R : S → ScreenLent → Type 0)

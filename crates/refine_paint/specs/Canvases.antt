@@ -14,7 +14,7 @@ use Rattle.rules.proofs.All.{All}
 use Rattle.refine_steps.specs.Sound.{Sound}
 use Rattle.refine_steps.specs.Lent.{screen-of, table, attr-words, rows_of}
 use Rattle.depth.specs.Listing.{listing}
-use Rattle.paint.specs.Pieces.{laid}
+use Rattle.cmd.specs.Pieces.{laid}
 use Rattle.paint.specs.Painting.{RowLent, words_lent, StepOut, out}
 use Rattle.paint.specs.Stepping.{Attributes, attributes}
 use Rattle.paint.specs.Beginning.{Canvas, canvas}

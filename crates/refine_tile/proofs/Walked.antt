@@ -14,7 +14,7 @@ use Rattle.rules.specs.Logged.{Logged, logged-call, walk-logged}
 use Rattle.rules.proofs.All.{and_left, and_right, or_left, or_right}
 use Rattle.rules_picture.proofs.Shape.{Shape, none_open}
 use Rattle.rules_picture.proofs.Stepped.{call-done}
-use Rattle.refine_steps.proofs.Walks.{Agrees, walk-agrees}
+use Rattle.rules.proofs.Follows.{Agrees, walk-agrees}
 use Rattle.tile.specs.Telling.{Telling, tell-at, nothing-told}
 use Rattle.refine_tile.specs.Retold.{Retold}
 use Rattle.refine_tile.proofs.Rows.{Even}

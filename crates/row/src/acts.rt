@@ -82,6 +82,7 @@ pub fn is_unsplit(eligible: bool, alpha: Option<u32>) -> bool
 }
 
 /// Rules 5 to 7 (bucketer.rs, push_fill): what is left of a segment, on its row. `eligible` is rule 6's, for the whole draw; tiles are the screen's.
+/// LISTED changes nothing of what is done: a list's fills have machine code of their own (`fill`).
 #[tactic(auto, using(crate::proofs::ActsLaws::first_room, crate::proofs::ActsLaws::one_done, crate::proofs::ActsLaws::parts_done))]
 pub fn push_fill<const LISTED: bool>(
     row: &mut Row<'_>,

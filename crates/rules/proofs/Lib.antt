@@ -9,4 +9,5 @@ pub mod Widths
 pub mod Panels
 -- What other crates cite.
 pub mod All
+pub mod Follows
 pub mod laws

@@ -22,5 +22,6 @@ pub mod Calls
 pub mod Words
 pub mod Conversions
 pub mod Logged
+pub mod Roomless
 pub mod Snapping
 pub mod cases

@@ -15,8 +15,8 @@ use Rattle.host.specs.Held.{one}
 use Rattle.host.specs.FillLists as border
 use Rattle.host.specs.FillLists.{list_held, list_call}
 use Rattle.host.proofs.Words.{read_back}
-use Rattle.theorem_border.specs.Held.{host-of, Holds}
-use Rattle.theorem_border.specs.Hosted.{Host, Hosted, by-fill, fill-at}
+use Rattle.theorem_border.specs.Held.{host-of}
+use Rattle.theorem_border.specs.Hosted.{Host, Hosted, by-fill}
 use Rattle.theorem_border.specs.FillLists.{list-out, list-at}
 use Rattle.theorem_border.proofs.Holds.{holds}
 use Rattle.theorem_border.proofs.Words.{fill_on}

@@ -11,7 +11,7 @@ use Rattle.screen.specs.Judging.{good-tables, arenas}
 use Rattle.screen.specs.Tables.{lengths, ScreenLent}
 use Rattle.walk.specs.Steps.{call_at}
 use Rattle.walk.specs.Recorded.{recorded}
-use Rattle.refine_steps.proofs.Walks.{Follow}
+use Rattle.rules.proofs.Follows.{Follow}
 use Rattle.refine_paint.specs.Canvases.{WholeCanvas}
 use Rattle.refine_paint.proofs.Painted.{step-whole}
 use Rattle.refine_file.specs.Played.{Outcome, unaltered, made, Plays}

@@ -21,7 +21,7 @@ use Rattle.refine_steps.specs.Lent.{lent_of, answer-of}
 use Rattle.refine_steps.proofs.Kept.{call-sound}
 use Rattle.refine_steps.proofs.Refined.{stepped}
 use Rattle.refine_steps.proofs.Reset.{fresh-sound, fresh-words}
-use Rattle.refine_steps.proofs.Walks.{Follow, walk-follows}
+use Rattle.rules.proofs.Follows.{Follow, walk-follows}
 use Rattle.refine_paint.proofs.Kept.{own-words}
 use Rattle.refine_paint.proofs.Whole.{begin-whole}
 use Rattle.rules_picture.specs.Built.{Built}

@@ -5,16 +5,16 @@ use lib.ListN.{get_or-eq_default}
 use Rattle.sizes.specs.Sizes.{piece-size}
 use Rattle.rules.specs.Lists.{join}
 use Rattle.rules.specs.Painting.{Piece}
-use Rattle.paint.specs.Pieces.{tag_of, index_of, piece-words, laid}
+use Rattle.cmd.specs.Pieces.{tag-of, index_of, piece-words, laid}
 use Rattle.theorem_picture.specs.Turns.{piece-in, pieces-in}
 
-layer-back : (b : Bool) (a : Option ℕ) → leb 3 (tag_of b a) ≡ b
+layer-back : (b : Bool) (a : Option ℕ) → leb 3 (tag-of b a) ≡ b
 layer-back false None = refl
 layer-back false (Some a) = refl
 layer-back true None = refl
 layer-back true (Some a) = refl
 
-alpha-back : (b : Bool) (a : Option ℕ) → cond (eqb (tag_of b a) 2 || eqb (tag_of b a) 4) (Some (index_of a)) None ≡ a
+alpha-back : (b : Bool) (a : Option ℕ) → cond (eqb (tag-of b a) 2 || eqb (tag-of b a) 4) (Some (index_of a)) None ≡ a
 alpha-back false None = refl
 alpha-back false (Some a) = refl
 alpha-back true None = refl

@@ -19,7 +19,7 @@ use Rattle.walk.specs.Recorded.{or-fresh, played, recorded-in, of-sections, reco
 use Rattle.refine_steps.specs.Lent.{lent_of}
 use Rattle.rules.proofs.laws.Answers.{settle-number, settle-kept}
 use Rattle.refine_steps.proofs.Refined.{Refines, step-refines, reset-refines}
-use Rattle.refine_steps.proofs.Walks.{Both, Follow, walk-follows}
+use Rattle.rules.proofs.Follows.{Both, Follow, walk-follows}
 use Rattle.refine_file.specs.Played.{place}
 use Rattle.rules_picture.specs.Recorded.{Readable, said}
 use Rattle.rules_picture.proofs.Walked.{Late, all-walks}

@@ -11,7 +11,7 @@ use Rattle.rules.specs.Painting.{Piece, Painted, paint-steps}
 use Rattle.rules.specs.Calls.{paints-on, Canvas, bucket-on, Given, painter-of, paint-call}
 use Rattle.screen.specs.Tables.{ScreenLent}
 use Rattle.refine_steps.specs.Lent.{lent_of}
-use Rattle.paint.specs.Pieces.{piece-words, laid}
+use Rattle.cmd.specs.Pieces.{piece-words, laid}
 use Rattle.paint.specs.Painting.{StepOut}
 use Rattle.paint.proofs.Spreading.{length-pieces}
 use Rattle.paint.specs.Running.{one_more, run, most, standing, row-painted}

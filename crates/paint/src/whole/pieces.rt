@@ -5,14 +5,15 @@ ghost use Rattle.rules.specs.Lists.{join};
 ghost use Rattle.rules.specs.Spans.{span};
 ghost use Rattle.sizes.specs.Widths.{bucket-tiles};
 ghost use Rattle.cmd.specs.Attrs.{words-at};
-ghost use Rattle.paint.specs.Pieces.{words_of};
+ghost use Rattle.cmd.specs.Pieces.{words_of};
 ghost use Rattle.paint.specs.Kinds.{low-met, high-met, moved-index, runs-met};
 ghost use Rattle.paint.specs.Cuts.{FillsCut, LookedCut, end_met, cut_words, met, FirstRun};
 
 use crate::command::Mark;
-use crate::pieces::{PieceWords, Pieces};
+use crate::pieces::Pieces;
 use crate::whole::ends::seen_end;
 use cmd::command::{CmdWords, SpanWord};
+use cmd::piece::PieceWords;
 use depth::search::{Run, next_run};
 use sizes::TILE_ALPHAS;
 use sizes::width::Width;

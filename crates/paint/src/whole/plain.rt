@@ -14,7 +14,7 @@ ghost use Rattle.paint.specs.Kinds.{summary-by, good-index, Onward};
 
 use crate::canvas::Canvas;
 use crate::command::StoredRow;
-use crate::pieces::{PieceWords, Pieces};
+use crate::pieces::Pieces;
 use crate::whole::looks::look_at;
 use crate::whole::pieces::{Cut, most_runs, put_fill};
 use crate::whole::reading::{Hull, Look, Partly};

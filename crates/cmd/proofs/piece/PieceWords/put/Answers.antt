@@ -2,7 +2,7 @@
 use Rattle.std.proofs.Common.{[], ◌∷◌, ◌*◌, arith}
 use Rattle.sizes.specs.Sizes.{piece-size}
 use Rattle.cmd.proofs.Tables.{stored}
-use Rattle.paint.proofs.pieces.PieceWords.put.Goals as goal
+use Rattle.cmd.proofs.piece.PieceWords.put.Goals as goal
 
 pub returns : goal.returns
 returns c = stored _ (piece-size * c.args.k) _ (_ ∷ _ ∷ _ ∷ _ ∷ _ ∷ _ ∷ []) (omega arith)

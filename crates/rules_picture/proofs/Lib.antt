@@ -42,3 +42,5 @@ pub mod SamePicture
 pub mod Inside
 pub mod StoredColours
 pub mod Places
+pub mod Limits
+pub mod Roomless

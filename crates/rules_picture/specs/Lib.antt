@@ -11,3 +11,4 @@ pub mod StoredColours
 pub mod Places
 pub mod Pixels
 pub mod ColourScenes
+pub mod Roomless

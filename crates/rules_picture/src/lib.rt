@@ -8,6 +8,7 @@ ghost use Rattle.rules_picture.specs.EditedPairs.{EditedPairs};
 ghost use Rattle.rules_picture.specs.Panels.{Answered-alike, Built-alike, Panel-blind, Painted-alike, Told-alike};
 ghost use Rattle.rules_picture.specs.Pixels.{LogGentle, LogHides, PixelsGentle, PixelsHide};
 ghost use Rattle.rules_picture.specs.Places.{AttributesPlaced};
+ghost use Rattle.rules_picture.specs.Roomless.{Roomless-done};
 ghost use Rattle.rules_picture.specs.TwoPanels.{TwoPanels};
 
 /// Who draws decides nothing.
@@ -47,4 +48,9 @@ pub fn colours_tell_scenes_apart()
     ensures scenes { TwoScenes }
     ensures needed { AllNeeded }
     ensures rows { WrongRows }
+{}
+
+/// A recording that is accepted somewhere is walked with room for everything too, by the same steps.
+pub fn accepted_walks_need_no_room()
+    ensures { Roomless-done }
 {}

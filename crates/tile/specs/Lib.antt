@@ -7,3 +7,4 @@ pub mod Reasons
 pub mod Standings
 pub mod Named
 pub mod Explained
+pub mod Listed

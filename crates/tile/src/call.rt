@@ -16,7 +16,7 @@ ghost use Rattle.file.specs.Held.{file_of, held};
 ghost use Rattle.walk.specs.Ready.{ReadyIn};
 ghost use Rattle.walk.specs.Recorded.{recorded};
 ghost use Rattle.tile.specs.Telling.{Telling, tell-at, nothing-told};
-ghost use Rattle.tile.specs.Places.{ToldTo};
+ghost use Rattle.tile.specs.Places.{Spotted, ToldTo};
 ghost use Rattle.tile.specs.Reasons.{asked_of};
 ghost use Rattle.tile.specs.Explained.{explained-as, reason_said, reason-told, told_of, explained, Accepted};
 
@@ -38,8 +38,32 @@ pub fn is_off_screen(viewport: Rect, row: u32, tile: u32) -> bool
     viewport.height() / TILE_HEIGHT <= row || viewport.width() / TILE_WIDTH <= tile
 }
 
-/// The story of a tile of the screen, from the root of a recording that was judged, told into the lines; it gives what was counted. Deep, Ids or FullAttrs, as
-/// a step of the walk; the story has no rows, so that none is full.
+/// The story of a spot, from the root of a recording that was judged, told into the lines; it gives what was counted. Deep, Ids or FullAttrs, as a step of the
+/// walk; the story has no rows, so that none is full.
+pub fn tell_spot(file: &Recording<'_>, spot: Spot, lines: &mut [u32]) -> Result<Tale, Refusal>
+    requires ready { ReadyIn file.now }
+    requires spot { Spotted spot }
+    requires room { length lines.old ≡ line-table }
+    ensures { ToldTo (walk-all Telling (tell-at spot.width (box_of spot.viewport) spot.row spot.tile) (held file.now) (nothing-told lines.old)) result lines.new }
+{
+    let (first, end) = file.root();
+    let within = Within {
+        clip: spot.viewport.whole(),
+        open: 0,
+    };
+    let mut tale = Tale {
+        next: 1,
+        paints: 0,
+        layers: 0,
+        filters: 0,
+        levels: 0,
+    };
+    let teller = Teller { spot, file: *file };
+    tell_nodes(MOST_LAYERS, &mut tale, &teller, within, first, end, lines)?;
+    Ok(tale)
+}
+
+/// .. of a tile of the screen, with buckets of a width.
 pub fn tell_tile(
     file: &Recording<'_>,
     viewport: Rect,
@@ -54,27 +78,13 @@ pub fn tell_tile(
     requires room { length lines.old ≡ line-table }
     ensures { ToldTo (walk-all Telling (tell-at (bucket-tiles width) (box_of viewport) row tile) (held file.now) (nothing-told lines.old)) result lines.new }
 {
-    let (first, end) = file.root();
     let spot = Spot {
         viewport,
         row,
         tile,
         width: width.tiles(),
     };
-    let within = Within {
-        clip: viewport.whole(),
-        open: 0,
-    };
-    let mut tale = Tale {
-        next: 1,
-        paints: 0,
-        layers: 0,
-        filters: 0,
-        levels: 0,
-    };
-    let teller = Teller { spot, file: *file };
-    tell_nodes(MOST_LAYERS, &mut tale, &teller, within, first, end, lines)?;
-    Ok(tale)
+    tell_spot(file, spot, lines)
 }
 
 // The reason of an attribute at a tile of the screen of this viewport, of a recording that was judged.

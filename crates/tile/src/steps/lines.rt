@@ -1,11 +1,12 @@
 //! The lines that are told of a tile, one for each attribute, LINE words each: layer (1) or paint (0), attribute, standing, whether it has an alpha index, that
 //! index, nesting, panel.
-ghost use Rattle.std.specs.Prelude.{◌≡◌, [], ◌∷◌, ◌+◌, ◌*◌, ◌<◌, length, eqb, leb};
+ghost use Rattle.std.specs.Prelude.{◌≡◌, [], ◌∷◌, ◌+◌, ◌*◌, ◌≤◌, ◌<◌, length, eqb, leb};
 ghost use Rattle.sizes.specs.Sizes.{most-attrs, line-size, line-table};
 ghost use Rattle.cmd.specs.Attrs.{words-at};
 ghost use Rattle.tile.specs.Telling.{alpha-words, line-words, standing-of};
 ghost use Rattle.tile.specs.Places.{line_of};
 ghost use Rattle.tile.specs.Standings.{standing_number, standing_in};
+ghost use Rattle.tile.specs.Listed.{alpha-read, line-at};
 
 use sizes::LINE;
 
@@ -131,4 +132,29 @@ pub fn put_line(lines: &mut [u32], i: u32, line: Line)
     lines[at + 4] = index;
     lines[at + 5] = line.nesting;
     lines[at + LINE_PANEL] = line.panel;
+}
+
+// An alpha index of the two words.
+fn alpha_of(flag: u32, index: u32) -> Option<u32>
+    ensures { result ≡ alpha-read flag index }
+{
+    if flag == 0 { None } else { Some(index) }
+}
+
+/// Line i, read back. A word that is no standing, which no line has, goes for one that is told.
+#[tactic(auto, unfolding(crate::specs::Listed::line-at))]
+pub fn line_at(lines: &[u32], i: usize) -> Line
+    requires line { i < most-attrs + most-attrs }
+    requires lines { line-size * (i + 1) ≤ length lines.now }
+    ensures { line_of result ≡ line-at lines.now i }
+{
+    let at = LINE * i;
+    Line {
+        layer: lines[at] == 1,
+        attribute: lines[at + 1],
+        standing: Standing::read(lines[at + 2]).unwrap_or(Standing::Told),
+        alpha: alpha_of(lines[at + 3], lines[at + 4]),
+        nesting: lines[at + 5],
+        panel: lines[at + LINE_PANEL],
+    }
 }

@@ -24,8 +24,8 @@ abbrev pub alpha-read : ℕ → ℕ → Option ℕ
 alpha-read flag index = cond (eqb flag 0) None (Some index)
 
 -- line i, read back
-unfoldable pub line-at : List ℕ → ℕ → Line
-line-at ws i =
+unfoldable pub line_at : List ℕ → ℕ → Line
+line_at ws i =
     record {
       layer = eqb (get_or ws (line-size * i) 0) 1;
       attribute = get_or ws (line-size * i + 1) 0;
@@ -38,7 +38,7 @@ line-at ws i =
 -- n lines from line i on
 unfoldable pub lines-from : List ℕ → ℕ → ℕ → List Line
 lines-from ws i zero = []
-lines-from ws i (suc n) = line-at ws i ∷ lines-from ws (i + 1) n
+lines-from ws i (suc n) = line_at ws i ∷ lines-from ws (i + 1) n
 
 -- its attribute has an entry in the tile's list; what came before that is hidden
 abbrev pub was-told : Line → Bool

@@ -8,7 +8,7 @@ ghost use Rattle.rect.specs.Rects.{mode_of};
 ghost use Rattle.file.specs.Held.{file_of};
 ghost use Rattle.cmd.specs.Pieces.{words_of, piece-words};
 ghost use Rattle.tile.specs.Places.{line_of};
-ghost use Rattle.tile.specs.Listed.{line-at, lines-from, was-told, listed-lines, entry_of, entries-read, piece-of, entries-laid, list-told, listed-as, listed-over, in-room, room-in};
+ghost use Rattle.tile.specs.Listed.{line_at, lines-from, was-told, listed-lines, entry_of, entries-read, piece-of, entries-laid, list-told, listed-as, listed-over, in-room, room-in};
 
 use crate::call::{is_off_screen, tell_spot};
 use crate::steps::lines::{Line, line_at};

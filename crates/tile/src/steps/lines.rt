@@ -6,7 +6,7 @@ ghost use Rattle.cmd.specs.Attrs.{words-at};
 ghost use Rattle.tile.specs.Telling.{alpha-words, line-words, standing-of};
 ghost use Rattle.tile.specs.Places.{line_of};
 ghost use Rattle.tile.specs.Standings.{standing_number, standing_in};
-ghost use Rattle.tile.specs.Listed.{alpha-read, line-at};
+ghost use Rattle.tile.specs.Listed.{alpha-read, line_at};
 
 use sizes::LINE;
 
@@ -142,11 +142,11 @@ fn alpha_of(flag: u32, index: u32) -> Option<u32>
 }
 
 /// Line i, read back. A word that is no standing, which no line has, goes for one that is told.
-#[tactic(auto, unfolding(crate::specs::Listed::line-at))]
+#[tactic(auto, unfolding(crate::specs::Listed::line_at))]
 pub fn line_at(lines: &[u32], i: usize) -> Line
     requires line { i < most-attrs + most-attrs }
     requires lines { line-size * (i + 1) ≤ length lines.now }
-    ensures { line_of result ≡ line-at lines.now i }
+    ensures { line_of result ≡ line_at lines.now i }
 {
     let at = LINE * i;
     Line {

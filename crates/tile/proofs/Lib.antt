@@ -16,3 +16,5 @@ pub mod Told
 pub mod Listing
 pub mod Laying
 pub mod Putting
+pub mod Views
+pub mod ListTold

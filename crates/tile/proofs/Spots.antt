@@ -1,5 +1,5 @@
 -- A tile of a good viewport's screen, and what its story goes by before the first step.
-use Rattle.std.proofs.Common.{ℕ, ◌/◌, ◌<◌, arith, ◌≡◌, refl, sym, Bool, true, false, ◌||◌, List, [], length, leb, leb-false}
+use Rattle.std.proofs.Common.{ℕ, ◌/◌, ◌<◌, arith, ◌≡◌, refl, sym, Bool, true, false, ◌||◌, cond, List, [], length, leb, leb-false}
 use Rattle.sizes.specs.Sizes.{most-layers, most-rows, line-table, tile-end}
 use Rattle.sizes.specs.declared.width.Width.{Width}
 use Rattle.sizes.specs.Widths.{bucket-tiles}
@@ -51,9 +51,11 @@ module _ (v : Rect) (g : good_viewport (box_of v) ≡ true) (w : Width) (row til
       let tile-in = leb-false (width (box_of v) / 4) tile h.1 in
       at-place (omega (arith, row_in, f.high)) (omega (arith, tile-in, f.wide))
 
--- .. and the first tile, also of a screen that has none
-pub spotted_first : (v : Rect) → good_viewport (box_of v) ≡ true → (w : Width) → Spotted (spot-at v w 0 0)
-spotted_first v g w = at-place v g w 0 0 (omega arith) (omega arith)
+-- .. or where it is off the screen the first tile, also of a screen that has none
+pub spotted_somewhere : (v : Rect) → good_viewport (box_of v) ≡ true → (w : Width) (row tile : ℕ) (off : Bool) → off ≡ off-screen (box_of v) row tile
+    → Spotted (spot-at v w (cond off 0 row) (cond off 0 tile))
+spotted_somewhere v g w row tile true e = at-place v g w 0 0 (omega arith) (omega arith)
+spotted_somewhere v g w row tile false e = spotted v g w row tile (sym e)
 
 module _ (s : Spot) (p : Spotted s) (clip : Rect) (e : box_of clip ≡ whole (box_of s.viewport)) where
   bounded : Bounded (outermost clip)

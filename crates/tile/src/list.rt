@@ -1,6 +1,6 @@
 //! A tile's list without rows, the plain engine: a recording is gone through in draw order, and what the tile receives is read off the lines that were told of
 //! it. `list_tile` is a public call; the others are parts of it.
-ghost use Rattle.std.specs.Prelude.{◌≡◌, ◌+◌, ◌-◌, ◌*◌, ◌≤◌, ◌<◌, cond, true, map, length, leb, eqb};
+ghost use Rattle.std.specs.Prelude.{◌≡◌, ◌+◌, ◌-◌, ◌*◌, ◌≤◌, ◌<◌, cond, true, map, length, leb, eqb, OnErr};
 ghost use Rattle.sizes.specs.Sizes.{most-attrs, piece-size, line-size, line-table};
 ghost use Rattle.sizes.specs.Refusals.{answer_number};
 ghost use Rattle.rules.specs.Lists.{such};
@@ -99,7 +99,8 @@ fn put_list(lines: &[u32], n: usize, tile: u32, list: &mut [u32]) -> Result<usiz
     requires few { n ≤ most-attrs + most-attrs }
     requires lines { line-size * n ≤ length lines.now }
     requires tile { tile < 4294967295 }
-    ensures { listed-as result list.new ≡ listed-over tile (in-room (room-in list.old) (entries-read lines.now n)) list.old }
+    ensures listed { listed-as result list.new ≡ listed-over tile (in-room (room-in list.old) (entries-read lines.now n)) list.old }
+    ensures refused { OnErr result (list.new ≡ list.old) }
 {
     let listing = listing_of(lines, n);
     if list.len() / PIECE < listing.count {
@@ -135,8 +136,9 @@ pub fn list_tile(
     tile: u32,
     list: &mut [u32],
 ) -> Result<usize, Refusal>
-    ensures { listed-as result list.new
+    ensures listed { listed-as result list.new
         ≡ listed-over tile (list-told (mode_of mode) width (file_of file.entry) row tile (room-in list.old)) list.old }
+    ensures refused { OnErr result (list.new ≡ list.old) }
 {
     let file = Recording::read(file)?;
     let viewport = file.viewport().viewport_in(mode)?;

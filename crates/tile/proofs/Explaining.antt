@@ -1,19 +1,15 @@
 -- The public call from the recording's answer on: each way that the code takes gives what the definition gives.
-use Rattle.std.proofs.Common.{ℕ, ◌+◌, arith, ◌≡◌, refl, sym, ap, ◌∙◌, true, false, List, Option, None, Some, Ok, Err, replicate, ne_eqb}
-use Rattle.sizes.specs.declared.answers.Refusal.{Refusal}
+use Rattle.std.proofs.Common.{ℕ, ◌+◌, arith, ◌≡◌, refl, sym, ◌∙◌, true, false, List, Option, None, Some, replicate, ne_eqb}
 use Rattle.sizes.specs.Sizes.{line-table}
 use Rattle.sizes.specs.Widths.{bucket-tiles}
 use Rattle.rules.specs.Answers.{Answer, answer, Done, BadForm, BadRun}
-use Rattle.rules.specs.Boxes.{Box, good_viewport}
+use Rattle.rules.specs.Boxes.{Box}
 use Rattle.rules.specs.Plans.{Frame, bucket}
-use Rattle.rules.specs.Setups.{Setup, frame, viewport-in}
+use Rattle.rules.specs.Setups.{Setup, frame}
 use Rattle.rules.specs.Recording.{Recording, File, parsed, recording}
 use Rattle.rules.specs.Walk.{walk-all}
 use Rattle.rules_reason.specs.Reasons.{Reason, Asked}
 use Rattle.screen.specs.Tables.{ScreenLent}
-use Rattle.rect.specs.declared.Rect.{Rect}
-use Rattle.rect.specs.Rects.{box_of, seen}
-use Rattle.rect.proofs.Snapping.{good-seen, bad-seen}
 use Rattle.file.specs.Held.{recording_of}
 use Rattle.walk.specs.Recorded.{recorded}
 use Rattle.tile.specs.Telling.{Telling, tell-at, nothing-told}

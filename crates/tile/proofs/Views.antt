@@ -17,5 +17,8 @@ module _ (b : Box) (m : Mode) (r : Rect) (e : box_of r ≡ b) where
   pub view-good : (v : Rect) → Ok v ≡ seen (viewport-in m (box_of r)) → good_viewport (viewport-in m b) ≡ true
   view-good v h = rw (← view-is) (good-seen _ v h).0
 
+  pub view-own : (v : Rect) → Ok v ≡ seen (viewport-in m (box_of r)) → good_viewport (box_of v) ≡ true
+  view-own v h = rw (view-seen v h) at (view-good v h)
+
   pub view-unseen : {x : Refusal} → Err x ≡ seen (viewport-in m (box_of r)) → good_viewport (viewport-in m b) ≡ false
   view-unseen h = rw (← view-is) (bad-seen _ _ h).0

@@ -1,12 +1,12 @@
 -- A form that cannot be read comes first, then the viewport, the records, the story, the tile and the room.
-use Rattle.std.proofs.Common.{◌≡◌, sym, ◌∙◌, true, false}
+use Rattle.std.proofs.Common.{sym, ◌∙◌}
 use Rattle.std.proofs.lemmas.Result.{err_from_is_err_and}
 use Rattle.file.specs.Held.{held}
 use Rattle.tile.proofs.ListTold.{list-formless, list-unseen, list-badly, list-stopped, list-past, list-on}
 use Rattle.rect.specs.Rects.{mode_of}
 use Rattle.rect.proofs.Snapping.{bad-seen}
-use Rattle.tile.proofs.Spots.{spotted_somewhere}
-use Rattle.tile.proofs.Views.{view-seen, view-good, view-unseen}
+use Rattle.tile.proofs.Spots.{spotted, spotted_somewhere}
+use Rattle.tile.proofs.Views.{view-seen, view-good, view-own, view-unseen}
 use Rattle.tile.proofs.list.list_tile.Goals as goal
 
 pub returns-in_err-file-clause-listed : goal.returns-in_err-file-clause-listed
@@ -37,8 +37,7 @@ tell_spot-requires-clause-spot c =
     let r = c.in_ok-file.file in
     let m = mode_of c.args.mode in
     let v = c.in_ok-viewport.viewport in
-    let same = view-seen (held r).viewport m _ c.viewport.ensures v c.in_ok-viewport.ensures in
-    let good = rw same at (view-good (held r).viewport m _ c.viewport.ensures v c.in_ok-viewport.ensures) in
+    let good = view-own (held r).viewport m _ c.viewport.ensures v c.in_ok-viewport.ensures in
     rw c.spot_of.ensures
     (spotted_somewhere v good c.args.width c.args.row c.args.tile c.is_off_screen-off.result c.is_off_screen-off.ensures)
 
@@ -61,6 +60,14 @@ returns-then-off-clause-listed c =
     let same = view-seen (held r).viewport m _ c.viewport.ensures _ c.in_ok-viewport.ensures in
     list-past m c.args.width _ c.args.row c.args.tile _ (held r) c.in_ok-file.ensures.1 good (sym c.in_ok-judge.ensures) _ same _ c.is_off_screen-off.ensures _
     c.spot_of.ensures _ c.in_ok-tale.ensures.0 c.if-off.true
+
+pub put_list-requires-clause-tile : goal.put_list-requires-clause-tile
+put_list-requires-clause-tile c =
+    let r = c.in_ok-file.file in
+    let m = mode_of c.args.mode in
+    let v = c.in_ok-viewport.viewport in
+    let good = view-own (held r).viewport m _ c.viewport.ensures v c.in_ok-viewport.ensures in
+    (spotted v good c.args.width c.args.row c.args.tile (sym c.is_off_screen-off.ensures ∙ c.if-off.false)).tile
 
 pub returns-clause-listed : goal.returns-clause-listed
 returns-clause-listed c =

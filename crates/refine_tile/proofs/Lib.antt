@@ -9,3 +9,4 @@ pub mod Numbers
 pub mod Shows
 pub mod Searches
 pub mod Reasons
+pub mod Entries

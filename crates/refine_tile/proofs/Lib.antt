@@ -10,3 +10,4 @@ pub mod Shows
 pub mod Searches
 pub mod Reasons
 pub mod Entries
+pub mod Limited

@@ -1,6 +1,6 @@
 -- The lines that were told of a tile are read back, and those that are listed say the tile's list.
-use Rattle.std.proofs.Common.{ℕ, ◌+◌, ◌*◌, add-zero, arith, ◌≡◌, refl, sym, ◌∙◌, ap, Bool, true, false, ◌&&◌, cond, Option, None, Some, List, [], ◌∷◌, ◌++◌, map}
-use Rattle.std.proofs.Common.{append_assoc, length, get_or, drop, length-append, get_or-append-add, leb, eqb}
+use Rattle.std.proofs.Common.{ℕ, ◌+◌, ◌*◌, add-zero, arith, ◌≡◌, refl, sym, ◌∙◌, ap, Bool, true, false, cond, Option, None, Some, List, [], ◌∷◌, ◌++◌, map}
+use Rattle.std.proofs.Common.{append_assoc, length, get_or, drop, length-append, get_or-append-add, eqb}
 use Rattle.sizes.specs.Sizes.{line-size}
 use Rattle.rules.specs.Lists.{some_of, such}
 use Rattle.rules.specs.Boxes.{Box}
@@ -11,7 +11,7 @@ use Rattle.rules_picture.proofs.Cases.{by}
 use Rattle.rules_picture.proofs.Shown.{hides-of}
 use Rattle.rules_picture.proofs.Picture.{all_shown}
 use Rattle.rules_reason.specs.Reasons.{Account}
-use Rattle.tile.specs.Telling.{Telling, Line, standing-of, alpha-words, after-alpha, line-words}
+use Rattle.tile.specs.Telling.{Telling, Line, standing-of, line-words}
 use Rattle.tile.specs.Standings.{plain_standing}
 use Rattle.tile.specs.Listed.{alpha-read, line_at, lines-from, was-told, line-hides, listed-lines, entry_of, entries-read}
 use Rattle.refine_tile.specs.Retold.{tells, Says, Say, said, says, flat, Retold}

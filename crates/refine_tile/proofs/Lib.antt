@@ -11,3 +11,6 @@ pub mod Searches
 pub mod Reasons
 pub mod Entries
 pub mod Limited
+pub mod Owned
+pub mod Refusals
+pub mod ListRules

@@ -1,25 +1,23 @@
 -- A judged step is refused by the engine of one tile by the number that refuses it on rows that are never full.
-use Rattle.std.proofs.Common.{ℕ, suc, ◌+◌, arith, ◌≡◌, refl, sym, ◌∙◌, ap, Bool, true, false, ◌&&◌, ◌||◌, not, cond, List, [], ◌∷◌, ◌++◌, map, append-nil, length, length-append, leb, ltb, eqb, eq-eqb}
+use Rattle.std.proofs.Common.{ℕ, suc, ◌+◌, arith, ◌≡◌, refl, sym, ◌∙◌, ap, Bool, true, false, ◌&&◌, ◌||◌, not, cond, List, [], ◌∷◌, ◌++◌, map, append-nil, length, length-append, leb, ltb, eq-eqb}
 use Rattle.std.proofs.lemmas.Bool.Decides.{nat_tests}
-use lib.ListN.{length-map}
 use Rattle.sizes.specs.Sizes.{most-layers, most-attrs, most-filters, last-id}
 use Rattle.rules.specs.Lists.{is-empty}
-use Rattle.rules.specs.Answers.{answer, settle, first_of, Done, BadRecord, NoLayer, Deep, Ids, FullAttrs}
+use Rattle.rules.specs.Answers.{first_of, Done, Deep, Ids, FullAttrs}
 use Rattle.rules.specs.Boxes.{Box}
 use Rattle.rules.specs.Segments.{Segment, judge-segments}
-use Rattle.rules.specs.Inputs.{Paint, Draw, draw-segments, draw-paint, good-fill, Props, good-props, Filter, good-filter-fill}
-use Rattle.rules.specs.Blends.{default-blend}
+use Rattle.rules.specs.Inputs.{Paint, Draw, draw-segments, good-fill, Props, good-props, Filter, good-filter-fill}
 use Rattle.rules.specs.Attributes.{Attrs, attrs-full}
-use Rattle.rules.specs.Plans.{Layer, State, Step, a-fill, a-push, a-pop, a-filter, Plan, still, box_of, with-paint, with-layer, filter-paint, eligible, clip-segments, clip-fits, filter-box, draws-nothing, plan-fill, plan-push, plan-pop, plan-filter-in, plan-filter, plan}
+use Rattle.rules.specs.Plans.{Layer, State, Step, a-fill, a-push, a-pop, a-filter, Plan, still, box_of, with-paint, with-layer, clip-segments, clip-fits, filter-box, draws-nothing, plan-fill, plan-push, plan-pop, plan-filter-in, plan-filter, plan}
 use Rattle.rules.specs.Plain.{OpenLayer, Story, box-now}
 use Rattle.rules.specs.Recording.{Recording}
-use Rattle.rules.proofs.All.{All, nil, cons, head, tail, or_left, or_right}
+use Rattle.rules.proofs.All.{All, cons, head, tail, or_left, or_right}
 use Rattle.rules_picture.proofs.Cases.{by}
 use Rattle.rules_picture.proofs.Follows.{layer-in}
 use Rattle.rules_picture.proofs.Limits.{Limits, limit}
 use Rattle.rules_picture.proofs.Roomless.{settled}
 use Rattle.rules_picture.proofs.Stepped.{filter_none, filter-some}
-use Rattle.tile.specs.Telling.{Telling, Line, tell-fill, tell-push, tell-pop, tell-filter, tell-at}
+use Rattle.tile.specs.Telling.{Line, tell-fill, tell-push, tell-pop, tell-filter, tell-at}
 use Rattle.refine_tile.proofs.Stories.{Stands}
 use Rattle.refine_tile.proofs.Tells.{telling}
 
@@ -98,7 +96,7 @@ module _ (w : ℕ) (v : Box) (row tile : ℕ) (ws : List ℕ) where
       let k = room_of s.attrs q.attrs in
       let i : ltb 1048577 (s.next + 1) ≡ ltb last-id o.next = last-left s.next ∙ ap (ltb last-id) h.next in
       let full : attrs-full new ≡ leb most-attrs o.paints =
-      rw (append-nil, k.layers, k.filters, or-false, or-false) (one-longer s.attrs.paints _ most-attrs ∙ ap (leb most-attrs) h.paints) in
+      rw (append-nil, k.layers, k.filters) (simp or-false (one-longer s.attrs.paints _ most-attrs ∙ ap (leb most-attrs) h.paints)) in
       let c : attrs-full (cond (is-empty own) s.attrs new) ≡ (not (is-empty own) && leb most-attrs o.paints) =
       by (is-empty own) (λ y. rw y q.attrs) (λ z. rw z full) in
       settled _ _ _ ∙ sym (limit-is (plan-fill ps ss d s) _ _ j q.deep i c)

@@ -1,5 +1,5 @@
 -- Done steps of the rules fit the story of a tile: a screen's state and the story go together, and what was judged of a step is known of the story.
-use Rattle.std.proofs.Common.{ℕ, ◌+◌, arith, ◌≡◌, refl, sym, ◌∙◌, ap, Bool, true, false, ◌&&◌, not, cond, List, [], ◌∷◌, map, length, length-append}
+use Rattle.std.proofs.Common.{ℕ, ◌+◌, arith, ◌≡◌, refl, sym, ◌∙◌, ap, true, false, ◌&&◌, not, cond, List, [], ◌∷◌, map, length, length-append}
 use Rattle.rules.specs.Lists.{is-empty}
 use Rattle.rules.specs.Answers.{Done, BadRecord, NoLayer}
 use Rattle.rules.specs.Boxes.{Box}

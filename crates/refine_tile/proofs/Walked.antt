@@ -1,5 +1,5 @@
 -- A recording that the rules walk to its end is told to its end by the engine of one tile, into lines that are the rules' accounts.
-use Rattle.std.proofs.Common.{ℕ, ◌+◌, ◌%◌, arith, ◌≡◌, refl, sym, ◌∙◌, ap, true, false, ◌&&◌, ◌||◌, List, [], ◌∷◌, ◌++◌, length, ltb, eqb-true, ltb-false}
+use Rattle.std.proofs.Common.{ℕ, ◌+◌, ◌%◌, arith, ◌≡◌, refl, sym, ◌∙◌, ap, true, ◌&&◌, ◌||◌, List, [], ◌∷◌, ◌++◌, length, ltb, eqb-true, ltb-false}
 use Rattle.sizes.specs.Sizes.{most-attrs, most-filters}
 use Rattle.rules.specs.Answers.{answer, Done}
 use Rattle.rules.specs.Boxes.{Box, by_4, bounded, good_viewport}
@@ -38,14 +38,14 @@ even v g =
     record { left = omega arith; top = omega arith }
 
 -- the state that a done call leaves
-called : {R : Type 0} (ops : RowOps R) (x : Step) (s : Screen R) → (call R ops x s).number ≡ Done
+pub called : {R : Type 0} (ops : RowOps R) (x : Step) (s : Screen R) → (call R ops x s).number ≡ Done
     → (call R ops x s).value.state ≡ planned (plan x (touched R ops (length s.state.layers) 0 s.rows) s.state) s.state
 called {R} ops x s e =
     ap (λ (u : Screen R). u.state) (call-carried ops x s e).1 ∙ done-state ops (plan x (touched R ops (length s.state.layers) 0 s.rows) s.state) s
 
 -- On rows of any kind: the story and the lines go by the steps alone.
 module _ (R : Type 0) (ops : RowOps R) (w : ℕ) (v : Box) (row tile : ℕ) (ws : List ℕ) where
-  abbrev story : Logged R → Story
+  abbrev pub story : Logged R → Story
   story s = tell-steps w v row tile s.log untold
 
   -- a screen with its log, and what the engine knows

@@ -1,5 +1,5 @@
 -- The public call from the recording's answer on: each way that the code takes gives what the definition gives.
-use Rattle.std.proofs.Common.{ℕ, ◌+◌, arith, ◌≡◌, refl, sym, ap, ◌∙◌, true, false, List, Option, None, Some, Ok, Err, replicate, ne_eqb}
+use Rattle.std.proofs.Common.{ℕ, ◌+◌, arith, ◌≡◌, refl, sym, ◌∙◌, true, false, List, Option, None, Some, Ok, Err, replicate, ne_eqb}
 use Rattle.sizes.specs.declared.answers.Refusal.{Refusal}
 use Rattle.sizes.specs.Sizes.{line-table}
 use Rattle.sizes.specs.Widths.{bucket-tiles}

@@ -1,19 +1,18 @@
 //! A tile's list without rows, the plain engine: a recording is gone through in draw order, and what the tile receives is read off the lines that were told of
 //! it. `list_tile` is a public call; the others are parts of it.
-ghost use Rattle.std.specs.Prelude.{◌≡◌, ◌+◌, ◌-◌, ◌*◌, ◌≤◌, ◌<◌, cond, true, map, length, leb, eqb, OnErr};
-ghost use Rattle.sizes.specs.Sizes.{most-attrs, piece-size, line-size, line-table, tile-end};
-ghost use Rattle.sizes.specs.Refusals.{answer_number};
+ghost use Rattle.std.specs.Prelude.{◌≡◌, ◌+◌, ◌-◌, ◌*◌, ◌≤◌, ◌<◌, cond, map, length, leb, eqb, OnErr};
+ghost use Rattle.sizes.specs.Sizes.{most-attrs, line-size, tile-end};
 ghost use Rattle.rules.specs.Lists.{such};
 ghost use Rattle.rect.specs.Rects.{mode_of};
 ghost use Rattle.file.specs.Held.{file_of};
 ghost use Rattle.cmd.specs.Pieces.{words_of, piece-words};
 ghost use Rattle.tile.specs.Places.{line_of, spot-at};
 ghost use Rattle.tile.specs.Standings.{standing_number};
-ghost use Rattle.tile.specs.Listed.{line_at, lines-from, was-told, listed-lines, entry_of, entries-read, piece-of, entries-laid, list-told, listed-as, listed-over, in-room, room-in};
+ghost use Rattle.tile.specs.Listed.{lines-from, was-told, listed-lines, entry_of, entries-read, piece-of, entries-laid, list-told, listed-as, listed-over, in-room, room-in};
 
 use crate::call::{is_off_screen, tell_spot};
+use crate::steps::Spot;
 use crate::steps::lines::{Line, Standing, line_at};
-use crate::steps::{Spot, Tale};
 use cmd::piece::{PieceWords, tag_of};
 use file::{File, Recording};
 use rect::{Mode, Rect};

@@ -12,10 +12,10 @@ use Rattle.rules.specs.Plans.{Layer, State, Step, a-fill, a-push, a-pop, a-filte
 use Rattle.rules.specs.Plain.{OpenLayer, Story, box-now}
 use Rattle.rules.specs.Recording.{Recording}
 use Rattle.rules.proofs.All.{All, cons, head, tail, or_left, or_right}
+use Rattle.rules.proofs.laws.Answers.{settle-number}
 use Rattle.rules_picture.proofs.Cases.{by}
 use Rattle.rules_picture.proofs.Follows.{layer-in}
 use Rattle.rules_picture.proofs.Limits.{Limits, limit}
-use Rattle.rules_picture.proofs.Roomless.{settled}
 use Rattle.rules_picture.proofs.Stepped.{filter_none, filter-some}
 use Rattle.tile.specs.Telling.{Line, tell-fill, tell-push, tell-pop, tell-filter, tell-at}
 use Rattle.refine_tile.proofs.Stories.{Stands}
@@ -99,7 +99,7 @@ module _ (w : ℕ) (v : Box) (row tile : ℕ) (ws : List ℕ) where
       rw (append-nil, k.layers, k.filters) (simp or-false (one-longer s.attrs.paints _ most-attrs ∙ ap (leb most-attrs) h.paints)) in
       let c : attrs-full (cond (is-empty own) s.attrs new) ≡ (not (is-empty own) && leb most-attrs o.paints) =
       by (is-empty own) (λ y. rw y q.attrs) (λ z. rw z full) in
-      settled _ _ _ ∙ sym (limit-is (plan-fill ps ss d s) _ _ j q.deep i c)
+      settle-number _ _ _ ∙ sym (limit-is (plan-fill ps ss d s) _ _ j q.deep i c)
 
   push-limit : (p : Props) (o : Story) (s : State) (said : List Line) (m : ℕ) → Stands v o s → Limits (still Done s) → good-props p ≡ true
       → (tell-at w v row tile (a-push p) (telling ws o said m (length s.attrs.filters))).number ≡ limit (plan-push p s)
@@ -108,7 +108,7 @@ module _ (w : ℕ) (v : Box) (row tile : ℕ) (ws : List ℕ) where
       let e : ltb most-layers (suc (length s.layers)) ≡ leb most-layers (length (map layer-in o.open-layers)) =
       ap (λ (n : ℕ). ltb most-layers n) (omega arith) ∙ one-past most-layers (length s.layers) ∙ ap (λ (ls : List Layer). leb most-layers (length ls)) h.opened in
       let z : limit (plan-push p s) ≡ first_of ((leb most-layers (length (map layer-in o.open-layers)), Deep) ∷ []) = rw (j, e, q.ids, q.attrs) in
-      settled _ _ _ ∙ sym z
+      settle-number _ _ _ ∙ sym z
 
   pop-limit : (ls : List OpenLayer) (ss : List Segment) (js : List ℕ) (o : Story) (s : State) (said : List Line) (m : ℕ) → Stands v o s → Limits (still Done s)
       → (ms : List Layer) → ms ≡ map layer-in ls → ltb most-layers (length ms) ≡ false → All (Closes ss) ms
@@ -121,7 +121,7 @@ module _ (w : ℕ) (v : Box) (row tile : ℕ) (ws : List ℕ) where
       let full : attrs-full (with-layer s l.layer.props) ≡ leb most-attrs o.layers =
       rw (k.paints, k.filters, or-false) (one-longer s.attrs.layers _ most-attrs ∙ ap (leb most-attrs) h.layers) in
       let deep : ltb most-layers (length (map layer-in ls)) ≡ false = grind (arith, nat_tests, rw e at d) in
-      rw e (settled _ _ _ ∙ sym (limit-is (plan-pop (layer-in l ∷ map layer-in ls) ss js s) _ _ (head (rw e at c)) deep i full))
+      rw e (settle-number _ _ _ ∙ sym (limit-is (plan-pop (layer-in l ∷ map layer-in ls) ss js s) _ _ (head (rw e at c)) deep i full))
 
   filter-limit : (n : ℕ) (f : Filter) (u : ℕ) (o : Story) (s : State) (said : List Line) (m : ℕ) → Stands v o s → Limits (still Done s) → good-filter-fill n f u ≡ true
       → (tell-at w v row tile (a-filter n f u) (telling ws o said m (length s.attrs.filters))).number ≡ limit (plan-filter n f u s)
@@ -137,7 +137,7 @@ module _ (w : ℕ) (v : Box) (row tile : ℕ) (ws : List ℕ) where
       rw (k.layers, or-false, one-longer s.attrs.paints _ most-attrs, one-longer s.attrs.filters _ most-filters, h.paints) in
       by (draws-nothing f b)
       (λ y. let z = filter_none n f u s j (d ∙ y) in rw (y, z, q.deep, q.ids, q.attrs))
-      (λ y. let z = filter-some n f u s b e j (d ∙ y) in rw (y, z) (settled _ _ _ ∙ sym (limit-is p _ _ refl q.deep i full)))
+      (λ y. let z = filter-some n f u s b e j (d ∙ y) in rw (y, z) (settle-number _ _ _ ∙ sym (limit-is p _ _ refl q.deep i full)))
 
   -- x, from a state within the limits whose open layers close
   pub step-limit : (r : Recording) (x : Step) (js : List ℕ) (o : Story) (s : State) (said : List Line) (m : ℕ) → Stands v o s → Limits (still Done s)

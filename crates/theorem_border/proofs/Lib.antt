@@ -12,3 +12,4 @@ pub mod Sized
 pub mod Panel
 pub mod Conversions
 pub mod FillLists
+pub mod TileLists

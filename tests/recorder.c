@@ -216,7 +216,7 @@ static void lists_hold(void) {
             size_t same = 0;
             tile = below(TILES), entries = 0;
             expect("a list", COARSE_DONE, coarse_list_tile(COARSE_EDITION_TWO, file, words, setup.mode, setup.width, (uint32_t)row, tile,
-                                                           (uint32_t *)list, sizeof list / sizeof(uint32_t), &entries));
+                                                           (uint32_t *)list, 2 * COARSE_MOST_ATTRS * COARSE_PIECE, &entries));
             for (i = 0; i < count; i++)
                 if (pieces[i].first <= tile && tile < pieces[i].end) {
                     coarse_piece own = pieces[i];

@@ -5,7 +5,7 @@ use Rattle.sizes.specs.Refusals.{number_of, answer_number}
 use Rattle.rules.specs.Answers.{Answer, answer}
 use Rattle.rules.specs.Setups.{Setup}
 use Rattle.rules.specs.Recording.{File}
-use Rattle.tile.specs.Listed.{Listed, list-told, listed-as, listed-over, room-in}
+use Rattle.tile.specs.Listed.{list-told, listed-as, listed-over, room-in}
 use Rattle.convert.specs.Placed.{count_of}
 use Rattle.host.specs.declared.state.SetupWords.{SetupWords}
 use Rattle.host.specs.Asked.{FileWords, asked_setup, told_file}

@@ -13,3 +13,4 @@ pub mod Panel
 pub mod Conversions
 pub mod FillLists
 pub mod TileLists
+pub mod Listed

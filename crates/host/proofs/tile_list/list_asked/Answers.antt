@@ -4,4 +4,4 @@ use Rattle.host.proofs.TileLists.{tile_list-asked}
 use Rattle.host.proofs.tile_list.list_asked.Goals as goal
 
 pub returns : goal.returns
-returns c = tile_list-asked _ _ _ _ _ _ (setup-of c.in-Ok.setup) c.in-Ok.ensures _ _ _ _ c.list_tile.ensures c.put_count.ensures
+returns c = tile_list-asked _ _ _ _ _ _ (setup-of c.in-Ok.setup) c.in-Ok.ensures _ _ _ _ c.list_tile.ensures.listed c.put_count.ensures

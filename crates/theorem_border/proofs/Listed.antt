@@ -12,12 +12,13 @@ use Rattle.rules.specs.Boxes.{width, rows_of, good_viewport}
 use Rattle.rules.specs.Plans.{Frame, bucket}
 use Rattle.rules.specs.Setups.{Setup, frame}
 use Rattle.rules.specs.Recording.{Recording, File, good-records, good-order}
-use Rattle.rules.specs.Painting.{Piece, Entry}
+use Rattle.rules.specs.Painting.{Piece, Entry, received}
 use Rattle.rules.specs.Plain.{plain}
 use Rattle.rules.proofs.All.{or_left, or_right}
 use Rattle.rules.proofs.laws.Answers.{settle-number, settle-done}
 use Rattle.rules_reason.specs.Answers.{off-screen}
 use Rattle.rules_reason.specs.TileList.{roomless-frame, judge-roomless, or-else, judge-list}
+use Rattle.rules_picture.specs.Turns.{from}
 use Rattle.rules_picture.specs.Recorded.{history, Readable, said}
 use Rattle.screen.specs.Tables.{ScreenLent}
 use Rattle.cmd.specs.Pieces.{laid}
@@ -32,12 +33,13 @@ use Rattle.theorem_picture.specs.Turns.{pieces-in}
 use Rattle.theorem_picture.proofs.Pieces.{pieces-back}
 use Rattle.theorem_picture.proofs.Recorded.{recorded-taken}
 use Rattle.host.specs.declared.state.SetupWords.{SetupWords}
-use Rattle.host.specs.Asked.{FileWords, asked-at, asked_setup}
+use Rattle.host.specs.Asked.{FileWords, mode-at, asked-at, asked_setup}
 use Rattle.host.specs.Border.{unasked_number}
 use Rattle.host.specs.TileList.{list_setup, tile-list-left, tile_list_in, tile_list_asked, tile_list_call}
 use Rattle.host.proofs.ScreenAsked.{as-asked}
 use Rattle.host.proofs.TileLists.{tile_list_told}
-use Rattle.theorem_border.specs.Hosted.{Host, Asks, Says, recording-at}
+use Rattle.theorem_border.specs.Hosted.{Host, Asks, Says, Call, recording-at, begin-at}
+use Rattle.theorem_border.specs.Border.{log, finished, Accepted}
 use Rattle.theorem_border.specs.TileLists.{ListReceived}
 use Rattle.theorem_border.proofs.Words.{hosted, recording_on, Known, nothing, these, known, recording-never}
 use Rattle.theorem_border.proofs.Recorded.{recording-accepted}
@@ -105,15 +107,18 @@ module _ (ws : File) (q : Setup) (l : ScreenLent) (z : (recorded ws q l).number 
 abbrev bare : Setup → Setup
 bare q = record { c = 0; d = 0; mode = q.mode; width = q.width }
 
-bared : Result Setup Refusal → Result Setup Refusal
+abbrev bared : Result Setup Refusal → Result Setup Refusal
 bared (Ok q) = Ok (bare q)
-bared (Err r) = Err r
+bared (Err x) = Err x
 
 bare-asked : (o : Result Width Refusal) (w : SetupWords) → bared (asked-at o w) ≡ asked-at o (list_setup w.mode w.width)
-bare-asked (Err r) w = refl
+bare-asked (Err x) w = refl
 bare-asked (Ok v) w = go (leb w.mode 1)
   where
-    go : (b : Bool) → bared (cond b (Ok _) (Err BadRecord)) ≡ cond b (Ok _) (Err BadRecord)
+    q : Setup
+    q = record { c = w.c; d = w.d; mode = mode-at w.mode; width = v }
+
+    go : (b : Bool) → bared (cond b (Ok q) (Err BadRecord)) ≡ cond b (Ok (bare q)) (Err BadRecord)
     go true = refl
     go false = refl
 
@@ -148,22 +153,26 @@ module _ (row tile : ℕ) (list n : List ℕ) where
   unfolding tile_list_in
   in-told file q = refl
 
+-- of a recording that is accepted by the setup m.setup
+module _ (told : FileWords) (w : SetupWords) (h : Host) (d : (recording-at told w h).number ≡ Done) (m : Accepted told w h) (cs : List Call) (row tile : ℕ) (list n : List ℕ) where
+  abbrev call : Answer (List ℕ × List ℕ)
+  call = tile_list_call told w.mode w.width row tile list n
+
+  received-of : Known h → finished row cs (begin-at (recording-at told w h).value).value ≡ true → call.number ≡ Done
+      → pieces-in (get_or call.value.1 0 0) call.value.0 ≡ map (piece-of tile) (received tile (from row (log cs (begin-at (recording-at told w h).value).value)))
+  received-of (nothing x) fin e = absurd (recording-never h x w m.setup m.asks told m.file m.says d)
+  received-of (these l s) fin e =
+      let k : recording-at told w h ≡ hosted (recorded m.file m.setup l) = ap (recording-at told w) s ∙ recording_on w m.setup m.asks l told m.file m.says in
+      let i = list-in row tile list n told m.file m.says w m.setup m.asks in
+      let y = ap (λ (a : Answer (List ℕ × List ℕ)). a.number) i ∙ e in
+      let (on, es) = listed-plain m.file m.setup l (sym (ap (λ (a : Answer Host). a.number) k) ∙ d) m.words row tile (room-in list) (sym (in-told row tile list n m.file m.setup) ∙ y) in
+      let v = (frame m.setup (said m.words).viewport).viewport in
+      let there = leb-false (rows_of v) row (or_left (leb (rows_of v) row) (leb (width v / 4) tile) on) in
+      let across = leb-false (width v / 4) tile (or_right (leb (rows_of v) row) (leb (width v / 4) tile) on) in
+      let same = border-picture _ _ _ m.hosted m.begins cs row tile there across fin in
+      ap (λ (b : Answer (List ℕ × List ℕ)). pieces-in (get_or b.value.1 0 0) b.value.0) (sym i)
+      ∙ in-back row tile list n m.file m.setup y
+      ∙ ap (map (piece-of tile)) (es ∙ sym same)
+
 pub list-received : ListReceived
-list-received f w h d cs r t fin list n e = go (known h)
-  where
-    m = recording-accepted f w h d
-    go : Known h → _
-    go (nothing x) = absurd (recording-never h x w m.setup m.asks f m.file m.says d)
-    go (these l s) =
-        let k : recording-at f w h ≡ hosted (recorded m.file m.setup l) = ap (recording-at f w) s ∙ recording_on w m.setup m.asks l f m.file m.says in
-        let z = sym (ap (λ (a : Answer Host). a.number) k) ∙ d in
-        let i = list-in r t list n f m.file m.says w m.setup m.asks in
-        let y = ap (λ (a : Answer (List ℕ × List ℕ)). a.number) i ∙ e in
-        let (on, es) = listed-plain m.file m.setup l z m.words r t (room-in list) (sym (in-told r t list n m.file m.setup) ∙ y) in
-        let v = (frame m.setup (said m.words).viewport).viewport in
-        let there = leb-false (rows_of v) r (or_left (leb (rows_of v) r) (leb (width v / 4) t) on) in
-        let across = leb-false (width v / 4) t (or_right (leb (rows_of v) r) (leb (width v / 4) t) on) in
-        let same = border-picture _ _ _ m.hosted m.begins cs r t there across fin in
-        ap (λ (b : Answer (List ℕ × List ℕ)). pieces-in (get_or b.value.1 0 0) b.value.0) (sym i)
-        ∙ in-back r t list n m.file m.setup y
-        ∙ ap (map (piece-of t)) (es ∙ sym same)
+list-received told w h d cs row tile fin list n e = received-of told w h d (recording-accepted told w h d) cs row tile list n (known h) fin e

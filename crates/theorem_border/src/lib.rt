@@ -49,7 +49,7 @@ pub fn recordings_at_border()
 
 /// What `coarse_list_tile` lists of an accepted recording, and what the tile receives by painting.
 pub fn lists_at_border()
-    ensures received { ListReceived }
+    ensures { ListReceived }
 {}
 
 /// Editing one line of the screen leaves the other rows as they were.

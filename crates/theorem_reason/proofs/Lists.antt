@@ -1,6 +1,6 @@
 -- A tile's list at the words. Assumes nothing.
 use Rattle.std.proofs.Common.{ℕ, zero, suc, ◌+◌, ◌-◌, ◌*◌, ◌≤◌, arith, ◌≡◌, refl, sym, ap, ◌∙◌, subst, Bool, true, false, not, cond, List, [], ◌∷◌, map, Option, None, Some}
-use Rattle.std.proofs.Common.{length, drop, drop_at, length-append, length-drop, replicate, ltb, eqb, eqb-true, eq-eqb, ltb-true, ltb-false, lt-ltb, le-leb}
+use Rattle.std.proofs.Common.{length, take, take_at, drop, drop_at, length-append, length-drop, replicate, ltb, eqb, eqb-true, eq-eqb, ltb-true, ltb-false, lt-ltb, le-leb}
 use lib.ListN.{length-map}
 use Rattle.sizes.specs.Sizes.{piece-size, line-table}
 use Rattle.sizes.specs.declared.width.Width.{Width}
@@ -128,6 +128,9 @@ module _ (tile : ℕ) (es : List Entry) (old : List ℕ) where
   words-long : length (join piece-words pieces) ≡ piece-size * length es
   words-long = pieces-long pieces ∙ ap (λ (n : ℕ). piece-size * n) (length-map es (piece-of tile))
 
+  words-laid : take (piece-size * length es) (laid pieces old) ≡ join piece-words pieces
+  words-laid = take_at (join piece-words pieces) _ (piece-size * length es) words-long
+
   rest-kept : drop (piece-size * length es) (laid pieces old) ≡ drop (piece-size * length es) old
   rest-kept = drop_at (join piece-words pieces) _ (piece-size * length es) words-long ∙ ap (λ (n : ℕ). drop n old) words-long
 
@@ -142,6 +145,7 @@ list-left tile a old f =
     record {
       number = refl;
       count = refl;
+      words = words-laid tile a.value old;
       entries = read-back tile a.value old;
       rest = rest-kept tile a.value old;
       long = laid-long tile a.value old f.fits;
@@ -220,7 +224,7 @@ list-received ws q l z s row tile h k ts fin =
     ∙ ap (in-room room) same) in
     record {
       answer = answers;
-      words = λ list e.
+      pieces = λ list e.
           let a = list-told q.mode q.width ws row tile (room-in list) in
           let is : a ≡ in-room (room-in list) es = list-rules q.mode q.width ws row tile (room-in list) ∙ answers (room-in list) in
           let v : a.value ≡ es = ap (λ (x : Answer (List Entry)). x.value) is ∙ in-room-done (room-in list) es (sym (ap (λ (x : Answer (List Entry)). x.number) is) ∙ e) in

@@ -1,5 +1,5 @@
 -- A walk with room for everything does not go by C and D: over frames that differ in them alone it is the same.
-use Rattle.std.proofs.Common.{ℕ, ◌≡◌, refl, sym, ◌∙◌, ap, List, [], ◌∷◌, ◌++◌, length, eqb}
+use Rattle.std.proofs.Common.{ℕ, ◌≡◌, refl, sym, ◌∙◌, ap, List, [], ◌∷◌, length, eqb}
 use Rattle.rules.specs.Answers.{Answer, answer, settle, Done}
 use Rattle.rules.specs.Plans.{Frame, State, Step, a-fill, a-push, a-pop, a-filter, Layer, Plan, plan-fill, plan-push, plan-pop, plan-filter-in, plan-filter, plan}
 use Rattle.rules.specs.Segments.{Segment}
@@ -7,7 +7,7 @@ use Rattle.rules.specs.Steps.{Screen, reset, done, touched, call}
 use Rattle.rules.specs.Recording.{Recording}
 use Rattle.rules.specs.Logged.{Logged, logged-call, walk-logged}
 use Rattle.rules.specs.Roomless.{buffers-alone, roomless}
-use Rattle.rules.proofs.Follows.{Both, Follow, walk-follows}
+use Rattle.rules.proofs.Follows.{Follow, walk-follows}
 use Rattle.rules_picture.proofs.Cases.{by}
 use Rattle.rules_picture.proofs.Limits.{limit}
 use Rattle.rules_picture.proofs.Roomless.{call-settled}

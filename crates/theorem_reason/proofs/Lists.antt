@@ -1,24 +1,18 @@
 -- A tile's list at the words. Assumes nothing.
-use Rattle.std.proofs.Common.{ℕ, zero, suc, ◌+◌, ◌-◌, ◌*◌, ◌/◌, ◌≤◌, ◌<◌, arith, ◌≡◌, refl, sym, ap, ◌∙◌, subst, Bool, true, false, not, cond, List, [], ◌∷◌, ◌++◌, map, Option, None, Some}
-use Rattle.std.proofs.Common.{length, drop, drop_at, length-append, length-drop, replicate, leb, ltb, eqb, eqb-true, eq-eqb, ltb-true, ltb-false, lt-ltb, le-ltb, le-leb}
-use Rattle.std.specs.Prelude.{unwrap_or}
-use borrow.Author.Tests.{lt-leb}
+use Rattle.std.proofs.Common.{ℕ, zero, suc, ◌+◌, ◌-◌, ◌*◌, ◌≤◌, arith, ◌≡◌, refl, sym, ap, ◌∙◌, subst, Bool, true, false, not, cond, List, [], ◌∷◌, map, Option, None, Some}
+use Rattle.std.proofs.Common.{length, take, take_at, drop, drop_at, length-append, length-drop, replicate, ltb, eqb, eqb-true, eq-eqb, ltb-true, ltb-false, lt-ltb, le-leb}
 use lib.ListN.{length-map}
 use Rattle.sizes.specs.Sizes.{piece-size, line-table}
 use Rattle.sizes.specs.declared.width.Width.{Width}
 use Rattle.rules.specs.Lists.{some_of, such, join}
-use Rattle.rules.specs.Answers.{Answer, answer, settle, first_of, Done, BadViewport, BadForm, BadRecord, BadOrder, Deep, Ids, FullAttrs, BadRun, NoRoom}
+use Rattle.rules.specs.Answers.{Answer, settle, first_of, Done, BadViewport, BadRecord, BadOrder, Deep, Ids, FullAttrs, BadRun, NoRoom}
 use Rattle.rules.specs.Spans.{span, covers, moved}
-use Rattle.rules.specs.Boxes.{Box, width, rows_of, good_viewport}
+use Rattle.rules.specs.Boxes.{good_viewport}
 use Rattle.rules.specs.Inputs.{few-paints}
-use Rattle.rules.specs.Plans.{Frame, bucket, Step}
+use Rattle.rules.specs.Plans.{Frame, bucket}
 use Rattle.rules.specs.Setups.{Mode, Setup, frame}
 use Rattle.rules.specs.Recording.{Recording, File, parsed, recording, good-records, good-order}
 use Rattle.rules.specs.Roomless.{roomless}
-use Rattle.rules.specs.Logged.{walk-logged}
-use Rattle.rules.specs.Walk.{frame-of}
-use Rattle.rules.specs.Rows.{Row, row-ops, fresh-row}
-use Rattle.rules.specs.Painting as painting
 use Rattle.rules.specs.Painting.{Piece, Entry, received}
 use Rattle.rules.proofs.All.{never}
 use Rattle.rules.proofs.laws.Answers.{settle-number}
@@ -26,7 +20,7 @@ use Rattle.rules_picture.specs.Recorded.{history, Readable, said}
 use Rattle.rules_picture.proofs.Cases.{by}
 use Rattle.rules_picture.proofs.Roomless.{roomless-done}
 use Rattle.rules_reason.specs.Answers.{off-screen}
-use Rattle.rules_reason.specs.TileList.{roomless-frame, judge-roomless, or-else, entries-of, judge-list, tile-listed, listed-in, tile-list, most-entries}
+use Rattle.rules_reason.specs.TileList.{roomless-frame, judge-roomless, or-else, entries-of, judge-list, tile-listed, tile-list, most-entries}
 use Rattle.screen.specs.Tables.{ScreenLent}
 use Rattle.cmd.specs.Pieces.{piece-words, laid}
 use Rattle.file.proofs.Laws.{sound}
@@ -34,18 +28,17 @@ use Rattle.walk.specs.Recorded.{recorded-in, recorded}
 use Rattle.walk.proofs.Accepted.{good-frame, records-judged}
 use Rattle.refine_file.specs.Played.{place}
 use Rattle.tile.specs.Telling.{Line}
-use Rattle.tile.specs.Listed.{lines-from, listed-lines, was-told, line-hides, entries-read, piece-of, in-room, told-somewhere, tile-told, told-in, list-told, Listed, listed-over, room-in}
+use Rattle.tile.specs.Listed.{lines-from, listed-lines, was-told, line-hides, entries-read, piece-of, in-room, told-somewhere, tile-told, told-in, list-told, listed-over, room-in}
 use Rattle.tile.specs.Explained.{told_of}
-use Rattle.refine_tile.specs.Retold.{Retold}
 use Rattle.refine_tile.proofs.Owned.{paints-few}
 use Rattle.refine_tile.proofs.ListRules.{retells, list-rules}
-use Rattle.theorem_picture.specs.Reached.{Reached, begin-at}
+use Rattle.theorem_picture.specs.Reached.{begin-at}
 use Rattle.rules_picture.specs.Turns.{from}
 use Rattle.theorem_picture.specs.Turns.{pieces-in, log}
 use Rattle.theorem_picture.proofs.Pieces.{pieces-back}
 use Rattle.theorem_picture.proofs.Picture.{picture}
 use Rattle.theorem_picture.proofs.Recorded.{taken-reached, taken-begins, recorded-taken}
-use Rattle.theorem_reason.specs.Lists.{ListLeft, List-is-plain, Recorded-roomless, ListIs, List-received, list-numbers, List-without-room, call-left}
+use Rattle.theorem_reason.specs.Lists.{ListLeft, List-is-plain, Recorded-roomless, List-received, list-numbers, List-without-room, call-left}
 use Rattle.theorem_reason.proofs.Explained.{there-on}
 use Rattle.theorem_reason.proofs.Frames.{frames-same}
 use Rattle.theorem_reason.proofs.Counted.{Told-number, told-number}
@@ -135,6 +128,9 @@ module _ (tile : ℕ) (es : List Entry) (old : List ℕ) where
   words-long : length (join piece-words pieces) ≡ piece-size * length es
   words-long = pieces-long pieces ∙ ap (λ (n : ℕ). piece-size * n) (length-map es (piece-of tile))
 
+  words-laid : take (piece-size * length es) (laid pieces old) ≡ join piece-words pieces
+  words-laid = take_at (join piece-words pieces) _ (piece-size * length es) words-long
+
   rest-kept : drop (piece-size * length es) (laid pieces old) ≡ drop (piece-size * length es) old
   rest-kept = drop_at (join piece-words pieces) _ (piece-size * length es) words-long ∙ ap (λ (n : ℕ). drop n old) words-long
 
@@ -149,6 +145,7 @@ list-left tile a old f =
     record {
       number = refl;
       count = refl;
+      words = words-laid tile a.value old;
       entries = read-back tile a.value old;
       rest = rest-kept tile a.value old;
       long = laid-long tile a.value old f.fits;
@@ -227,7 +224,7 @@ list-received ws q l z s row tile h k ts fin =
     ∙ ap (in-room room) same) in
     record {
       answer = answers;
-      words = λ list e.
+      pieces = λ list e.
           let a = list-told q.mode q.width ws row tile (room-in list) in
           let is : a ≡ in-room (room-in list) es = list-rules q.mode q.width ws row tile (room-in list) ∙ answers (room-in list) in
           let v : a.value ≡ es = ap (λ (x : Answer (List Entry)). x.value) is ∙ in-room-done (room-in list) es (sym (ap (λ (x : Answer (List Entry)). x.number) is) ∙ e) in

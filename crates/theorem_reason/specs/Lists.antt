@@ -1,9 +1,9 @@
 -- A tile's list without rows, at the words: what the call `list_tile` answers and leaves is the rules' list, and of a recording that is accepted it is what the
 -- tile receives by painting.
-use Rattle.std.specs.Prelude.{ℕ, ◌*◌, ◌/◌, ◌≤◌, ◌<◌, ◌≡◌, true, List, [], ◌∷◌, map, length, drop, eqb}
+use Rattle.std.specs.Prelude.{ℕ, ◌*◌, ◌/◌, ◌≤◌, ◌<◌, ◌≡◌, true, List, [], ◌∷◌, map, length, take, drop, eqb}
 use Rattle.sizes.specs.Sizes.{piece-size}
 use Rattle.sizes.specs.declared.width.Width.{Width}
-use Rattle.rules.specs.Lists.{some_of}
+use Rattle.rules.specs.Lists.{some_of, join}
 use Rattle.rules.specs.Answers.{Answer, Done, BadViewport, BadForm, BadRecord, BadOrder, Deep, Ids, FullAttrs, BadRun, NoRoom}
 use Rattle.rules.specs.Boxes.{width, rows_of}
 use Rattle.rules.specs.Plans.{Frame}
@@ -14,6 +14,7 @@ use Rattle.rules.specs.Painting.{Entry, received}
 use Rattle.rules_reason.specs.TileList.{roomless-frame, tile-list, most-entries}
 use Rattle.rules_picture.specs.Recorded.{history, Readable, said}
 use Rattle.rules_picture.specs.Turns.{from}
+use Rattle.cmd.specs.Pieces.{piece-words}
 use Rattle.screen.specs.Tables.{ScreenLent}
 use Rattle.walk.specs.Recorded.{recorded}
 use Rattle.refine_file.specs.Played.{place}
@@ -22,11 +23,12 @@ use Rattle.theorem_picture.specs.Reached.{begin-at}
 use Rattle.theorem_picture.specs.Turns.{pieces-in, Turn, log}
 use Rattle.theorem_picture.specs.Picture.{finished}
 
--- What is left of the words `old` where a tile's list was answered by a: as many pieces as entries, which read back are the entries as pieces of the tile
--- alone, oldest first; the words after them stay. Refused, there is no entry and every word is as it was.
+-- What is left of the words `old` where a tile's list was answered by a: the words of as many pieces as there are entries, and read back they are the entries as
+-- pieces of the tile alone, oldest first; the words after them stay. Refused, there is no entry and every word is as it was.
 pub record ListLeft (tile : ℕ) (a : Answer (List Entry)) (old : List ℕ) (o : Listed) : Type 0 where
   pub number : o.number ≡ a.number
   pub count : o.count ≡ length a.value
+  pub words : take (piece-size * o.count) o.list ≡ join piece-words (map (piece-of tile) a.value)
   pub entries : pieces-in o.count o.list ≡ map (piece-of tile) a.value
   pub rest : drop (piece-size * o.count) o.list ≡ drop (piece-size * o.count) old
   pub long : length o.list ≡ length old
@@ -53,7 +55,7 @@ Recorded-roomless =
 -- The tile's list is es, wherever there is room for it; and what the tile receives of the pieces that the call leaves is es.
 pub record ListIs (m : Mode) (w : Width) (f : File) (row tile : ℕ) (es : List Entry) : Type 0 where
   pub answer : (room : ℕ) → tile-list m w f row tile room ≡ in-room room es
-  pub words : (list : List ℕ) → (call-left m w f row tile list).number ≡ Done
+  pub pieces : (list : List ℕ) → (call-left m w f row tile list).number ≡ Done
       → received tile (pieces-in (call-left m w f row tile list).count (call-left m w f row tile list).list) ≡ es
 
 -- Of a recording that is accepted, and of any painting calls after which the row has finished, the tile has received exactly the list's entries.

@@ -19,6 +19,7 @@ use crate::whole::looks::look_at;
 use crate::whole::pieces::{Cut, most_runs, put_fill};
 use crate::whole::reading::{Hull, Look, Partly};
 use cmd::command::CmdWords;
+use cmd::piece::PieceWords;
 use row::judge::is_good_summary;
 use sizes::{DEPTHS, END, FIRST, LARGEST, MOST_LAYERS, PIECE, RENDERS};
 

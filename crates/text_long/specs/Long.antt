@@ -1,5 +1,5 @@
 -- Long files: their words, and what is lent for them.
-use Rattle.std.specs.Prelude.{◌≡◌, ℕ, ◌+◌, ◌/◌, cond, List, length, take, ltb, Option, Some, None, Result, Ok, Err}
+use Rattle.std.specs.Prelude.{◌≡◌, ℕ, ◌+◌, ◌/◌, ◌%◌, Bool, ◌&&◌, cond, List, length, take, leb, ltb, eqb, Option, Some, None, Result, Ok, Err}
 use Rattle.sizes.specs.Sizes.{long-file-bytes}
 use Rattle.sizes.specs.declared.answers.Refusal.{Refusal}
 use Rattle.sizes.specs.declared.answers.Refusal.TheVariants.{BadForm}
@@ -11,6 +11,9 @@ long-words = long-file-bytes / 4
 
 abbrev pub long-room : ℕ
 long-room = long-file-bytes + 1
+
+abbrev pub good-long : ℕ → Bool
+good-long n = leb n long-file-bytes && eqb (n % 4) 0
 
 -- the words of a file's bytes; none of too many bytes, or of no whole words
 abbrev pub words-of-long : List ℕ → Option (List ℕ)

@@ -2,7 +2,7 @@
 #![tactic(auto)]
 
 ghost use Rattle.std.specs.Prelude.{◌≡◌, ◌≤◌, length, vec_len, IfOk};
-ghost use Rattle.text_long.specs.Long.{long-words, long-room, WordsRead};
+ghost use Rattle.text_long.specs.Long.{good-long, long-words, long-room, WordsRead};
 
 use file::words_of_bytes;
 use sizes::LONG_FILE_BYTES;
@@ -29,6 +29,13 @@ pub fn long_buffer(alloc: Global) -> Result<Vec<u8>, AllocError>
     Ok(vec![in alloc; 0; LONG_ROOM]?)
 }
 
+// At most 1,048,576 bytes, in whole words.
+fn is_good_long(n: usize) -> bool
+    ensures { result ≡ good-long n }
+{
+    n <= LONG_FILE_BYTES && n % 4 == 0
+}
+
 /// The words of a file's bytes, put first; how many there are. 3 for more than 1,048,576 bytes or no whole words.
 pub fn read_words(file: &[u8], words: &mut [u32]) -> Result<usize, Refusal>
     requires { length words.old ≡ long-words }
@@ -36,7 +43,7 @@ pub fn read_words(file: &[u8], words: &mut [u32]) -> Result<usize, Refusal>
     ensures within { IfOk result (λ n. n ≤ long-words) }
     ensures value { WordsRead file.now result words.new }
 {
-    if LONG_FILE_BYTES < file.len() || file.len() % 4 != 0 {
+    if !is_good_long(file.len()) {
         return Err(Refusal::BadForm);
     }
     Ok(words_of_bytes(file, words))

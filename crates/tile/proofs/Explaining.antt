@@ -38,17 +38,6 @@ module _ (w : ℕ) (r : Recording) (v : Box) (row tile : ℕ) (a : Asked) (l : S
       → explained-as Done l x ≡ reason-told a (told_of w v r row tile) l
   story-told t s x q = rw (told_here, s.number, s.value refl, q)
 
--- the viewport that a file says, in a setup
-module _ (r : Recording) (q : Setup) (b : Rect) (e : box_of b ≡ r.viewport) where
-  view-is : viewport-in q.mode (box_of b) ≡ (frame q r.viewport).viewport
-  view-is = rw e
-
-  pub view-seen : (v : Rect) → Ok v ≡ seen (viewport-in q.mode (box_of b)) → (frame q r.viewport).viewport ≡ box_of v
-  view-seen v h = sym view-is ∙ sym (ap box_of (good-seen _ v h).1)
-
-  pub view-unseen : {x : Refusal} → Err x ≡ seen (viewport-in q.mode (box_of b)) → good_viewport (frame q r.viewport).viewport ≡ false
-  view-unseen h = rw (← view-is) (bad-seen _ _ h).0
-
 -- an accepted recording, by where the tile lies
 module _ (f : Frame) (r : Recording) (row tile : ℕ) (a : Asked) (l : ScreenLent) where
   past-screen : off-screen f.viewport row tile ≡ true → explained-of f r row tile a l ≡ no-reason BadRun l

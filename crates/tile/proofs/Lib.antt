@@ -12,3 +12,9 @@ pub mod Plain
 pub mod Accepted
 pub mod Spots
 pub mod Explaining
+pub mod Told
+pub mod Listing
+pub mod Laying
+pub mod Putting
+pub mod Views
+pub mod ListTold

@@ -3,12 +3,15 @@ use Rattle.std.specs.Prelude.{ℕ, ◌+◌, ◌-◌, ◌*◌, ◌≤◌, ◌<◌
 use Rattle.sizes.specs.Sizes.{most-layers, most-attrs, most-filters, most-rows, last-id, tile-end}
 use Rattle.sizes.specs.declared.answers.Refusal.{Refusal}
 use Rattle.sizes.specs.Refusals.{number_of}
+use Rattle.sizes.specs.declared.width.Width.{Width}
+use Rattle.sizes.specs.Widths.{bucket-tiles}
 use Rattle.rules.specs.Lists.{every}
 use Rattle.rules.specs.Answers.{Answer, Done}
 use Rattle.rules.specs.Boxes.{Box}
 use Rattle.rules.specs.Segments.{good-segment}
 use Rattle.rules.specs.Inputs.{Props}
 use Rattle.rules.specs.Plans.{Layer, clip-box}
+use Rattle.rect.specs.declared.Rect.{Rect}
 use Rattle.rect.specs.Rects.{box_of, Small}
 use Rattle.segments.specs.Segs.{segs}
 use Rattle.inputs.specs.declared.Clip.{Clip}
@@ -82,6 +85,10 @@ pub record Spotted (s : Spot) : Type 0 where
   pub tile : s.tile < tile-end
   pub some-tiles : 0 < s.width
   pub few-tiles : s.width ≤ tile-end
+
+-- a row and a tile of the viewport's screen, with buckets of a width
+abbrev pub spot-at : Rect → Width → ℕ → ℕ → Spot
+spot-at v w row tile = record { viewport = v; row = row; tile = tile; width = bucket-tiles w }
 
 -- the clip box in force and how many layers are open, of the layers ls
 pub record Holds (v : Box) (h : Within) (ls : List Layer) : Type 0 where

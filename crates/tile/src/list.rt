@@ -1,17 +1,18 @@
 //! A tile's list without rows, the plain engine: a recording is gone through in draw order, and what the tile receives is read off the lines that were told of
 //! it. `list_tile` is a public call; the others are parts of it.
-ghost use Rattle.std.specs.Prelude.{◌≡◌, ◌+◌, ◌-◌, ◌*◌, ◌≤◌, ◌<◌, cond, true, map, length};
+ghost use Rattle.std.specs.Prelude.{◌≡◌, ◌+◌, ◌-◌, ◌*◌, ◌≤◌, ◌<◌, cond, true, map, length, leb, eqb, OnErr};
 ghost use Rattle.sizes.specs.Sizes.{most-attrs, piece-size, line-size, line-table};
 ghost use Rattle.sizes.specs.Refusals.{answer_number};
 ghost use Rattle.rules.specs.Lists.{such};
 ghost use Rattle.rect.specs.Rects.{mode_of};
 ghost use Rattle.file.specs.Held.{file_of};
 ghost use Rattle.cmd.specs.Pieces.{words_of, piece-words};
-ghost use Rattle.tile.specs.Places.{line_of};
+ghost use Rattle.tile.specs.Places.{line_of, spot-at};
+ghost use Rattle.tile.specs.Standings.{standing_number};
 ghost use Rattle.tile.specs.Listed.{line_at, lines-from, was-told, listed-lines, entry_of, entries-read, piece-of, entries-laid, list-told, listed-as, listed-over, in-room, room-in};
 
 use crate::call::{is_off_screen, tell_spot};
-use crate::steps::lines::{Line, line_at};
+use crate::steps::lines::{Line, Standing, line_at};
 use crate::steps::{Spot, Tale};
 use cmd::piece::{PieceWords, tag_of};
 use file::{File, Recording};
@@ -27,6 +28,22 @@ struct Listing {
     count: usize,
 }
 
+// One more line, line i, which stands so.
+fn with_line(listing: Listing, i: usize, standing: Standing) -> Listing
+    requires { listing.count < most-attrs + most-attrs }
+    ensures from { result.from ≡ cond (eqb (standing_number standing) 4) i listing.from }
+    ensures count { result.count ≡ cond (eqb (standing_number standing) 4) 0 listing.count + cond (leb 3 (standing_number standing)) 1 0 }
+{
+    let mut next = listing;
+    if standing.is_hiding() {
+        next = Listing { from: i, count: 0 };
+    }
+    if standing.is_told() {
+        next.count += 1;
+    }
+    next
+}
+
 // Of the first n lines: from the newest that hides on.
 fn listing_of(lines: &[u32], n: usize) -> Listing
     requires few { n ≤ most-attrs + most-attrs }
@@ -37,13 +54,7 @@ fn listing_of(lines: &[u32], n: usize) -> Listing
 {
     let mut listing = Listing { from: 0, count: 0 };
     for i in 0..n {
-        let standing = line_at(lines, i).standing;
-        if standing.is_hiding() {
-            listing = Listing { from: i, count: 0 };
-        }
-        if standing.is_told() {
-            listing.count += 1;
-        }
+        listing = with_line(listing, i, line_at(lines, i).standing);
     }
     listing
 }
@@ -88,7 +99,8 @@ fn put_list(lines: &[u32], n: usize, tile: u32, list: &mut [u32]) -> Result<usiz
     requires few { n ≤ most-attrs + most-attrs }
     requires lines { line-size * n ≤ length lines.now }
     requires tile { tile < 4294967295 }
-    ensures { listed-as result list.new ≡ listed-over tile (in-room (room-in list.old) (entries-read lines.now n)) list.old }
+    ensures listed { listed-as result list.new ≡ listed-over tile (in-room (room-in list.old) (entries-read lines.now n)) list.old }
+    ensures refused { OnErr result (list.new ≡ list.old) }
 {
     let listing = listing_of(lines, n);
     if list.len() / PIECE < listing.count {
@@ -99,21 +111,15 @@ fn put_list(lines: &[u32], n: usize, tile: u32, list: &mut [u32]) -> Result<usiz
 }
 
 // The spot that is told of: the tile, or off the screen the first one, since a step's refusals do not go by the tile.
-fn spot_of(viewport: Rect, width: Width, row: u32, tile: u32, off: bool) -> Spot {
-    let width = width.tiles();
-    if off {
-        return Spot {
-            viewport,
-            row: 0,
-            tile: 0,
-            width,
-        };
-    }
+fn spot_of(viewport: Rect, width: Width, row: u32, tile: u32, off: bool) -> Spot
+    ensures { result ≡ spot-at viewport width (cond off 0 row) (cond off 0 tile) }
+{
+    let (row, tile) = if off { (0, 0) } else { (row, tile) };
     Spot {
         viewport,
         row,
         tile,
-        width,
+        width: width.tiles(),
     }
 }
 
@@ -130,8 +136,9 @@ pub fn list_tile(
     tile: u32,
     list: &mut [u32],
 ) -> Result<usize, Refusal>
-    ensures { listed-as result list.new
+    ensures listed { listed-as result list.new
         ≡ listed-over tile (list-told (mode_of mode) width (file_of file.entry) row tile (room-in list.old)) list.old }
+    ensures refused { OnErr result (list.new ≡ list.old) }
 {
     let file = Recording::read(file)?;
     let viewport = file.viewport().viewport_in(mode)?;

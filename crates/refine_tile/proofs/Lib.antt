@@ -9,3 +9,8 @@ pub mod Numbers
 pub mod Shows
 pub mod Searches
 pub mod Reasons
+pub mod Entries
+pub mod Limited
+pub mod Owned
+pub mod Refusals
+pub mod ListRules

@@ -14,7 +14,8 @@ use Rattle.rules_picture.proofs.Cases.{by}
 use Rattle.rules_reason.specs.Reasons.{Account, account-fill, account-pop, account-filter, account-step, accounts, covering, keeping, meets, layer-covers, layer-keeps}
 use Rattle.tile.specs.Telling as told
 use Rattle.tile.specs.Telling.{Line, standing-of, draw-line, closing-line, no-look, look, closing-look, met, in_row}
-use Rattle.refine_tile.specs.Retold.{entry_of, Says, Say, said, says}
+use Rattle.tile.specs.Listed.{entry_of}
+use Rattle.refine_tile.specs.Retold.{Says, Say, said, says}
 use Rattle.refine_tile.proofs.Rows.{rows-met, tiles-met, Even, meets-scene}
 use Rattle.refine_tile.proofs.Looks.{looked, and-implied}
 use Rattle.refine_tile.proofs.Inside.{Inside, PopFits, Fits, step-inside, Fitting, no_step, and_then}

@@ -10,7 +10,8 @@ use Rattle.rules_picture.proofs.Cases.{by}
 use Rattle.rules_reason.specs.Reasons.{Reason, no-segment, cut-away, row-untouched, shown-at, Asked, Account, account-of, place_of, hider-of, newest-hider, hidden, placed, because}
 use Rattle.tile.specs.Telling.{Line, standing-of, alpha-words, after-alpha, line-words, line-panel-at}
 use Rattle.tile.specs.Reading.{Mark, mark_at, marks, Search, no-search, is-asked, is-told, hider-in, anew, met, one_more, read, read_all, reason-by, reason-read}
-use Rattle.refine_tile.specs.Retold.{entry_of, tells, Says, Say, said, says, flat}
+use Rattle.tile.specs.Listed.{entry_of}
+use Rattle.refine_tile.specs.Retold.{tells, Says, Say, said, says, flat}
 use Rattle.refine_tile.proofs.Tells.{line-length}
 use Rattle.refine_tile.proofs.Numbers.{told-all, asks, Once, once}
 use Rattle.refine_tile.proofs.Shows.{hiding, hiding-yes, hiding-same, shown-anew, shown-more, hider-anew, hider-more, shown-all, names, Unnamed, place-first, place_none, place-last}
@@ -52,14 +53,14 @@ pub marks-said : (ls : List Line) (back : List ℕ) → marks (flat ls ++ back) 
 marks-said ls back = marks-seen [] 0 ls back refl
 
 -- a standing says whether something was told, and whether it hides
-standing-told : (c k t h : Bool) → leb 3 (standing-of c k t h) ≡ (c && k && t)
+pub standing-told : (c k t h : Bool) → leb 3 (standing-of c k t h) ≡ (c && k && t)
 standing-told true true true true = refl
 standing-told true true true false = refl
 standing-told true true false h = refl
 standing-told true false t h = refl
 standing-told false k t h = refl
 
-standing-hides : (c k t h : Bool) → eqb (standing-of c k t h) 4 ≡ (c && k && t && h)
+pub standing-hides : (c k t h : Bool) → eqb (standing-of c k t h) 4 ≡ (c && k && t && h)
 standing-hides true true true true = refl
 standing-hides true true true false = refl
 standing-hides true true false h = refl

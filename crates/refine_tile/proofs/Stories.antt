@@ -1,20 +1,18 @@
 -- Done steps of the rules fit the story of a tile: a screen's state and the story go together, and what was judged of a step is known of the story.
-use Rattle.std.proofs.Common.{ℕ, ◌+◌, arith, ◌≡◌, refl, sym, ◌∙◌, ap, Bool, true, false, ◌&&◌, not, cond, List, [], ◌∷◌, map, length, length-append, ltb, eqb, eqb-true, eq-eqb}
-use Rattle.sizes.specs.Sizes.{most-layers}
+use Rattle.std.proofs.Common.{ℕ, ◌+◌, arith, ◌≡◌, refl, sym, ◌∙◌, ap, true, false, ◌&&◌, not, cond, List, [], ◌∷◌, map, length, length-append}
 use Rattle.rules.specs.Lists.{is-empty}
-use Rattle.rules.specs.Answers.{first_of, Done, BadRecord, NoLayer, Deep, Ids, FullAttrs, FullRow, FullDepth}
+use Rattle.rules.specs.Answers.{Done, BadRecord, NoLayer}
 use Rattle.rules.specs.Boxes.{Box}
 use Rattle.rules.specs.Segments.{Segment}
 use Rattle.rules.specs.Inputs.{Paint, Draw, draw-segments, Props, Filter, good-filter-fill}
-use Rattle.rules.specs.Attributes.{attrs-full}
-use Rattle.rules.specs.Rows.{Row, fresh-row, row-ops}
+use Rattle.rules.specs.Rows.{Row, RowOps, fresh-row, row-ops}
 use Rattle.rules.specs.Plans.{Frame, Layer, State, Step, a-fill, a-push, a-pop, a-filter, Plan, still, box_of, with-paint, layer-box, touches-all, filter-box, draws-nothing, plan-fill, plan-push, plan-pop, plan-filter-in, plan-filter, plan}
-use Rattle.rules.specs.Steps.{Screen, reset, done, passes, refusal, perform, touched, call}
+use Rattle.rules.specs.Steps.{Screen, reset, done, touched, call}
 use Rattle.rules.specs.Plain.{Told, OpenLayer, Story, untold, touch-all, box-now, here, in_rows, tell-fill, tell-push, tell-pop, tell-filter, tell-step, tell-steps}
 use Rattle.rules_picture.specs.Built.{Built, no_step, then}
 use Rattle.rules_picture.proofs.Cases.{by}
 use Rattle.rules_picture.proofs.Shape.{touched-layers}
-use Rattle.rules_picture.proofs.Stepped.{call-done}
+use Rattle.rules_picture.proofs.Stepped.{call-carried}
 use Rattle.rules_picture.proofs.Follows.{layer-in}
 use Rattle.refine_tile.proofs.Inside as fits
 use Rattle.refine_tile.proofs.Inside.{PopFits, Fits, Fitting}
@@ -41,9 +39,9 @@ pub filter-planned : (n : ℕ) (f : Filter) (q : ℕ) (s : State) (b : Box) → 
 unfolding plan-filter
 filter-planned n f q s b e j = rw (filter-good n f q s j) (ap (λ (c : Box). cond (draws-nothing f c) (still Done s) (plan-filter-in c n f q s)) e)
 
-pub done-state : (p : Plan) (s : Screen Row) → (done Row row-ops p s).state ≡ planned p s.state
+pub done-state : {R : Type 0} (ops : RowOps R) (p : Plan) (s : Screen R) → (done R ops p s).state ≡ planned p s.state
 unfolding done
-done-state p s = refl
+done-state ops p s = refl
 
 module _ (w : ℕ) (v : Box) (row tile : ℕ) where
   fill-stands : (ps : List Paint) (ss : List Segment) (d : Draw) (o : Story) (s : State) → Stands v o s
@@ -130,20 +128,21 @@ module _ (w : ℕ) (v : Box) (row tile : ℕ) where
   step-stands (a-pop ss) js o s h j = pop-stands ss js o s h o.open-layers refl s.layers h.opened j
   step-stands (a-filter n f q) js o s h j = (tt, filter-stands n f q o s h j)
 
-  -- a done step
-  pub call-stands : (x : Step) (o : Story) (s : Screen Row) → Stands v o s.state → (call Row row-ops x s).number ≡ Done
-      → Fits x o × Stands v (tell-step w v row tile x o) (call Row row-ops x s).value.state
-  call-stands x o s h e =
-      let (j, q) = call-done x s e in
-      let r = step-stands x (touched Row row-ops (length s.state.layers) 0 s.rows) o s.state h j in
-      (r.0, rw (q, done-state (plan x (touched Row row-ops (length s.state.layers) 0 s.rows) s.state) s) r.1)
+  -- a done step, on rows of any kind
+  pub call-stands : {R : Type 0} (ops : RowOps R) (x : Step) (o : Story) (s : Screen R) → Stands v o s.state → (call R ops x s).number ≡ Done
+      → Fits x o × Stands v (tell-step w v row tile x o) (call R ops x s).value.state
+  call-stands {R} ops x o s h e =
+      let js = touched R ops (length s.state.layers) 0 s.rows in
+      let (j, q) = call-carried ops x s e in
+      let r = step-stands x js o s.state h j in
+      (r.0, rw (q, done-state ops (plan x js s.state) s) r.1)
 
   -- the steps that built a screen fit one after the other
   pub built-fits : {xs : List Step} {s u : Screen Row} → Built xs s u → (o : Story) → Stands v o s.state → Fitting w v row tile xs o × Stands v (tell-steps w v row tile xs o) u.state
   unfolding tell-steps
   built-fits no_step o h = (fits.no_step, h)
   built-fits ((then) {x = x} {s = s} e b) o h =
-      let (f, k) = call-stands x o s h e in
+      let (f, k) = call-stands row-ops x o s h e in
       let (fs, l) = built-fits b (tell-step w v row tile x o) k in
       (fits.and_then f fs, l)
 
@@ -151,35 +150,3 @@ module _ (w : ℕ) (v : Box) (row tile : ℕ) where
 pub reset-stands : (f : Frame) → Stands f.viewport untold (reset fresh-row f).state
 unfolding reset
 reset-stands f = record { view = refl; next = refl; paints = refl; layers = refl; opened = refl }
-
--- what the limits leave of a done step
-pub record Limits (p : Plan) : Type 0 where
-  pub deep : ltb most-layers (length p.layers) ≡ false
-  pub ids : ltb 1048577 p.next ≡ false
-  pub attrs : attrs-full p.attrs ≡ false
-
-limits_of : (a b c d e : Bool) → first_of ((a, Deep) ∷ (b, Ids) ∷ (c, FullAttrs) ∷ (d, FullRow) ∷ (e, FullDepth) ∷ []) ≡ Done → (a ≡ false) × (b ≡ false) × (c ≡ false)
-limits_of true b c d e q = absurd (omega arith)
-limits_of false true c d e q = absurd (omega arith)
-limits_of false false true d e q = absurd (omega arith)
-limits_of false false false d e q = (refl, refl, refl)
-
-pub call-limits : (x : Step) (s : Screen Row) → (call Row row-ops x s).number ≡ Done → Limits (plan x (touched Row row-ops (length s.state.layers) 0 s.rows) s.state)
-unfolding call perform refusal
-call-limits x s e =
-    let p = plan x (touched Row row-ops (length s.state.layers) 0 s.rows) s.state in
-    let t = done Row row-ops p s in
-    let n = refusal Row row-ops p t in
-    let q : n ≡ Done = by (eqb n Done) (λ y. eqb-true n Done y) (λ z. rw z at e) in
-    let j = eq-eqb p.refused Done (call-done x s e).0 in
-    let k : first_of
-    ((ltb most-layers (length p.layers), Deep)
-    ∷ (ltb 1048577 p.next, Ids)
-    ∷ (attrs-full p.attrs, FullAttrs)
-    ∷ (passes Row row-ops row-ops.renders t.state.frame.c p.puts t.rows, FullRow)
-    ∷ (passes Row row-ops row-ops.depths t.state.frame.d p.puts t.rows, FullDepth)
-    ∷ []) ≡ Done = rw j at q in
-    let l = limits_of _ _ _
-    (passes Row row-ops row-ops.renders t.state.frame.c p.puts t.rows)
-    (passes Row row-ops row-ops.depths t.state.frame.d p.puts t.rows) k in
-    record { deep = l.0; ids = l.1; attrs = l.2 }

@@ -20,6 +20,7 @@ use Rattle.rules.proofs.laws.Bounds.{judged-facts}
 use Rattle.rules_picture.proofs.Cases.{by, same_test}
 use Rattle.rules_picture.proofs.Shape.{Shape, not_yet, shape-most, shape-touch, shape-inner, shape-closed, shape-kept, touched-layers}
 use Rattle.rules_picture.proofs.Follows.{layer-in}
+use Rattle.rules_picture.proofs.Limits.{Limits}
 use Rattle.cmd.specs.Attrs.{words-at}
 use Rattle.tile.specs.Telling.{Telling, Line, line-words, alpha-words, after-alpha, no-look, look, with-line, tell-fill, tell-push, tell-pop, filtered, tell-filter, tell-at, in_row}
 use Rattle.refine_tile.specs.Retold.{flat}
@@ -27,7 +28,7 @@ use Rattle.refine_tile.proofs.Rows.{rows-met}
 use Rattle.refine_tile.proofs.Looks.{looked}
 use Rattle.refine_tile.proofs.Inside.{PopFits, Fits}
 use Rattle.refine_tile.proofs.Lines.{fill-line, pop-line, filter-line, fill-lines, pop-lines, filter-lines, step_lines}
-use Rattle.refine_tile.proofs.Stories.{Stands, Limits, filter-planned}
+use Rattle.refine_tile.proofs.Stories.{Stands, filter-planned}
 
 pub line-length : (l : Line) → length (line-words l) ≡ line-size
 line-length l = go l.alpha

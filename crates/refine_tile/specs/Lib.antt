@@ -1,1 +1,2 @@
 pub mod Retold
+pub mod ListRules

@@ -4,15 +4,11 @@ use Rattle.sizes.specs.Sizes.{most-attrs}
 use Rattle.rules.specs.Lists.{keep, join}
 use Rattle.rules.specs.Boxes.{Box}
 use Rattle.rules.specs.Plans.{Step}
-use Rattle.rules.specs.Painting.{Entry}
 use Rattle.rules.specs.Plain.{untold, tell-steps}
 use Rattle.rules_reason.specs.Reasons.{Account, accounts}
 use Rattle.sizes.specs.Sizes.{line-size}
 use Rattle.tile.specs.Telling.{Telling, Line, standing-of, line-words}
-
--- the entry that a line tells
-abbrev pub entry_of : Line → Entry
-entry_of l = record { layer = l.layer; attribute = l.attribute; alpha = l.alpha; nesting = l.nesting; panel = l.panel }
+use Rattle.tile.specs.Listed.{entry_of}
 
 -- what covers the tile, after the cut too, in a touched row, is told
 abbrev pub tells : Account → Bool

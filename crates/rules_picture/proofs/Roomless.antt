@@ -1,8 +1,8 @@
 -- Where the rules' walk of a recording is done, so is its walk with room for everything, by the same steps.
-use Rattle.std.proofs.Common.{ℕ, zero, suc, ◌-◌, arith, ◌≡◌, refl, sym, ◌∙◌, ap, false, Option, None, Some, List, [], ◌∷◌, map, length, replicate, le-ltb, eq-eqb}
+use Rattle.std.proofs.Common.{ℕ, zero, suc, ◌-◌, arith, ◌≡◌, refl, sym, ◌∙◌, ap, false, Option, None, Some, List, [], ◌∷◌, map, length, replicate, le-ltb, eqb, eqb-true, eq-eqb}
 use mathlib.Core.List.{foldl}
 use Rattle.rules.specs.Lists.{change, times}
-use Rattle.rules.specs.Answers.{answer, Done}
+use Rattle.rules.specs.Answers.{answer, settle, Done}
 use Rattle.rules.specs.Spans.{Span}
 use Rattle.rules.specs.Boxes.{rows_of}
 use Rattle.rules.specs.Split.{Part, regular, buckets, split}
@@ -14,8 +14,9 @@ use Rattle.rules.specs.Logged.{Logged, logged-call, walk-logged}
 use Rattle.rules.specs.Roomless.{buffers-alone}
 use Rattle.rules.proofs.Follows.{Agrees, walk-agrees}
 use Rattle.rules_picture.specs.Roomless.{Roomless-done}
+use Rattle.rules_picture.proofs.Cases.{by}
 use Rattle.rules_picture.proofs.Stepped.{call-done}
-use Rattle.rules_picture.proofs.Limits.{Limits, call-limits}
+use Rattle.rules_picture.proofs.Limits.{Limits, limit, call-limits}
 
 -- the open buffers of a row
 abbrev levels : Row → ℕ
@@ -69,6 +70,10 @@ unfolding touched
 touched-levels n i [] = refl
 touched-levels n i (r ∷ rs) = rw (touched-levels n (suc i) rs)
 
+-- the number of what is settled
+pub settled : {S : Type 0} (n : ℕ) (s t : S) → (settle n s t).number ≡ n
+settled n s t = by (eqb n Done) (λ y. rw y (sym (eqb-true n Done y))) (λ z. rw z)
+
 -- a row of these is never full
 never-full : (n : ℕ) (ps : List Put) (rs : List ℕ) → passes ℕ buffers-alone (λ (m : ℕ). 0) n ps rs ≡ false
 unfolding passes
@@ -88,10 +93,20 @@ done-small : (p : Plan) (s : Screen Row) → done ℕ buffers-alone p (small s) 
 unfolding done
 done-small p s = rw (puts-levels (bucket s.state.frame) (length p.layers) p.puts s.rows)
 
--- what is within the limits is not refused here
-not-refused : (p : Plan) (t : Screen ℕ) → p.refused ≡ Done → Limits p → refusal ℕ buffers-alone p t ≡ Done
+-- the limits alone refuse here what is not refused for its own inputs
+refused-by : (p : Plan) (t : Screen ℕ) → refusal ℕ buffers-alone p t ≡ limit p
 unfolding refusal
-not-refused p t e l = rw (eq-eqb p.refused Done e, l.deep, l.ids, l.attrs, never-full t.state.frame.c p.puts t.rows, never-full t.state.frame.d p.puts t.rows)
+refused-by p t = rw (never-full t.state.frame.c p.puts t.rows, never-full t.state.frame.d p.puts t.rows)
+
+not-refused : (p : Plan) (t : Screen ℕ) → p.refused ≡ Done → Limits p → refusal ℕ buffers-alone p t ≡ Done
+not-refused p t e l = refused-by p t ∙ rw (eq-eqb p.refused Done e, l.deep, l.ids, l.attrs)
+
+-- a call's number here
+pub call-limit : (x : Step) (s : Screen ℕ) → (call ℕ buffers-alone x s).number ≡ limit (plan x (touched ℕ buffers-alone (length s.state.layers) 0 s.rows) s.state)
+unfolding call perform
+call-limit x s =
+    let p = plan x (touched ℕ buffers-alone (length s.state.layers) 0 s.rows) s.state in
+    settled (refusal ℕ buffers-alone p (done ℕ buffers-alone p s)) s (done ℕ buffers-alone p s) ∙ refused-by p (done ℕ buffers-alone p s)
 
 performed : (x : Step) (s : Screen ℕ) (p : Plan) → plan x (touched ℕ buffers-alone (length s.state.layers) 0 s.rows) s.state ≡ p
     → refusal ℕ buffers-alone p (done ℕ buffers-alone p s) ≡ Done → call ℕ buffers-alone x s ≡ answer Done (done ℕ buffers-alone p s)
@@ -104,7 +119,7 @@ call-small x s e =
     let p = plan x js s.state in
     let d = call-done x s e in
     let same : plan x (touched ℕ buffers-alone (length s.state.layers) 0 (map levels s.rows)) s.state ≡ p = ap (λ (is : List ℕ). plan x is s.state) (sym (touched-levels (length s.state.layers) 0 s.rows)) in
-    performed x (small s) p same (not-refused p (done ℕ buffers-alone p (small s)) d.0 (call-limits x s e))
+    performed x (small s) p same (not-refused p (done ℕ buffers-alone p (small s)) d.0 (call-limits row-ops x s e))
     ∙ ap (λ (u : Screen ℕ). answer Done u) (done-small p s)
     ∙ ap (λ (u : Screen Row). answer Done (small u)) (sym d.1)
 

@@ -17,15 +17,21 @@ use Rattle.rules_picture.proofs.Pushes.{push-follows, filter-in}
 use Rattle.rules_picture.proofs.Pops.{pop-follows}
 
 -- a done call carries its plan out
+pub call-carried : {R : Type 0} (ops : RowOps R) (x : Step) (s : Screen R) → (call R ops x s).number ≡ Done
+    → ((plan x (touched R ops (length s.state.layers) 0 s.rows) s.state).refused ≡ Done)
+    × ((call R ops x s).value ≡ done R ops (plan x (touched R ops (length s.state.layers) 0 s.rows) s.state) s)
+unfolding call perform refusal
+call-carried {R} ops x s e =
+    let p = plan x (touched R ops (length s.state.layers) 0 s.rows) s.state in
+    let n = refusal R ops p (done R ops p s) in
+    let q : n ≡ Done = by (eqb n Done) (λ y. eqb-true n Done y) (λ z. rw z at e) in
+    (by (eqb p.refused Done) (λ y. eqb-true p.refused Done y) (λ z. rw z at q), rw (eq-eqb n Done q))
+
+-- .. over the rules' own rows
 pub call-done : (x : Step) (s : Screen Row) → (call Row row-ops x s).number ≡ Done
     → ((plan x (touched Row row-ops (length s.state.layers) 0 s.rows) s.state).refused ≡ Done)
     × ((call Row row-ops x s).value ≡ done Row row-ops (plan x (touched Row row-ops (length s.state.layers) 0 s.rows) s.state) s)
-unfolding call perform refusal
-call-done x s e =
-    let p = plan x (touched Row row-ops (length s.state.layers) 0 s.rows) s.state in
-    let n = refusal Row row-ops p (done Row row-ops p s) in
-    let q : n ≡ Done = by (eqb n Done) (λ y. eqb-true n Done y) (λ z. rw z at e) in
-    (by (eqb p.refused Done) (λ y. eqb-true p.refused Done y) (λ z. rw z at q), rw (eq-eqb n Done q))
+call-done x s e = call-carried row-ops x s e
 
 -- a call, done or refused, keeps the frame, and so the width
 pub call-frame : {R : Type 0} (ops : RowOps R) (x : Step) (s : Screen R) → (call R ops x s).value.state.frame ≡ s.state.frame

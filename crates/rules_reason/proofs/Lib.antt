@@ -2,3 +2,4 @@
 pub mod Cases
 pub mod Panels
 pub mod Printed
+pub mod TileLists

@@ -96,7 +96,7 @@ module _ (w : ℕ) (v : Box) (row tile : ℕ) where
       let l : Begins w v row tile u.state.attrs (call Row row-ops x s).value.state.attrs = built-begins b in
       let k = (step-stands w v row tile x js o s.state h j).1 in
       all_append (step-has w v row tile u.state.attrs x js o s.state h j (rw (ap (λ (y : Screen Row). y.state.attrs) q) at l))
-      (built-has b (tell-step w v row tile x o) (rw (q, done-state (plan x js s.state) s) k))
+      (built-has b (tell-step w v row tile x o) (rw (q, done-state row-ops (plan x js s.state) s) k))
 
 -- an entry has the panel of its attribute
 abbrev HasEntry : Attrs → Told → Type 0

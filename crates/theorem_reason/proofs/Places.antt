@@ -10,7 +10,8 @@ use Rattle.rules_picture.proofs.Cases.{by}
 use Rattle.rules_picture.proofs.Shown.{hides-of}
 use Rattle.rules_reason.specs.Reasons.{Asked, Account, account-of, place_of, newest-hider}
 use Rattle.tile.specs.Telling.{Line}
-use Rattle.refine_tile.specs.Retold.{entry_of, tells, Say, said, says}
+use Rattle.tile.specs.Listed.{entry_of}
+use Rattle.refine_tile.specs.Retold.{tells, Say, said, says}
 use Rattle.refine_tile.proofs.Numbers.{told-all, Numbered, all-numbered, a-paint, a-layer, more-paints, more-layers, is-paint, is-layer, asks, of-kind, Once, none_left, once}
 use Rattle.refine_tile.proofs.Shows.{hiding, names, Unnamed}
 use Rattle.theorem_reason.specs.Reasons.{Place, first, later, EntryOf, Unlisted, Newest, newest, older}

@@ -18,7 +18,8 @@ use Rattle.rules_picture.proofs.Cases.{by}
 use Rattle.rules_picture.proofs.Picture.{all_shown}
 use Rattle.rules_reason.specs.Reasons.{Reason, unknown-attribute, no-segment, cut-away, row-untouched, hidden-by, shown-at, Asked, Account, accounts, account-of, place_of, Hider, newest-hider, hidden as hidden-for, because, reason}
 use Rattle.tile.specs.Telling.{Line}
-use Rattle.refine_tile.specs.Retold.{entry_of, tells, Say, said, says}
+use Rattle.tile.specs.Listed.{entry_of}
+use Rattle.refine_tile.specs.Retold.{tells, Say, said, says}
 use Rattle.refine_tile.proofs.Inside.{inside-none}
 use Rattle.refine_tile.proofs.Lines.{steps-say}
 use Rattle.refine_tile.proofs.Stories.{reset-stands, built-fits}

@@ -21,6 +21,7 @@ use Rattle.text.proofs.Lengths.{plus, digits-few}
 use Rattle.text_long.specs.Long.{words-of-long}
 use Rattle.text_long.proofs.Words.{by-words}
 use Rattle.tile.specs.Listed.{list-told, Listed, listed-as, listed-over, room-in}
+use Rattle.refine_tile.proofs.ListRules.{list-rules}
 use Rattle.text_list.specs.Texts.{words-listed, bytes-listed, no-width-told}
 use Rattle.text_list.proofs.Entries.{lines-laid, words-laid, words-long, entries-few}
 

@@ -1,5 +1,5 @@
 -- What is listed of a file's bytes, and its text.
-use Rattle.std.proofs.Common.{◌≡◌, ℕ, suc, ◌+◌, ◌*◌, ◌/◌, ◌≤◌, refl, sym, ap, ◌∙◌, arith, Bool, true, false, ◌||◌, cond, List, [], ◌∷◌, ◌++◌, Option, None, Some, Result, Ok, Err, length, length-append, drop, ltb, ne_eqb}
+use Rattle.std.proofs.Common.{◌≡◌, ℕ, ◌+◌, ◌*◌, ◌≤◌, refl, sym, ap, ◌∙◌, arith, Bool, true, false, ◌||◌, cond, List, [], ◌∷◌, ◌++◌, Option, None, Some, Result, Ok, Err, length, length-append, drop, ltb, ne_eqb}
 use Rattle.sizes.specs.Sizes.{piece-size}
 use Rattle.sizes.specs.declared.answers.Refusal.{Refusal}
 use Rattle.sizes.specs.declared.edition.Edition.{Edition}
@@ -7,13 +7,13 @@ use Rattle.sizes.specs.declared.width.Width.{Width}
 use Rattle.sizes.specs.Refusals.{number_of}
 use Rattle.sizes.proofs.Refusals.{not_done}
 use Rattle.rules.specs.Lists.{join, is_none}
-use Rattle.rules.specs.Answers.{Answer, answer, BadForm, BadViewport}
+use Rattle.rules.specs.Answers.{Answer, answer, BadForm}
 use Rattle.rules.specs.Setups.{Mode}
-use Rattle.rules.specs.Recording.{File, in-edition, parsed}
+use Rattle.rules.specs.Recording.{in-edition, parsed}
 use Rattle.rules.specs.Lines.{words_of, digits}
 use Rattle.rules.specs.Painting.{Entry}
 use Rattle.rules_reason.specs.Answers.{refused-bytes}
-use Rattle.rules_reason.specs.TileList.{most-entries, tile-list, entry-bytes, answer-bytes, list-text, bad-long-form, no-width-text, list-word, list-line}
+use Rattle.rules_reason.specs.TileList.{most-entries, tile-list, entry-bytes, answer-bytes, list-text, bad-long-form, no-width-text, list-line}
 use Rattle.text.specs.Bytes.{piece-room, details-text}
 use Rattle.text.specs.Files.{no-width-of}
 use Rattle.text.specs.Pieces.{pieces-at}
@@ -23,7 +23,7 @@ use Rattle.text_long.proofs.Words.{by-words}
 use Rattle.tile.specs.Listed.{list-told, Listed, listed-as, listed-over, room-in}
 use Rattle.refine_tile.proofs.ListRules.{list-rules}
 use Rattle.text_list.specs.Texts.{words-listed, bytes-listed, no-width-told}
-use Rattle.text_list.proofs.Entries.{lines-laid, words-laid, words-long, entries-few}
+use Rattle.text_list.proofs.EntryLines.{lines-laid, words-laid, words-long, entries-few}
 
 -- where a call has left its answer a in a list
 module _ (t : ℕ) (a : Answer (List Entry)) (old new : List ℕ) where
@@ -73,9 +73,9 @@ module _ (e : Edition) (m : Mode) (w : Width) (bs : List ℕ) (row tile : ℕ) w
   none-listed h = rw h
 
   -- the words are listed by the rules
-  pub some-listed : (ws : List ℕ) → words-of-long bs ≡ Some ws → {r : Result ℕ Refusal} {old new : List ℕ} → length old ≡ piece-size * most-entries
+  pub some-listed : (ws : List ℕ) → words-of-long bs ≡ Some ws → (r : Result ℕ Refusal) (old new : List ℕ) → length old ≡ piece-size * most-entries
       → listed-as r new ≡ listed-over tile (list-told m w (in-edition e ws) row tile (room-in old)) old → listed-as r new ≡ listed-over tile (bytes-listed e m w bs row tile) old
-  some-listed ws h room l = rw h (rw (room, list-rules m w (in-edition e ws) row tile most-entries) at l)
+  some-listed ws h r old new room l = rw h (rw (room, list-rules m w (in-edition e ws) row tile most-entries) at l)
 
 -- where the width is none
 module _ (e : Edition) (bs : List ℕ) where

@@ -1,10 +1,9 @@
 -- The lines of pieces that entries were laid as are the entries' lines.
-use Rattle.std.proofs.Common.{◌≡◌, ℕ, zero, suc, ◌+◌, ◌*◌, ◌≤◌, refl, sym, ap, ◌∙◌, arith, Bool, true, false, cond, List, [], ◌∷◌, ◌++◌, map, Option, None, Some, length, length-append, drop, drop-drop}
+use Rattle.std.proofs.Common.{◌≡◌, ℕ, zero, suc, ◌+◌, ◌*◌, ◌≤◌, refl, sym, ap, ◌∙◌, arith, Bool, true, false, List, [], ◌∷◌, ◌++◌, map, Option, None, Some, length, drop, drop-drop}
 use Rattle.sizes.specs.Sizes.{piece-size}
 use Rattle.rules.specs.Lists.{join}
-use Rattle.rules.specs.Lines.{number, alpha-bytes}
 use Rattle.rules.specs.Painting.{Entry}
-use Rattle.rules_reason.specs.TileList.{entry-text, entry-bytes}
+use Rattle.rules_reason.specs.TileList.{entry-bytes}
 use Rattle.cmd.specs.Pieces.{piece-words}
 use Rattle.tile.specs.Listed.{piece-of}
 use Rattle.text.specs.Places.{joined}

@@ -1,7 +1,7 @@
 //! What `tilelist` does with its arguments, from its input to its output: it lists what a tile of a recording receives, or of each recording of a stream.
 #![tactic(auto)]
 
-ghost use Rattle.std.specs.Prelude.{◌≡◌, ◌↔◌, ◌⊎◌, false, length, map, string_bytes, take, None, IfSome, IfErr, OnOk, IsErrAnd};
+ghost use Rattle.std.specs.Prelude.{◌≡◌, ◌≤◌, ◌↔◌, ◌⊎◌, false, length, map, string_bytes, take, None, IfSome, IfErr, OnOk, IsErrAnd};
 ghost use Rattle.std.specs.Io.KnownBytes.{Appends};
 ghost use Rattle.text_programs.specs.Failures.{IsOfWriting, IsUsage, IsUnwritten, Begins};
 ghost use Rattle.text_programs.specs.Arguments.{asked_about, read_arguments, wanted_of};
@@ -87,7 +87,7 @@ impl Answers for Listing<'_> {
 
     ghost text_room = { text-room };
 
-    fn put_line(i: u64, out: &mut [u8]) -> usize {
+    fn put_line(&self, i: u64, out: &mut [u8]) -> usize {
         line_text(i, out)
     }
 

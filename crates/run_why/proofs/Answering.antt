@@ -1,5 +1,5 @@
 -- What is answered about a file.
-use Rattle.std.proofs.Common.{◌≡◌, ℕ, ◌<◌, Bool, true, false, List, Option, length, take, None, Some, sym, ap, ◌∙◌, lt-ltb}
+use Rattle.std.proofs.Common.{◌≡◌, ℕ, ◌<◌, Bool, true, false, List, length, take, None, Some, sym, ap, ◌∙◌, lt-ltb}
 use Rattle.rules.specs.Answers.{BadForm}
 use Rattle.sizes.specs.declared.edition.Edition.{Edition}
 use Rattle.rules.specs.Setups.{Setup}
@@ -8,14 +8,12 @@ use Rattle.rules.specs.Lines.{words_of}
 use Rattle.rules_reason.specs.Answers as rule
 use Rattle.rules_reason.specs.Answers.{refused-bytes, why-words, why-text}
 use Rattle.text_programs.specs.Arguments.{Wanted}
-use Rattle.text_programs.specs.Streams.{PrintsFirst}
 use Rattle.text_programs.proofs.Cut.{cut}
-use Rattle.text_programs.proofs.Streaming.{nothing_first}
 use Rattle.text_files.proofs.Cut.{by_reading-cut}
 use Rattle.text_tiles.specs.Printed.{ReadsTo}
 use Rattle.text_why.specs.declared.Question.{Question}
 use Rattle.text_why.specs.Questions.{question-of}
-use Rattle.run_why.specs.Printed.{answer, item_answer}
+use Rattle.run_why.specs.Printed.{answer}
 
 module _ (row tile : ℕ) (x : rule.Question) (e : Edition) (q : Setup) where
   long-why : (xs : List ℕ) → 65536 < length xs → why-text e q xs row tile x ≡ refused-bytes BadForm
@@ -30,7 +28,3 @@ module _ (row tile : ℕ) (x : rule.Question) (e : Edition) (q : Setup) where
 -- a file that is cut where it is too long is answered about as the whole is
 pub answer-cut : (w : Wanted) (q : Question) → ReadsTo 65537 (answer w q)
 answer-cut w q p fs = by_reading-cut (λ e u gs. why-text e u gs p.row p.tile (question-of q)) (why-cut p.row p.tile (question-of q)) w.reading fs
-
--- nothing was answered of a stream
-pub none_answered : (w : Wanted) (q : Question) (known a : Option (List ℕ)) → PrintsFirst (item_answer w q) 12 known a a
-none_answered w q known a = nothing_first (item_answer w q) 12 known a

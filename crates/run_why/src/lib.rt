@@ -98,7 +98,7 @@ impl Answers for Reasons<'_> {
 
     ghost text_room = { text-room };
 
-    fn put_line(i: u64, out: &mut [u8]) -> usize {
+    fn put_line(&self, i: u64, out: &mut [u8]) -> usize {
         question_text(i, out)
     }
 

@@ -40,7 +40,7 @@ pub trait Answers {
     ghost text_room: { ℕ };
 
     /// The line before the text of item i, put first; how long it is.
-    fn put_line(i: u64, out: &mut [u8]) -> usize
+    fn put_line(&self, i: u64, out: &mut [u8]) -> usize
         requires { text_room ≤ length out.old }
         ensures value { result ≡ length (line i) }
         ensures out_after { take result out.new ≡ line i };
@@ -81,7 +81,7 @@ impl<A: Answers + Drop> Desk<'_, A> {
         ensures begun { Begins (W.contents output.old) (W.contents output.new) (A.line i) }
         ensures err { IfErr result IsOfWriting }
     {
-        let n = A::put_line(i, self.text);
+        let n = self.answers.put_line(i, self.text);
         write_text(output, &self.text[..n])
     }
 

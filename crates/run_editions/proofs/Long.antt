@@ -10,25 +10,14 @@ use Rattle.sizes.specs.Refusals.{number_of}
 use Rattle.rules.specs.Answers.{Answer, answer, settle, BadForm, Done}
 use Rattle.rules.specs.Setups.{Mode}
 use Rattle.rules.specs.Recording.{File, in-edition, shape, head, starts, good-count, records, sections, parsed}
-use Rattle.rules.specs.Lines.{words_of, bytes-of}
+use Rattle.rules.specs.Lines.{bytes-of}
 use Rattle.rules.specs.Conversions.{written, file-of, converted, judge-sections, conversion, convert-call, converted-bytes}
 use Rattle.rules.proofs.All.{and_left}
-use Rattle.file.specs.Words.{Filled, filled, filled-with, words-in}
-use Rattle.file.proofs.Bytes.{first-words, rules-words}
 use Rattle.convert.specs.Placed.{Placed, placed, put_first}
 use Rattle.convert.proofs.Records.{resized-count, records-count}
-use Rattle.run_editions.specs.Conversions.{good-long, ConvertedAs}
-
--- what depends on a file by its words, and is `bad` for bytes that are too many or no whole words
-pub by-long : {A : Type 0} (bad : A) (f : List ℕ → A) (fs : List ℕ)
-    → elim (ltb 1048576 (length fs)) [ true ↦ bad | false ↦ elim (words_of fs) [ None ↦ bad | Some ws ↦ f ws ] ] ≡ cond (good-long (length fs)) (f (words-in fs)) bad
-by-long {A} bad f fs = go (leb (length fs) 1048576) (eqb (length fs % 4) 0) refl refl
-  where
-    go : (x y : Bool) → leb (length fs) 1048576 ≡ x → eqb (length fs % 4) 0 ≡ y
-        → elim (ltb 1048576 (length fs)) [ true ↦ bad | false ↦ elim (words_of fs) [ None ↦ bad | Some ws ↦ f ws ] ] ≡ cond (x && y) (f (words-in fs)) bad
-    go false y p e = rw (lt-ltb 1048576 (length fs) (leb-false _ _ p))
-    go true false p e = rw (le-ltb 1048576 (length fs) (leb-true _ _ p), rules-words fs, e)
-    go true true p e = rw (le-ltb 1048576 (length fs) (leb-true _ _ p), rules-words fs, e)
+use Rattle.text_long.specs.Long.{words-of-long}
+use Rattle.text_long.proofs.Words.{by-words}
+use Rattle.run_editions.specs.Conversions.{ConvertedAs}
 
 -- sections of a shape have at most so many words
 abbrev most : List (ℕ × Bool) → ℕ
@@ -127,22 +116,16 @@ as-put a (Err x) old new h =
     rw (← number, none) refl
 
 module _ (m : Mode) (d e : Edition) (fs : List ℕ) where
-  by-good : converted-bytes m e d fs ≡ cond (good-long (length fs)) (let a = conversion m e (in-edition d (words-in fs)) in answer a.number (bytes-of a.value)) (answer BadForm [])
+  by-read : converted-bytes m e d fs
+      ≡ elim (words-of-long fs) [ None ↦ answer BadForm [] | Some ws ↦ let a = conversion m e (in-edition d ws) in answer a.number (bytes-of a.value) ]
   unfolding converted-bytes
-  by-good = by-long (answer BadForm []) (λ ws. let a = conversion m e (in-edition d ws) in answer a.number (bytes-of a.value)) fs
+  by-read = by-words (answer BadForm []) (λ ws. let a = conversion m e (in-edition d ws) in answer a.number (bytes-of a.value)) fs
 
-  pub bad-bytes : good-long (length fs) ≡ false → converted-bytes m e d fs ≡ answer 3 []
-  bad-bytes g = by-good ∙ rw g
+  pub bad-bytes : words-of-long fs ≡ None → converted-bytes m e d fs ≡ answer 3 []
+  bad-bytes g = by-read ∙ rw g
 
-  pub good-bytes : good-long (length fs) ≡ true → (r : Result ℕ Refusal) (n : ℕ) (old new : List ℕ) → 200713 ≤ n
-      → placed r new ≡ put_first (convert-call m e n (in-edition d (words-in fs))) old → ConvertedAs (converted-bytes m e d fs) r new
-  good-bytes g r n old new h p =
-      let f = in-edition d (words-in fs) in
-      rw (by-good, g) (as-put (conversion m e f) r old new (rw (roomy m e f n h) at p))
-
--- the words that a file's bytes fill
-pub words-read : (fs ws : List ℕ) {n : ℕ} {vs : List ℕ} → filled n vs ≡ filled-with fs ws → take n vs ≡ words-in fs
-words-read fs ws f =
-    let count = ap (λ (o : Filled). o.count) f in
-    let words = ap (λ (o : Filled). o.words) f in
-    rw (words, count) (first-words fs ws)
+  pub good-bytes : (ws : List ℕ) → words-of-long fs ≡ Some ws → (r : Result ℕ Refusal) (n : ℕ) (old new : List ℕ) → 200713 ≤ n
+      → placed r new ≡ put_first (convert-call m e n (in-edition d ws)) old → ConvertedAs (converted-bytes m e d fs) r new
+  good-bytes ws g r n old new h p =
+      let f = in-edition d ws in
+      rw (by-read, g) (as-put (conversion m e f) r old new (rw (roomy m e f n h) at p))

@@ -1,6 +1,6 @@
 -- What a file's bytes become, and what that is made in.
-use Rattle.std.specs.Prelude.{ℕ, ◌+◌, ◌*◌, ◌/◌, ◌%◌, ◌≡◌, Bool, ◌&&◌, List, [], length, take, leb, eqb, Result, Ok, Err}
-use Rattle.sizes.specs.Sizes.{long-file-bytes, most-records}
+use Rattle.std.specs.Prelude.{ℕ, ◌+◌, ◌*◌, ◌≡◌, List, [], length, take, Result, Ok, Err}
+use Rattle.sizes.specs.Sizes.{most-records}
 use Rattle.sizes.specs.Refusals.{number_of}
 use Rattle.sizes.specs.declared.answers.Refusal.{Refusal}
 use Rattle.sizes.specs.declared.edition.Edition.{Edition}
@@ -9,6 +9,7 @@ use Rattle.rules.specs.Answers.{Answer, answer, Done}
 use Rattle.rules.specs.Lines.{bytes-of}
 use Rattle.rules.specs.Conversions.{converted-bytes}
 use Rattle.rect.specs.Rects.{mode_of}
+use Rattle.text_long.specs.Long.{long-words}
 use Rattle.run_editions.specs.declared.conversion.Way.{Way}
 use Rattle.run_editions.specs.declared.conversion.Way.TheVariants.{New, Old}
 use Rattle.run_editions.specs.declared.conversion.Job.{Job}
@@ -27,21 +28,12 @@ target Old = One
 abbrev pub file_converted : Job → List ℕ → Answer (List ℕ)
 file_converted j bs = converted-bytes (mode_of j.mode) (target j.way) (source j.way) bs
 
-abbrev pub good-long : ℕ → Bool
-good-long n = leb n long-file-bytes && eqb (n % 4) 0
-
--- words of the longest file, of any converted one, and bytes of an item; bytes of the buffer that a file is read to
-abbrev pub long-words : ℕ
-long-words = long-file-bytes / 4
-
+-- words of any converted file, and bytes of an item
 abbrev pub converted-words : ℕ
 converted-words = 9 + most-records * 49
 
 abbrev pub item-room : ℕ
 item-room = 4 + 4 * converted-words
-
-abbrev pub long-room : ℕ
-long-room = long-file-bytes + 1
 
 -- a result and the words that stand first in a list are the rules' answer
 abbrev pub ConvertedAs : Answer (List ℕ) → Result ℕ Refusal → List ℕ → Type 0

@@ -6,18 +6,16 @@ ghost use Rattle.rules.specs.Recording.{in-edition};
 ghost use Rattle.rules.specs.Conversions.{convert-call, stream-item};
 ghost use Rattle.rect.specs.Rects.{mode_of};
 ghost use Rattle.convert.specs.Placed.{placed, put_first};
-ghost use Rattle.run_editions.specs.Conversions.{source, target, file_converted, good-long, long-words, converted-words, item-room, ConvertedAs, FileAs, Ready};
+ghost use Rattle.text_long.specs.Long.{long-words};
+ghost use Rattle.run_editions.specs.Conversions.{source, target, file_converted, converted-words, item-room, ConvertedAs, FileAs, Ready};
 
 use crate::bytes::put_words;
 use convert::{to_edition_one, to_edition_two};
-use file::words_of_bytes;
 use rect::Mode;
 use sizes::answers::Refusal;
-use sizes::{LONG_FILE_BYTES, MOST_RECORDS};
+use sizes::MOST_RECORDS;
 use std::alloc::{AllocError, Global};
-
-/// Words of the longest file.
-pub const LONG_WORDS: usize = LONG_FILE_BYTES / 4;
+use text_long::read_words;
 
 /// Words that a converted file has at most: its head, and seven counts, each with as many of the longest records as a section may have.
 pub const CONVERTED_WORDS: usize = 9 + MOST_RECORDS * 49;
@@ -47,13 +45,6 @@ pub struct Desk<'a> {
     pub text: &'a mut [u8],
 }
 
-/// Room for the words of the longest file.
-pub fn word_buffer(alloc: Global) -> Result<Vec<u32>, AllocError>
-    ensures { IfOk result (λ buffer. vec_len buffer ≡ long-words) }
-{
-    Ok(vec![in alloc; 0; LONG_WORDS]?)
-}
-
 /// Room for the words of any converted file.
 pub fn converted_buffer(alloc: Global) -> Result<Vec<u32>, AllocError>
     ensures { IfOk result (λ buffer. vec_len buffer ≡ converted-words) }
@@ -66,13 +57,6 @@ pub fn item_buffer(alloc: Global) -> Result<Vec<u8>, AllocError>
     ensures { IfOk result (λ buffer. vec_len buffer ≡ item-room) }
 {
     Ok(vec![in alloc; 0; ITEM_ROOM]?)
-}
-
-// At most 1,048,576 bytes, in whole words.
-fn is_good_long(n: usize) -> bool
-    ensures { result ≡ good-long n }
-{
-    n <= LONG_FILE_BYTES && n % 4 == 0
 }
 
 fn convert_words(words: &[u32], job: Job, out: &mut [u32]) -> Result<usize, Refusal>
@@ -99,10 +83,7 @@ fn convert_bytes(
     ensures within { IfOk result (λ n. n ≤ converted-words) }
     ensures value { ConvertedAs (file_converted job file.now) result converted.new }
 {
-    if !is_good_long(file.len()) {
-        return Err(Refusal::BadForm);
-    }
-    let n = words_of_bytes(file, words);
+    let n = read_words(file, words)?;
     convert_words(&words[..n], job, converted)
 }
 

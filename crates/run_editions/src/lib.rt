@@ -3,24 +3,25 @@
 //! written; for a refused one there are two words, 4,294,967,295 and the refusal's number.
 #![tactic(auto)]
 
-ghost use Rattle.std.specs.Prelude.{◌≡◌, ◌↔◌, ◌⊎◌, [], length, map, string_bytes, vec_len, None, IfOk, IfSome, IfErr, OnOk, IsErrAnd};
+ghost use Rattle.std.specs.Prelude.{◌≡◌, ◌↔◌, ◌⊎◌, [], length, map, string_bytes, None, IfOk, IfSome, IfErr, OnOk, IsErrAnd};
 ghost use Rattle.std.specs.Io.KnownBytes.{Appends};
 ghost use Rattle.rules.specs.Conversions.{stream-item};
 ghost use Rattle.rect.specs.Rects.{mode_of};
 ghost use Rattle.text_programs.specs.Arguments.{asked_about};
 ghost use Rattle.text_programs.specs.Streams.{PrintsFirst};
 ghost use Rattle.text_programs.specs.Failures.{IsOfReading, IsOfWriting, IsUsage, IsUnwritten, Begins};
-ghost use Rattle.run_editions.specs.Conversions.{long-room, Ready};
+ghost use Rattle.text_long.specs.Long.{long-room};
+ghost use Rattle.run_editions.specs.Conversions.{Ready};
 ghost use Rattle.run_editions.specs.Requests.{ask_of, read_arguments, IsOfFile, IsOfStream, AsksOfFile, AsksOfStream};
 ghost use Rattle.run_editions.specs.Printed.{about, job_becomes, item_asked, answered, printed, number_asked, outcome_number, item_of};
 
 use crate::arguments::{Ask, read_ask, read_options};
-use crate::conversion::{Desk, Job, converted_buffer, item_buffer, word_buffer};
+use crate::conversion::{Desk, Job, converted_buffer, item_buffer};
 use rect::Mode;
-use sizes::LONG_FILE_BYTES;
 use sizes::answers::Refusal;
-use std::alloc::{AllocError, Global};
+use std::alloc::Global;
 use std::io::{Read, Write};
+use text_long::{long_buffer, word_buffer};
 use text_programs::about::{asked_about, print_about};
 use text_programs::failure::{Failure, Stop};
 use text_programs::stream::{Replies, answer_all};
@@ -44,20 +45,11 @@ pub const USAGE: Usage = Usage {
 // The head of a file in a stream: its length in bytes.
 const HEAD: usize = 4;
 
-// Bytes of the buffer that a file is read to: the longest file, and one byte more, by which a longer one is known.
-const LONG_ROOM: usize = LONG_FILE_BYTES + 1;
-
 /// How it ended: what was asked is done, or the file is refused, and nothing is written.
 #[derive(Clone, Copy, Debug, PartialEq, Eq)]
 pub enum Outcome {
     Done,
     Refused(Refusal),
-}
-
-fn long_buffer(alloc: Global) -> Result<Vec<u8>, AllocError>
-    ensures { IfOk result (λ buffer. vec_len buffer ≡ long-room) }
-{
-    Ok(vec![in alloc; 0; LONG_ROOM]?)
 }
 
 // What each file of a stream is converted by: how, and what in.

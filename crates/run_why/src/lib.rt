@@ -3,19 +3,19 @@
 //! file; a length past the stream's end takes what is left.
 #![tactic(auto)]
 
-ghost use Rattle.std.specs.Prelude.{◌≡◌, ◌≤◌, ◌↔◌, ◌⊎◌, false, length, map, take, string_bytes, None, IfSome, IfErr, OnOk, IsErrAnd};
+ghost use Rattle.std.specs.Prelude.{◌≡◌, ◌≤◌, ◌↔◌, ◌⊎◌, ⊤, false, length, map, take, string_bytes, None, IfSome, IfErr, OnOk, IsErrAnd};
 ghost use Rattle.std.specs.Io.KnownBytes.{Appends};
 ghost use Rattle.rules_reason.specs.Answers.{question-line};
 ghost use Rattle.text_programs.specs.Rooms.{file-room};
 ghost use Rattle.text_files.specs.Rooms.{text-room};
-ghost use Rattle.text_programs.specs.Failures.{IsOfReading, IsOfWriting, IsUsage, IsUnwritten, Begins};
+ghost use Rattle.text_programs.specs.Failures.{IsOfWriting, IsUsage, IsUnwritten, Begins};
 ghost use Rattle.text_programs.specs.Arguments.{asked_about, read_arguments, wanted_of};
 ghost use Rattle.text_programs.specs.Streams.{PrintsFirst};
-ghost use Rattle.run_why.specs.Requests.{request_of, IsOfFile, AsksOfFile, AsksOfStream};
-ghost use Rattle.run_why.specs.Desks.{Ready};
+ghost use Rattle.text_tiles.specs.Requests.{IsOfFile, IsOfStream};
+ghost use Rattle.run_why.specs.Requests.{ask_of, AsksOfFile, AsksOfStream};
 ghost use Rattle.run_why.specs.Printed.{about, answer, item_answer, reply, printed, item_of};
 
-use crate::arguments::{Query, Request, read_request, wrong_request};
+use crate::arguments::{Ask, read_ask};
 use std::alloc::Global;
 use std::io::{Read, Write};
 use text::FileBytes;
@@ -23,10 +23,11 @@ use text_files::tables::{Tables, text_buffer};
 use text_files::{no_edition_text, no_width_text, usual};
 use text_programs::about::{asked_about, print_about};
 use text_programs::failure::{Failure, Stop};
+use text_programs::file_buffer;
 use text_programs::options::{Reading, Want, read_options};
-use text_programs::stream::{Replies, answer_all, word};
 use text_programs::usage::{SCREEN_OPTIONS, Usage};
-use text_programs::{file_buffer, read_all, write_text};
+use text_tiles::arguments::{TilePlace, wrong_request};
+use text_tiles::{Answers, answer_request};
 use text_why::{Question, question_text, why_text};
 
 mod arguments;
@@ -41,26 +42,26 @@ pub const USAGE: Usage = Usage {
     screen: SCREEN_OPTIONS,
 };
 
-// The head of a question in a stream: the file's length in bytes, the row, the tile.
-const HEAD: usize = 12;
-
-const ROW: usize = 4;
-
-const TILE: usize = 8;
-
-// What is wanted, and what an answer is made in: the tables that take a file's screen, the text.
+// What is wanted, what is asked, and the tables that take a file's screen.
 #[derive(Drop)]
-struct Desk<'a> {
+struct Reasons<'a> {
     want: Want,
+    question: Question,
     tables: &'a mut Tables,
-    text: &'a mut [u8],
 }
 
 // What is wanted, put first; how long it is.
-fn wanted_text(file: &[u8], want: Want, query: Query, tables: &mut Tables, out: &mut [u8]) -> usize
+fn wanted_text(
+    file: &[u8],
+    want: Want,
+    question: Question,
+    place: TilePlace,
+    tables: &mut Tables,
+    out: &mut [u8],
+) -> usize
     requires room { text-room ≤ length out.old }
-    ensures value { result ≡ length (answer (wanted_of want) query file.now) }
-    ensures out_after { take result out.new ≡ answer (wanted_of want) query file.now }
+    ensures value { result ≡ length (answer (wanted_of want) question place file.now) }
+    ensures out_after { take result out.new ≡ answer (wanted_of want) question place file.now }
 {
     match want.reading {
         Reading::Screen(view) => why_text(
@@ -69,9 +70,9 @@ fn wanted_text(file: &[u8], want: Want, query: Query, tables: &mut Tables, out: 
                 bytes: file,
             },
             usual(view.mode, view.width),
-            query.row,
-            query.tile,
-            query.question,
+            place.row,
+            place.tile,
+            question,
             tables,
             out,
         ),
@@ -86,137 +87,61 @@ fn wanted_text(file: &[u8], want: Want, query: Query, tables: &mut Tables, out: 
     }
 }
 
-fn print_question<W: Write>(output: &mut W, i: u64) -> Result<(), Failure>
-    ensures ok { OnOk result (Appends (W.contents output.old) (W.contents output.new) (question-line i)) }
-    ensures begun { Begins (W.contents output.old) (W.contents output.new) (question-line i) }
-    ensures err { IfErr result IsOfWriting }
-{
-    let mut line = [0u8; 32];
-    let n = question_text(i, &mut line);
-    write_text(output, &line[..n])
-}
+impl Answers for Reasons<'_> {
+    ghost text = { λ reasons p fs. answer (wanted_of reasons.want) reasons.question p fs };
 
-impl Desk<'_> {
-    fn print_answer<W: Write>(
-        &mut self,
-        file: &[u8],
-        query: Query,
-        output: &mut W,
-    ) -> Result<(), Failure>
-        requires { Ready self.old }
-        ensures ready { Ready self.new }
-        ensures same { self.new.want ≡ self.old.want }
-        ensures ok { OnOk result (Appends (W.contents output.old) (W.contents output.new) (answer (wanted_of self.old.want) query file.now)) }
-        ensures begun { Begins (W.contents output.old) (W.contents output.new) (answer (wanted_of self.old.want) query file.now) }
-        ensures err { IfErr result IsOfWriting }
-    {
-        let n = wanted_text(file, self.want, query, self.tables, self.text);
-        write_text(output, &self.text[..n])
+    ghost line = { λ i. question-line i };
+
+    ghost ready = { λ _. ⊤ };
+
+    ghost file_room = { file-room };
+
+    ghost text_room = { text-room };
+
+    fn put_line(&self, i: u64, out: &mut [u8]) -> usize {
+        question_text(i, out)
+    }
+
+    fn put_text(&mut self, file: &[u8], place: TilePlace, out: &mut [u8]) -> usize {
+        wanted_text(file, self.want, self.question, place, self.tables, out)
     }
 }
 
-impl Replies for Desk<'_> {
-    ghost reply = { λ desk i x. item_answer (wanted_of desk.want) i x };
-
-    ghost ready = { λ desk. Ready desk };
-
-    ghost room = { file-room };
-
-    fn answer<W: Write>(
-        &mut self,
-        i: u64,
-        head: &[u8],
-        file: &[u8],
-        output: &mut W,
-    ) -> Result<(), Failure> {
-        let query = Query {
-            row: word(head, ROW),
-            tile: word(head, TILE),
-            question: Question::Every,
-        };
-        print_question(output, i)?;
-        self.print_answer(file, query, output)
-    }
-}
-
-// One question about the file on the input. Nothing is written before the file is read; where writing fails, a beginning of the answer is written.
-fn answer_file<R: Read, W: Write>(
-    input: &mut R,
-    output: &mut W,
-    query: Query,
-    buffer: &mut [u8],
-    desk: &mut Desk<'_>,
-) -> Result<(), Failure>
-    requires ready { Ready desk.old }
-    requires long { length buffer.old ≡ file-room }
-    ensures ok { OnOk result (IfSome (R.remaining input.old) (λ file.
-        Appends (W.contents output.old) (W.contents output.new) (answer (wanted_of desk.old.want) query file))) }
-    ensures begun { IfSome (R.remaining input.old) (λ file.
-        Begins (W.contents output.old) (W.contents output.new) (answer (wanted_of desk.old.want) query file)) }
-    ensures unread { IfErr result (λ e. IsOfWriting e ⊎ (output.new ≡ output.old)) }
-    ensures err { IfErr result (λ e. IsOfReading e ⊎ IsOfWriting e) }
-{
-    let n = read_all(input, buffer)?;
-    desk.print_answer(&buffer[..n], query, output)
-}
-
-fn answer_request<R: Read, W: Write>(
-    input: &mut R,
-    output: &mut W,
-    request: Request,
-    buffer: &mut [u8],
-    desk: &mut Desk<'_>,
-) -> Result<(), Failure>
-    requires ready { Ready desk.old }
-    requires long { length buffer.old ≡ file-room }
-    ensures ok { OnOk result (IfSome (R.remaining input.old) (λ bytes.
-        Appends (W.contents output.old) (W.contents output.new) (reply (wanted_of desk.old.want) request bytes))) }
-    ensures begun { IfSome (R.remaining input.old) (λ bytes.
-        Begins (W.contents output.old) (W.contents output.new) (reply (wanted_of desk.old.want) request bytes)) }
-    ensures unread { IsOfFile request → IfErr result (λ e. IsOfWriting e ⊎ (output.new ≡ output.old)) }
-    ensures whole { (request ≡ Request.Stream) → IfErr result (λ e. IsOfWriting e
-        ⊎ PrintsFirst (item_answer (wanted_of desk.old.want)) 12 (R.remaining input.old) (W.contents output.old) (W.contents output.new)) }
-    ensures err { IfErr result (λ e. IsOfReading e ⊎ IsOfWriting e) }
-{
-    match request {
-        Request::Stream => {
-            let mut head = [0u8; HEAD];
-            answer_all(input, output, &mut head, buffer, desk)
-        }
-        Request::File(query) => answer_file(input, output, query, buffer, desk),
-    }
-}
-
-// The same, in the program's own tables and buffers, made once.
-#[tactic(auto, using(crate::proofs::Answering::none_answered))]
+// What is asked of the input, answered in the program's own tables and buffers, made once.
 fn answer_input<R: Read, W: Write>(
     alloc: Global,
     input: &mut R,
     output: &mut W,
     want: Want,
-    request: Request,
+    ask: Ask,
 ) -> Result<(), Failure>
     ensures ok { OnOk result (IfSome (R.remaining input.old) (λ bytes.
-        Appends (W.contents output.old) (W.contents output.new) (reply (wanted_of want) request bytes))) }
+        Appends (W.contents output.old) (W.contents output.new) (reply (wanted_of want) ask bytes))) }
     ensures begun { IfSome (R.remaining input.old) (λ bytes.
-        Begins (W.contents output.old) (W.contents output.new) (reply (wanted_of want) request bytes)) }
-    ensures unread { IsOfFile request → IfErr result (λ e. IsOfWriting e ⊎ (output.new ≡ output.old)) }
-    ensures whole { (request ≡ Request.Stream) → IfErr result (λ e. IsOfWriting e
-        ⊎ PrintsFirst (item_answer (wanted_of want)) 12 (R.remaining input.old) (W.contents output.old) (W.contents output.new)) }
+        Begins (W.contents output.old) (W.contents output.new) (reply (wanted_of want) ask bytes)) }
+    ensures unread { IsOfFile ask.request → IfErr result (λ e. IsOfWriting e ⊎ (output.new ≡ output.old)) }
+    ensures whole { IsOfStream ask.request → IfErr result (λ e. IsOfWriting e
+        ⊎ PrintsFirst (item_answer (wanted_of want) ask.question) 12 (R.remaining input.old) (W.contents output.old) (W.contents output.new)) }
 {
     let mut tables = Tables::new(alloc)?;
     let mut text = text_buffer(alloc)?;
     let mut buffer = file_buffer(alloc)?;
-    let mut desk = Desk {
+    let reasons = Reasons {
         want,
+        question: ask.question,
         tables: &mut tables,
-        text: text.as_mut_slice(),
     };
-    answer_request(input, output, request, buffer.as_mut_slice(), &mut desk)
+    answer_request(
+        input,
+        output,
+        ask.request,
+        buffer.as_mut_slice(),
+        text.as_mut_slice(),
+        reasons,
+    )
 }
 
 /// Prints what the arguments ask for, over any input and output: its usage, its version, the answer about the file on the input, or the answers to its stream.
-#[tactic(auto, using(crate::proofs::Answering::none_answered))]
 pub fn run<'a, R: Read, W: Write>(
     alloc: Global,
     args: &'a [String],
@@ -224,7 +149,7 @@ pub fn run<'a, R: Read, W: Write>(
     output: &mut W,
 ) -> Result<(), Stop<'a>>
     ensures usage { IsErrAnd result IsUsage
-        ↔ ((asked_about (map string_bytes args.now) ≡ None) × (request_of (read_arguments false (map string_bytes args.now)).others ≡ None)) }
+        ↔ ((asked_about (map string_bytes args.now) ≡ None) × (ask_of (read_arguments false (map string_bytes args.now)).others ≡ None)) }
     ensures untouched { IfErr result (λ stop. IsUsage stop → (input.new ≡ input.old) × (output.new ≡ output.old)) }
 
     ensures printed { OnOk result (IfSome (R.remaining input.old) (λ bytes.
@@ -246,9 +171,9 @@ pub fn run<'a, R: Read, W: Write>(
         return Ok(());
     }
     let options = read_options(args, false);
-    match read_request(options.others) {
-        Ok(request) => {
-            answer_input(alloc, input, output, options.want, request)?;
+    match read_ask(options.others) {
+        Ok(ask) => {
+            answer_input(alloc, input, output, options.want, ask)?;
             Ok(())
         }
         Err(wrong) => Err(Stop::Usage(wrong_request(options.others, wrong))),

@@ -13,6 +13,9 @@ const DUMP_TWO: &[u8] =
 const WHY_TWO: &[u8] =
     b"draw 0: no segment covers the tile, panel 5\ndraw 1: shown, place 0, panel 5\nlayer 0: shown, place 1, panel 6\n";
 
+// What it receives.
+const TILE_TWO: &[u8] = b"p 1 7 8 - 1 5\nl 0 7 8 - 1 6\n";
+
 // The list of each edition's file, and the refusals: a file of the other edition, an edition that is none, also before a width that is none.
 #[test]
 fn a_file_is_of_the_edition_that_is_told(rt: HostRuntime) -> Result<(), Fail> {
@@ -56,10 +59,10 @@ fn a_file_is_of_the_edition_that_is_told(rt: HostRuntime) -> Result<(), Fail> {
     Ok(())
 }
 
-// The other two programs that read recordings: of a stream each file is answered under its own line.
+// The other programs that read recordings: of a stream each file is answered under its own line.
 #[test]
 fn every_reader_takes_an_edition(rt: HostRuntime) -> Result<(), Fail> {
-    let cases: [(Program, &[&str], &[u32], &[u8]); 6] = [
+    let cases: [(Program, &[&str], &[u32], &[u8]); 10] = [
         (
             Program::Rowdump,
             &["--edition", "2", "--panels"],
@@ -90,6 +93,30 @@ fn every_reader_takes_an_edition(rt: HostRuntime) -> Result<(), Fail> {
             &["--edition", "1", "--stream"],
             &[296, 1, 7],
             b"question 0\nrefused 3\n",
+        ),
+        (
+            Program::Tilelist,
+            &["--edition", "2", "1", "7"],
+            &[],
+            TILE_TWO,
+        ),
+        (
+            Program::Tilelist,
+            &["--edition", "3", "--width", "7", "1", "7"],
+            &[],
+            b"refused 3\n",
+        ),
+        (
+            Program::Tilelist,
+            &["--edition", "2", "--width", "7", "--stream"],
+            &[296, 1, 7],
+            b"list 0\nrefused 2\n",
+        ),
+        (
+            Program::Tilelist,
+            &["--stream"],
+            &[296, 1, 7],
+            b"list 0\nrefused 3\n",
         ),
     ];
     for (program, args, head, text) in cases {

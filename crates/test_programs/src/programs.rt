@@ -39,6 +39,7 @@ pub enum Program {
     Rowlist,
     Rowdump,
     Why,
+    Tilelist,
     Editions,
 }
 
@@ -92,6 +93,7 @@ pub fn run(
         Program::Rowlist => run_rowlist::run(alloc, given.as_slice(), &mut input, &mut output),
         Program::Rowdump => run_rowdump::run(alloc, given.as_slice(), &mut input, &mut output),
         Program::Why => run_why::run(alloc, given.as_slice(), &mut input, &mut output),
+        Program::Tilelist => run_tilelist::run(alloc, given.as_slice(), &mut input, &mut output),
         Program::Editions => {
             match run_editions::run(alloc, given.as_slice(), &mut input, &mut output) {
                 Ok(Outcome::Done) => Ok(()),

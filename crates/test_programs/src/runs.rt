@@ -138,3 +138,49 @@ fn the_rest_of_a_long_file_comes_first(rt: HostRuntime) -> Result<(), Fail> {
     }
     Ok(())
 }
+
+// A tile's list is taken of a file that is too long for the other programs: samples/worked.rec with 4,096 paints. It comes through a writer that takes it in
+// pieces; where that fails, what it took is there.
+#[test]
+fn a_long_file_is_listed(rt: HostRuntime) -> Result<(), Fail> {
+    let mut words = Vec::new(rt.alloc());
+    words.extend_from_slice(&WORKED[..5])?;
+    words.push(4096)?;
+    for _ in 0..4096 {
+        words.extend_from_slice(&[1, 1, 0, 0])?;
+    }
+    words.extend_from_slice(&WORKED[10..])?;
+    let (end, held) = run(
+        rt.alloc(),
+        Program::Tilelist,
+        &["1", "7"],
+        words.as_slice(),
+        &[Bytes(65536), Fails(ErrorKind::Interrupted), Bytes(ANY)],
+        &[Bytes(5), Bytes(ANY)],
+    )?;
+    assert_eq!(rt; end, End::Done);
+    assert_eq!(rt; held.as_slice(), b"p 1 7 8 - 1 0\nl 0 7 8 - 1 0\n".as_slice());
+
+    let (end, held) = run(
+        rt.alloc(),
+        Program::Tilelist,
+        &["1", "7"],
+        words.as_slice(),
+        &[Bytes(ANY)],
+        &[Bytes(5), Fails(ErrorKind::StorageFull)],
+    )?;
+    assert_eq!(rt; end, End::Write(ErrorKind::StorageFull));
+    assert_eq!(rt; held.as_slice(), b"p 1 7".as_slice());
+
+    let (end, held) = run(
+        rt.alloc(),
+        Program::Why,
+        &["1", "7"],
+        words.as_slice(),
+        &[Bytes(ANY)],
+        &[Bytes(ANY)],
+    )?;
+    assert_eq!(rt; end, End::Done);
+    assert_eq!(rt; held.as_slice(), b"refused 3\n".as_slice());
+    Ok(())
+}

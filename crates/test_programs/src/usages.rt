@@ -6,7 +6,7 @@ use std::test::*;
 // Usages: nothing is read or written, and the first line says which word is wrong.
 #[test]
 fn a_usage_names_the_word_that_is_wrong(rt: HostRuntime) -> Result<(), Fail> {
-    let cases: [(Program, &[&str], &str); 33] = [
+    let cases: [(Program, &[&str], &str); 38] = [
         (Program::Rowlist, &["--wdith"], "--wdith is no option"),
         (Program::Rowlist, &["--panels"], "--panels is no option"),
         (
@@ -91,6 +91,23 @@ fn a_usage_names_the_word_that_is_wrong(rt: HostRuntime) -> Result<(), Fail> {
             &["3", "70", "--help"],
             "--help is neither draw nor layer",
         ),
+        (Program::Tilelist, &["--snap"], "ROW is missing"),
+        (Program::Tilelist, &["3"], "TILE is missing"),
+        (
+            Program::Tilelist,
+            &["3", "70", "draw"],
+            "draw is one argument too many",
+        ),
+        (
+            Program::Tilelist,
+            &["--stream", "3"],
+            "3 is one argument too many",
+        ),
+        (
+            Program::Tilelist,
+            &["--panels", "3"],
+            "--panels is no option",
+        ),
         (Program::Editions, &["--snap"], "new or old is missing"),
         (Program::Editions, &["--stream"], "new or old is missing"),
         (
@@ -146,7 +163,7 @@ fn a_usage_names_the_word_that_is_wrong(rt: HostRuntime) -> Result<(), Fail> {
 
 #[test]
 fn help_prints_the_usage_and_reads_nothing(rt: HostRuntime) -> Result<(), Fail> {
-    let programs: [(Program, &[u8]); 4] = [
+    let programs: [(Program, &[u8]); 5] = [
         (
             Program::Editions,
             b"usage: editions [--snap] new|old < FILE > CONVERTED\n       editions [--snap] --stream new|old < STREAM > CONVERTED\n",
@@ -162,6 +179,10 @@ fn help_prints_the_usage_and_reads_nothing(rt: HostRuntime) -> Result<(), Fail> 
         (
             Program::Why,
             b"usage: why [--snap] [--width N] [--edition N] ROW TILE [draw N | layer N] < FILE\n",
+        ),
+        (
+            Program::Tilelist,
+            b"usage: tilelist [--snap] [--width N] [--edition N] ROW TILE < FILE\n",
         ),
     ];
     for (program, line) in programs {
@@ -189,7 +210,7 @@ fn help_prints_the_usage_and_reads_nothing(rt: HostRuntime) -> Result<(), Fail> 
 // Through short writes; where writing fails, a beginning of the line is there.
 #[test]
 fn version_prints_one_line_and_reads_nothing(rt: HostRuntime) -> Result<(), Fail> {
-    let programs: [(Program, &[u8]); 3] = [
+    let programs: [(Program, &[u8]); 4] = [
         (
             Program::Rowlist,
             b"rowlist 0.2.0 rattle-kit-13f dac8208d650f15bf\n",
@@ -199,6 +220,10 @@ fn version_prints_one_line_and_reads_nothing(rt: HostRuntime) -> Result<(), Fail
             b"rowdump 0.2.0 rattle-kit-13f dac8208d650f15bf\n",
         ),
         (Program::Why, b"why 0.2.0 rattle-kit-13f dac8208d650f15bf\n"),
+        (
+            Program::Tilelist,
+            b"tilelist 0.2.0 rattle-kit-13f dac8208d650f15bf\n",
+        ),
     ];
     let reads = [Fails(ErrorKind::Other)];
     for (program, line) in programs {

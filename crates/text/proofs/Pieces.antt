@@ -30,11 +30,6 @@ module _ (d : Bool) (ws : List ℕ) (k : ℕ) where
       go true e = simp (get_or-drop, add-zero) (rw e (then (then (rw (i, e) at f) (rw j at g)) h))
       go false e = simp (get_or-drop, add-zero) (rw e (then (then (rw (i, e) at f) (rw j at g)) h))
 
-  pub row_written : (r i : ℕ) {t u v : Out} → k ≤ i → i ≤ k → Writes (detail-bytes false (painted r k)) t u
-      → Writes (details-text d (joined (λ (j : ℕ). piece-at ws j ∷ []) i)) u v → Writes (details-text d (row-lines r ws k)) t v
-  unfolding row-lines detail-bytes
-  row_written r i g h a b = then a (places-all (detail-bytes d) (λ (j : ℕ). piece-at ws j ∷ []) i k g h b)
-
   piece-few : length (detail-bytes d (piece-at ws k)) ≤ piece-room
   unfolding piece-at
   piece-few = go (leb (word (drop (piece-size * k) ws) 0) 2) refl

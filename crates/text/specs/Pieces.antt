@@ -35,6 +35,10 @@ piece_of ws =
 unfoldable pub piece-at : List ℕ → ℕ → Detail
 piece-at ws k = piece_of (drop (piece-size * k) ws)
 
+-- the first n pieces of a list
+abbrev pub pieces-at : List ℕ → ℕ → List Detail
+pieces-at ws n = joined (λ (k : ℕ). piece-at ws k ∷ []) n
+
 -- row r with its first n pieces
 unfoldable pub row-lines : ℕ → List ℕ → ℕ → List Detail
-row-lines r ws n = painted r n ∷ joined (λ (k : ℕ). piece-at ws k ∷ []) n
+row-lines r ws n = painted r n ∷ pieces-at ws n

@@ -20,8 +20,8 @@ mod rows;
 pub use crate::listing::{list_screen, print_first, refusal_line, try_print_first};
 pub use crate::painted::{Tables, attrs_text, row_text};
 pub use crate::recording::{
-    FILE_WORDS, FileBytes, FileText, Size, no_screen, no_width_refusal, read_file, recording_text,
-    refuse, size_of,
+    FILE_WORDS, FileBytes, FileText, Size, no_screen, no_width_of, no_width_refusal, read_file,
+    recording_text, refuse, size_of,
 };
 
 /// Where text goes: into the bytes from place `at` on.

@@ -1,4 +1,4 @@
-//! What `rowdump` prints of a screen after the lines of `rowlist`. `attrs_text` and `row_text` are public calls; the others are their parts.
+//! What `rowdump` prints of a screen after the lines of `rowlist`. `attrs_text` and `row_text` are public calls; the others are parts.
 //! `panels`: whether a line with a panel shows it.
 ghost use Rattle.std.specs.Prelude.{◌≡◌, true, false, [], ◌∷◌, ◌+◌, ◌*◌, ◌≤◌, length};
 ghost use Rattle.sizes.specs.Sizes.{most-attrs, most-filters, piece-size};
@@ -7,7 +7,7 @@ ghost use Rattle.text.specs.Texts.{Writes};
 ghost use Rattle.text.specs.Bytes.{detail-bytes, details-text};
 ghost use Rattle.paint.specs.Stepping.{attributes};
 ghost use Rattle.text.specs.Listed.{left, listing_of};
-ghost use Rattle.text.specs.Pieces.{most-pieces, piece-list, alpha-of, letter-of, piece-at, row-lines};
+ghost use Rattle.text.specs.Pieces.{most-pieces, piece-list, alpha-of, letter-of, piece-at, pieces-at, row-lines};
 ghost use Rattle.text.specs.Dumped.{pieces-written, stopped_in, stopped, row_in, row-dumped, tables_of, good-tables, attrs-room, attrs-text, attrs-dumped};
 ghost use Rattle.paint.specs.Named.{SameCanvas, row_attrs, row_lent};
 
@@ -76,6 +76,16 @@ fn print_piece(out: &mut Out<'_>, list: &[u32], k: usize, panels: bool)
     out.byte(b'\n');
 }
 
+/// The first n pieces of a list, a line each.
+pub fn print_pieces(out: &mut Out<'_>, list: &[u32], n: usize, panels: bool)
+    requires { piece-size * n ≤ length list.now }
+    ensures { Writes (details-text panels (pieces-at list.now n)) out.old out.new }
+{
+    for k in 0..n {
+        print_piece(out, list, k, panels);
+    }
+}
+
 // A row's number, and how many pieces it gave.
 fn print_painted(out: &mut Out<'_>, row: u32, n: u32)
     ensures { Writes (detail-bytes false (painted row n)) out.old out.new }
@@ -103,9 +113,7 @@ impl Print for PiecesText<'_> {
 
     fn print(&self, out: &mut Out<'_>) {
         print_painted(out, self.row, self.pieces as u32);
-        for k in 0..self.pieces {
-            print_piece(out, self.list, k, self.panels);
-        }
+        print_pieces(out, self.list, self.pieces, self.panels);
     }
 }
 

@@ -121,8 +121,8 @@ fn is_good_bytes(n: usize) -> bool
     n <= FILE_BYTES && n % 4 == 0
 }
 
-// How a file is refused where the width asked for is none: 3 for its form, then 2.
-fn no_width_of(file: File<'_>) -> Refusal
+/// How a file is refused where the width asked for is none: 3 for its form, then 2.
+pub fn no_width_of(file: File<'_>) -> Refusal
     ensures { number_of result ≡ no-width-of (file_of file.entry) }
 {
     match Recording::read(file) {

@@ -1,0 +1,6 @@
+use Rattle.text_programs.specs.Arguments.{wanted_of}
+use Rattle.run_tilelist.proofs.Cut.{answer-cut}
+use Rattle.run_tilelist.proofs.answer_input.Goals as goal
+
+pub answer_request-requires-clause-cut : goal.answer_request-requires-clause-cut
+answer_request-requires-clause-cut g c = answer-cut (wanted_of c.args.want)

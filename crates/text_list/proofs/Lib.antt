@@ -1,0 +1,2 @@
+mod EntryLines
+mod Told

@@ -1,0 +1,2 @@
+pub mod Requests
+pub mod Printed

@@ -13,7 +13,7 @@ use Rattle.rules.specs.Boxes.{Box, width, rows_of, good_viewport}
 use Rattle.rules.specs.Plans.{Frame, bucket}
 use Rattle.rules.specs.Setups.{Setup, frame}
 use Rattle.rules.specs.Recording.{Recording, File}
-use Rattle.rules.specs.Painting.{Piece, Entry, received}
+use Rattle.rules.specs.Painting.{Entry, received}
 use Rattle.rules.specs.Plain.{plain}
 use Rattle.rules.proofs.All.{or_left, or_right}
 use Rattle.rules.proofs.laws.Answers.{settle-number, settle-done}

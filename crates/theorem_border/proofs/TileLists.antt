@@ -1,14 +1,14 @@
 -- A refused `coarse_list_tile` leaves its list and its count. Assumes nothing.
 use Rattle.std.proofs.Common.{ℕ, ◌+◌, ◌≡◌, refl, List, [], Option, None, Some, ne_eqb}
 use Rattle.sizes.specs.declared.width.Width.{Width}
-use Rattle.rules.specs.Answers.{Answer, Done}
+use Rattle.rules.specs.Answers.{Done}
 use Rattle.rules.specs.Plans.{Frame}
 use Rattle.rules.specs.Setups.{Mode, Setup}
 use Rattle.rules.specs.Recording.{Recording, File, parsed}
 use Rattle.rules_reason.specs.TileList.{judge-roomless, or-else, judge-list}
 use Rattle.paint.proofs.Kept.{Refused, unsettled}
 use Rattle.tile.specs.Listed.{entries-read, told-somewhere, tile-told, told-in, list-told, room-in}
-use Rattle.host.specs.Asked.{FileWords, asked_setup, told_file}
+use Rattle.host.specs.Asked.{asked_setup, told_file}
 use Rattle.host.specs.Border.{unasked_number}
 use Rattle.host.specs.TileList.{list_setup, tile_list_in, tile_list_asked, tile_list_call}
 use Rattle.host.proofs.Refused.{asked-kept}

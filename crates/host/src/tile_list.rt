@@ -24,7 +24,7 @@ fn list_setup(mode: u32, width: u32) -> SetupWords
     }
 }
 
-// The list of a file whose edition is read. Its locals take some 60 KB of the stack: it is no part of a function that returns before them, since clang spoils a
+// The list of a file whose edition is read. Its locals take some 57 KB of the stack: it is no part of a function that returns before them, since clang spoils a
 // register there where it makes room for so many after a test.
 #[inline(never)]
 #[tactic(auto, using(crate::proofs::TileLists::tile_list_unasked))]

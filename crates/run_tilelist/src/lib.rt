@@ -10,11 +10,13 @@ ghost use Rattle.text_tiles.specs.Requests.{request_of, IsOfFile, IsOfStream};
 ghost use Rattle.text_list.specs.Texts.{text-room, Ready};
 ghost use Rattle.run_tilelist.specs.Printed.{about, answer, item_answer, reply, printed, item_of, AsksOfFile, AsksOfStream};
 
+use sizes::answers::Refusal;
 use std::alloc::Global;
 use std::io::{Read, Write};
-use sizes::answers::Refusal;
 use text::FileBytes;
-use text_list::{Lists, line_text, list_buffer, list_text, no_width_text, refused_text, text_buffer};
+use text_list::{
+    Lists, line_text, list_buffer, list_text, no_width_text, refused_text, text_buffer,
+};
 use text_long::{long_buffer, word_buffer};
 use text_programs::about::{asked_about, print_about};
 use text_programs::failure::{Failure, Stop};
@@ -60,7 +62,9 @@ fn wanted_text(
                 edition: view.edition,
                 bytes: file,
             };
-            list_text(file, view.mode, view.width, place.row, place.tile, lists, out)
+            list_text(
+                file, view.mode, view.width, place.row, place.tile, lists, out,
+            )
         }
         Reading::NoWidth(edition) => {
             let file = FileBytes {

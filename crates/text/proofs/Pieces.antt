@@ -8,7 +8,7 @@ use Rattle.text.specs.Texts.{Writes}
 use Rattle.text.proofs.Laws.{then}
 use Rattle.text.proofs.Lengths.{join-few}
 use Rattle.text.specs.Places.{joined}
-use Rattle.text.proofs.Joins.{join-append, places-all}
+use Rattle.text.proofs.Joins.{join-append}
 use Rattle.text.proofs.ScreenLengths.{joined-few}
 use Rattle.text.specs.Details.{Detail, painted, paint-attributes, layer-attributes, filter-paints, paint-attr-line, layer-attr-line}
 use Rattle.text.specs.Bytes.{detail-room, piece-room, panel-bytes, piece_bytes, detail-bytes, details-text}

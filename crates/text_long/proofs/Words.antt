@@ -1,5 +1,5 @@
 -- A long file's bytes as words.
-use Rattle.std.proofs.Common.{◌≡◌, ℕ, ◌%◌, refl, sym, ap, ◌∙◌, Bool, true, false, ◌&&◌, cond, List, length, take, leb, ltb, eqb, Option, None, Some, leb-true, leb-false, le-ltb, lt-ltb}
+use Rattle.std.proofs.Common.{◌≡◌, ℕ, ◌%◌, refl, sym, ap, ◌∙◌, Bool, true, false, ◌&&◌, cond, List, length, take, leb, ltb, eqb, None, Some, leb-true, leb-false, le-ltb, lt-ltb}
 use Rattle.rules.specs.Lines.{words_of}
 use Rattle.file.specs.Words.{Filled, filled, filled-with, words-in}
 use Rattle.file.proofs.Bytes.{first-words, rules-words}

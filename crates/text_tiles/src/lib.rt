@@ -37,6 +37,7 @@ pub trait Answers {
 
     // Bytes of the buffer that a file is read to, and of the one that a text is put in.
     ghost file_room: { ℕ };
+
     ghost text_room: { ℕ };
 
     /// The line before the text of item i, put first; how long it is.

@@ -1,5 +1,5 @@
 /* A panel over a banner, drawn by two program modules: whose each piece of a row is, and what its tiles receive. */
-#include "coarse_bucketer.h"
+#include "coarse_recorder.h"
 #include <stdio.h>
 
 static const char *const names[] = {"banner", "panel"};
@@ -30,10 +30,27 @@ static void tile(const coarse_bucketer *screen, const coarse_piece *pieces, size
     printf("\n");
 }
 
+/* Whether a tile's list, which is had of the recording alone, is what the row painted there. All pieces are solid. */
+static int is_painted(coarse_recorder *scene, const coarse_piece *pieces, size_t count, uint32_t number) {
+    const uint32_t *file;
+    size_t words, entries, same = 0;
+    coarse_piece list[2];
+    must(coarse_recorder_words(scene, COARSE_EDITION_TWO, &file, &words));
+    must(coarse_list_tile(COARSE_EDITION_TWO, file, words, COARSE_EXACT, COARSE_128, 0, number, (uint32_t *)list, 2 * COARSE_PIECE, &entries));
+    for (size_t i = 0; i < count; i++)
+        if (pieces[i].first <= number && number < pieces[i].end) {
+            const coarse_piece own = {pieces[i].tag, pieces[i].attribute, number, number + 1, 0, pieces[i].nesting, pieces[i].panel};
+            if (same == entries || memcmp(&list[same++], &own, sizeof own) != 0)
+                return 0;
+        }
+    return same == entries;
+}
+
 int main(void) {
     /* A screen of 512 x 4 pixels: one row of 128 tiles, in 4 depth buckets of 32. */
     coarse_bucketer screen;
-    must(coarse_bucketer_new(&screen, (coarse_rect){0, 0, 512, 4}, (coarse_setup){64, 64, COARSE_EXACT, COARSE_128}));
+    const coarse_rect viewport = {0, 0, 512, 4};
+    must(coarse_bucketer_new(&screen, viewport, (coarse_setup){64, 64, COARSE_EXACT, COARSE_128}));
 
     /* Both are opaque. The banner has the whole row, the panel tiles 20 to 70: all of bucket 1, and a part of 0 and of 2. */
     const coarse_paint paints[] = {{1, 1, 0, 0}, {1, 2, 0, 0}};
@@ -56,6 +73,19 @@ int main(void) {
     tile(&screen, pieces, count, 40);
     tile(&screen, pieces, count, 25);
     tile(&screen, pieces, count, 10);
+
+    /* The same two draws, recorded: what a tile receives can be listed without a screen. */
+    coarse_recorder scene;
+    uint32_t place;
+    coarse_recorder_new(&scene, viewport);
+    must(coarse_recorder_segments(&scene, segments, 2, &place));
+    for (size_t i = 0; i < 2; i++) {
+        must(coarse_recorder_paint(&scene, &paints[i], &place));
+        must(coarse_recorder_draw(&scene, &fills[i]));
+    }
+    for (uint32_t number = 10; number <= 40; number += 15)
+        printf("the list of tile %u is %swhat was painted\n", number, is_painted(&scene, pieces, count, number) ? "" : "not ");
+    coarse_recorder_free(&scene);
     coarse_bucketer_free(&screen);
     return 0;
 }

@@ -317,6 +317,17 @@ uint32_t coarse_bucket_recording(coarse_state *state, uint32_t edition, const ui
 uint32_t coarse_why(coarse_state *state, uint32_t edition, const uint32_t *file, size_t file_len, coarse_setup setup,
                     const coarse_question *question, coarse_tables *tables, coarse_reason *reason);
 
+/* What does this tile receive? A recording is gone through in draw order, with no state and no tables: no row is kept, so that there is no c
+ * and no d. The tile's entries stand at the start of the list, oldest first, COARSE_PIECE words each, as pieces of that tile alone: tag,
+ * attribute, tile, tile + 1, alpha index of that tile or 0, nesting, panel. They are what the row paints there after a done
+ * coarse_bucket_recording with this mode and width, whatever its c and d. entries: how many; there are never more than
+ * 2 * COARSE_MOST_ATTRS. Refused, in this order: by 3 for the edition, then for the file's form; 2 for a width that is none; 4 for a mode
+ * above 1; 2 for the viewport as the mode reads it; 4 and 5 for the records; 6, 8 or 9 for a step; 12 for a row or tile off the screen; 14
+ * where the list has room for fewer entries. No row is ever full: what coarse_bucket_recording refuses by 10 or 11 may be listed, or be
+ * refused for a later step. Refused, the list and entries stay; done, the words after the entries do. */
+uint32_t coarse_list_tile(uint32_t edition, const uint32_t *file, size_t file_len, uint32_t mode, uint32_t width, uint32_t row, uint32_t tile,
+                          uint32_t *list, size_t list_len, size_t *entries);
+
 /* A recording of edition one as one of edition two, each panel 0: its words at the start of `out`, and how many they are. They say the same
  * recording: the viewport's numbers stand as they are given, whatever the mode, and so do all others. Nothing is bucketed, but every record is
  * judged: refused by 3; by 2 for a viewport that is bad as the mode reads it; by 4 and by 5; then by 14 where `out` is shorter than the result,

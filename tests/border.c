@@ -507,6 +507,40 @@ static void conversions(void) {
         expect("each", i < 32 ? one[i] : i < 35 ? two[i] : 1000 + i, out[i]);
 }
 
+/* A tile's list, of the recording alone. Done, its entries' words stand first, and no word after them changes; refused, none changes. */
+static void tile_lists(void) {
+    const uint32_t one[] = {1, 0, 0, 510, 3, 1, 1, 1, 0, 7, 1, 0, 0, 0, 128, 0, 1, 0, 0, 1, 0, 0, 3, 0, 0, 1, 0, 1, 0, 1, 0, 1};
+    uint32_t two[] = {1, 2, 1, 0, 0, 510, 3, 1, 1, 1, 0, 7, 1, 0, 0, 0, 128, 0, 1, 0, 0, 1, 0, 0, 3, 0, 9, 0, 1, 0, 1, 0, 1, 0, 1};
+    uint32_t entry[] = {COARSE_PAINT_FILL, 0, 127, 128, 0, 0, 0}, out[20], i;
+    size_t entries = 77;
+    for (i = 0; i < 20; i++)
+        out[i] = 1000 + i;
+    expect("no edition", COARSE_BAD_FORM, coarse_list_tile(3, one, 32, COARSE_SNAPPING, COARSE_128, 0, 127, out, 20, &entries));
+    expect("no words", COARSE_BAD_FORM, coarse_list_tile(COARSE_EDITION_ONE, NULL, 0, COARSE_SNAPPING, COARSE_128, 0, 127, out, 20, &entries));
+    expect("the form before the width", COARSE_BAD_FORM, coarse_list_tile(COARSE_EDITION_ONE, one, 31, 2, 100, 0, 127, out, 20, &entries));
+    expect("the width before the mode", COARSE_BAD_VIEWPORT, coarse_list_tile(COARSE_EDITION_ONE, one, 32, 2, 100, 0, 127, out, 20, &entries));
+    expect("the mode before the viewport", COARSE_BAD_RECORD, coarse_list_tile(COARSE_EDITION_ONE, one, 32, 2, COARSE_128, 0, 127, out, 20, &entries));
+    expect("exact, it is refused", COARSE_BAD_VIEWPORT, coarse_list_tile(COARSE_EDITION_ONE, one, 32, COARSE_EXACT, COARSE_128, 0, 127, out, 20, &entries));
+    two[26] = 256;
+    expect("a panel that is none", COARSE_BAD_RECORD, coarse_list_tile(COARSE_EDITION_TWO, two, 35, COARSE_SNAPPING, COARSE_128, 9, 9, out, 20, &entries));
+    two[26] = 9;
+    expect("a row off the screen", COARSE_BAD_RUN, coarse_list_tile(COARSE_EDITION_ONE, one, 32, COARSE_SNAPPING, COARSE_128, 1, 127, NULL, 0, &entries));
+    expect("a tile off the screen", COARSE_BAD_RUN, coarse_list_tile(COARSE_EDITION_ONE, one, 32, COARSE_SNAPPING, COARSE_128, 0, 128, NULL, 0, &entries));
+    expect("no list", COARSE_NO_ROOM, coarse_list_tile(COARSE_EDITION_ONE, one, 32, COARSE_SNAPPING, COARSE_128, 0, 127, NULL, 0, &entries));
+    expect("a word too few", COARSE_NO_ROOM, coarse_list_tile(COARSE_EDITION_ONE, one, 32, COARSE_SNAPPING, COARSE_128, 0, 127, out, 6, &entries));
+    expect("how many", 77, (uint32_t)entries);
+    for (i = 0; i < 20; i++)
+        expect("a word", 1000 + i, out[i]);
+    expect("one entry", COARSE_DONE, coarse_list_tile(COARSE_EDITION_ONE, one, 32, COARSE_SNAPPING, COARSE_128, 0, 127, out, 7, &entries));
+    expect("it is told", 1, (uint32_t)entries);
+    for (i = 0; i < 20; i++)
+        expect("each", i < 7 ? entry[i] : 1000 + i, out[i]);
+    entry[6] = 9;
+    expect("its panel", COARSE_DONE, coarse_list_tile(COARSE_EDITION_TWO, two, 35, COARSE_SNAPPING, COARSE_256, 0, 127, out, 20, &entries));
+    for (i = 0; i < 20; i++)
+        expect("each", i < 7 ? entry[i] : 1000 + i, out[i]);
+}
+
 /* A row of 20 pieces on 2 buckets, which are more than a list holds at first: a depth fill over bucket 0, the fill below it, which shows in bucket 1
  * alone, and 18 fills above it. So many of its steps are painted already. */
 static void row_of_20(coarse_bucketer *b, int steps) {
@@ -1145,6 +1179,7 @@ int main(void) {
     lists();
     editions();
     conversions();
+    tile_lists();
     stored_commands();
     all_attributes();
     words_of_numbers();

@@ -1,7 +1,8 @@
 /* Random and forged calls of coarse.h: mostly good ones, on screens that earlier calls made, and among them words that no call would leave, lengths that are too
  * short, numbers that are anything. After each call:
  *   - its answer is one of the header's;
- *   - refused, it has changed no word (a recording and a question, refused for the records or later, may have changed the screen alone);
+ *   - refused, it has changed no word (a recording and a question, refused for the records or later, may have changed the screen alone; a list of fills,
+ *     what the fills before the refused one change, and it has told how many they are);
  *   - done, it has changed only what it is there to write, and nothing past the length that its list was lent with;
  *   - no word between the tables has changed, and no pointer or length in a struct that lends them.
  * At the end each call has been done, and been refused.
@@ -15,7 +16,7 @@
 /* The ten tables in the order of coarse_lengths, then what else a call may write. */
 enum { RENDER_CMDS, DEPTH_CMDS, DEPTH, ROWS, PAINTING, LAYERS, OPACITIES, PAINT_ATTRS, LAYER_ATTRS, FILTER_PAINTS, TABLES, STATE = TABLES, LIST, PARTS };
 enum { SCREEN = (1 << (STATE + 1)) - 1, RESULTS = 1 << PARTS, LISTED = 1 << LIST | RESULTS };
-enum { LIST_WORDS = 512, ROOM = 1 << 17, BETWEEN = 3, MOST_SEGMENTS = 24, FILES = 32, FILE_WORDS = 4096, STATE_WORDS = sizeof(coarse_state) / sizeof(uint32_t) };
+enum { LIST_WORDS = 512, ROOM = 1 << 17, BETWEEN = 3, MOST_SEGMENTS = 24, MOST_DRAWS = 6, FILES = 32, FILE_WORDS = 4096, STATE_WORDS = sizeof(coarse_state) / sizeof(uint32_t) };
 #define GUARD 0x5eed5eedu
 
 /* Everything that is lent stands in one block, guard words before and after each part; the structs that lend it, and results, beside it. */
@@ -38,7 +39,7 @@ static struct results {
 } results, held_results;
 
 static uint32_t segments[MOST_SEGMENTS * COARSE_SEGMENT];
-static uint32_t paints[4 * COARSE_PAINT];
+static uint32_t paints[4 * COARSE_PAINT], draws[MOST_DRAWS * COARSE_DRAW];
 static uint32_t files[FILES][FILE_WORDS], file[2 * FILE_WORDS], edition;
 static size_t file_words[FILES], words, file_count;
 static coarse_rect viewport;
@@ -234,6 +235,10 @@ static uint32_t call_why(void) {
     return coarse_why(SCREEN_STATE, edition, file, words, setup, &question, &lent.tables, &results.reason);
 }
 
+static uint32_t call_tile_list(void) {
+    return coarse_list_tile(edition, file, words, setup.mode, setup.width, about(6), about(200), LENT(LIST), &results.count);
+}
+
 /* To the other edition, or at times to its own. */
 static uint32_t call_to_two(void) {
     return coarse_to_edition_two(file, words, setup.mode, LENT(LIST), &results.count);
@@ -243,8 +248,8 @@ static uint32_t call_to_one(void) {
     return coarse_to_edition_one(file, words, setup.mode, LENT(LIST), &results.count);
 }
 
-static uint32_t call_fill(void) {
-    size_t n = some_segments(), count = some_paints();
+/* A draw of so many segments, with one of so many paints. */
+static coarse_draw some_draw(size_t n, size_t count) {
     coarse_draw draw;
     draw.start = below((uint32_t)n + 1), draw.end = draw.start + below((uint32_t)(n - draw.start) + 1);
     if (once_in(3))
@@ -253,7 +258,28 @@ static uint32_t call_fill(void) {
         draw.end = about(MOST_SEGMENTS);
     draw.thread = about(3), draw.paint = about((uint32_t)count - 1), draw.blend.mix = about(15), draw.blend.compose = once_in(3) ? about(13) : 3;
     draw.mask = about(5), draw.panel = about(COARSE_LAST_PANEL);
+    return draw;
+}
+
+static uint32_t call_fill(void) {
+    size_t n = some_segments(), count = some_paints();
+    coarse_draw draw = some_draw(n, count);
     return coarse_fill(SCREEN_STATE, &lent.tables, paints, count * COARSE_PAINT - odd(60), segments, n * COARSE_SEGMENT, &draw);
+}
+
+static uint32_t call_fill_list(void) {
+    size_t n = some_segments(), count = some_paints();
+    uint32_t most = below(MOST_DRAWS + 1), k;
+    coarse_draws list;
+    for (k = 0; k < most; k++) {
+        coarse_draw draw = some_draw(n, count);
+        uint32_t *d = draws + k * COARSE_DRAW;
+        d[0] = draw.thread, d[1] = (uint32_t)draw.start, d[2] = (uint32_t)draw.end, d[3] = draw.paint;
+        d[4] = draw.blend.mix, d[5] = draw.blend.compose, d[6] = draw.mask, d[7] = draw.panel;
+    }
+    list.words = draws, list.words_len = most * COARSE_DRAW - (most > 0 ? odd(60) : 0);
+    list.start = once_in(3) ? below(most + 1) : 0, list.end = odd(20) ? about(MOST_DRAWS) : most;
+    return coarse_fill_list(SCREEN_STATE, &lent.tables, paints, count * COARSE_PAINT, segments, n * COARSE_SEGMENT, &list, &results.count);
 }
 
 static uint32_t call_push(void) {
@@ -360,9 +386,11 @@ static struct {
     {"coarse_reset", ready_reset, call_reset, SCREEN, 6, 0, 0},
     {"coarse_bucket_recording", ready_file, call_recording, SCREEN, 3, 0, 0},
     {"coarse_why", ready_file, call_why, SCREEN | RESULTS, 3, 0, 0},
+    {"coarse_list_tile", ready_words, call_tile_list, LISTED, 6, 0, 0},
     {"coarse_to_edition_two", ready_words, call_to_two, LISTED, 3, 0, 0},
     {"coarse_to_edition_one", ready_words, call_to_one, LISTED, 3, 0, 0},
     {"coarse_fill", ready_none, call_fill, ROWS_TOO | 1 << PAINT_ATTRS, 40, 0, 0},
+    {"coarse_fill_list", ready_none, call_fill_list, ROWS_TOO | 1 << PAINT_ATTRS | RESULTS, 12, 0, 0},
     {"coarse_push_layer", ready_none, call_push, ROWS_TOO | 1 << LAYERS | 1 << OPACITIES, 14, 0, 0},
     {"coarse_pop_layer", ready_none, call_pop, ROWS_TOO | 1 << LAYERS | 1 << OPACITIES | 1 << LAYER_ATTRS, 20, 0, 0},
     {"coarse_filter_fill", ready_none, call_filter, ROWS_TOO | 1 << PAINT_ATTRS | 1 << FILTER_PAINTS, 8, 0, 0},
@@ -413,6 +441,9 @@ static void one(unsigned long number, size_t which) {
     writes = answer == COARSE_DONE ? calls[which].writes : answer > COARSE_BAD_FORM ? calls[which].writes & SCREEN : 0;
     if (answer != COARSE_DONE && calls[which].make != call_recording && calls[which].make != call_why)
         writes = 0;
+    /* What the fills before the refused one write, if there are any; how many they are is told on every answer. */
+    if (calls[which].make == call_fill_list)
+        writes = results.count > 0 ? calls[which].writes : RESULTS;
     for (i = 0; i < PARTS; i++) {
         size_t from = writes >> i & 1 ? length[i] : 0;
         const uint32_t *was = held + (part[i] - block);

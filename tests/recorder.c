@@ -1,12 +1,13 @@
 /* The recorder: scenes that are drawn by direct calls and recorded, whose recordings leave the same screen word for word, panels too, of either edition that has
  * words for them, and are what the conversions make of each other; records with any numbers in them, which the recorder refuses exactly where and as the file's
- * judge refuses the file that has them; what is refused changes nothing. And of these screens: a buffer is cleared over all that its own level fills and composites.
+ * judge refuses the file that has them; what is refused changes nothing. And of these screens: a buffer is cleared over all that its own level fills and composites; a tile's list, which is had of the recording alone, is
+ * what its row paints there.
  *     recorder [SCENES [SEED]]        400 scenes, seed 1
  * Prints each thing that does not hold; the status is 1 if anything does not. Wants coarse_recorder.h on the include path. */
 #include "coarse_recorder.h"
 #include <stdio.h>
 
-static unsigned long wrong, scenes, steps, judged, refused, buffered, kept, lost;
+static unsigned long wrong, scenes, steps, judged, refused, buffered, listed, kept, lost;
 
 static void hold(int holds, const char *what, uint32_t number) {
     if (!holds && wrong++ < 20)
@@ -200,6 +201,37 @@ static void buffers_hold(const coarse_bucketer *b) {
     }
 }
 
+/* Some tiles' lists, of the recording alone: what the rows paint there. The recorded screen begins to paint. */
+static void lists_hold(void) {
+    static coarse_piece list[2 * COARSE_MOST_ATTRS];
+    const coarse_piece *pieces = NULL;
+    const uint32_t *file = NULL;
+    size_t words = 0, count = 0, entries, row, i;
+    uint32_t k, tile;
+    expect("the words", COARSE_DONE, coarse_recorder_words(&recorder, COARSE_EDITION_TWO, &file, &words));
+    expect("painting", COARSE_DONE, coarse_bucketer_begin_painting(&recorded));
+    for (row = 0; row < coarse_bucketer_rows(&recorded); row++) {
+        expect("a row", COARSE_DONE, coarse_bucketer_paint_row(&recorded, row, &pieces, &count));
+        for (k = 0; k < 4; k++) {
+            size_t same = 0;
+            tile = below(TILES), entries = 0;
+            expect("a list", COARSE_DONE, coarse_list_tile(COARSE_EDITION_TWO, file, words, setup.mode, setup.width, (uint32_t)row, tile,
+                                                           (uint32_t *)list, 2 * COARSE_MOST_ATTRS * COARSE_PIECE, &entries));
+            for (i = 0; i < count; i++)
+                if (pieces[i].first <= tile && tile < pieces[i].end) {
+                    coarse_piece own = pieces[i];
+                    if (own.tag == COARSE_PAINT_FILL_ALPHA || own.tag == COARSE_LAYER_FILL_ALPHA)
+                        own.alpha += 16 * (tile - own.first);
+                    own.first = tile, own.end = tile + 1;
+                    hold(same < entries && memcmp(&list[same], &own, sizeof own) == 0, "an entry that was not painted", tile);
+                    same++;
+                }
+            hold(same == entries, "as many entries as were painted", (uint32_t)entries);
+            listed += entries;
+        }
+    }
+}
+
 /* Both editions of the recording. Where no panel would be lost there are words of edition one: they leave the same screen, and either edition's words are what
  * the conversion of the other's gives. Else edition one is refused, as the conversion to it is. */
 static void both_editions(void) {
@@ -263,6 +295,7 @@ static void scene(void) {
     draw_step();
     expect("and one more", COARSE_DONE, coarse_recorder_bucket(&recorder, &recorded));
     same_screens("another screen with one draw more");
+    lists_hold();
 }
 
 /* What the file's judge says */
@@ -572,6 +605,7 @@ int main(int argc, char **argv) {
     known_words();
     empty();
     hold(buffered > count, "fills in buffers", (uint32_t)buffered);
+    hold(listed > count, "entries of tiles' lists", (uint32_t)listed);
     hold(kept > count / 4 && lost > count / 4, "recordings with panels and without", (uint32_t)lost);
     hold(refused > judged / 10 && refused < judged - judged / 10, "records refused", (uint32_t)refused);
     printf("%lu scenes of %lu steps, %lu records judged, %lu of them refused; %lu things do not hold\n", count, steps, judged, refused, wrong);

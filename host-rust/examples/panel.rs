@@ -1,6 +1,9 @@
 //! A panel over a banner, drawn by two program modules: whose each piece of a row is, and what its tiles receive.
 
-use coarse::{CommandBucketer, Paint, Piece, RecordedFill, Segment, Setup};
+use coarse::{
+    list_tile, CommandBucketer, Edition, Mode, Paint, Piece, RecordedFill, Recorder, Rect, Segment,
+    Setup, Width,
+};
 use std::error::Error;
 
 const NAMES: [&str; 2] = ["banner", "panel"];
@@ -19,12 +22,22 @@ fn received(pieces: &[Piece], paints: &[u32], tile: u32) -> String {
     names.join(", then ")
 }
 
+/// What a row's pieces, which are solid, are to one tile.
+fn of_tile(pieces: &[Piece], tile: u32) -> impl Iterator<Item = Piece> + '_ {
+    let own = pieces.iter().filter(move |piece| piece.covers(tile));
+    own.map(move |&piece| {
+        let mut own = piece;
+        (own.first, own.end) = (tile, tile + 1);
+        own
+    })
+}
+
 fn main() -> Result<(), Box<dyn Error>> {
     // A screen of 512 x 4 pixels: one row of 128 tiles, in 4 depth buckets of 32.
     let mut screen = CommandBucketer::from_wh(512, 4, Setup::new(64, 64))?;
 
     // Both are opaque. The banner has the whole row, the panel tiles 20 to 70: all of bucket 1, and a part of 0 and of 2.
-    let paints = [Paint::new(true, 1), Paint::new(true, 2)];
+    let opaque = [Paint::new(true, 1), Paint::new(true, 2)];
     let segments = [Segment::solid(0, 0, 128), Segment::solid(0, 20, 70)];
     let banner = RecordedFill {
         start: 0,
@@ -40,7 +53,7 @@ fn main() -> Result<(), Box<dyn Error>> {
         panel: DIALOGS,
         ..RecordedFill::default()
     };
-    screen.generate_fills(&paints, &segments, &[banner, panel])?;
+    screen.generate_fills(&opaque, &segments, &[banner, panel])?;
 
     // The row is painted to its end. A piece says which module drew it.
     screen.begin_painting()?;
@@ -56,5 +69,22 @@ fn main() -> Result<(), Box<dyn Error>> {
     println!("tile 40: {}", received(&pieces, &paints, 40));
     println!("tile 25: {}", received(&pieces, &paints, 25));
     println!("tile 10: {}", received(&pieces, &paints, 10));
+
+    // The same two draws, recorded: what a tile receives can be listed without a screen.
+    let mut scene = Recorder::new(Rect::new(0, 0, 512, 4));
+    scene.segments(&segments)?;
+    for (paint, draw) in opaque.into_iter().zip([banner, panel]) {
+        scene.paint(paint)?;
+        scene.draw(&draw)?;
+    }
+    let words = scene.words(Edition::Two)?;
+    for tile in [10, 25, 40] {
+        let list = list_tile(Edition::Two, &words, Mode::Exact, Width::W128, 0, tile)?;
+        let is_painted = list.into_iter().eq(of_tile(&pieces, tile));
+        println!(
+            "the list of tile {tile} is {}what was painted",
+            if is_painted { "" } else { "not " }
+        );
+    }
     Ok(())
 }

@@ -64,14 +64,14 @@ impl Piece {
 ///
 /// # Safety
 /// The type has no padding, and any words are a value of it.
-unsafe trait Words: Copy + Default {}
+pub(crate) unsafe trait Words: Copy + Default {}
 
 // Each has 32-bit integers alone.
 unsafe impl Words for TileSpan {}
 unsafe impl Words for BucketRange {}
 unsafe impl Words for Piece {}
 
-fn words_mut<T: Words>(records: &mut [T]) -> (*mut u32, usize) {
+pub(crate) fn words_mut<T: Words>(records: &mut [T]) -> (*mut u32, usize) {
     (records.as_mut_ptr().cast(), size_of_val(records) / 4)
 }
 

@@ -76,6 +76,7 @@ mod reason;
 mod recorder;
 mod stored;
 mod sys;
+mod tile_list;
 mod version;
 
 pub use answer::{Answer, Stopped};
@@ -93,6 +94,7 @@ pub use stored::{
     BucketRange, DepthCmds, DepthFill, DepthSegment, FilterPaint, LayerFill, LayerFillAttrs,
     OpenLayer, PaintFill, PaintFillAttrs, Progress, RenderCmd, RenderCmds, Row, Rows, TileSpan,
 };
+pub use tile_list::list_tile;
 pub use version::{library_version, VERSION};
 
 #[cfg(test)]

@@ -359,6 +359,19 @@ extern "C" {
         reason: *mut ReasonWords,
     ) -> u32;
 
+    pub fn coarse_list_tile(
+        edition: u32,
+        file: *const u32,
+        file_len: usize,
+        mode: u32,
+        width: u32,
+        row: u32,
+        tile: u32,
+        list: *mut u32,
+        list_len: usize,
+        entries: *mut usize,
+    ) -> u32;
+
     pub fn coarse_to_edition_two(
         file: *const u32,
         file_len: usize,

@@ -1,5 +1,6 @@
 use super::*;
 use crate::bucketer::{sizes, FILTER_PAINT, LAYER_ATTR, MOST_LAYERS, OPEN_LAYER, PAINT_ATTR};
+use crate::tile_list::MOST_ATTRS;
 
 const SOLID: BlendMode = BlendMode { mix: 0, compose: 3 };
 
@@ -105,6 +106,7 @@ fn sizes_by_name() {
         ("LAYER_ATTR", LAYER_ATTR),
         ("FILTER_PAINT", FILTER_PAINT),
         ("MOST_LAYERS", MOST_LAYERS),
+        ("MOST_ATTRS", MOST_ATTRS),
         ("LAST_PANEL", LAST_PANEL as usize),
     ] {
         let line = ["#define", &format!("COARSE_{name}"), &number.to_string()];
@@ -187,6 +189,99 @@ fn why_a_tile_shows_what_it_shows() {
         bucketer.why(Edition::One, &file[1..], 9, 9, Attribute::Draw(0)),
         Err(Answer::BadForm)
     );
+}
+
+/// A piece cut to one of its tiles.
+fn of_tile(piece: Piece, tile: u32) -> Piece {
+    Piece {
+        first: tile,
+        end: tile + 1,
+        alpha: piece
+            .alpha_idx()
+            .map_or(0, |alpha| alpha + 16 * (tile - piece.first)),
+        ..piece
+    }
+}
+
+/// Of each sample, in either edition, each mode and each width: a tile's list is what its row paints there. A recording that is refused is refused alike,
+/// unless a row was full.
+#[test]
+fn lists_are_what_rows_paint() {
+    let folder = concat!(env!("CARGO_MANIFEST_DIR"), "/../samples");
+    let (mut entries, mut refused, mut full) = (0, 0, 0);
+    for entry in std::fs::read_dir(folder).unwrap() {
+        let path = entry.unwrap().path();
+        if path.extension() != Some("rec".as_ref()) {
+            continue;
+        }
+        let one = words(&std::fs::read(&path).unwrap());
+        for mode in [Mode::Exact, Mode::Snapping] {
+            let two = to_edition_two(&one, mode).unwrap_or_default();
+            for (edition, file) in [(Edition::One, &one), (Edition::Two, &two)] {
+                for width in [Width::W64, Width::W128, Width::W256] {
+                    let setup = Setup {
+                        mode,
+                        width,
+                        ..Setup::new(64, 64)
+                    };
+                    let list = |row, tile| list_tile(edition, file, mode, width, row, tile);
+                    let mut bucketer = CommandBucketer::from_wh(4, 4, setup).unwrap();
+                    match bucketer.bucket_commands(edition, file) {
+                        Ok(()) => {}
+                        Err(Answer::FullRow | Answer::FullDepth) => {
+                            assert!(!list(0, 0).unwrap().is_empty());
+                            full += 1;
+                            continue;
+                        }
+                        Err(answer) => {
+                            assert_eq!(list(0, 0), Err(answer));
+                            refused += 1;
+                            continue;
+                        }
+                    }
+                    bucketer.begin_painting().unwrap();
+                    let tiles = bucketer.width() / 4;
+                    let rows = bucketer.rows().len() as u32;
+                    for row in 0..rows {
+                        let pieces = painted(&mut bucketer, row as usize);
+                        for tile in (0..tiles).step_by(7) {
+                            let received: Vec<Piece> = pieces
+                                .iter()
+                                .filter(|piece| piece.covers(tile))
+                                .map(|&piece| of_tile(piece, tile))
+                                .collect();
+                            assert_eq!(list(row, tile).as_deref(), Ok(&received[..]));
+                            entries += received.len();
+                        }
+                    }
+                    assert_eq!(list(rows, 0), Err(Answer::BadRun));
+                    assert_eq!(list(0, tiles), Err(Answer::BadRun));
+                }
+            }
+        }
+    }
+    assert!(entries > 0 && refused > 0 && full > 0);
+}
+
+/// 1,025 opaque draws over one tile: each hides those before it, and the last finds no room for its attribute.
+#[test]
+fn a_list_without_rows() {
+    let hidden = |count: u32| {
+        let mut file = vec![1, 0, 0, 128, 4, 1, 1, 1, 0, 0, 1, 0, 0, 0, 32, 0, count];
+        for _ in 0..count {
+            file.extend([0, 0, 1, 0, 0, 3, 0]);
+        }
+        file.extend([0, 1, 0, count, 0, 1, 0, 1]);
+        list_tile(Edition::One, &file, Mode::Exact, Width::W128, 0, 31)
+    };
+    assert_eq!(
+        hidden(1024).as_deref(),
+        Ok(&[Piece {
+            attrs_idx: 1023,
+            ..paint(0, 31, 32)
+        }][..])
+    );
+    assert_eq!(hidden(1025), Err(Answer::FullAttrs));
 }
 
 /// The second of two opaque draws over one row hides the first. A draw of edition one has panel 0.

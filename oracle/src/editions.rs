@@ -2,7 +2,7 @@
 //! the port's.
 
 use crate::file::{judged_for, split};
-use crate::limits::{BAD_FORM, HAS_PANELS};
+use crate::limits::{BAD_FORM, HAS_PANELS, LONG_BYTES};
 use crate::viewport::Mode;
 
 #[derive(Debug, Clone, Copy, PartialEq, Eq)]
@@ -10,9 +10,6 @@ pub enum Edition {
     One,
     Two,
 }
-
-/// A longer file is refused by 3.
-const MOST_BYTES: usize = 1_048_576;
 
 impl Edition {
     /// The edition of a number.
@@ -54,7 +51,7 @@ impl Edition {
 
 /// The bytes of a file of an edition as one of the other, or the number that refuses it.
 pub fn converted(bytes: &[u8], from: Edition, mode: Mode) -> Result<Vec<u8>, u32> {
-    if bytes.len() > MOST_BYTES {
+    if bytes.len() > LONG_BYTES {
         return Err(BAD_FORM);
     }
     let recording = judged_for(bytes, from, mode)?;

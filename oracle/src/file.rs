@@ -96,7 +96,7 @@ fn judged_records(recording: Recording) -> Result<Recording, u32> {
 }
 
 /// The counted sections, with nothing missing and nothing left over.
-fn sections(bytes: &[u8], edition: Edition) -> Option<Recording> {
+pub(crate) fn sections(bytes: &[u8], edition: Edition) -> Option<Recording> {
     if !bytes.len().is_multiple_of(4) {
         return None;
     }

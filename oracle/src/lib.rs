@@ -18,6 +18,7 @@ mod kurbo {
 }
 pub mod leaves;
 mod limits;
+pub mod lists;
 pub mod original;
 pub mod painting;
 mod panels;

@@ -1,6 +1,7 @@
 //! Answers of the original Rust, to hold the definitions and the port against.
 
 use oracle::editions::{self, Edition};
+use oracle::lists::Lister;
 use oracle::questions::{self, Answerer, Question};
 use oracle::viewport::Mode;
 use oracle::why::Kind;
@@ -19,6 +20,9 @@ const USAGE: &str = "usage: oracle rowlist [--snap] [--width N] [--edition N] [-
        oracle why [--snap] [--width N] [--edition N] [--first-id N] [--tally] ROW TILE [draw|layer N] < FILE
        oracle why [--snap] [--width N] [--edition N] [--first-id N] [--tally] --stream < QUESTIONS
        oracle questions [--width N] SEED COUNT [KIND] > QUESTIONS
+       oracle questions [--width N] [--edition N] --lists SEED COUNT [KIND] > QUESTIONS
+       oracle tilelist [--snap] [--width N] [--edition N] [--first-id N] [--tally] ROW TILE < FILE
+       oracle tilelist [--snap] [--width N] [--edition N] [--first-id N] [--tally] --stream < QUESTIONS
        oracle editions [--snap] new|old < FILE > FILE
        oracle editions [--snap] [--tally] --stream new|old < STREAM > STREAM
        oracle files SEED COUNT new|old > STREAM
@@ -45,8 +49,12 @@ fn main() {
             agreed = answerer.disagreements.is_empty();
             out
         }
-        ["questions", seed, count] => asked(seed, count, "all", width),
-        ["questions", seed, count, kind] => asked(seed, count, kind, width),
+        ["tilelist", ..] => {
+            let (out, lister) = tile_lists(player, &words[1..]);
+            agreed = lister.disagreements.is_empty();
+            out
+        }
+        ["questions", ref given @ ..] => asked(given, width, edition),
         ["rowlist"] => print::rowlist(&mut player, &input()).into_bytes(),
         ["rowdump"] => dump(|bytes| print::rowdump(&mut player, bytes, panels)),
         ["generate", seed, count] => generate::stream(&made(seed, count, "all")),
@@ -108,7 +116,7 @@ fn mode(words: &mut Vec<String>) -> Mode {
     if flag(
         words,
         "--snap",
-        &["rowlist", "rowdump", "lines", "why", "editions"],
+        &["rowlist", "rowdump", "lines", "why", "tilelist", "editions"],
     ) {
         Mode::Snapping
     } else {
@@ -135,13 +143,27 @@ fn flag(words: &mut Vec<String>, name: &str, commands: &[&str]) -> bool {
 
 /// Takes `--width N` out of the arguments of a command that reads recordings or asks about them: pixels a bucket.
 fn width(words: &mut Vec<String>) -> u32 {
-    let takes = ["rowlist", "rowdump", "lines", "why", "questions"];
+    let takes = [
+        "rowlist",
+        "rowdump",
+        "lines",
+        "why",
+        "tilelist",
+        "questions",
+    ];
     last(words, "--width", &takes, 128)
 }
 
 /// Takes `--edition N` out of the arguments of a command that reads recordings.
 fn edition(words: &mut Vec<String>) -> u32 {
-    let takes = ["rowlist", "rowdump", "lines", "why"];
+    let takes = [
+        "rowlist",
+        "rowdump",
+        "lines",
+        "why",
+        "tilelist",
+        "questions",
+    ];
     last(words, "--edition", &takes, 1)
 }
 
@@ -262,10 +284,58 @@ fn compared(rows: &str) -> edited::Report {
     report
 }
 
-fn asked(seed: &str, count: &str, kind: &str, width: u32) -> Vec<u8> {
+/// Questions for `why`, or with `--lists` for `tilelist`.
+fn asked(words: &[&str], width: u32, edition: u32) -> Vec<u8> {
+    let (lists, words) = match words {
+        ["--lists", words @ ..] => (true, words),
+        _ => (false, words),
+    };
+    let (seed, count, kind) = match *words {
+        [seed, count] => (seed, count, "all"),
+        [seed, count, kind] => (seed, count, kind),
+        _ => usage(),
+    };
     let (seed, count) = (number(seed), number(count));
     let width = Width::of(width).unwrap_or_else(|| usage());
-    generate::questions::stream(seed, count, kind, width).unwrap_or_else(|| no_kind(kind))
+    let made = match (lists, Edition::of(edition)) {
+        (true, Some(edition)) => generate::questions::lists(seed, count, kind, width, edition),
+        (false, Some(Edition::One)) => generate::questions::stream(seed, count, kind, width),
+        _ => usage(),
+    };
+    made.unwrap_or_else(|| no_kind(kind))
+}
+
+/// The list of a tile or those of a stream; disagreements and the tally go to standard error.
+fn tile_lists(player: walk::Player, words: &[&str]) -> (Vec<u8>, Lister) {
+    let tally = words.contains(&"--tally");
+    let words: Vec<&str> = words
+        .iter()
+        .copied()
+        .filter(|word| *word != "--tally")
+        .collect();
+    let mut lister = Lister::new(player);
+    let out = match words[..] {
+        ["--stream"] => {
+            let mut out = String::new();
+            for (k, question) in questions::stream(&input()).into_iter().enumerate() {
+                out += &format!("list {k}\n{}", lister.list(question));
+            }
+            out
+        }
+        [row, tile] => {
+            let (row, tile) = (number(row), number(tile));
+            let bytes = &input()[..];
+            lister.list(Question { row, tile, bytes })
+        }
+        _ => usage(),
+    };
+    for line in &lister.disagreements {
+        eprintln!("{line}");
+    }
+    if tally {
+        eprint!("{}", lister.tally);
+    }
+    (out.into_bytes(), lister)
 }
 
 fn made(seed: &str, count: &str, kind: &str) -> Vec<generate::Made> {

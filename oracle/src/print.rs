@@ -170,26 +170,31 @@ pub(crate) fn detail(
     filter_paints(&mut out, screen);
     for (i, pieces) in pieces(screen, width, panels).into_iter().enumerate() {
         line!(out, "painted {i} pieces {}", pieces.len());
-        for Piece {
-            layer,
-            attribute,
-            first,
-            end,
-            alpha,
-            nesting,
-            panel,
-        } in pieces
-        {
-            let tag = if layer { 'l' } else { 'p' };
-            line!(
-                out,
-                "{tag} {attribute} {first} {end} {} {nesting}{}",
-                or_dash(alpha),
-                last(panel)
-            );
+        for piece in &pieces {
+            out += &piece_line(piece, with_panels);
         }
     }
     out
+}
+
+/// A piece's line, at wish with its panel.
+pub(crate) fn piece_line(piece: &Piece, with_panel: bool) -> String {
+    let Piece {
+        layer,
+        attribute,
+        first,
+        end,
+        alpha,
+        nesting,
+        panel,
+    } = *piece;
+    let tag = if layer { 'l' } else { 'p' };
+    let last = match with_panel {
+        true => format!(" {panel}"),
+        false => String::new(),
+    };
+    let alpha = or_dash(alpha);
+    format!("{tag} {attribute} {first} {end} {alpha} {nesting}{last}\n")
 }
 
 /// A line for each attribute, ended by what its number gives.

@@ -2,7 +2,7 @@
 
 use crate::editions::Edition;
 use crate::file;
-use crate::limits::{within, ROOM};
+use crate::limits::{within, BAD_FORM, BAD_VIEWPORT, LONG_BYTES, MOST_ROOM, ROOM};
 use crate::panels::{draws, Panels};
 use crate::peniko::BlendMode;
 use crate::record::RecordedFill;
@@ -25,6 +25,8 @@ pub struct Player {
     /// None for a number that is no edition's: then every recording is refused, before all else.
     edition: Option<Edition>,
     first_id: u32,
+    /// The commands and the depth fills that a row has room for.
+    room: usize,
     panels: Panels,
 }
 
@@ -37,6 +39,7 @@ impl Player {
             width: Some(Width::Of128),
             edition: Some(Edition::One),
             first_id,
+            room: ROOM,
             panels: Panels::default(),
         }
     }
@@ -59,6 +62,19 @@ impl Player {
         }
     }
 
+    /// With the most room that a row can have.
+    pub fn roomy(self) -> Self {
+        Self {
+            room: MOST_ROOM as usize,
+            ..self
+        }
+    }
+
+    /// The id that a walk begins at.
+    pub(crate) fn first_id(&self) -> u32 {
+        self.first_id
+    }
+
     /// How it reads viewports.
     pub(crate) fn mode(&self) -> Mode {
         self.mode
@@ -73,6 +89,19 @@ impl Player {
     pub(crate) fn judged(&self, bytes: &[u8]) -> Result<Scene, u32> {
         let recording = file::judged_in(self.edition, bytes, self.mode, self.width)?;
         Ok(scene(&recording, self.mode))
+    }
+
+    /// The same of a file of at most 1,048,576 bytes, on a screen of however many rows.
+    pub(crate) fn judged_long(&self, bytes: &[u8]) -> Result<Scene, u32> {
+        let edition = self.edition.ok_or(BAD_FORM)?;
+        if bytes.len() > LONG_BYTES {
+            return Err(BAD_FORM);
+        }
+        let recording = file::judged_for(bytes, edition, self.mode);
+        if self.width.is_none() && recording.as_ref().err() != Some(&BAD_FORM) {
+            return Err(BAD_VIEWPORT);
+        }
+        Ok(scene(&recording?, self.mode))
     }
 
     /// The screen that a recording ends as, or the number that refuses it.
@@ -95,7 +124,7 @@ impl Player {
                 ledger.fill(screen, draw, scene.strips_of(draw), &scene.paints);
             }
             take(screen, scene, &step);
-            limits(screen)?;
+            within(screen, self.room, self.room)?;
             account(panels, screen, scene, &step);
             Ok(())
         })?;
@@ -220,9 +249,4 @@ fn account(panels: &mut Panels, screen: &dyn Screen, scene: &Scene, step: &Step)
         }
         Step::Pop(_) => panels.pop(),
     }
-}
-
-/// The limits of `rowlist`, after a step.
-fn limits(screen: &dyn Screen) -> Result<(), u32> {
-    within(screen, ROOM, ROOM)
 }

@@ -1,7 +1,8 @@
-//! Why a tile shows what it shows, written from the rules in words (docs/RULES.md): one walk in draw order that looks at the asked tile alone.
-//! No row commands, bucket words or depth fills are made or read.
+//! Why a tile shows what it shows, and what it receives, written from the rules in words (docs/RULES.md): one walk in draw order that looks at the asked tile
+//! alone. No row commands, bucket words or depth fills are made or read.
 
-use crate::limits::BAD_RUN;
+use crate::limits::{Counts, BAD_RUN};
+use crate::painting::Piece;
 use crate::peniko::BlendMode;
 use crate::record::RecordedFill;
 use crate::scene::Scene;
@@ -70,24 +71,34 @@ impl Reasons {
 
 /// The reasons at a tile of an accepted recording, or 12 for a row or tile off the screen.
 pub(crate) fn reasons(scene: &Scene, width: Width, row: u32, tile: u32) -> Result<Reasons, u32> {
-    let (rows, tiles) = (scene.viewport.height() / 4, scene.viewport.width() / 4);
-    if row >= rows.into() || tile >= tiles.into() {
-        return Err(BAD_RUN);
-    }
-    let mut look = Look {
-        scene,
-        width: u16::try_from(width.tiles()).expect("at most 64"),
-        row: u16::try_from(row).expect("on the screen"),
-        tile: u16::try_from(tile).expect("on the screen"),
-        open: Vec::new(),
-        entries: Vec::new(),
-    };
+    let mut look = Look::at(scene, width, row, tile)?;
     walk(scene, &mut |step| {
-        look.take(step);
+        look.take(&step);
         Ok(())
     })
     .expect("an accepted recording");
     Ok(look.reasons())
+}
+
+/// What a tile receives of a good recording, oldest first, each entry as a piece of the tile alone; the walk begins at this id. Refused by its first step past
+/// a limit, 6, 8 or 9, no row being ever full; then by 12 for a row or tile off the screen.
+pub(crate) fn list(
+    scene: &Scene,
+    width: Width,
+    row: u32,
+    tile: u32,
+    first_id: u32,
+) -> Result<Vec<Piece>, u32> {
+    let mut look = Look::at(scene, width, row, tile);
+    let mut counts = Counts::new(scene.viewport, first_id);
+    walk(scene, &mut |step| {
+        counts.take(&step)?;
+        if let Ok(look) = &mut look {
+            look.take(&step);
+        }
+        Ok(())
+    })?;
+    Ok(look?.list())
 }
 
 /// The asked tile, the layers that are open, and what each step with an attribute gave so far.
@@ -102,6 +113,7 @@ struct Look<'a> {
 }
 
 struct Open {
+    panel: u32,
     /// The clip box in force inside the layer, in the screen's pixels.
     bounds: RectU16,
     /// Whether the asked row has the layer's buffer.
@@ -115,20 +127,41 @@ struct Entry {
     missing: Option<Reason>,
     /// Whether an eligible solid segment of it covers the tile's whole bucket.
     hides: bool,
+    /// The alpha index of the tile, of what covers it after the cut.
+    alpha: Option<u32>,
+    /// How many layers are open, the closing one among them.
+    nesting: usize,
+    panel: u32,
 }
 
-impl Look<'_> {
-    fn take(&mut self, step: Step) {
-        match step {
-            Step::Fill(draw, _) => self.fill(draw),
-            Step::Push(layer, _) => self.push(layer),
-            Step::Filter(_, placement, _) => self.filter(placement),
+impl<'a> Look<'a> {
+    /// At a tile of the screen; 12 off it.
+    fn at(scene: &'a Scene, width: Width, row: u32, tile: u32) -> Result<Self, u32> {
+        let (rows, tiles) = (scene.viewport.height() / 4, scene.viewport.width() / 4);
+        if row >= rows.into() || tile >= tiles.into() {
+            return Err(BAD_RUN);
+        }
+        Ok(Self {
+            scene,
+            width: u16::try_from(width.tiles()).expect("at most 64"),
+            row: u16::try_from(row).expect("on the screen"),
+            tile: u16::try_from(tile).expect("on the screen"),
+            open: Vec::new(),
+            entries: Vec::new(),
+        })
+    }
+
+    fn take(&mut self, step: &Step) {
+        match *step {
+            Step::Fill(draw, panel) => self.fill(draw, panel),
+            Step::Push(layer, panel) => self.push(layer, panel),
+            Step::Filter(_, placement, panel) => self.filter(placement, panel),
             Step::Pop(layer) => self.pop(layer),
         }
     }
 
     /// A draw without segments has no attribute. Its segments are cut by the clip box in force.
-    fn fill(&mut self, draw: &RecordedFill) {
+    fn fill(&mut self, draw: &RecordedFill, panel: u32) {
         let list = &self.scene.strips[draw.strip_range.clone()];
         if list.is_empty() {
             return;
@@ -148,16 +181,24 @@ impl Look<'_> {
         if list.iter().any(|segment| !self.cut(segment).is_empty()) {
             self.touch();
         }
-        self.add(Kind::Draw, covered, kept, true, hides);
+        self.entries.push(Entry {
+            kind: Kind::Draw,
+            missing: missing(covered, kept, true),
+            hides,
+            alpha: self.alpha(list),
+            nesting: self.open.len(),
+            panel,
+        });
     }
 
     /// A clip's box is made local and met with the parent's; without a clip it is the parent's. A destructive blend touches its rows.
-    fn push(&mut self, layer: &RecordedLayer) {
+    fn push(&mut self, layer: &RecordedLayer, panel: u32) {
         let bounds = match &layer.props.clip_path {
             Some(clip) => self.local(clip.bbox).intersect(self.bounds()),
             None => self.bounds(),
         };
         self.open.push(Open {
+            panel,
             bounds,
             touched: false,
         });
@@ -168,7 +209,7 @@ impl Look<'_> {
     }
 
     /// Nothing at all if its dest box, met with the clip box in force, is empty.
-    fn filter(&mut self, placement: FilterLayerPlacement) {
+    fn filter(&mut self, placement: FilterLayerPlacement, panel: u32) {
         let dest = placement.dest_bbox();
         let met = self.local(dest).intersect(self.bounds());
         if met.is_empty() {
@@ -179,33 +220,37 @@ impl Look<'_> {
         if on_row(met, self.row) {
             self.touch();
         }
-        self.add(Kind::Draw, covered, kept, true, false);
+        self.entries.push(Entry {
+            kind: Kind::Draw,
+            missing: missing(covered, kept, true),
+            hides: false,
+            alpha: None,
+            nesting: self.open.len(),
+            panel,
+        });
     }
 
     /// A clip's segments are cut by the parent's box. Without a clip the viewport stands as the segment, cut by the layer's own box.
     fn pop(&mut self, layer: &RecordedLayer) {
+        let nesting = self.open.len();
         let closing = self.open.pop().expect("pushed before");
-        let (covered, kept) = match &layer.props.clip_path {
-            Some(clip) => self.covered_and_kept(&self.scene.strips[clip.strip_range.clone()]),
-            None => (true, meets(closing.bounds, self.row, self.tile)),
-        };
-        self.add(Kind::Layer, covered, kept, closing.touched, false);
-    }
-
-    fn add(&mut self, kind: Kind, covered: bool, kept: bool, touched: bool, hides: bool) {
-        let missing = if !covered {
-            Some(Reason::Uncovered)
-        } else if !kept {
-            Some(Reason::CutAway)
-        } else if !touched {
-            Some(Reason::Untouched)
-        } else {
-            None
+        let ((covered, kept), alpha) = match &layer.props.clip_path {
+            Some(clip) => {
+                let list = &self.scene.strips[clip.strip_range.clone()];
+                (self.covered_and_kept(list), self.alpha(list))
+            }
+            None => {
+                let kept = meets(closing.bounds, self.row, self.tile);
+                ((true, kept), None)
+            }
         };
         self.entries.push(Entry {
-            kind,
-            missing,
-            hides,
+            kind: Kind::Layer,
+            missing: missing(covered, kept, closing.touched),
+            hides: false,
+            alpha,
+            nesting,
+            panel: closing.panel,
         });
     }
 
@@ -252,10 +297,48 @@ impl Look<'_> {
         first - left..end - left
     }
 
-    /// The list begins with the newest step that hides; what came before it is hidden.
-    fn reasons(&self) -> Reasons {
+    /// The tile's own alpha index: 16 for each tile from the segment's first, which may lie off the screen.
+    fn alpha(&self, list: &[Strip]) -> Option<u32> {
+        let (_, tile) = self.in_scene();
+        let covering = list.iter().find(|s| self.cut(s).contains(&self.tile))?;
+        let index = covering.alpha_idx + 16 * u32::from(tile - covering.first);
+        covering.alpha.then_some(index)
+    }
+
+    /// What came before the newest step that hides, and the rest.
+    fn split(&self) -> (&[Entry], &[Entry]) {
         let newest = self.entries.iter().rposition(|entry| entry.hides);
-        let (before, listed) = self.entries.split_at(newest.unwrap_or(0));
+        self.entries.split_at(newest.unwrap_or(0))
+    }
+
+    /// The list begins with the newest step that hides.
+    fn list(&self) -> Vec<Piece> {
+        let mut counts = [0, 0];
+        let mut pieces = Vec::new();
+        let (before, _) = self.split();
+        for (i, entry) in self.entries.iter().enumerate() {
+            let layer = entry.kind == Kind::Layer;
+            let count = &mut counts[usize::from(layer)];
+            let attribute = *count;
+            *count += 1;
+            if i >= before.len() && entry.missing.is_none() {
+                pieces.push(Piece {
+                    layer,
+                    attribute,
+                    first: self.tile,
+                    end: self.tile + 1,
+                    alpha: entry.alpha,
+                    nesting: entry.nesting,
+                    panel: entry.panel,
+                });
+            }
+        }
+        pieces
+    }
+
+    /// What came before the list is hidden.
+    fn reasons(&self) -> Reasons {
+        let (before, listed) = self.split();
         // The newest one's attribute: as many draws have one before it.
         let hider = before.iter().filter(|e| e.kind == Kind::Draw).count();
         let mut reasons = Reasons::default();
@@ -280,4 +363,17 @@ fn on_row(bounds: RectU16, row: u16) -> bool {
 /// Whether a box of pixels meets a tile.
 fn meets(bounds: RectU16, row: u16, tile: u16) -> bool {
     !bounds.is_empty() && on_row(bounds, row) && bounds.x0 < 4 * tile + 4 && 4 * tile < bounds.x1
+}
+
+/// The first that holds of what covers a tile or does not, before the cut and after it, in a row that is touched or is not.
+fn missing(covered: bool, kept: bool, touched: bool) -> Option<Reason> {
+    if !covered {
+        Some(Reason::Uncovered)
+    } else if !kept {
+        Some(Reason::CutAway)
+    } else if !touched {
+        Some(Reason::Untouched)
+    } else {
+        None
+    }
 }

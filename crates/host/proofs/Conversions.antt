@@ -9,7 +9,7 @@ use Rattle.rules.specs.Conversions.{convert-call}
 use Rattle.convert.specs.Placed.{Placed, placed, put_first}
 use Rattle.host.specs.Border.{unasked_number}
 use Rattle.host.specs.Results.{result}
-use Rattle.host.specs.Editions.{asked_mode, length-left, conversion_in, conversion_call}
+use Rattle.host.specs.Editions.{asked_mode, count-left, conversion_in, conversion_call}
 use Rattle.host.proofs.ScreenAsked.{not-asked, as-asked}
 
 module _ (f : File) (e : Edition) (mode : ℕ) (out n : List ℕ) where
@@ -19,7 +19,7 @@ module _ (f : File) (e : Edition) (mode : ℕ) (out n : List ℕ) where
 
   -- r: what the call gave; k and n': its number and the result word afterwards
   pub mode_asked : (m : Mode) → Ok m ≡ asked_mode mode → (r : Result ℕ Refusal) (out' n' : List ℕ) (k : ℕ)
-      → placed r out' ≡ put_first (convert-call m e (length out) f) out → answer k n' ≡ length-left n r → answer k (out', n') ≡ conversion_call f e mode out n
+      → placed r out' ≡ put_first (convert-call m e (length out) f) out → answer k n' ≡ count-left n r → answer k (out', n') ≡ conversion_call f e mode out n
   unfolding conversion_call conversion_in
   mode_asked m q r out' n' k p l =
       ap (λ (x : Answer (List ℕ)). answer x.number (out', x.value)) l

@@ -18,3 +18,4 @@ pub mod OneLook
 pub mod Left
 pub mod Conversions
 pub mod FillLists
+pub mod TileLists

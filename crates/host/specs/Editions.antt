@@ -25,9 +25,9 @@ abbrev pub mode-for : Result Given Refusal → Result Mode Refusal
 mode-for (Ok m) = Ok (mode_of m)
 mode-for (Err r) = Err r
 
--- how many words the file has, where the conversion is done; else what stood there
-abbrev pub length-left : List ℕ → Result ℕ Refusal → Answer (List ℕ)
-length-left n r = let k = answer_number r in answer k (result k (count_of r ∷ []) n)
+-- how many words or entries there are, where the call is done; else what stood there
+abbrev pub count-left : List ℕ → Result ℕ Refusal → Answer (List ℕ)
+count-left n r = let k = answer_number r in answer k (result k (count_of r ∷ []) n)
 
 -- done: the file's words first in the list, those after them as they were; refused, everything as it was
 abbrev pub converted-left : List ℕ → List ℕ → Answer (List ℕ) → Answer (List ℕ × List ℕ)

@@ -14,3 +14,4 @@ pub mod Called
 pub mod Reading
 pub mod Editions
 pub mod FillLists
+pub mod TileList

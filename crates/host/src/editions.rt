@@ -3,7 +3,7 @@ ghost use Rattle.std.specs.Prelude.{◌≡◌};
 ghost use Rattle.rules.specs.Answers.{answer};
 ghost use Rattle.host.specs.Asked.{told, told_file, told-for};
 ghost use Rattle.host.specs.Held.{one};
-ghost use Rattle.host.specs.Editions.{asked_mode, mode-for, length-left, two_call, one_call};
+ghost use Rattle.host.specs.Editions.{asked_mode, mode-for, count-left, two_call, one_call};
 
 use crate::border::refuse_setup;
 use crate::state::mode_at;
@@ -33,13 +33,13 @@ fn read_mode(word: u32) -> Result<Mode, Refusal>
     Ok(mode_at(word))
 }
 
-// How many words the converted file has, where the conversion is not refused.
-fn put_length(done: Result<usize, Refusal>, words: &mut usize) -> u32
-    ensures { answer result (one words.new) ≡ length-left (one words.old) done }
+/// How many words a converted file has, or entries a tile's list, where the call is not refused.
+pub fn put_count(done: Result<usize, Refusal>, count: &mut usize) -> u32
+    ensures { answer result (one count.new) ≡ count-left (one count.old) done }
 {
     match done {
-        Ok(length) => {
-            *words = length;
+        Ok(n) => {
+            *count = n;
             0
         }
         Err(refusal) => refusal.number(),
@@ -62,7 +62,7 @@ pub extern "C" fn coarse_to_edition_two(
         Ok(mode) => mode,
         Err(refusal) => return refuse_setup(File::in_one(file), refusal),
     };
-    put_length(to_edition_two(file, mode, out), words)
+    put_count(to_edition_two(file, mode, out), words)
 }
 
 /// A file of edition two as one of edition one, likewise; by 15, before 14, where a draw or a layer has a panel.
@@ -89,5 +89,5 @@ pub extern "C" fn coarse_to_edition_one(
             );
         }
     };
-    put_length(to_edition_one(file, mode, out), words)
+    put_count(to_edition_one(file, mode, out), words)
 }

@@ -16,3 +16,4 @@ pub mod results;
 pub mod spans;
 pub mod state;
 mod sure;
+pub mod tile_list;

@@ -1,5 +1,5 @@
 -- A judged step is refused by the engine of one tile by the number that refuses it on rows that are never full.
-use Rattle.std.proofs.Common.{ℕ, suc, ◌+◌, arith, ◌≡◌, refl, sym, ◌∙◌, ap, Bool, true, false, ◌&&◌, ◌||◌, not, cond, List, [], ◌∷◌, ◌++◌, map, append-nil, length, length-append, leb, ltb, eq-eqb}
+use Rattle.std.proofs.Common.{ℕ, suc, ◌+◌, ◌≤◌, arith, ◌≡◌, refl, sym, ◌∙◌, ap, Bool, true, false, ◌&&◌, ◌||◌, not, cond, List, [], ◌∷◌, ◌++◌, map, append-nil, length, length-append, leb, ltb, le-ltb, eq-eqb}
 use Rattle.std.proofs.lemmas.Bool.Decides.{nat_tests}
 use Rattle.sizes.specs.Sizes.{most-layers, most-attrs, most-filters, last-id}
 use Rattle.rules.specs.Lists.{is-empty}
@@ -7,19 +7,19 @@ use Rattle.rules.specs.Answers.{first_of, Done, Deep, Ids, FullAttrs}
 use Rattle.rules.specs.Boxes.{Box}
 use Rattle.rules.specs.Segments.{Segment, judge-segments}
 use Rattle.rules.specs.Inputs.{Paint, Draw, draw-segments, good-fill, Props, good-props, Filter, good-filter-fill}
-use Rattle.rules.specs.Attributes.{Attrs, attrs-full}
+use Rattle.rules.specs.Attributes.{attrs-full}
 use Rattle.rules.specs.Plans.{Layer, State, Step, a-fill, a-push, a-pop, a-filter, Plan, still, box_of, with-paint, with-layer, clip-segments, clip-fits, filter-box, draws-nothing, plan-fill, plan-push, plan-pop, plan-filter-in, plan-filter, plan}
 use Rattle.rules.specs.Plain.{OpenLayer, Story, box-now}
 use Rattle.rules.specs.Recording.{Recording}
-use Rattle.rules.proofs.All.{All, cons, head, tail, or_left, or_right}
+use Rattle.rules.proofs.All.{All, cons, head, tail}
+use Rattle.rules.proofs.laws.Answers.{settle-number}
 use Rattle.rules_picture.proofs.Cases.{by}
 use Rattle.rules_picture.proofs.Follows.{layer-in}
 use Rattle.rules_picture.proofs.Limits.{Limits, limit}
-use Rattle.rules_picture.proofs.Roomless.{settled}
 use Rattle.rules_picture.proofs.Stepped.{filter_none, filter-some}
 use Rattle.tile.specs.Telling.{Line, tell-fill, tell-push, tell-pop, tell-filter, tell-at}
 use Rattle.refine_tile.proofs.Stories.{Stands}
-use Rattle.refine_tile.proofs.Tells.{telling}
+use Rattle.refine_tile.proofs.Tells.{telling, few}
 
 -- an open layer whose clip's segments are good in the list lent to its pop
 abbrev pub Closes : List Segment → Layer → Type 0
@@ -62,23 +62,12 @@ one-past n k = grind (arith, nat_tests)
 one-longer : {A : Type 0} (xs : List A) (x : A) (n : ℕ) → ltb n (length (xs ++ (x ∷ []))) ≡ leb n (length xs)
 one-longer xs x n = rw length-append (one-past n (length xs))
 
+within : (n : ℕ) {k : ℕ} → k ≤ n → ltb n k ≡ false
+within n {k} h = le-ltb n k h
+
 or-false : (b : Bool) → (b || false) ≡ b
 or-false true = refl
 or-false false = refl
-
--- attributes that aren't too many, kind by kind
-record Room (a : Attrs) : Type 0 where
-  paints : ltb most-attrs (length a.paints) ≡ false
-  layers : ltb most-attrs (length a.layers) ≡ false
-  filters : ltb most-filters (length a.filters) ≡ false
-
-room_of : (a : Attrs) → attrs-full a ≡ false → Room a
-room_of a e =
-    let x = ltb most-attrs (length a.paints) in
-    let y = ltb most-attrs (length a.layers) in
-    let z = ltb most-filters (length a.filters) in
-    let h = or_left (x || y) z e in
-    record { paints = or_left x y h; layers = or_right x y h; filters = or_right (x || y) z e }
 
 -- the limit of a plan that isn't refused for its inputs, where no layer is too deep
 limit-is : (p : Plan) (i c : Bool) → p.refused ≡ Done → ltb most-layers (length p.layers) ≡ false → ltb 1048577 p.next ≡ i → attrs-full p.attrs ≡ c
@@ -93,13 +82,13 @@ module _ (w : ℕ) (v : Box) (row tile : ℕ) (ws : List ℕ) where
   fill-limit ps ss d o s said m h q j =
       let own = draw-segments ss d in
       let new = with-paint s d.paint d.blend d.mask d.thread d.panel [] in
-      let k = room_of s.attrs q.attrs in
+      let k = few s.attrs q.attrs in
       let i : ltb 1048577 (s.next + 1) ≡ ltb last-id o.next = last-left s.next ∙ ap (ltb last-id) h.next in
       let full : attrs-full new ≡ leb most-attrs o.paints =
-      rw (append-nil, k.layers, k.filters) (simp or-false (one-longer s.attrs.paints _ most-attrs ∙ ap (leb most-attrs) h.paints)) in
+      rw (append-nil, within most-attrs k.layers, within most-filters k.filters) (simp or-false (one-longer s.attrs.paints _ most-attrs ∙ ap (leb most-attrs) h.paints)) in
       let c : attrs-full (cond (is-empty own) s.attrs new) ≡ (not (is-empty own) && leb most-attrs o.paints) =
       by (is-empty own) (λ y. rw y q.attrs) (λ z. rw z full) in
-      settled _ _ _ ∙ sym (limit-is (plan-fill ps ss d s) _ _ j q.deep i c)
+      settle-number _ _ _ ∙ sym (limit-is (plan-fill ps ss d s) _ _ j q.deep i c)
 
   push-limit : (p : Props) (o : Story) (s : State) (said : List Line) (m : ℕ) → Stands v o s → Limits (still Done s) → good-props p ≡ true
       → (tell-at w v row tile (a-push p) (telling ws o said m (length s.attrs.filters))).number ≡ limit (plan-push p s)
@@ -108,7 +97,7 @@ module _ (w : ℕ) (v : Box) (row tile : ℕ) (ws : List ℕ) where
       let e : ltb most-layers (suc (length s.layers)) ≡ leb most-layers (length (map layer-in o.open-layers)) =
       ap (λ (n : ℕ). ltb most-layers n) (omega arith) ∙ one-past most-layers (length s.layers) ∙ ap (λ (ls : List Layer). leb most-layers (length ls)) h.opened in
       let z : limit (plan-push p s) ≡ first_of ((leb most-layers (length (map layer-in o.open-layers)), Deep) ∷ []) = rw (j, e, q.ids, q.attrs) in
-      settled _ _ _ ∙ sym z
+      settle-number _ _ _ ∙ sym z
 
   pop-limit : (ls : List OpenLayer) (ss : List Segment) (js : List ℕ) (o : Story) (s : State) (said : List Line) (m : ℕ) → Stands v o s → Limits (still Done s)
       → (ms : List Layer) → ms ≡ map layer-in ls → ltb most-layers (length ms) ≡ false → All (Closes ss) ms
@@ -116,12 +105,12 @@ module _ (w : ℕ) (v : Box) (row tile : ℕ) (ws : List ℕ) where
   unfolding tell-pop plan-pop
   pop-limit [] ss js o s said m h q ms e d c = rw e
   pop-limit (l ∷ ls) ss js o s said m h q ms e d c =
-      let k = room_of s.attrs q.attrs in
+      let k = few s.attrs q.attrs in
       let i : ltb 1048577 (s.next + 1) ≡ ltb last-id o.next = last-left s.next ∙ ap (ltb last-id) h.next in
       let full : attrs-full (with-layer s l.layer.props) ≡ leb most-attrs o.layers =
-      rw (k.paints, k.filters, or-false) (one-longer s.attrs.layers _ most-attrs ∙ ap (leb most-attrs) h.layers) in
+      rw (within most-attrs k.paints, within most-filters k.filters, or-false) (one-longer s.attrs.layers _ most-attrs ∙ ap (leb most-attrs) h.layers) in
       let deep : ltb most-layers (length (map layer-in ls)) ≡ false = grind (arith, nat_tests, rw e at d) in
-      rw e (settled _ _ _ ∙ sym (limit-is (plan-pop (layer-in l ∷ map layer-in ls) ss js s) _ _ (head (rw e at c)) deep i full))
+      rw e (settle-number _ _ _ ∙ sym (limit-is (plan-pop (layer-in l ∷ map layer-in ls) ss js s) _ _ (head (rw e at c)) deep i full))
 
   filter-limit : (n : ℕ) (f : Filter) (u : ℕ) (o : Story) (s : State) (said : List Line) (m : ℕ) → Stands v o s → Limits (still Done s) → good-filter-fill n f u ≡ true
       → (tell-at w v row tile (a-filter n f u) (telling ws o said m (length s.attrs.filters))).number ≡ limit (plan-filter n f u s)
@@ -130,14 +119,14 @@ module _ (w : ℕ) (v : Box) (row tile : ℕ) (ws : List ℕ) where
       let b = filter-box v (box-now v o.open-layers) f in
       let e : filter-box s.frame.viewport (box_of s) f ≡ b = rw (h.view, h.opened) in
       let d : draws-nothing f (filter-box s.frame.viewport (box_of s) f) ≡ draws-nothing f b = ap (draws-nothing f) e in
-      let k = room_of s.attrs q.attrs in
+      let k = few s.attrs q.attrs in
       let i : ltb 1048577 (s.next + 1) ≡ ltb last-id o.next = last-left s.next ∙ ap (ltb last-id) h.next in
       let p = plan-filter-in b n f u s in
       let full : attrs-full p.attrs ≡ (leb most-attrs o.paints || leb most-filters (length s.attrs.filters)) =
-      rw (k.layers, or-false, one-longer s.attrs.paints _ most-attrs, one-longer s.attrs.filters _ most-filters, h.paints) in
+      rw (within most-attrs k.layers, or-false, one-longer s.attrs.paints _ most-attrs, one-longer s.attrs.filters _ most-filters, h.paints) in
       by (draws-nothing f b)
       (λ y. let z = filter_none n f u s j (d ∙ y) in rw (y, z, q.deep, q.ids, q.attrs))
-      (λ y. let z = filter-some n f u s b e j (d ∙ y) in rw (y, z) (settled _ _ _ ∙ sym (limit-is p _ _ refl q.deep i full)))
+      (λ y. let z = filter-some n f u s b e j (d ∙ y) in rw (y, z) (settle-number _ _ _ ∙ sym (limit-is p _ _ refl q.deep i full)))
 
   -- x, from a state within the limits whose open layers close
   pub step-limit : (r : Recording) (x : Step) (js : List ℕ) (o : Story) (s : State) (said : List Line) (m : ℕ) → Stands v o s → Limits (still Done s)

@@ -40,7 +40,7 @@ settled-same j off room n k xs ys p q = by (eqb j Done)
     (λ y. rw (y, y))
 
 module _ (f : Frame) (r : Recording) (few : few-paints (length r.paints) ≡ true) where
-  retells : judge-roomless f r ≡ Done → (row tile : ℕ)
+  pub retells : judge-roomless f r ≡ Done → (row tile : ℕ)
       → Retells (bucket f) f.viewport row tile (replicate line-table 0) (roomless f r).number (roomless f r).value.log (told_of (bucket f) f.viewport r row tile)
   unfolding told_of
   retells j row tile =

@@ -207,12 +207,12 @@ module _ (w : ℕ) (v : Box) (row tile : ℕ) (ws : List ℕ) where
       }
 
 -- attributes that aren't too many
-record Few (a : Attrs) : Type 0 where
-  paints : length a.paints ≤ most-attrs
-  layers : length a.layers ≤ most-attrs
-  filters : length a.filters ≤ most-filters
+pub record Few (a : Attrs) : Type 0 where
+  pub paints : length a.paints ≤ most-attrs
+  pub layers : length a.layers ≤ most-attrs
+  pub filters : length a.filters ≤ most-filters
 
-few : (a : Attrs) → attrs-full a ≡ false → Few a
+pub few : (a : Attrs) → attrs-full a ≡ false → Few a
 few a e =
     let x = ltb most-attrs (length a.paints) in
     let y = ltb most-attrs (length a.layers) in

@@ -1,6 +1,5 @@
 -- A recording that the rules walk to its end is told to its end by the engine of one tile, into lines that are the rules' accounts.
-use Rattle.std.proofs.Common.{ℕ, ◌+◌, ◌%◌, arith, ◌≡◌, refl, sym, ◌∙◌, ap, true, ◌&&◌, ◌||◌, List, [], ◌∷◌, ◌++◌, length, ltb, eqb-true, ltb-false}
-use Rattle.sizes.specs.Sizes.{most-attrs, most-filters}
+use Rattle.std.proofs.Common.{ℕ, ◌+◌, ◌%◌, arith, ◌≡◌, refl, sym, ◌∙◌, ap, true, ◌&&◌, List, [], ◌∷◌, ◌++◌, length, eqb-true}
 use Rattle.rules.specs.Answers.{answer, Done}
 use Rattle.rules.specs.Boxes.{Box, by_4, bounded, good_viewport}
 use Rattle.rules.specs.Rows.{Row, RowOps, row-ops, fresh-row}
@@ -10,7 +9,7 @@ use Rattle.rules.specs.Recording.{Recording}
 use Rattle.rules.specs.Walk.{walk-all}
 use Rattle.rules.specs.Plain.{Story, untold, tell-step, tell-steps}
 use Rattle.rules.specs.Logged.{Logged, logged-call, walk-logged}
-use Rattle.rules.proofs.All.{and_left, and_right, or_left, or_right}
+use Rattle.rules.proofs.All.{and_left, and_right}
 use Rattle.rules_picture.proofs.Shape.{Shape, none_open}
 use Rattle.rules_picture.proofs.Stepped.{call-carried}
 use Rattle.rules_picture.proofs.Limits.{Limits, call-limits}
@@ -21,7 +20,7 @@ use Rattle.refine_tile.proofs.Rows.{Even}
 use Rattle.refine_tile.proofs.Inside.{inside-none, Fitting, no_step, one_more, steps-more}
 use Rattle.refine_tile.proofs.Lines.{step_lines, all_lines, lines_more, steps-say, say-length}
 use Rattle.refine_tile.proofs.Stories.{Stands, planned, done-state, call-stands}
-use Rattle.refine_tile.proofs.Tells.{telling, step_after}
+use Rattle.refine_tile.proofs.Tells.{telling, few, step_after}
 
 -- a good viewport starts at multiples of 4
 pub even : (v : Box) → good_viewport v ≡ true → Even v
@@ -106,9 +105,7 @@ module _ (R : Type 0) (ops : RowOps R) (w : ℕ) (v : Box) (row tile : ℕ) (ws 
       let p : t.paints ≡ (story s).paints = ap (λ (u : Telling). u.paints) h.is in
       let l : t.layers ≡ (story s).layers = ap (λ (u : Telling). u.layers) h.is in
       let a = s.screen.state.attrs in
-      let few = or_left (ltb most-attrs (length a.paints) || ltb most-attrs (length a.layers)) (ltb most-filters (length a.filters)) h.limits.attrs in
-      let x = ltb-false most-attrs (length a.paints) (or_left _ _ few) in
-      let y = ltb-false most-attrs (length a.layers) (or_right (ltb most-attrs (length a.paints)) _ few) in
+      let x = few a h.limits.attrs in
       let xs = h.stands.paints in
       let ys = h.stands.layers in
       let n = say-length say in

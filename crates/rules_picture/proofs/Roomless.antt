@@ -1,8 +1,8 @@
 -- Where the rules' walk of a recording is done, so is its walk with room for everything, by the same steps.
-use Rattle.std.proofs.Common.{ℕ, zero, suc, ◌-◌, arith, ◌≡◌, refl, sym, ◌∙◌, ap, false, Option, None, Some, List, [], ◌∷◌, map, length, replicate, le-ltb, eqb, eqb-true, eq-eqb}
+use Rattle.std.proofs.Common.{ℕ, zero, suc, ◌-◌, arith, ◌≡◌, refl, sym, ◌∙◌, ap, false, Option, None, Some, List, [], ◌∷◌, map, length, replicate, le-ltb, eq-eqb}
 use mathlib.Core.List.{foldl}
 use Rattle.rules.specs.Lists.{change, times}
-use Rattle.rules.specs.Answers.{answer, settle, Done}
+use Rattle.rules.specs.Answers.{Answer, answer, settle, Done}
 use Rattle.rules.specs.Spans.{Span}
 use Rattle.rules.specs.Boxes.{rows_of}
 use Rattle.rules.specs.Split.{Part, regular, buckets, split}
@@ -12,9 +12,9 @@ use Rattle.rules.specs.Plans.{bucket, Step, Act, paint, opaque, touch, close, po
 use Rattle.rules.specs.Steps.{Screen, reset, put-part, ensure, do-act, do-puts, done, row-passes, passes, refusal, perform, touched, call}
 use Rattle.rules.specs.Logged.{Logged, logged-call, walk-logged}
 use Rattle.rules.specs.Roomless.{buffers-alone}
+use Rattle.rules.proofs.laws.Answers.{settle-number}
 use Rattle.rules.proofs.Follows.{Agrees, walk-agrees}
 use Rattle.rules_picture.specs.Roomless.{Roomless-done}
-use Rattle.rules_picture.proofs.Cases.{by}
 use Rattle.rules_picture.proofs.Stepped.{call-done}
 use Rattle.rules_picture.proofs.Limits.{Limits, limit, call-limits}
 
@@ -70,10 +70,6 @@ unfolding touched
 touched-levels n i [] = refl
 touched-levels n i (r ∷ rs) = rw (touched-levels n (suc i) rs)
 
--- the number of what is settled
-pub settled : {S : Type 0} (n : ℕ) (s t : S) → (settle n s t).number ≡ n
-settled n s t = by (eqb n Done) (λ y. rw y (sym (eqb-true n Done y))) (λ z. rw z)
-
 -- a row of these is never full
 never-full : (n : ℕ) (ps : List Put) (rs : List ℕ) → passes ℕ buffers-alone (λ (m : ℕ). 0) n ps rs ≡ false
 unfolding passes
@@ -101,12 +97,18 @@ refused-by p t = rw (never-full t.state.frame.c p.puts t.rows, never-full t.stat
 not-refused : (p : Plan) (t : Screen ℕ) → p.refused ≡ Done → Limits p → refusal ℕ buffers-alone p t ≡ Done
 not-refused p t e l = refused-by p t ∙ rw (eq-eqb p.refused Done e, l.deep, l.ids, l.attrs)
 
--- a call's number here
-pub call-limit : (x : Step) (s : Screen ℕ) → (call ℕ buffers-alone x s).number ≡ limit (plan x (touched ℕ buffers-alone (length s.state.layers) 0 s.rows) s.state)
+-- a call here
+pub call-settled : (x : Step) (s : Screen ℕ) → let p = plan x (touched ℕ buffers-alone (length s.state.layers) 0 s.rows) s.state in
+    call ℕ buffers-alone x s ≡ settle (limit p) s (done ℕ buffers-alone p s)
 unfolding call perform
+call-settled x s =
+    let p = plan x (touched ℕ buffers-alone (length s.state.layers) 0 s.rows) s.state in
+    rw (refused-by p (done ℕ buffers-alone p s))
+
+pub call-limit : (x : Step) (s : Screen ℕ) → (call ℕ buffers-alone x s).number ≡ limit (plan x (touched ℕ buffers-alone (length s.state.layers) 0 s.rows) s.state)
 call-limit x s =
     let p = plan x (touched ℕ buffers-alone (length s.state.layers) 0 s.rows) s.state in
-    settled (refusal ℕ buffers-alone p (done ℕ buffers-alone p s)) s (done ℕ buffers-alone p s) ∙ refused-by p (done ℕ buffers-alone p s)
+    ap (λ (a : Answer (Screen ℕ)). a.number) (call-settled x s) ∙ settle-number (limit p) s (done ℕ buffers-alone p s)
 
 performed : (x : Step) (s : Screen ℕ) (p : Plan) → plan x (touched ℕ buffers-alone (length s.state.layers) 0 s.rows) s.state ≡ p
     → refusal ℕ buffers-alone p (done ℕ buffers-alone p s) ≡ Done → call ℕ buffers-alone x s ≡ answer Done (done ℕ buffers-alone p s)

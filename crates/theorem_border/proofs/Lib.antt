@@ -12,3 +12,5 @@ pub mod Sized
 pub mod Panel
 pub mod Conversions
 pub mod FillLists
+pub mod TileLists
+pub mod Listed

@@ -10,3 +10,4 @@ pub mod Edited
 pub mod Panel
 pub mod Computing
 pub mod FillLists
+pub mod TileLists

@@ -18,6 +18,7 @@ use Rattle.host.specs.Asked.{FileWords}
 use Rattle.host.specs.Editions.{two_call, one_call}
 use Rattle.host.specs.Sizes.{size_call}
 use Rattle.host.specs.Reasons.{why_call}
+use Rattle.host.specs.TileList.{tile_list_call}
 use Rattle.host.specs.Building.{reset_call, fill_call, push_call, pop_call, filter_call}
 use Rattle.host.specs.Painting.{begin_call, step_call, row_call, unset_call, visible_call, write_call, skip_call, split_call}
 use Rattle.host.specs.Spans.{spans_call}
@@ -109,6 +110,12 @@ abbrev pub WhyRefused : Type 0
 WhyRefused =
     (f : FileWords) (w : SetupWords) (row tile layer attribute : ℕ) (st : List ℕ) (t : Tables) (old : List ℕ)
     → Refused (why_call f w row tile layer attribute st t old) → (why_call f w row tile layer attribute st t old).value.2 ≡ old
+
+-- the list and the count
+abbrev pub ListTileRefused : Type 0
+ListTileRefused =
+    (f : FileWords) (mode width row tile : ℕ) (list n : List ℕ) → Refused (tile_list_call f mode width row tile list n)
+    → (tile_list_call f mode width row tile list n).value ≡ (list, n)
 
 -- the list and the result word
 abbrev pub ToTwoRefused : Type 0

@@ -6,10 +6,11 @@ ghost use Rattle.std.specs.Prelude.{List};
 ghost use Rattle.rules.specs.Plans.{Frame, Step};
 ghost use Rattle.theorem_border.specs.Hosted.{Host, Hosted};
 ghost use Rattle.theorem_border.specs.Border.{Picture, Clear, Finishes, RecordingAccepted, RecordingRefused, RecordingEarly, ResetAsks};
-ghost use Rattle.theorem_border.specs.Refused.{BeginRefused, FillRefused, FilterRefused, PopRefused, PushRefused, ResetRefused, RowRefused, LengthsRefused, CmdRefused, DepthRefused, ProgressRefused, SizesRefused, SkipRefused, SpansRefused, SplitRefused, StepRefused, UnsetRefused, VisibleRefused, WhyRefused, WriteRefused, ToTwoRefused, ToOneRefused};
+ghost use Rattle.theorem_border.specs.Refused.{BeginRefused, FillRefused, FilterRefused, PopRefused, PushRefused, ResetRefused, RowRefused, LengthsRefused, CmdRefused, DepthRefused, ProgressRefused, SizesRefused, SkipRefused, SpansRefused, SplitRefused, StepRefused, UnsetRefused, VisibleRefused, WhyRefused, WriteRefused, ListTileRefused, ToTwoRefused, ToOneRefused};
 ghost use Rattle.theorem_border.specs.Numbers.{BeginKeeps, FillKeeps, FilterKeeps, PopKeeps, PushKeeps, RecordingKeeps, ResetKeeps, RowKeeps, SkipKeeps, SpansKeeps, StepKeeps, UnsetKeeps, VisibleKeeps, WhyKeeps, WriteKeeps, LengthsKeeps, CmdKeeps, DepthKeeps, ProgressKeeps};
 ghost use Rattle.theorem_border.specs.Words.{ScreenReadBack, SizesFit, WordsWrittenBack};
 ghost use Rattle.theorem_border.specs.FillLists.{FillsHosted};
+ghost use Rattle.theorem_border.specs.TileLists.{ListReceived, ListRoom};
 ghost use Rattle.theorem_border.specs.Held.{HostedReached};
 ghost use Rattle.theorem_border.specs.Reading.{HostedStands, LengthsRead, CmdsRead, NoCmdRead, DepthsRead, NoDepthRead, ProgressRead};
 ghost use Rattle.theorem_border.specs.Colours as colours;
@@ -46,6 +47,12 @@ pub fn recordings_at_border()
     ensures asks { ResetAsks }
 {}
 
+/// What `coarse_list_tile` lists of an accepted recording, and what the tile receives by painting.
+pub fn lists_at_border()
+    ensures received { ListReceived }
+    ensures room { ListRoom }
+{}
+
 /// Editing one line of the screen leaves the other rows as they were.
 pub fn lines_stay_at_border()
     ensures words { LineWords }
@@ -74,6 +81,7 @@ pub fn refusals_at_border()
     ensures split_opaque_span { SplitRefused }
     ensures sizes { SizesRefused }
     ensures why { WhyRefused }
+    ensures list_tile { ListTileRefused }
     ensures to_edition_two { ToTwoRefused }
     ensures to_edition_one { ToOneRefused }
 {}

@@ -15,6 +15,7 @@ use Rattle.host.specs.Lent.{rows_in, pop_in}
 use Rattle.host.specs.Called.{canvas_out, write_out}
 use Rattle.theorem_once.specs.declared.border.building.RecordingHost.{RecordingHost}
 use Rattle.theorem_once.specs.declared.border.building.WhyHost.{WhyHost}
+use Rattle.theorem_once.specs.declared.border.building.TileListHost.{TileListHost}
 use Rattle.theorem_once.specs.declared.border.building.FillHost.{FillHost}
 use Rattle.theorem_once.specs.declared.border.painting.PaintHost.{PaintHost}
 use Rattle.theorem_once.specs.declared.border.painting.RunsHost.{RunsHost}
@@ -45,6 +46,13 @@ begin-words w c = (words_in w, c.depth.now, c.painting.now)
 
 abbrev pub why-words : WhyHost → List ℕ × Tables × FileWords × List ℕ
 why-words h = (words_in h.state, tables_in h.tables, told h.edition h.file.now, reason_in h.reason)
+
+-- a tile's list: the file, the list, and how many entries stand in it
+abbrev pub tile-list-words : TileListHost → FileWords × List ℕ × List ℕ
+tile-list-words h = (told h.edition h.file.now, h.list.now, one h.entries)
+
+abbrev pub tile-list-left : TileListHost → List ℕ × List ℕ
+tile-list-left h = (h.list.now, one h.entries)
 
 abbrev pub fill-words : FillHost → List ℕ × Words × List ℕ × List ℕ × List ℕ
 fill-words h = (words_in h.state, rows_in h.tables, h.tables.paint_attrs.now, h.paints.now, h.segments.now)

@@ -1,6 +1,8 @@
-//! A recording, `why`, and the conversions of a recording's file.
+//! A recording, `why`, a tile's list, and the conversions of a recording's file.
 ghost use Rattle.std.specs.Prelude.{◌≡◌};
+ghost use Rattle.file.specs.Held.{file_of};
 ghost use Rattle.convert.specs.Placed.{placed};
+ghost use Rattle.tile.specs.Listed.{listed-as};
 ghost use Rattle.theorem_once.specs.Lent.{recording-words};
 
 use crate::Twice;
@@ -9,7 +11,8 @@ use file::File;
 use rect::Mode;
 use screen::{Lent, Screen, Setup};
 use sizes::answers::Refusal;
-use tile::{Asked, Reason, why};
+use sizes::width::Width;
+use tile::{Asked, Reason, list_tile, why};
 use walk::bucket_recording;
 
 /// What a recording's call reads and writes: the screen, the file and all that a host lends with the screen.
@@ -50,6 +53,25 @@ pub fn why_twice(
     (
         why(&mut a.screen, a.file, setup, row, tile, asked, &mut a.lent),
         why(&mut b.screen, b.file, setup, row, tile, asked, &mut b.lent),
+    )
+}
+
+/// Two calls of `list_tile`: the number, how many entries, and the list.
+pub fn list_tile_twice(
+    a: File<'_>,
+    a_list: &mut [u32],
+    b: File<'_>,
+    b_list: &mut [u32],
+    mode: Mode,
+    width: Width,
+    row: u32,
+    tile: u32,
+) -> Twice<Result<usize, Refusal>>
+    ensures { (file_of a.entry ≡ file_of b.entry) × (a_list.old ≡ b_list.old) → listed-as result.0 a_list.new ≡ listed-as result.1 b_list.new }
+{
+    (
+        list_tile(a, mode, width, row, tile, a_list),
+        list_tile(b, mode, width, row, tile, b_list),
     )
 }
 

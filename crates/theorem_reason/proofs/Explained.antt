@@ -98,7 +98,7 @@ pub explained-true : Explained-true
 explained-true ws q l z r row tile e a = explains ws q l z r row tile a e
 
 -- a row and a tile of the screen
-there-on : (v : Box) (row tile : ℕ) → row < rows_of v → tile < width v / 4 → off-screen v row tile ≡ false
+pub there-on : (v : Box) (row tile : ℕ) → row < rows_of v → tile < width v / 4 → off-screen v row tile ≡ false
 there-on v row tile h k = rw (lt-leb (rows_of v) row h, lt-leb (width v / 4) tile k)
 
 pub explained-painted : Explained-painted

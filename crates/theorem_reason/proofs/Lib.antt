@@ -3,3 +3,6 @@ pub mod Reasons
 pub mod Panels
 pub mod Painted
 pub mod Explained
+pub mod Frames
+pub mod Counted
+pub mod Lists

@@ -1,5 +1,5 @@
 -- What is known of a file that the recording call accepted: its frame's viewport is good, and so is every record.
-use Rattle.std.proofs.Common.{◌≡◌, sym, ap, ◌∙◌, true, List, ℕ, Some}
+use Rattle.std.proofs.Common.{◌≡◌, sym, ap, ◌∙◌, true, Some}
 use Rattle.rules.specs.Answers.{Answer, Done}
 use Rattle.rules.specs.Boxes.{good_viewport}
 use Rattle.rules.specs.Setups.{Setup, frame}

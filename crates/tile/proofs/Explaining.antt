@@ -1,5 +1,5 @@
 -- The public call from the recording's answer on: each way that the code takes gives what the definition gives.
-use Rattle.std.proofs.Common.{ℕ, ◌+◌, arith, ◌≡◌, refl, sym, ap, ◌∙◌, true, false, List, Option, None, Some, Ok, Err, replicate, ne_eqb}
+use Rattle.std.proofs.Common.{ℕ, ◌+◌, arith, ◌≡◌, refl, sym, ◌∙◌, true, false, List, Option, None, Some, Ok, Err, replicate, ne_eqb}
 use Rattle.sizes.specs.declared.answers.Refusal.{Refusal}
 use Rattle.sizes.specs.Sizes.{line-table}
 use Rattle.sizes.specs.Widths.{bucket-tiles}
@@ -13,13 +13,13 @@ use Rattle.rules_reason.specs.Reasons.{Reason, Asked}
 use Rattle.screen.specs.Tables.{ScreenLent}
 use Rattle.rect.specs.declared.Rect.{Rect}
 use Rattle.rect.specs.Rects.{box_of, seen}
-use Rattle.rect.proofs.Snapping.{good-seen, bad-seen}
 use Rattle.file.specs.Held.{recording_of}
 use Rattle.walk.specs.Recorded.{recorded}
 use Rattle.tile.specs.Telling.{Telling, tell-at, nothing-told}
 use Rattle.tile.specs.Places.{Says}
 use Rattle.tile.specs.Reading.{reason-read}
 use Rattle.rules_reason.specs.Answers.{off-screen}
+use Rattle.tile.proofs.Views.{box-seen, box-unseen}
 use Rattle.tile.specs.Explained.{Explained, explained-as, no-reason, told_of, reason-told, explained-of, explained-in, explained}
 
 -- a story told to its end, or refused, at w tiles a bucket: the reason that it gives
@@ -37,6 +37,14 @@ module _ (w : ℕ) (r : Recording) (v : Box) (row tile : ℕ) (a : Asked) (l : S
   pub story-told : (t : Telling) → Says whole-story Done t → (x : Reason) → x ≡ reason-read a t.lines (t.paints + t.layers)
       → explained-as Done l x ≡ reason-told a (told_of w v r row tile) l
   story-told t s x q = rw (told_here, s.number, s.value refl, q)
+
+-- the viewport that a file says, in a setup
+module _ (r : Recording) (q : Setup) (b : Rect) (e : box_of b ≡ r.viewport) where
+  pub view-seen : (v : Rect) → Ok v ≡ seen (viewport-in q.mode (box_of b)) → (frame q r.viewport).viewport ≡ box_of v
+  view-seen = box-seen r.viewport q.mode b e
+
+  pub view-unseen : {x : Refusal} → Err x ≡ seen (viewport-in q.mode (box_of b)) → good_viewport (frame q r.viewport).viewport ≡ false
+  view-unseen h = box-unseen r.viewport q.mode b e h
 
 -- an accepted recording, by where the tile lies
 module _ (f : Frame) (r : Recording) (row tile : ℕ) (a : Asked) (l : ScreenLent) where

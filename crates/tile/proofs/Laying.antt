@@ -1,10 +1,10 @@
 -- Entries laid in a list, one more at a time. Assumes nothing.
-use Rattle.std.proofs.Common.{◌≡◌, refl, sym, ap, ◌∙◌, List, [], ◌∷◌, ◌++◌, map, append_assoc, ℕ, suc, ◌+◌, ◌-◌, ◌*◌, ◌/◌, ◌≤◌, arith, length, take, drop, length-append, length-drop, take_at, drop_at, drop-drop}
+use Rattle.std.proofs.Common.{◌≡◌, refl, sym, ap, ◌∙◌, List, [], ◌∷◌, ◌++◌, map, append_assoc, ℕ, ◌+◌, ◌*◌, ◌≤◌, arith, length, drop, length-append, length-drop, take_at, drop_at, drop-drop}
 use Rattle.std.proofs.lemmas.List.{map-append}
 use lib.ListN.{length-map}
 use Rattle.sizes.specs.Sizes.{piece-size}
 use Rattle.rules.specs.Lists.{join}
-use Rattle.rules.specs.Painting.{Piece, Entry}
+use Rattle.rules.specs.Painting.{Piece}
 use Rattle.cmd.specs.Attrs.{words-at}
 use Rattle.cmd.specs.Pieces.{piece-words, laid}
 use Rattle.tile.specs.Telling.{Line}

@@ -1,12 +1,12 @@
 -- The public call of a tile's list: each way that the code takes gives what the definition gives.
-use Rattle.std.proofs.Common.{ℕ, ◌+◌, arith, ◌≡◌, refl, sym, ap, ◌∙◌, Bool, true, false, cond, List, [], Option, None, Some, Result, Err, length, replicate, ltb, ne_eqb}
+use Rattle.std.proofs.Common.{ℕ, ◌+◌, arith, ◌≡◌, refl, ◌∙◌, Bool, true, false, cond, List, [], Option, None, Some, Err, length, replicate, ltb, ne_eqb}
 use Rattle.sizes.specs.declared.answers.Refusal.{Refusal}
 use Rattle.sizes.specs.declared.answers.Refusal.TheVariants as refusal
 use Rattle.sizes.specs.Refusals.{number_of}
 use Rattle.sizes.specs.Sizes.{line-table}
 use Rattle.sizes.specs.declared.width.Width.{Width}
 use Rattle.sizes.proofs.Refusals.{not_done}
-use Rattle.rules.specs.Answers.{Answer, answer, settle, Done, BadViewport, BadForm, BadRun, NoRoom}
+use Rattle.rules.specs.Answers.{Answer, answer, settle, Done, BadViewport, BadRun, NoRoom}
 use Rattle.rules.specs.Boxes.{good_viewport}
 use Rattle.rules.specs.Plans.{Frame}
 use Rattle.rules.specs.Setups.{Mode}

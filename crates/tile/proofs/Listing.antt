@@ -1,5 +1,5 @@
 -- What is listed of the first lines, one more line at a time. Assumes nothing.
-use Rattle.std.proofs.Common.{◌≡◌, refl, sym, ap, ◌∙◌, Bool, true, false, cond, List, [], ◌∷◌, ◌++◌, ℕ, zero, suc, ◌+◌, ◌-◌, ◌≤◌, arith, length, length-append}
+use Rattle.std.proofs.Common.{◌≡◌, refl, sym, ap, ◌∙◌, Bool, true, false, cond, List, [], ◌∷◌, ◌++◌, ℕ, ◌+◌, ◌-◌, ◌≤◌, arith, length, length-append}
 use Rattle.rules.specs.Lists.{keep, such}
 use Rattle.tile.specs.Telling.{Line}
 use Rattle.tile.specs.Listed.{line_at, lines-from, was-told, line-hides, listed-lines}
@@ -45,7 +45,7 @@ module _ (ws : List ℕ) (i from count : ℕ) (s : ListedTo ws i from count) whe
 
   -- what is listed with the line that stands so
   pub with-line : (h t : Bool) → line-hides line ≡ h → was-told line ≡ t → ListedTo ws (i + 1) (cond h i from) (cond h 0 count + cond t 1 0)
-  with-line true t eh et = 
+  with-line true t eh et =
       let e : listed-lines (lines-from ws 0 (i + 1)) ≡ one = all ∙ rw eh in
       let own : told-from ws i (i + 1) ≡ one = told_next ws i i (omega arith) ∙ rw none refl in
       let n : length one ≡ cond t 1 0 = such-one line ∙ rw et in
@@ -54,7 +54,7 @@ module _ (ws : List ℕ) (i from count : ℕ) (s : ListedTo ws i from count) whe
       at-most : (b : Bool) → 0 + cond b 1 0 ≤ i + 1
       at-most true = omega arith
       at-most false = omega arith
-  with-line false t eh et = 
+  with-line false t eh et =
       let e : listed-lines (lines-from ws 0 (i + 1)) ≡ listed-lines (lines-from ws 0 i) ++ one = all ∙ rw eh in
       let own : told-from ws from (i + 1) ≡ told-from ws from i ++ one = told_next ws from i s.low in
       let n : length one ≡ cond t 1 0 = such-one line ∙ rw et in

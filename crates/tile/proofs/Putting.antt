@@ -1,10 +1,8 @@
 -- The entries of told lines, put in a list one line at a time. Assumes nothing.
-use Rattle.std.proofs.Common.{◌≡◌, refl, sym, ap, ◌∙◌, true, false, List, [], ◌∷◌, ◌++◌, map, append-nil, ℕ, ◌+◌, ◌-◌, ◌*◌, ◌/◌, ◌≤◌, ◌<◌, arith, length, length-append}
+use Rattle.std.proofs.Common.{◌≡◌, refl, sym, ap, ◌∙◌, true, false, List, [], ◌∷◌, ◌++◌, map, append-nil, ℕ, ◌+◌, ◌-◌, ◌*◌, ◌≤◌, ◌<◌, arith, length, length-append}
 use Rattle.sizes.specs.Sizes.{piece-size}
-use Rattle.rules.specs.Lists.{such}
 use Rattle.cmd.specs.Attrs.{words-at}
 use Rattle.cmd.specs.Pieces.{piece-words}
-use Rattle.tile.specs.Telling.{Line}
 use Rattle.tile.specs.Listed.{line_at, lines-from, was-told, entry_of, piece-of, entries-laid, room-in}
 use Rattle.tile.proofs.Told.{told-from, told_next, told-fewer}
 use Rattle.tile.proofs.Laying.{list-long, next-entry}

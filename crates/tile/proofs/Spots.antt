@@ -2,7 +2,6 @@
 use Rattle.std.proofs.Common.{ℕ, ◌/◌, ◌<◌, arith, ◌≡◌, refl, sym, Bool, true, false, ◌||◌, cond, List, [], length, leb, leb-false}
 use Rattle.sizes.specs.Sizes.{most-layers, most-rows, line-table, tile-end}
 use Rattle.sizes.specs.declared.width.Width.{Width}
-use Rattle.sizes.specs.Widths.{bucket-tiles}
 use Rattle.rules.specs.Answers.{Answer}
 use Rattle.rules.specs.Boxes.{Box, width, whole, rows_of, good_viewport}
 use Rattle.rules.specs.Plans.{Step}

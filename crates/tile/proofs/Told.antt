@@ -1,5 +1,5 @@
 -- Lines read in order, the newest last: those that are told, and those that are listed. Assumes nothing.
-use Rattle.std.proofs.Common.{◌≡◌, refl, sym, ap, ◌∙◌, Bool, true, false, ◌||◌, cond, List, [], ◌∷◌, ◌++◌, ℕ, zero, suc, ◌+◌, ◌-◌, ◌≤◌, arith, length, length-append}
+use Rattle.std.proofs.Common.{◌≡◌, refl, ap, ◌∙◌, Bool, true, false, ◌||◌, cond, List, [], ◌∷◌, ◌++◌, ℕ, zero, suc, ◌+◌, ◌-◌, ◌≤◌, arith, length, length-append}
 use Rattle.rules.specs.Lists.{some_of, keep, such}
 use Rattle.tile.specs.Telling.{Line}
 use Rattle.tile.specs.Listed.{line_at, lines-from, was-told, line-hides, listed-lines}

@@ -8,14 +8,17 @@ use Rattle.rect.specs.Rects.{box_of, seen}
 use Rattle.rect.proofs.Snapping.{good-seen, bad-seen}
 
 module _ (b : Box) (m : Mode) (r : Rect) (e : box_of r ≡ b) where
-  view-is : viewport-in m (box_of r) ≡ viewport-in m b
-  view-is = rw e
+  same-view : viewport-in m (box_of r) ≡ viewport-in m b
+  same-view = rw e
 
-  pub view-seen : (v : Rect) → Ok v ≡ seen (viewport-in m (box_of r)) → viewport-in m b ≡ box_of v
-  view-seen v h = sym view-is ∙ sym (ap box_of (good-seen _ v h).1)
+  pub box-seen : (v : Rect) → Ok v ≡ seen (viewport-in m (box_of r)) → viewport-in m b ≡ box_of v
+  box-seen v h = sym same-view ∙ sym (ap box_of (good-seen _ v h).1)
 
-  pub view-good : (v : Rect) → Ok v ≡ seen (viewport-in m (box_of r)) → good_viewport (viewport-in m b) ≡ true
-  view-good v h = rw (← view-is) (good-seen _ v h).0
+  pub box-good : (v : Rect) → Ok v ≡ seen (viewport-in m (box_of r)) → good_viewport (viewport-in m b) ≡ true
+  box-good v h = rw (← same-view) (good-seen _ v h).0
 
-  pub view-unseen : {x : Refusal} → Err x ≡ seen (viewport-in m (box_of r)) → good_viewport (viewport-in m b) ≡ false
-  view-unseen h = rw (← view-is) (bad-seen _ _ h).0
+  pub own-good : (v : Rect) → Ok v ≡ seen (viewport-in m (box_of r)) → good_viewport (box_of v) ≡ true
+  own-good v h = rw (box-seen v h) at (box-good v h)
+
+  pub box-unseen : {x : Refusal} → Err x ≡ seen (viewport-in m (box_of r)) → good_viewport (viewport-in m b) ≡ false
+  box-unseen h = rw (← same-view) (bad-seen _ _ h).0

@@ -1,19 +1,18 @@
 //! A tile's list without rows, the plain engine: a recording is gone through in draw order, and what the tile receives is read off the lines that were told of
 //! it. `list_tile` is a public call; the others are parts of it.
-ghost use Rattle.std.specs.Prelude.{◌≡◌, ◌+◌, ◌-◌, ◌*◌, ◌≤◌, ◌<◌, cond, true, map, length, leb, eqb, OnErr};
-ghost use Rattle.sizes.specs.Sizes.{most-attrs, piece-size, line-size, line-table};
-ghost use Rattle.sizes.specs.Refusals.{answer_number};
+ghost use Rattle.std.specs.Prelude.{◌≡◌, ◌+◌, ◌-◌, ◌*◌, ◌≤◌, ◌<◌, cond, map, length, leb, eqb, OnErr};
+ghost use Rattle.sizes.specs.Sizes.{most-attrs, line-size, tile-end};
 ghost use Rattle.rules.specs.Lists.{such};
 ghost use Rattle.rect.specs.Rects.{mode_of};
 ghost use Rattle.file.specs.Held.{file_of};
 ghost use Rattle.cmd.specs.Pieces.{words_of, piece-words};
 ghost use Rattle.tile.specs.Places.{line_of, spot-at};
 ghost use Rattle.tile.specs.Standings.{standing_number};
-ghost use Rattle.tile.specs.Listed.{line_at, lines-from, was-told, listed-lines, entry_of, entries-read, piece-of, entries-laid, list-told, listed-as, listed-over, in-room, room-in};
+ghost use Rattle.tile.specs.Listed.{lines-from, was-told, listed-lines, entry_of, entries-read, piece-of, entries-laid, list-told, listed-as, listed-over, in-room, room-in};
 
 use crate::call::{is_off_screen, tell_spot};
+use crate::steps::Spot;
 use crate::steps::lines::{Line, Standing, line_at};
-use crate::steps::{Spot, Tale};
 use cmd::piece::{PieceWords, tag_of};
 use file::{File, Recording};
 use rect::{Mode, Rect};
@@ -28,20 +27,22 @@ struct Listing {
     count: usize,
 }
 
-// One more line, line i, which stands so.
-fn with_line(listing: Listing, i: usize, standing: Standing) -> Listing
-    requires { listing.count < most-attrs + most-attrs }
-    ensures from { result.from ≡ cond (eqb (standing_number standing) 4) i listing.from }
-    ensures count { result.count ≡ cond (eqb (standing_number standing) 4) 0 listing.count + cond (leb 3 (standing_number standing)) 1 0 }
-{
-    let mut next = listing;
-    if standing.is_hiding() {
-        next = Listing { from: i, count: 0 };
+impl Listing {
+    // One more line, line i, which stands so.
+    fn with_line(self, i: usize, standing: Standing) -> Listing
+        requires { self.count < most-attrs + most-attrs }
+        ensures from { result.from ≡ cond (eqb (standing_number standing) 4) i self.from }
+        ensures count { result.count ≡ cond (eqb (standing_number standing) 4) 0 self.count + cond (leb 3 (standing_number standing)) 1 0 }
+    {
+        let mut next = self;
+        if standing.is_hiding() {
+            next = Listing { from: i, count: 0 };
+        }
+        if standing.is_told() {
+            next.count += 1;
+        }
+        next
     }
-    if standing.is_told() {
-        next.count += 1;
-    }
-    next
 }
 
 // Of the first n lines: from the newest that hides on.
@@ -54,14 +55,14 @@ fn listing_of(lines: &[u32], n: usize) -> Listing
 {
     let mut listing = Listing { from: 0, count: 0 };
     for i in 0..n {
-        listing = with_line(listing, i, line_at(lines, i).standing);
+        listing = listing.with_line(i, line_at(lines, i).standing);
     }
     listing
 }
 
 // The entry that a line tells, as a piece of the tile alone.
 fn piece_of(line: Line, tile: u32) -> PieceWords
-    requires { tile < 4294967295 }
+    requires { tile < tile-end }
     ensures { words_of result ≡ piece-words (piece-of tile (entry_of (line_of line))) }
 {
     PieceWords {
@@ -80,7 +81,7 @@ fn put_entries(lines: &[u32], from: usize, n: usize, tile: u32, list: &mut [u32]
     requires few { n ≤ most-attrs + most-attrs }
     requires order { from ≤ n }
     requires lines { line-size * n ≤ length lines.now }
-    requires tile { tile < 4294967295 }
+    requires tile { tile < tile-end }
     requires room { length (such was-told (lines-from lines.now from (n - from))) ≤ room-in list.old }
     ensures { list.new ≡ entries-laid tile (map entry_of (such was-told (lines-from lines.now from (n - from)))) list.old }
 {
@@ -98,7 +99,7 @@ fn put_entries(lines: &[u32], from: usize, n: usize, tile: u32, list: &mut [u32]
 fn put_list(lines: &[u32], n: usize, tile: u32, list: &mut [u32]) -> Result<usize, Refusal>
     requires few { n ≤ most-attrs + most-attrs }
     requires lines { line-size * n ≤ length lines.now }
-    requires tile { tile < 4294967295 }
+    requires tile { tile < tile-end }
     ensures listed { listed-as result list.new ≡ listed-over tile (in-room (room-in list.old) (entries-read lines.now n)) list.old }
     ensures refused { OnErr result (list.new ≡ list.old) }
 {

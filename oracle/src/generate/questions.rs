@@ -1,12 +1,13 @@
-//! Makes questions for `why`: recordings with rows and tiles at the edges of what they hold.
+//! Makes questions for `why` and for `tilelist`: recordings with rows and tiles at the edges of what they hold.
 
 use super::boxes::loosened;
 use super::draft::{solid, Draft};
 use super::snapped::loosened_file;
 use super::{another, fixed, is_endless, mode, reasons, scenes, Made};
+use crate::editions::Edition;
 use crate::file::{self, Recording};
 use crate::random::Random;
-use crate::scene::{scene, Scene};
+use crate::scene::Scene;
 use crate::viewport::Mode;
 use crate::walk::Player;
 use crate::why::{self, Reason};
@@ -20,11 +21,33 @@ const HAND_MADE: usize = 24;
 /// their viewports loosened for the latter, then those of the kind, each with several questions.
 /// The places are at and beside the edges of buckets of this width.
 pub fn stream(seed: u32, count: u32, kind: &str, width: Width) -> Option<Vec<u8>> {
+    made(seed, count, kind, width, None)
+}
+
+/// The same for lists without rows: of a recording that only a full row refuses several tiles are asked, and there are screens of up to 512 rows, files of up
+/// to 4,096 draws and rows in which a draw stands some hundred times.
+/// Of edition two each draw and each layer has a panel.
+pub fn lists(seed: u32, count: u32, kind: &str, width: Width, edition: Edition) -> Option<Vec<u8>> {
+    made(seed, count, kind, width, Some(edition))
+}
+
+fn made(
+    seed: u32,
+    count: u32,
+    kind: &str,
+    width: Width,
+    lists: Option<Edition>,
+) -> Option<Vec<u8>> {
     let mode = mode(kind);
+    let player = Player::new(mode, 1).at(width.pixels());
     let mut maker = Maker {
         random: Random::new(seed),
-        mode,
-        player: Player::new(mode, 1).at(width.pixels()),
+        lists,
+        player: if lists.is_some() {
+            player.roomy()
+        } else {
+            player
+        },
         left: count,
         out: Vec::new(),
     };
@@ -44,6 +67,8 @@ pub fn stream(seed: u32, count: u32, kind: &str, width: Width) -> Option<Vec<u8>
     while is_endless(kind) && maker.left > 0 {
         let made = if kind != "damaged" && maker.random.chance(25) {
             with_fills(&mut maker.random, mode, width.tiles())
+        } else if lists.is_some() && maker.random.chance(40) {
+            grown(&mut maker.random, mode)
         } else {
             another(&mut maker.random, kind)
         };
@@ -91,6 +116,57 @@ fn with_fills(random: &mut Random, mode: Mode, width: u32) -> Made {
     }
 }
 
+/// A scene that has no place in the usual rows: on a screen of more of them, in a longer file, or with some node again and again.
+fn grown(random: &mut Random, mode: Mode) -> Made {
+    let mut draft = scenes::scene(random);
+    let count = |n: usize| u32::try_from(n).expect("few");
+    let name = match random.below(4) {
+        0 => {
+            let [_, y0, _, y1] = draft.viewport;
+            let most = 8_192.min(y0 / 4 + 512);
+            draft.viewport[3] = 4 * random.from(y1.div_ceil(4).min(most), most);
+            "tall scene"
+        }
+        1 => {
+            let more = 4_096 - draft.draws.len().max(draft.segments.len());
+            let more = random.below(count(more)) as usize;
+            draft.segments.extend(vec![solid(0, 0, 1); more]);
+            draft.draws.extend(vec![[0; 7]; more]);
+            "long scene"
+        }
+        _ => {
+            let [from, end] = draft.root;
+            let mut nodes = draft.nodes[from as usize..end as usize].to_vec();
+            if !nodes.is_empty() {
+                let at = random.below(count(nodes.len())) as usize;
+                let times = random.pick(&[62, 64, 66, 130, 600, 1_030]) as usize;
+                nodes.splice(at..at, vec![nodes[at]; times]);
+            }
+            let root = draft.nodes(&nodes);
+            draft = draft.rooted(root);
+            "crowded scene"
+        }
+    };
+    if mode == Mode::Snapping {
+        draft.viewport = loosened(draft.viewport, random);
+    }
+    Made {
+        name: name.into(),
+        bytes: draft.bytes(),
+    }
+}
+
+/// A file of edition one as one of edition two, with some panel in each draw and layer; before words of bad form the head alone is put.
+fn with_panels(random: &mut Random, bytes: &[u8]) -> Vec<u8> {
+    let Some(mut draft) = file::sections(bytes, Edition::One) else {
+        return [&super::draft::bytes(Edition::Two.head()), bytes].concat();
+    };
+    let mut panels = |n: usize| (0..n).map(|_| random.below(256)).collect();
+    draft.draw_panels = panels(draft.draws.len());
+    draft.layer_panels = panels(draft.layers.len());
+    super::draft::bytes(&draft.words_in(Edition::Two))
+}
+
 /// A node that holds one new draw.
 fn fill(draft: &mut Draft, list: &[[u32; 5]], paint: u32) -> [u32; 3] {
     let range = draft.segments(list);
@@ -104,7 +180,8 @@ type Place = (u32, u32);
 
 struct Maker {
     random: Random,
-    mode: Mode,
+    /// The edition of the files, for lists; for reasons it is the first.
+    lists: Option<Edition>,
     player: Player,
     left: u32,
     out: Vec<u8>,
@@ -113,29 +190,46 @@ struct Maker {
 impl Maker {
     /// These questions and so many more; a refused recording is asked about once.
     fn ask(&mut self, made: &Made, mut places: Vec<Place>, more: usize) {
-        if self.player.play(&made.bytes).is_err() {
+        let judged = if self.lists.is_some() {
+            self.player.judged_long(&made.bytes)
+        } else {
+            self.player.judged(&made.bytes)
+        };
+        let played = judged.and_then(|scene| {
+            self.player.play_scene(&scene)?;
+            Ok(scene)
+        });
+        let Ok(scene) = played else {
             let far = self.random.pick(&FAR);
             places.push((self.random.pick(&[0, 1, far]), self.random.below(9)));
-        } else {
-            let width = self.player.width();
-            let recording = file::judged(&made.bytes, self.mode, Some(width));
-            let recording = recording.expect("an accepted recording");
-            let scene = scene(&recording, self.mode);
-            let edges = Edges::of(&recording, scene.viewport, width);
-            for _ in 0..more {
-                let place = edges.place(&mut self.random, &scene);
-                if !places.contains(&place) {
-                    places.push(place);
-                }
+            return self.put(made, &places);
+        };
+        let (width, mode) = (self.player.width(), self.player.mode());
+        let recording = file::judged_for(&made.bytes, Edition::One, mode);
+        let recording = recording.expect("an accepted recording");
+        let edges = Edges::of(&recording, scene.viewport, width);
+        for _ in 0..more {
+            let place = edges.place(&mut self.random, &scene);
+            if !places.contains(&place) {
+                places.push(place);
             }
         }
-        for (row, tile) in places {
+        self.put(made, &places);
+    }
+
+    /// Questions to a recording, as long as some are left.
+    fn put(&mut self, made: &Made, places: &[Place]) {
+        let bytes = match self.lists {
+            Some(Edition::Two) => with_panels(&mut self.random, &made.bytes),
+            _ => made.bytes.clone(),
+        };
+        for &(row, tile) in places {
             if self.left > 0 {
                 self.left -= 1;
-                let length = u32::try_from(made.bytes.len()).expect("a short recording");
+                let length = u32::try_from(bytes.len()).expect("a short recording");
                 let head = [length, row, tile].map(u32::to_le_bytes);
                 self.out.extend(head.as_flattened());
-                self.out.extend(&made.bytes);
+                self.out.extend(&bytes);
             }
         }
     }

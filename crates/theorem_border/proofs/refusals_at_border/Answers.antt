@@ -3,6 +3,7 @@ use Rattle.host.proofs.Kept.{step-refused, row-refused, unset-refused, visible-r
 use Rattle.host.proofs.Sized.{size-refused}
 use Rattle.theorem_border.proofs.Why.{why-refused}
 use Rattle.theorem_border.proofs.Reading.{lengths-refused, cmd-refused, depth-refused, progress-refused}
+use Rattle.theorem_border.proofs.TileLists.{list-tile-refused}
 use Rattle.theorem_border.proofs.Conversions.{to-two-refused, to-one-refused}
 use Rattle.theorem_border.proofs.refusals_at_border.Goals as goal
 
@@ -65,6 +66,9 @@ returns-clause-sizes c = size-refused
 
 pub returns-clause-why : goal.returns-clause-why
 returns-clause-why c = why-refused
+
+pub returns-clause-list_tile : goal.returns-clause-list_tile
+returns-clause-list_tile c = list-tile-refused
 
 pub returns-clause-to_edition_two : goal.returns-clause-to_edition_two
 returns-clause-to_edition_two c = to-two-refused

@@ -3,7 +3,7 @@ ghost use Rattle.std.specs.Prelude.{◌≡◌};
 ghost use Rattle.host.specs.Called.{fill_out, push_out, filter_out, why_out};
 ghost use Rattle.host.specs.FillLists.{list_out};
 ghost use Rattle.host.specs.Sizes.{length-words};
-ghost use Rattle.theorem_once.specs.Border.{screen-words, recording-words, pop-words, pop-left, fill-words, list-words, why-words};
+ghost use Rattle.theorem_once.specs.Border.{screen-words, recording-words, pop-words, pop-left, fill-words, list-words, why-words, tile-list-words, tile-list-left};
 
 use crate::Twice;
 use fill::list::Draws;
@@ -15,6 +15,7 @@ use host::lengths::coarse_sizes;
 use host::list::coarse_fill_list;
 use host::reasons::{QuestionWords, ReasonWords, coarse_why};
 use host::state::{Corners, SetupWords, StateWords};
+use host::tile_list::coarse_list_tile;
 use screen::{Lengths, Lent};
 
 /// Two calls of `coarse_reset`.
@@ -97,6 +98,51 @@ pub fn why_twice(
             &question,
             &mut b.tables,
             &mut b.reason,
+        ),
+    )
+}
+
+/// What a tile's list reads and writes.
+#[derive(Drop)]
+pub struct TileListHost<'a> {
+    pub edition: u32,
+    pub file: &'a [u32],
+    pub list: &'a mut [u32],
+    pub entries: usize,
+}
+
+/// Two calls of `coarse_list_tile`.
+pub fn list_tile_twice(
+    a: &mut TileListHost<'_>,
+    b: &mut TileListHost<'_>,
+    mode: u32,
+    width: u32,
+    row: u32,
+    tile: u32,
+) -> Twice<u32>
+    ensures { tile-list-words a.old ≡ tile-list-words b.old
+        → (result.0 ≡ result.1) × (tile-list-left a.new ≡ tile-list-left b.new) }
+{
+    (
+        coarse_list_tile(
+            a.edition,
+            a.file,
+            mode,
+            width,
+            row,
+            tile,
+            a.list,
+            &mut a.entries,
+        ),
+        coarse_list_tile(
+            b.edition,
+            b.file,
+            mode,
+            width,
+            row,
+            tile,
+            b.list,
+            &mut b.entries,
         ),
     )
 }

@@ -5,8 +5,7 @@ use Rattle.std.proofs.lemmas.Result.{err_from_is_err_and}
 use Rattle.screen.specs.Screens.{setup-of}
 use Rattle.file.specs.Held.{held}
 use Rattle.tile.proofs.Accepted.{given-view, given-ready}
-use Rattle.tile.proofs.Views.{view-seen, view-unseen}
-use Rattle.tile.proofs.Explaining.{formless, off, reasoned}
+use Rattle.tile.proofs.Explaining.{view-seen, view-unseen, formless, off, reasoned}
 use Rattle.tile.proofs.call.explain.Goals as goal
 
 pub returns-in_err-file : goal.returns-in_err-file
@@ -19,21 +18,21 @@ returns-in_err-viewport c =
     let q = setup-of c.args.setup in
     let r = c.in_ok-file.file in
     let good = given-view r _ c.in_ok-file.ensures q c.requires in
-    let bad = view-unseen (held r).viewport q.mode _ c.viewport.ensures c.in_err-viewport.ensures in
+    let bad = view-unseen (held r) q _ c.viewport.ensures c.in_err-viewport.ensures in
     let z : true ≡ false = sym good ∙ bad in
     λ old n e. cc
 
 pub returns-then-is_off_screen : goal.returns-then-is_off_screen
 returns-then-is_off_screen c =
     let r = c.in_ok-file.file in
-    let same = view-seen (held r).viewport (setup-of c.args.setup).mode _ c.viewport.ensures _ c.in_ok-viewport.ensures in
+    let same = view-seen (held r) (setup-of c.args.setup) _ c.viewport.ensures _ c.in_ok-viewport.ensures in
     λ old n e. off _ _ _ _ _ _ n e (held r) c.in_ok-file.ensures.1 _ same (sym c.is_off_screen.ensures ∙ c.if-is_off_screen.true)
 
 pub reason_at-requires : goal.reason_at-requires
 reason_at-requires c =
     let q = setup-of c.args.setup in
     let r = c.in_ok-file.file in
-    let same = view-seen (held r).viewport q.mode _ c.viewport.ensures _ c.in_ok-viewport.ensures in
+    let same = view-seen (held r) q _ c.viewport.ensures _ c.in_ok-viewport.ensures in
     record {
       ready = given-ready r _ c.in_ok-file.ensures q c.requires;
       good = rw same at (given-view r _ c.in_ok-file.ensures q c.requires);
@@ -43,6 +42,6 @@ reason_at-requires c =
 pub returns : goal.returns
 returns c =
     let r = c.in_ok-file.file in
-    let same = view-seen (held r).viewport (setup-of c.args.setup).mode _ c.viewport.ensures _ c.in_ok-viewport.ensures in
+    let same = view-seen (held r) (setup-of c.args.setup) _ c.viewport.ensures _ c.in_ok-viewport.ensures in
     λ old n e.
     reasoned _ _ _ _ _ _ n e (held r) c.in_ok-file.ensures.1 _ same (sym c.is_off_screen.ensures ∙ c.if-is_off_screen.false) _ (c.reason_at.ensures n)

@@ -1,7 +1,6 @@
-use Rattle.std.proofs.Common.{◌≡◌, ◌-◌, ap, arith, refl, sym}
+use Rattle.std.proofs.Common.{◌≡◌, ap, arith, refl}
 use Rattle.tile.specs.Telling.{Line}
-use Rattle.tile.specs.Listed.{line_at, lines-from}
-use Rattle.tile.proofs.Listing.{ListedTo, listed-none, with-line}
+use Rattle.tile.proofs.Listing.{listed-none, with-line}
 use Rattle.tile.proofs.list.listing_of.Goals as goal
 
 pub loop-i-init : goal.loop-i-init

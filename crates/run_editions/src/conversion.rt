@@ -12,8 +12,8 @@ ghost use Rattle.run_editions.specs.Conversions.{source, target, file_converted,
 use crate::bytes::put_words;
 use convert::{to_edition_one, to_edition_two};
 use rect::Mode;
-use sizes::answers::Refusal;
 use sizes::MOST_RECORDS;
+use sizes::answers::Refusal;
 use std::alloc::{AllocError, Global};
 use text_long::read_words;
 

@@ -159,7 +159,10 @@ fn a_long_file_is_listed(rt: HostRuntime) -> Result<(), Fail> {
         &[Bytes(5), Bytes(ANY)],
     )?;
     assert_eq!(rt; end, End::Done);
-    assert_eq!(rt; held.as_slice(), b"p 1 7 8 - 1 0\nl 0 7 8 - 1 0\n".as_slice());
+    assert_eq!(rt;
+        held.as_slice(),
+        b"p 1 7 8 - 1 0\nl 0 7 8 - 1 0\n".as_slice()
+    );
 
     let (end, held) = run(
         rt.alloc(),

@@ -103,8 +103,8 @@ pub extern "C" fn coarse_reset(
     put_reset(state, screen, done)
 }
 
-/// Rule 2: the words of a recording file of an edition, 1 or 2, in a setup. Another number is refused by 3; then come 3 for the file's form, and 2 or 4 for words
-/// that ask for no setup.
+/// Rule 2: the words of a recording file of an edition, 1 or 2, in a setup. Another number is refused by 3; then come 3 for the file's form, and 2 or 4 for
+/// words that ask for no setup.
 #[unsafe(no_mangle)]
 #[tactic(auto, using(crate::proofs::HostAsked::recording_untold))]
 pub extern "C" fn coarse_bucket_recording(

@@ -46,8 +46,8 @@ pub fn put_count(done: Result<usize, Refusal>, count: &mut usize) -> u32
     }
 }
 
-/// A file of edition one as one of edition two, put first in a list; how many words it has. Its viewport is read in a mode, 0 or 1. Another mode is refused by 4,
-/// after 3 for the file's form; the rest as `to_edition_two`.
+/// A file of edition one as one of edition two, put first in a list; how many words it has. Its viewport is read in a mode, 0 or 1. Another mode is refused
+/// by 4, after 3 for the file's form; the rest as `to_edition_two`.
 #[unsafe(no_mangle)]
 #[tactic(auto, using(crate::proofs::Conversions::mode_unasked))]
 pub extern "C" fn coarse_to_edition_two(

@@ -138,7 +138,8 @@ pub extern "C" fn coarse_why(
     reason: &mut ReasonWords,
 ) -> u32
     ensures same { SameLent tables.old tables.new }
-    ensures explained { answer result (why_out state.new tables.new reason.new) ≡ why_on (told edition file.now) setup question.now state.old tables.old reason.old }
+    ensures explained { answer result (why_out state.new tables.new reason.new)
+        ≡ why_on (told edition file.now) setup question.now state.old tables.old reason.old }
 {
     match read_file(edition, file) {
         Ok(file) => why_asked(state, file, setup, question, tables, reason),

@@ -1,5 +1,5 @@
-//! One look at a state's words where they stand, and at how much is lent, without a branch where there need be none: yes only where the exact judge says 0. Where
-//! it says no, that judge is asked, and says which number. Most bounds are one less than the judge's, where that makes them a power of 2: numbers below it are
+//! One look at a state's words where they stand, and at how much is lent, without a branch where there need be none: yes only where the exact judge says 0.
+//! Where it says no, that judge is asked, and says which number. Most bounds are one less than the judge's, where that makes them a power of 2: numbers below it are
 //! tested together. Parts of the calls.
 ghost use Rattle.std.specs.Prelude.{◌≡◌, ◌≤◌, ◌+◌, ◌-◌, ◌*◌, ◌/◌, true, ◌&&◌, eqb, IfSome};
 ghost use Rattle.sizes.specs.Sizes.{most-rows, most-room};

@@ -1,4 +1,4 @@
-//! What `editions` does with its arguments, from its input to its output: it writes the file on the input as one of the other edition, or each file of a stream.
+//! What `editions` does with its arguments, from its input to its output: it writes the file on the input, or each file of a stream, in the other edition.
 //! Each file of a stream stands after its length in bytes, a little-endian u32; a length past the stream's end takes what is left. So does each file that is
 //! written; for a refused one there are two words, 4,294,967,295 and the refusal's number.
 #![tactic(auto)]

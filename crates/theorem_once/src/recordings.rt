@@ -1,9 +1,8 @@
 //! A recording, `why`, a tile's list, and the conversions of a recording's file.
 ghost use Rattle.std.specs.Prelude.{◌≡◌};
-ghost use Rattle.file.specs.Held.{file_of};
 ghost use Rattle.convert.specs.Placed.{placed};
 ghost use Rattle.tile.specs.Listed.{listed-as};
-ghost use Rattle.theorem_once.specs.Lent.{recording-words};
+ghost use Rattle.theorem_once.specs.Lent.{recording-words, tile-list-words};
 
 use crate::Twice;
 use convert::{to_edition_one, to_edition_two};
@@ -56,22 +55,27 @@ pub fn why_twice(
     )
 }
 
+/// What a tile's list reads and writes: the file, and the list.
+#[derive(Drop)]
+pub struct ListLent<'a> {
+    pub file: File<'a>,
+    pub list: &'a mut [u32],
+}
+
 /// Two calls of `list_tile`: the number, how many entries, and the list.
 pub fn list_tile_twice(
-    a: File<'_>,
-    a_list: &mut [u32],
-    b: File<'_>,
-    b_list: &mut [u32],
+    a: &mut ListLent<'_>,
+    b: &mut ListLent<'_>,
     mode: Mode,
     width: Width,
     row: u32,
     tile: u32,
 ) -> Twice<Result<usize, Refusal>>
-    ensures { (file_of a.entry ≡ file_of b.entry) × (a_list.old ≡ b_list.old) → listed-as result.0 a_list.new ≡ listed-as result.1 b_list.new }
+    ensures { tile-list-words a.old ≡ tile-list-words b.old → listed-as result.0 a.new.list.now ≡ listed-as result.1 b.new.list.now }
 {
     (
-        list_tile(a, mode, width, row, tile, a_list),
-        list_tile(b, mode, width, row, tile, b_list),
+        list_tile(a.file, mode, width, row, tile, a.list),
+        list_tile(b.file, mode, width, row, tile, b.list),
     )
 }
 

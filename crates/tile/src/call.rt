@@ -44,7 +44,8 @@ pub fn tell_spot(file: &Recording<'_>, spot: Spot, lines: &mut [u32]) -> Result<
     requires ready { ReadyIn file.now }
     requires spot { Spotted spot }
     requires room { length lines.old ≡ line-table }
-    ensures { ToldTo (walk-all Telling (tell-at spot.width (box_of spot.viewport) spot.row spot.tile) (held file.now) (nothing-told lines.old)) result lines.new }
+    ensures { ToldTo (walk-all Telling (tell-at spot.width (box_of spot.viewport) spot.row spot.tile) (held file.now) (nothing-told lines.old))
+        result lines.new }
 {
     let (first, end) = file.root();
     let within = Within {

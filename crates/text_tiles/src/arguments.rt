@@ -49,9 +49,8 @@ pub fn read_place<'a>(row: &'a str, tile: &'a str) -> Result<TilePlace, Wrong<'a
 fn wrong_count(others: &[String]) -> Wrong<'_> {
     match others {
         [] => Wrong::Missing("ROW"),
-        [_] => Wrong::Missing("TILE"),
         [_, _, extra, ..] => Wrong::TooMany(extra.as_str()),
-        [_, last] => Wrong::TooMany(last.as_str()),
+        [_, ..] => Wrong::Missing("TILE"),
     }
 }
 

@@ -26,7 +26,8 @@ abbrev Errs : {A : Type 0} → (Refusal → ℕ) → Result A Refusal → Type 0
 Errs n (Ok x) = Unit
 Errs n (Err x) = Among (n x)
 
-granted-among : {A T : Type 0} (o : Result A Refusal) (n : Refusal → ℕ) (t : T) (f : A → Answer T) → Errs n o → ((x : A) → Among (f x).number) → Among (granted o n t f).number
+granted-among : {A T : Type 0} (o : Result A Refusal) (n : Refusal → ℕ) (t : T) (f : A → Answer T)
+    → Errs n o → ((x : A) → Among (f x).number) → Among (granted o n t f).number
 granted-among (Ok x) n t f p q = q x
 granted-among (Err x) n t f p q = p
 

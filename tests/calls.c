@@ -16,7 +16,8 @@
 /* The ten tables in the order of coarse_lengths, then what else a call may write. */
 enum { RENDER_CMDS, DEPTH_CMDS, DEPTH, ROWS, PAINTING, LAYERS, OPACITIES, PAINT_ATTRS, LAYER_ATTRS, FILTER_PAINTS, TABLES, STATE = TABLES, LIST, PARTS };
 enum { SCREEN = (1 << (STATE + 1)) - 1, RESULTS = 1 << PARTS, LISTED = 1 << LIST | RESULTS };
-enum { LIST_WORDS = 512, ROOM = 1 << 17, BETWEEN = 3, MOST_SEGMENTS = 24, MOST_DRAWS = 6, FILES = 32, FILE_WORDS = 4096, STATE_WORDS = sizeof(coarse_state) / sizeof(uint32_t) };
+enum { LIST_WORDS = 512, ROOM = 1 << 17, BETWEEN = 3, MOST_SEGMENTS = 24, MOST_DRAWS = 6,
+       FILES = 32, FILE_WORDS = 4096, STATE_WORDS = sizeof(coarse_state) / sizeof(uint32_t) };
 #define GUARD 0x5eed5eedu
 
 /* Everything that is lent stands in one block, guard words before and after each part; the structs that lend it, and results, beside it. */

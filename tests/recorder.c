@@ -1,7 +1,7 @@
 /* The recorder: scenes that are drawn by direct calls and recorded, whose recordings leave the same screen word for word, panels too, of either edition that has
  * words for them, and are what the conversions make of each other; records with any numbers in them, which the recorder refuses exactly where and as the file's
- * judge refuses the file that has them; what is refused changes nothing. And of these screens: a buffer is cleared over all that its own level fills and composites; a tile's list, which is had of the recording alone, is
- * what its row paints there.
+ * judge refuses the file that has them; what is refused changes nothing. And of these screens: a buffer is cleared over all that its own level fills and
+ * composites; a tile's list, which is had of the recording alone, is what its row paints there.
  *     recorder [SCENES [SEED]]        400 scenes, seed 1
  * Prints each thing that does not hold; the status is 1 if anything does not. Wants coarse_recorder.h on the include path. */
 #include "coarse_recorder.h"

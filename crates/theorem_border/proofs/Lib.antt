@@ -14,3 +14,4 @@ pub mod Conversions
 pub mod FillLists
 pub mod TileLists
 pub mod Listed
+pub mod ListNumbers

@@ -162,7 +162,8 @@ module _ (row tile : ℕ) (list n : List ℕ) where
   unfolding tile_list_in tile_list_asked
   list-in f file y w q a =
       tile_list_told f w.mode w.width row tile list n file y
-      (as-asked (asked_setup (list_setup w.mode w.width)) (unasked_number file) (list, n) (λ (q : Setup). tile_list_in file q row tile list n) (bare q) (asks-bare w q a))
+      (as-asked (asked_setup (list_setup w.mode w.width)) (unasked_number file) (list, n)
+      (λ (q : Setup). tile_list_in file q row tile list n) (bare q) (asks-bare w q a))
 
   -- what is listed is read back from the list
   list-back : (a : Answer (List Entry)) → a.number ≡ Done
@@ -183,7 +184,8 @@ module _ (row tile : ℕ) (list n : List ℕ) where
   in-told file q = refl
 
 -- at the border, of a recording that is accepted
-module _ (told : FileWords) (w : SetupWords) (h : Host) (d : (recording-at told w h).number ≡ Done) (m : Accepted told w h) (cs : List Call) (row tile : ℕ) (list n : List ℕ) where
+module _ (told : FileWords) (w : SetupWords) (h : Host) (d : (recording-at told w h).number ≡ Done) (m : Accepted told w h)
+    (cs : List Call) (row tile : ℕ) (list n : List ℕ) where
   abbrev after : Host
   after = (begin-at (recording-at told w h).value).value
 
@@ -222,7 +224,8 @@ module _ (told : FileWords) (w : SetupWords) (h : Host) (d : (recording-at told 
       ∙ in-back row tile list n m.file m.setup y
       ∙ ap (map (piece-of tile)) (es.1 ∙ sym (had there across fin))
 
-  room-of : Known h → row < rows_of v → tile < width v / 4 → finished row cs after ≡ true → call.number ≡ cond (ltb (room-in list) (length entries-had)) NoRoom Done
+  room-of : Known h → row < rows_of v → tile < width v / 4 → finished row cs after ≡ true
+      → call.number ≡ cond (ltb (room-in list) (length entries-had)) NoRoom Done
   room-of (nothing x) there across fin = absurd (recording-never h x w m.setup m.asks told m.file m.says d)
   room-of (these l s) there across fin =
       let on : off-screen v row tile ≡ false = rw (lt-leb (rows_of v) row there, lt-leb (width v / 4) tile across) in

@@ -1,5 +1,6 @@
 -- A tile's list, which a host has of a recording alone, and what the tile receives by painting.
-use Rattle.std.specs.Prelude.{ℕ, ◌/◌, ◌<◌, ◌≡◌, true, cond, List, map, length, get_or, ltb}
+use Rattle.std.specs.Prelude.{ℕ, ◌/◌, ◌<◌, ◌≡◌, true, cond, List, map, length, get_or, ltb, eqb}
+use Rattle.rules.specs.Lists.{some_of}
 use Rattle.rules.specs.Answers.{Done, NoRoom}
 use Rattle.rules.specs.Boxes.{width, rows_of}
 use Rattle.rules.specs.Walk.{frame-of}
@@ -8,6 +9,7 @@ use Rattle.rules_picture.specs.Recorded.{said}
 use Rattle.rules_picture.specs.Turns.{from}
 use Rattle.tile.specs.Listed.{piece-of, room-in}
 use Rattle.theorem_picture.specs.Turns.{pieces-in}
+use Rattle.theorem_reason.specs.Lists.{list-numbers}
 use Rattle.host.specs.declared.state.SetupWords.{SetupWords}
 use Rattle.host.specs.Asked.{FileWords}
 use Rattle.host.specs.TileList.{tile_list_call}
@@ -31,3 +33,9 @@ ListRoom =
     (cs : List Call) (r t : ℕ) → r < rows_of v → t < width v / 4 → finished r cs (begin-at (recording-at f w h).value).value ≡ true
     → let es = received t (from r (log cs (begin-at (recording-at f w h).value).value)) in
     (list n : List ℕ) → (tile_list_call f w.mode w.width r t list n).number ≡ cond (ltb (room-in list) (length es)) NoRoom Done
+
+-- Whatever a host asks for, its answer is one of a list's numbers: no 1, 7, 10, 11, 13 or 15.
+abbrev pub ListNumbers : Type 0
+ListNumbers =
+    (f : FileWords) (mode width row tile : ℕ) (list n : List ℕ)
+    → some_of (eqb (tile_list_call f mode width row tile list n).number) list-numbers ≡ true

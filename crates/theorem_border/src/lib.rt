@@ -10,7 +10,7 @@ ghost use Rattle.theorem_border.specs.Refused.{BeginRefused, FillRefused, Filter
 ghost use Rattle.theorem_border.specs.Numbers.{BeginKeeps, FillKeeps, FilterKeeps, PopKeeps, PushKeeps, RecordingKeeps, ResetKeeps, RowKeeps, SkipKeeps, SpansKeeps, StepKeeps, UnsetKeeps, VisibleKeeps, WhyKeeps, WriteKeeps, LengthsKeeps, CmdKeeps, DepthKeeps, ProgressKeeps};
 ghost use Rattle.theorem_border.specs.Words.{ScreenReadBack, SizesFit, WordsWrittenBack};
 ghost use Rattle.theorem_border.specs.FillLists.{FillsHosted};
-ghost use Rattle.theorem_border.specs.TileLists.{ListReceived, ListRoom};
+ghost use Rattle.theorem_border.specs.TileLists.{ListReceived, ListRoom, ListNumbers};
 ghost use Rattle.theorem_border.specs.Held.{HostedReached};
 ghost use Rattle.theorem_border.specs.Reading.{HostedStands, LengthsRead, CmdsRead, NoCmdRead, DepthsRead, NoDepthRead, ProgressRead};
 ghost use Rattle.theorem_border.specs.Colours as colours;
@@ -47,10 +47,11 @@ pub fn recordings_at_border()
     ensures asks { ResetAsks }
 {}
 
-/// What `coarse_list_tile` lists of an accepted recording, and what the tile receives by painting.
+/// What `coarse_list_tile` lists of an accepted recording is what the tile receives by painting; and the numbers that it answers.
 pub fn lists_at_border()
     ensures received { ListReceived }
     ensures room { ListRoom }
+    ensures numbers { ListNumbers }
 {}
 
 /// Editing one line of the screen leaves the other rows as they were.

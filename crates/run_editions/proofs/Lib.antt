@@ -1,4 +1,3 @@
 mod Putting
 mod Long
-mod Snaps
 mod Items

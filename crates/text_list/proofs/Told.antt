@@ -68,10 +68,6 @@ module _ (e : Edition) (m : Mode) (w : Width) (bs : List ℕ) (row tile : ℕ) w
       go None = refl
       go (Some ws) = refl
 
-  -- no words, no list
-  pub none-listed : words-of-long bs ≡ None → bytes-listed e m w bs row tile ≡ answer 3 []
-  none-listed h = rw h
-
   -- the words are listed by the rules
   pub some-listed : (ws : List ℕ) → words-of-long bs ≡ Some ws → (r : Result ℕ Refusal) (old new : List ℕ) → length old ≡ piece-size * most-entries
       → listed-as r new ≡ listed-over tile (list-told m w (in-edition e ws) row tile (room-in old)) old → listed-as r new ≡ listed-over tile (bytes-listed e m w bs row tile) old
@@ -86,9 +82,6 @@ module _ (e : Edition) (bs : List ℕ) where
           ≡ elim (cond b None (words_of bs)) [ None ↦ true | Some ws ↦ is_none (parsed (in-edition e ws)) ]
       go true = refl
       go false = refl
-
-  pub no-words-told : words-of-long bs ≡ None → no-width-told e bs ≡ 3
-  no-words-told h = rw (form-told, h)
 
   pub words-told : (ws : List ℕ) → words-of-long bs ≡ Some ws → no-width-of (in-edition e ws) ≡ no-width-told e bs
   unfolding no-width-of

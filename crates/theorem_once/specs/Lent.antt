@@ -13,7 +13,6 @@ use Rattle.theorem_once.specs.declared.building.PushLent.{PushLent}
 use Rattle.theorem_once.specs.declared.building.PopLent.{PopLent}
 use Rattle.theorem_once.specs.declared.building.FilterLent.{FilterLent}
 use Rattle.theorem_once.specs.declared.recordings.RecordingLent.{RecordingLent}
-use Rattle.theorem_once.specs.declared.recordings.ListLent.{ListLent}
 
 abbrev pub fill-words : FillLent → Screen × Words × List ℕ × List ℕ × List ℕ
 fill-words l = (l.screen, all-held l.rows, l.paint_attrs.now, l.paints.now, l.segments.now)
@@ -33,6 +32,3 @@ filter-words l = (l.screen, all-held l.rows, l.paint_attrs.now, l.filter_paints.
 
 abbrev pub recording-words : RecordingLent → ScreenLent × File
 recording-words l = (whole l.screen l.lent, file_of l.file)
-
-abbrev pub tile-list-words : ListLent → File × List ℕ
-tile-list-words l = (file_of l.file, l.list.now)

@@ -1,8 +1,9 @@
 //! A recording, `why`, a tile's list, and the conversions of a recording's file.
 ghost use Rattle.std.specs.Prelude.{◌≡◌};
+ghost use Rattle.file.specs.Held.{file_of};
 ghost use Rattle.convert.specs.Placed.{placed};
 ghost use Rattle.tile.specs.Listed.{listed-as};
-ghost use Rattle.theorem_once.specs.Lent.{recording-words, tile-list-words};
+ghost use Rattle.theorem_once.specs.Lent.{recording-words};
 
 use crate::Twice;
 use convert::{to_edition_one, to_edition_two};
@@ -55,27 +56,34 @@ pub fn why_twice(
     )
 }
 
-/// What a tile's list reads and writes: the file, and the list.
-#[derive(Drop)]
-pub struct ListLent<'a> {
-    pub file: File<'a>,
-    pub list: &'a mut [u32],
+/// What a tile's list is asked for.
+#[derive(Clone, Copy)]
+pub struct ListAsked {
+    pub mode: Mode,
+    pub width: Width,
+    pub row: u32,
+    pub tile: u32,
 }
 
 /// Two calls of `list_tile`: the number, how many entries, and the list.
 pub fn list_tile_twice(
-    a: &mut ListLent<'_>,
-    b: &mut ListLent<'_>,
-    mode: Mode,
-    width: Width,
-    row: u32,
-    tile: u32,
+    a: File<'_>,
+    a_list: &mut [u32],
+    b: File<'_>,
+    b_list: &mut [u32],
+    asked: ListAsked,
 ) -> Twice<Result<usize, Refusal>>
-    ensures { tile-list-words a.old ≡ tile-list-words b.old → listed-as result.0 a.new.list.now ≡ listed-as result.1 b.new.list.now }
+    ensures { (file_of a.entry ≡ file_of b.entry) × (a_list.old ≡ b_list.old) → listed-as result.0 a_list.new ≡ listed-as result.1 b_list.new }
 {
+    let ListAsked {
+        mode,
+        width,
+        row,
+        tile,
+    } = asked;
     (
-        list_tile(a.file, mode, width, row, tile, a.list),
-        list_tile(b.file, mode, width, row, tile, b.list),
+        list_tile(a, mode, width, row, tile, a_list),
+        list_tile(b, mode, width, row, tile, b_list),
     )
 }
 

@@ -7,6 +7,7 @@ pub mod Segments
 pub mod Blends
 pub mod Commands
 pub mod Depth
+pub mod Minima
 pub mod Rows
 pub mod Inputs
 pub mod Attributes

@@ -44,3 +44,4 @@ pub mod StoredColours
 pub mod Places
 pub mod Limits
 pub mod Roomless
+pub mod Minima

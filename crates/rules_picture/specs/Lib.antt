@@ -1,6 +1,7 @@
 pub mod Built
 pub mod Turns
 pub mod Skip
+pub mod Minima
 pub mod Recorded
 pub mod Panels
 pub mod TwoPanels

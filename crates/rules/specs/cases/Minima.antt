@@ -1,4 +1,4 @@
--- The summary above the depth words at known points: rows of 0, 1, 2, 3, 5, 63 and 64 buckets, every range of a row, ids at both ends, and words that agree with no buckets.
+-- The summary above the depth words at known points: rows of 0, 1, 2, 3, 5, 63 and 64 buckets, every range of a row, ids at both ends, and forged words.
 use Rattle.std.specs.Prelude.{ℕ, suc, ◌-◌, ◌≡◌, Bool, true, false, ◌&&◌, not, cond, List, [], ◌∷◌, ◌++◌, map, length, replicate, ltb, eqb}
 use Rattle.rules.specs.Lists.{every, slice, count-from}
 use Rattle.rules.specs.Answers.{Answer, Done, BadRun}

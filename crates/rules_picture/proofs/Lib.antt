@@ -45,3 +45,4 @@ pub mod Places
 pub mod Limits
 pub mod Roomless
 pub mod Minima
+pub mod Mending

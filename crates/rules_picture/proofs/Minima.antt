@@ -1,22 +1,26 @@
 -- The summary above a row's depth words: what the question says of the words, and what a write works out again. Assumes nothing.
-use Rattle.std.proofs.Common.{ℕ, zero, suc, ◌+◌, ◌-◌, ◌≤◌, ◌<◌, min, ◌≡◌, refl, sym, ◌∙◌, ap, Bool, true, false, ◌&&◌, ◌||◌, cond, List, [], ◌∷◌, length, get_or, take, drop, arith}
-use Rattle.std.proofs.Common.{length-take, length-drop, get_or-take, get_or-drop, leb, ltb, leb-true, leb-false, ltb-true, ltb-false, lt-ltb}
+use Rattle.std.proofs.Common.{ℕ, zero, suc, ◌+◌, ◌-◌, ◌/◌, ◌≤◌, ◌<◌, min, ◌≡◌, refl, sym, ◌∙◌, ap, Bool, true, false, ◌&&◌, ◌||◌, cond, List, [], ◌∷◌, map, length, get_or, take, drop, take_all, arith}
+use Rattle.std.proofs.Common.{length-take, length-drop, get_or-take, get_or-drop, leb, ltb, leb-true, leb-false, ltb-true, ltb-false, lt-ltb, le-leb}
+use borrow.Author.Tests.{lt-leb}
 use Rattle.rules.specs.Lists.{every, slice}
-use Rattle.rules.specs.Minima.{past-end, size, top, minima, halvings, summary, half, left-half, right-half, hidden-in, mended}
+use Rattle.rules.specs.Spans.{Span}
+use Rattle.rules.specs.Depth.{bucket-runs, runs-in, runs, is-visible, visible-runs}
+use Rattle.rules.specs.Minima.{past-end, size, top, minima, halvings, summary, hidden-in, asked-runs}
 use Rattle.rules.proofs.All.{and_left, and_right, and_both, or_left, or_right}
-use Rattle.rules.proofs.laws.Minima.{left-is, right-is, row-fits}
+use Rattle.rules.proofs.laws.Minima.{left-is, right-is, row-fits, length-summary}
+use Rattle.rules_picture.specs.Minima.{Summary-long, Hidden-exact, Pieces-same}
 use Rattle.rules_picture.proofs.Cases.{by, same_test}
 
-take-at : (n i : ℕ) (bs : List ℕ) → i < n → get_or (take n bs) i past-end ≡ get_or bs i past-end
+pub take-at : (n i : ℕ) (bs : List ℕ) → i < n → get_or (take n bs) i past-end ≡ get_or bs i past-end
 take-at n i bs h = get_or-take n bs i past-end h
 
-take-past : (n i : ℕ) (bs : List ℕ) → n ≤ i → get_or (take n bs) i past-end ≡ past-end
+pub take-past : (n i : ℕ) (bs : List ℕ) → n ≤ i → get_or (take n bs) i past-end ≡ past-end
 take-past zero i bs h = refl
 take-past (suc n) i [] h = refl
 take-past (suc n) zero (b ∷ bs) h = absurd (omega arith)
 take-past (suc n) (suc i) (b ∷ bs) h = take-past n i bs (omega arith)
 
-drop_at : (n i : ℕ) (bs : List ℕ) → get_or (drop n bs) i past-end ≡ get_or bs (n + i) past-end
+pub drop_at : (n i : ℕ) (bs : List ℕ) → get_or (drop n bs) i past-end ≡ get_or bs (n + i) past-end
 drop_at n i bs = get_or-drop n bs i past-end
 
 -- every place of the group holds at least its minimum
@@ -123,56 +127,6 @@ yes-says (suc k) bs n a b id m e i p q =
     (yes-says k ls (omega arith) a (min b (size k)) id (omega arith) u)
     (yes-says k rs (omega arith) (a - size k) (b - size k) id (omega arith) v) i p q))
 
--- the places that a group has: a changed word elsewhere does not matter
-minima-same : (k : ℕ) (bs cs : List ℕ) → ((i : ℕ) → get_or bs i past-end ≡ get_or cs i past-end) → minima k bs ≡ minima k cs
-unfolding minima
-minima-same zero bs cs h = ap (λ (n : ℕ). n ∷ []) (h 0)
-minima-same (suc k) bs cs h =
-    let l = minima-same k (take (size k) bs) (take (size k) cs) (λ i. by (ltb i (size k))
-    (λ y. let q = ltb-true i (size k) y in take-at (size k) i bs q ∙ h i ∙ sym (take-at (size k) i cs q))
-    (λ n. let q = ltb-false i (size k) n in take-past (size k) i bs q ∙ sym (take-past (size k) i cs q))) in
-    let r = minima-same k (drop (size k) bs) (drop (size k) cs) (λ i. drop_at (size k) i bs ∙ h (size k + i) ∙ sym (drop_at (size k) i cs)) in
-    rw (l, r)
-
--- the same words but from a to b
-record But (bs cs : List ℕ) (a b : ℕ) : Type 0 where
-  before : (i : ℕ) → i < a → get_or bs i past-end ≡ get_or cs i past-end
-  after : (i : ℕ) → b ≤ i → get_or bs i past-end ≡ get_or cs i past-end
-
-but-left : (m : ℕ) (bs cs : List ℕ) (a b : ℕ) → But bs cs a b → But (take m bs) (take m cs) a (min b m)
-but-left m bs cs a b h =
-    record {
-      before = λ i p. go i (λ q. h.before i p);
-      after = λ i p. go i (λ q. h.after i (omega arith));
-    }
-  where
-    go : (i : ℕ) → (i < m → get_or bs i past-end ≡ get_or cs i past-end) → get_or (take m bs) i past-end ≡ get_or (take m cs) i past-end
-    go i f = by (ltb i m)
-        (λ y. let q = ltb-true i m y in take-at m i bs q ∙ f q ∙ sym (take-at m i cs q))
-        (λ n. let q = ltb-false i m n in take-past m i bs q ∙ sym (take-past m i cs q))
-
-but-right : (m : ℕ) (bs cs : List ℕ) (a b : ℕ) → But bs cs a b → But (drop m bs) (drop m cs) (a - m) (b - m)
-but-right m bs cs a b h =
-    record {
-      before = λ i p. drop_at m i bs ∙ h.before (m + i) (omega arith) ∙ sym (drop_at m i cs);
-      after = λ i p. drop_at m i bs ∙ h.after (m + i) (omega arith) ∙ sym (drop_at m i cs);
-    }
-
-mends : (k : ℕ) (bs cs : List ℕ) (a b : ℕ) → But bs cs a b → mended k (minima k bs) cs a b ≡ minima k cs
-unfolding mended
-mends zero bs cs a b h =
-    by (leb b a)
-    (λ y. let q = leb-true b a y in rw y (minima-same zero bs cs (λ i. by (ltb i a) (λ z. h.before i (ltb-true i a z)) (λ z. let r = ltb-false i a z in h.after i (omega arith)))))
-    (λ n. rw n (unfold minima in refl))
-mends (suc k) bs cs a b h =
-    by (leb b a)
-    (λ y. let q = leb-true b a y in rw y (minima-same (suc k) bs cs (λ i. by (ltb i a) (λ z. h.before i (ltb-true i a z)) (λ z. let r = ltb-false i a z in h.after i (omega arith)))))
-    (λ n.
-    let l = mends k (take (size k) bs) (take (size k) cs) a (min b (size k)) (but-left (size k) bs cs a b h) in
-    let r = mends k (drop (size k) bs) (drop (size k) cs) (a - size k) (b - size k) (but-right (size k) bs cs a b h) in
-    rw (n, left-is k bs, right-is k bs, l, r) (unfold minima in refl))
-
-
 says-yes : (k : ℕ) (bs : List ℕ) → length bs ≤ size k → (a b id : ℕ) → b ≤ length bs → Says bs a b id → hidden-in k (minima k bs) a b id ≡ true
 unfolding hidden-in size
 says-yes zero bs n a b id m s =
@@ -238,3 +192,56 @@ says-every id bs a b m s =
     takes (suc n) [] h f = refl
     takes (suc n) (x ∷ xs) h f = and_both (ltb id x) (every (λ (w : ℕ). ltb id w) (take n xs)) (lt-ltb id x (f 0 (omega arith))) (takes n xs (λ p. h (omega arith)) (λ j p. f (suc j) (omega arith)))
 
+
+pub summary-long : Summary-long
+summary-long bs = length-summary bs
+
+-- a group that has room for the buckets
+of-group : (k : ℕ) (bs : List ℕ) → length bs ≤ size k → (a b id : ℕ) → b ≤ length bs
+    → hidden-in k (minima k bs) a b id ≡ every (λ (w : ℕ). ltb id w) (slice a b bs)
+of-group k bs n a b id m =
+    same_test (hidden-in k (minima k bs) a b id) (every (λ (w : ℕ). ltb id w) (slice a b bs))
+    (λ e. says-every id bs a b m (yes-says k bs n a b id m e))
+    (λ e. says-yes k bs n a b id m (every-says id bs a b m e))
+
+pub hidden-exact : Hidden-exact
+unfolding summary hidden-in halvings
+hidden-exact [] a b id m = rw (le-leb b a (omega arith), none_left b a m)
+  where
+    none_left : (b a : ℕ) → b ≤ 0 → b - a ≡ 0
+    none_left b a m = omega arith
+hidden-exact (b' ∷ bs) a b id m = of-group (halvings (suc (length bs))) (b' ∷ bs) (row-fits (suc (length bs))) a b id m
+
+-- where every bucket holds a greater id, no run is visible
+none-visible : (id i : ℕ) (bs : List ℕ) → every (λ (w : ℕ). ltb id w) bs ≡ true → bucket-runs (is-visible id) i bs ≡ []
+unfolding bucket-runs
+none-visible id i [] e = refl
+none-visible id i (b ∷ bs) e =
+    rw (lt-leb b id (ltb-true id b (and_left (ltb id b) (every (λ (w : ℕ). ltb id w) bs) e)))
+    (none-visible id (suc i) bs (and_right (ltb id b) (every (λ (w : ℕ). ltb id w) bs) e))
+
+-- the buckets past the row's end are none
+in-row : (a b : ℕ) (bs : List ℕ) → slice a (min b (length bs)) bs ≡ slice a b bs
+in-row a b bs =
+    by (leb b (length bs))
+    (λ y. let h = leb-true b (length bs) y in let m : min b (length bs) ≡ b = omega arith in rw m)
+    (λ n.
+    let h = leb-false b (length bs) n in
+    let m : min b (length bs) ≡ length bs = omega arith in
+    let l = length-drop a bs in
+    rw m (take_all (length bs - a) (drop a bs) (omega arith) ∙ sym (take_all (b - a) (drop a bs) (omega arith))))
+
+pub pieces-same : Pieces-same
+unfolding asked-runs visible-runs runs runs-in
+pieces-same w bs id s =
+    let a : ℕ = s.first / w in
+    let b : ℕ = (s.end + (w - 1)) / w in
+    by (hidden-in (halvings (length bs)) (summary bs) a (min b (length bs)) id)
+    (λ y.
+    let e = sym (hidden-exact bs a (min b (length bs)) id (omega arith)) ∙ y in
+    rw (y, none-visible id a (slice a b bs) (rw in-row at e)) (sym (none (ltb s.first s.end))))
+    (λ n. rw n)
+  where
+    none : (t : Bool) → ◌≡◌ {A = List Span} (cond t [] []) []
+    none true = refl
+    none false = refl

@@ -117,13 +117,13 @@ module _ (k m : ℕ) (w : Larger k m) (t l r bs : List ℕ) (v mid : ℕ) (f : l
       let b' : r ≡ minima w.next (drop (size w.next) bs) = b ∙ ap (minima w.next) high-is in
       rw (top-set t v f, least-is, w.is, ← a', ← b') refl
 
-  pub mended-two : (g l₀ r₀ : List ℕ) (a b : ℕ) → a < b → l₀ ≡ take (m / 2) (drop 1 g) → r₀ ≡ drop (m / 2) (drop 1 g)
+  pub mended-two : (g rest l₀ r₀ : List ℕ) (a b : ℕ) → a < b → rest ≡ drop 1 g → l₀ ≡ take (m / 2) rest → r₀ ≡ drop (m / 2) rest
       → l ≡ mended w.next l₀ (take mid bs) a (min b (m / 2 / 2 + 1)) → r ≡ mended w.next r₀ (drop mid bs) (a - (m / 2 / 2 + 1)) (b - (m / 2 / 2 + 1))
       → set t 0 v ++ (l ++ r) ≡ mended k g bs a b
   unfolding mended
-  mended-two g l₀ r₀ a b h p q x y =
-      let x' : l ≡ mended w.next (left-half w.next g) (take (size w.next) bs) a (min b (size w.next)) = rw (p, w.middle, w.halves, low-is) at x in
-      let y' : r ≡ mended w.next (right-half w.next g) (drop (size w.next) bs) (a - size w.next) (b - size w.next) = rw (q, w.middle, w.halves, high-is) at y in
+  mended-two g rest l₀ r₀ a b h d p q x y =
+      let x' : l ≡ mended w.next (left-half w.next g) (take (size w.next) bs) a (min b (size w.next)) = rw (p, d, w.middle, w.halves, low-is) at x in
+      let y' : r ≡ mended w.next (right-half w.next g) (drop (size w.next) bs) (a - size w.next) (b - size w.next) = rw (q, d, w.middle, w.halves, high-is) at y in
       rw (top-set t v f, least-is, w.is, lt-leb b a h, ← x', ← y') refl
 
 pub mended-none : (k : ℕ) (g bs : List ℕ) (a b : ℕ) → b ≤ a → g ≡ mended k g bs a b

@@ -106,15 +106,22 @@ fn is_group_hidden(group: &[u32], first: usize, end: usize, draw_id: u32) -> boo
     requires { IsGroup group.now }
     ensures { (k : ℕ) → length group.now ≡ half k → result ≡ hidden-in k group.now first «end» draw_id }
 {
-    if end <= first || draw_id < group[0] {
+    if end <= first {
         return true;
     }
-    let half = group.len() / 2;
-    let middle = half / 2 + 1;
-    if group.len() == 1 || (first == 0 && 2 * middle <= end) {
+    if draw_id < group[0] {
+        return true;
+    }
+    let (_, rest) = group.split_at(1);
+    if rest.is_empty() {
         return false;
     }
-    let (left, right) = group[1..].split_at(half);
+    let half = rest.len() / 2;
+    let middle = half / 2 + 1;
+    if first == 0 && 2 * middle <= end {
+        return false;
+    }
+    let (left, right) = rest.split_at(half);
     is_group_hidden(left, first, end.min(middle), draw_id)
         && is_group_hidden(right, first.saturating_sub(middle), end.saturating_sub(middle), draw_id)
 }

@@ -54,8 +54,7 @@ returns t c = λ k e.
     (omega (arith, c.mend_group.auto.group))
     (omega (arith, c.mend_group-2.auto.group))
     c.min-3.ensures
-    c.args.group.now c.split_at_mut-left.result.0.now c.split_at_mut-left.result.1.now c.args.first c.args.end c.if-end-first.false
-    (rw below.back at left.front)
-    (rw below.back at left.back)
+    c.args.group.now c.split_at_mut-top.result.1.now c.split_at_mut-left.result.0.now c.split_at_mut-left.result.1.now c.args.first c.args.end c.if-end-first.false
+    below.back left.front left.back
     (c.mend_group.ensures w.next long-l ∙ rw (c.split_at.ensures.front, c.min-2.ensures))
     (c.mend_group-2.ensures w.next long-r ∙ rw (c.split_at.ensures.back, c.saturating_sub.ensures, c.saturating_sub-2.ensures))

@@ -1,10 +1,13 @@
 -- Groups of buckets, by how many words they have. Assumes nothing.
 use Rattle.std.proofs.Common.{◌≡◌, refl, sym, ap, ◌∙◌, Bool, true, false, ◌&&◌, ◌||◌, cond, List, [], ◌∷◌, ◌++◌, ℕ, zero, suc, ◌+◌, ◌-◌, ◌/◌, min, ◌*◌, ◌≤◌, ◌<◌, arith, length, get_or, set, take, drop, take_all, length-drop, leb, ltb, ◌==◌, leb-true, leb-false, le-leb, lt-ltb, le-ltb, ne_eqb}
+use Rattle.std.proofs.Common.{◌^◌, max, eqb, add-zero, add-suc, le_refl}
+use Rattle.std.proofs.Math.Nat.{pow-suc}
 use Rattle.std.specs.Prelude.{Option, unwrap_or, slice_get}
+use Rattle.std.specs.Int.{IsPowerOfTwo}
 use borrow.Author.Tests.{lt-leb}
-use Rattle.rules.specs.Minima.{past-end, size, top, minima, half, left-half, right-half, hidden-in, mended}
+use Rattle.rules.specs.Minima.{past-end, size, top, minima, half, left-half, right-half, minima-room, halvings, summary, hidden-in, mended}
 use Rattle.rules.proofs.All.{never}
-use Rattle.rules.proofs.laws.Minima.{size-some, half-is, half-next, length-minima}
+use Rattle.rules.proofs.laws.Minima.{size-some, size-above, half-is, half-next, halvings-are, room-covers}
 
 half-zero : half 0 ≡ 1
 unfolding half size
@@ -189,3 +192,65 @@ module _ (k : ℕ) (g : List ℕ) (a b id : ℕ) (h : a < b) (s : 0 < length g) 
 
       pub left-says-yes : true ≡ left-asked → (x : Bool) → x ≡ right-asked → x ≡ hidden-in k g a b id
       left-says-yes e x f = f ∙ (rw (← e) at both-asked)
+
+-- a row with buckets is one group
+pub room-of-some : (n : ℕ) → 0 < n → minima-room n ≡ half (halvings n)
+unfolding minima-room
+room-of-some zero h = absurd (omega arith)
+room-of-some (suc n) h = refl
+
+pub summary-of-some : (bs : List ℕ) → 0 < length bs → minima (halvings (length bs)) bs ≡ summary bs
+unfolding summary
+summary-of-some [] h = absurd (omega arith)
+summary-of-some (b ∷ bs) h = refl
+
+-- one without has no minima
+room-of-none : minima-room 0 ≡ 0
+unfolding minima-room
+room-of-none = refl
+
+pub room-none : (n : ℕ) → n ≡ 0 → 0 ≡ minima-room n
+room-none n e = rw (e, room-of-none) refl
+
+pub summary-of-none : (ws bs : List ℕ) → length ws ≡ minima-room (length bs) → length bs ≡ 0 → ws ≡ summary bs
+unfolding summary minima-room
+summary-of-none ws [] e z = no-words ws e
+summary-of-none ws (b ∷ bs) e z = absurd (omega arith)
+
+-- the next power of two is the row's group
+size-power : (k : ℕ) → size k ≡ 2 ^ k
+unfolding size
+size-power zero = refl
+size-power (suc k) = let p = pow-suc 2 k in let h = size-power k in omega arith
+
+size-grows : (i d : ℕ) → size i ≤ size (i + d)
+unfolding size
+size-grows i zero = simp add-zero (le_refl (size i))
+size-grows i (suc d) = let h = size-grows i d in simp add-suc (omega arith)
+
+next-smaller : (j n : ℕ) → size j / 2 < n → (i : ℕ) → i < j → size i < n
+unfolding size
+next-smaller zero n h i l = absurd (omega arith)
+next-smaller (suc j) n h i l =
+    let e : i + (j - i) ≡ j = omega arith in
+    let g = rw e at (size-grows i (j - i)) in
+    omega arith
+
+next-few : (j n : ℕ) → size j / 2 < n → n ≤ size j → j ≤ n
+unfolding size
+next-few zero n h l = omega arith
+next-few (suc j) n h l = let a = size-above j in omega arith
+
+pub room-of-power : (n p : ℕ) → IsPowerOfTwo p → n ≤ p → p / 2 < max 1 n → (n ≡ 0 → ⊥) → p + (p - 1) ≡ minima-room n
+room-of-power n p (j, e) l u z =
+    let s : size j ≡ p = size-power j ∙ sym e in
+    let u' : size j / 2 < n = omega arith in
+    let l' : n ≤ size j = omega arith in
+    let h = halvings-are j n (next-few j n u' l') l' (next-smaller j n u') in
+    let a = half-is j in
+    let r : minima-room n ≡ half j = room-of-some n (omega arith) ∙ rw h in
+    omega arith
+
+-- too few words for the buckets
+pub room-missed : (n m : ℕ) → m < n → leb n m ≡ eqb m (minima-room n)
+room-missed n m h = let c = room-covers n in rw (lt-leb n m h, ne_eqb m (minima-room n) (λ e. omega arith))

@@ -21,7 +21,7 @@ pub struct Depth<'a> {
 
 /// How many minima a row of so many buckets has: 2 P - 1, P being the smallest power of two that is at least the buckets; 0 for a row without buckets.
 pub fn minima_room(buckets: usize) -> usize
-    requires { buckets ≤ 2 ^ 63 }
+    requires { buckets ≤ 2 ^ 62 }
     ensures { result ≡ minima-room buckets }
 {
     if buckets == 0 {

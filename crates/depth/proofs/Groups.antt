@@ -4,8 +4,13 @@ use Rattle.std.proofs.Common.{◌^◌, max, eqb, add-zero, add-suc, le_refl}
 use Rattle.std.proofs.Math.Nat.{pow-suc}
 use Rattle.std.specs.Prelude.{Option, unwrap_or, slice_get}
 use Rattle.std.specs.Int.{IsPowerOfTwo}
+use Rattle.std.proofs.Common.{add-one, drop-cons}
+use Rattle.rules.specs.Spans.{Span, span}
+use Rattle.span.specs.declared.TileSpan.{TileSpan}
+use Rattle.depth.specs.Listing.{numbers}
+use Rattle.depth.proofs.Laws.{span-back}
 use borrow.Author.Tests.{lt-leb}
-use Rattle.rules.specs.Minima.{past-end, size, top, minima, half, left-half, right-half, minima-room, halvings, summary, hidden-in, mended}
+use Rattle.rules.specs.Minima.{past-end, size, top, minima, half, left-half, right-half, minima-room, halvings, summary, hidden-in, mended, mended-runs}
 use Rattle.rules.proofs.All.{never}
 use Rattle.rules.proofs.laws.Minima.{size-some, size-above, half-is, half-next, halvings-are, room-covers}
 
@@ -134,11 +139,29 @@ unfolding mended
 mended-none zero g bs a b h = rw (le-leb b a h)
 mended-none (suc k) g bs a b h = rw (le-leb b a h)
 
-pub mended-one : (k : ℕ) (g t r bs : List ℕ) (a b : ℕ) → a < b → b ≤ length bs → length t ≡ 1 → length r + 1 ≡ half k → length r ≡ 0
-    → set t 0 (get_or bs 0 0) ++ r ≡ mended k g bs a b
+pub mended-one : (k : ℕ) (g t r bs : List ℕ) (a b v : ℕ) → a < b → v ≡ top bs → length t ≡ 1 → length r + 1 ≡ half k → length r ≡ 0
+    → set t 0 v ++ r ≡ mended k g bs a b
 unfolding mended
-mended-one k g t r bs a b h n f e z =
-    rw (smallest k (length r) e z, no-words r z, top-set t (get_or bs 0 0) f, lt-leb b a h, top-is bs 0 (omega arith)) refl
+mended-one k g t r bs a b v h q f e z = rw (smallest k (length r) e z, no-words r z, top-set t v f, lt-leb b a h, q) refl
+
+-- the run at place n of a list is mended
+pub mended-next : (k : ℕ) (ws ws' bs list rest : List ℕ) (rs : List Span) (n : ℕ) → n < length rs → list ≡ numbers rs ++ rest
+    → ws' ≡ mended k ws bs (get_or list (n * 2) 0) (get_or list (n * 2 + 1) 0) → mended-runs k ws bs (drop n rs) ≡ mended-runs k ws' bs (drop (n + 1) rs)
+unfolding mended-runs
+mended-next k ws ws' bs list rest rs n h e w =
+    let b = span-back rs rest n h in
+    let f : get_or list (n * 2) 0 ≡ (get_or rs n (span 0 0)).first = rw e (ap (λ (s : TileSpan). s.first) b) in
+    let g : get_or list (n * 2 + 1) 0 ≡ (get_or rs n (span 0 0)).end = rw e (ap (λ (s : TileSpan). s.end) b) in
+    let w' : ws' ≡ mended k ws bs (get_or rs n (span 0 0)).first (get_or rs n (span 0 0)).end = rw (f, g) at w in
+    rw (add-one, drop-cons rs n (span 0 0) h, w') refl
+
+pub mended-last : (k : ℕ) (ws bs : List ℕ) (rs : List Span) (n : ℕ) → length rs ≤ n → mended-runs k ws bs (drop n rs) ≡ ws
+unfolding mended-runs
+mended-last k ws bs rs n h = rw (none (drop n rs) (let d = length-drop n rs in omega arith)) refl
+  where
+    none : (qs : List Span) → length qs ≡ 0 → qs ≡ []
+    none [] e = refl
+    none (q ∷ qs) e = absurd (omega arith)
 
 -- the question
 pub hidden-none : (k : ℕ) (g : List ℕ) (a b id : ℕ) → b ≤ a → true ≡ hidden-in k g a b id

@@ -1,10 +1,12 @@
 //! The minima above one row's depth words: the smallest id of the whole row, of each half, of each quarter, down to one bucket. A group of 2 ^ k buckets has its
 //! own minimum first, then the words of its left half, then those of its right half. A place past the row's last bucket counts as 4,294,967,295.
-ghost use Rattle.std.specs.Prelude.{◌≡◌, ◌≤◌, ◌^◌, ℕ, length, eqb};
-ghost use Rattle.rules.specs.Minima.{half, minima-room, summary, halvings, hidden-in, mended};
+ghost use Rattle.std.specs.Prelude.{◌≡◌, ◌≤◌, ◌<◌, ◌^◌, ◌*◌, ◌++◌, ℕ, List, length, eqb};
+ghost use Rattle.rules.specs.Spans.{Span};
+ghost use Rattle.rules.specs.Minima.{half, minima-room, summary, halvings, hidden-in, mended, mended-runs};
 ghost use Rattle.rules.specs.Minima as rules;
 ghost use Rattle.span.specs.Spans as spans;
 ghost use Rattle.depth.specs.Answers.{hidden_of};
+ghost use Rattle.depth.specs.Listing.{numbers};
 ghost use Rattle.depth.specs.Minima.{IsGroup, hidden-asked};
 
 use sizes::answers::Refusal;
@@ -69,8 +71,7 @@ pub fn make(words: &[u32], minima: &mut [u32])
 
 // A group's words after a write of the buckets from first to end: the groups that have one of these are worked out again.
 fn mend_group(words: &[u32], group: &mut [u32], first: usize, end: usize)
-    requires group { IsGroup group.old }
-    requires in_words { «end» ≤ length words.now }
+    requires { IsGroup group.old }
     ensures { (k : ℕ) → length group.old ≡ half k → group.new ≡ mended k group.old words.now first «end» }
 {
     if end <= first {
@@ -78,7 +79,7 @@ fn mend_group(words: &[u32], group: &mut [u32], first: usize, end: usize)
     }
     let (top, rest) = group.split_at_mut(1);
     if rest.is_empty() {
-        top[0] = words[0];
+        top[0] = words.first().copied().unwrap_or(u32::MAX);
         return;
     }
     let half = rest.len() / 2;
@@ -90,14 +91,32 @@ fn mend_group(words: &[u32], group: &mut [u32], first: usize, end: usize)
     top[0] = left[0].min(right[0]);
 }
 
-/// A row's minima after a write of the buckets of a range, one descent.
+/// A row's minima after a write of the buckets of a range, in one descent.
 pub fn mend(words: &[u32], minima: &mut [u32], range: BucketRange)
+    requires some { 0 < length words.now }
     requires room { length minima.old ≡ minima-room (length words.now) }
-    requires in_words { range.«end» ≤ length words.now }
     ensures { minima.new ≡ mended (halvings (length words.now)) minima.old words.now range.first range.«end» }
 {
-    if !words.is_empty() {
-        mend_group(words, minima, range.first as usize, range.end as usize);
+    mend_group(words, minima, range.first as usize, range.end as usize);
+}
+
+/// A row's minima after a write of the first runs of a list, two words a run, so many of them.
+pub fn mend_runs(words: &[u32], minima: &mut [u32], list: &[u32], count: usize)
+    requires room { length minima.old ≡ minima-room (length words.now) }
+    requires listed { count * 2 ≤ length list.now }
+    requires few { count ≤ length words.now }
+    ensures { (rs : List Span) (rest : List ℕ) → list.now ≡ numbers rs ++ rest → count ≡ length rs
+        → minima.new ≡ mended-runs (halvings (length words.now)) minima.old words.now rs }
+{
+    let mut n: usize = 0;
+    while n < count {
+        let at = n * 2;
+        let run = BucketRange {
+            first: list[at],
+            end: list[at + 1],
+        };
+        mend(words, minima, run);
+        n += 1;
     }
 }
 

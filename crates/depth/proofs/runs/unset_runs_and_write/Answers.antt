@@ -1,19 +1,32 @@
--- Each refusal is the rules' answer, in the order of the tests; past them the list has room for the runs, and one pass lists and writes them.
-use Rattle.std.proofs.Common.{sym, ◌∙◌}
-use Rattle.depth.proofs.Answering.{write-backward, write-past, write-no-id, write-short, write_done}
+-- Each refusal is the rules' answer, in the order of the tests; past them the list has room for the runs, which are listed, written and mended.
+use Rattle.std.proofs.Common.{sym, ◌∙◌, eqb-true}
+use Rattle.depth.proofs.Answering.{write-unfit, write-backward, write-past, write-no-id, write-short, write_done}
 use Rattle.depth.proofs.runs.unset_runs_and_write.Goals as goal
-use Rattle.depth.proofs.runs.unset_runs_and_write.Goals.{then-hi-lo-via-then-hi-lo, then-hi-lo-via-else-hi-lo+then-depth-hi, then-hi-lo-via-else-hi-lo+else-depth-hi+then-draw_id-eq0}
+use Rattle.depth.proofs.runs.unset_runs_and_write.Goals.{then-hi-lo-via-then-hi-lo, then-hi-lo-via-else-hi-lo+then-count-hi, then-hi-lo-via-else-hi-lo+else-count-hi+then-draw_id-eq0}
 
-pub returns-then-hi-lo : goal.returns-then-hi-lo
-returns-then-hi-lo c = elim c.then-hi-lo.branch [
-  | then-hi-lo-via-then-hi-lo w ↦ write-backward _ _ _ _ w.if-hi-lo.true
-  | then-hi-lo-via-else-hi-lo+then-depth-hi w ↦ write-past _ _ _ _ w.if-depth-hi.true
-  | then-hi-lo-via-else-hi-lo+else-depth-hi+then-draw_id-eq0 w ↦ write-no-id _ _ _ _ w.if-draw_id-eq0.true
-]
+pub returns-then-not-has_room-clause-wrote : goal.returns-then-not-has_room-clause-wrote
+returns-then-not-has_room-clause-wrote c = write-unfit _ _ _ _ _ (sym c.has_room.ensures ∙ c.if-not-has_room.true)
 
-pub returns-then-is_short : goal.returns-then-is_short
-returns-then-is_short c = write-short _ _ _ _ c.if-hi-lo.false c.if-depth-hi.false c.if-draw_id-eq0.false (sym c.if-is_short.true ∙ c.is_short.ensures)
+pub returns-then-hi-lo-clause-wrote : goal.returns-then-hi-lo-clause-wrote
+returns-then-hi-lo-clause-wrote c =
+    let fit = sym c.has_room.ensures ∙ c.if-not-has_room.false in
+    elim c.then-hi-lo.branch [
+      | then-hi-lo-via-then-hi-lo w ↦ write-backward _ _ _ _ _ fit w.if-hi-lo.true
+      | then-hi-lo-via-else-hi-lo+then-count-hi w ↦ write-past _ _ _ _ _ fit w.if-count-hi.true
+      | then-hi-lo-via-else-hi-lo+else-count-hi+then-draw_id-eq0 w ↦ write-no-id _ _ _ _ _ fit w.if-draw_id-eq0.true
+    ]
 
-pub returns : goal.returns
-returns c = write_done _ _ _ _ c.if-hi-lo.false c.if-depth-hi.false c.if-draw_id-eq0.false _ _ _ (sym c.if-is_short.false ∙
-    c.is_short.ensures) c.mark_runs.ensures.list_after c.mark_runs.ensures.depth_after
+pub returns-then-is_short-clause-wrote : goal.returns-then-is_short-clause-wrote
+returns-then-is_short-clause-wrote c =
+    let fit = sym c.has_room.ensures ∙ c.if-not-has_room.false in
+    write-short _ _ _ _ _ fit c.if-hi-lo.false c.if-count-hi.false c.if-draw_id-eq0.false (sym c.if-is_short.true ∙ c.is_short.ensures)
+
+pub mark_and_mend-requires-clause-room : goal.mark_and_mend-requires-clause-room
+mark_and_mend-requires-clause-room c = eqb-true _ _ (sym c.has_room.ensures ∙ c.if-not-has_room.false)
+
+pub returns-clause-wrote : goal.returns-clause-wrote
+returns-clause-wrote c =
+    let fit = sym c.has_room.ensures ∙ c.if-not-has_room.false in
+    let after = c.mark_and_mend.ensures in
+    write_done _ _ _ _ _ fit c.if-hi-lo.false c.if-count-hi.false c.if-draw_id-eq0.false _ _ _ _ (sym c.if-is_short.false ∙ c.is_short.ensures)
+    after.list_after after.words_after after.minima_after

@@ -1,5 +1,5 @@
 -- What the rules' answers say of each way through the calls over runs. Assumes nothing.
-use Rattle.std.proofs.Common.{◌≡◌, refl, sym, ap, ◌∙◌, Bool, true, false, ◌&&◌, ◌||◌, not, cond, List, [], map, ℕ, ◌≤◌, ◌<◌, ◌+◌, ◌-◌, ◌/◌, min, arith, length, leb, ltb, eqb, le-leb, le-ltb, ne_eqb, eq-eqb}
+use Rattle.std.proofs.Common.{◌≡◌, refl, sym, ap, ◌∙◌, Bool, true, false, ◌&&◌, ◌||◌, not, cond, List, [], map, ℕ, ◌≤◌, ◌<◌, ◌+◌, ◌-◌, ◌*◌, ◌/◌, min, arith, length, leb, ltb, eqb, le-leb, le-ltb, ne_eqb, eq-eqb, ltb-false}
 use lib.ListN.{length-map}
 use borrow.Author.Tests.{lt-leb}
 use Rattle.rules.specs.Answers.{Answer, answer}
@@ -139,3 +139,7 @@ module _ (n : ℕ) (l' bs l : List ℕ) (lo hi : ℕ) (e : done n l' ≡ listing
     where
       fewer : (m : ℕ) → m * 2 ≤ hi - lo + 1 → n ≡ m → n ≤ length bs
       fewer m f c = omega arith
+
+-- room for the runs, where the list is not short
+pub list-room : (rs : List Span) (l : List ℕ) → false ≡ ltb (length l / 2) (length rs) → length rs * 2 ≤ length l
+list-room rs l e = let h = ltb-false (length l / 2) (length rs) (sym e) in omega arith

@@ -181,6 +181,31 @@ fn mark_and_mend(
     n
 }
 
+// The writing form over a row's words and minima.
+#[inline(always)]
+fn write_row(
+    words: &mut [u32],
+    minima: &mut [u32],
+    range: BucketRange,
+    draw_id: u32,
+    list: &mut [u32],
+) -> Result<usize, Refusal>
+    ensures { out-write result list.new words.new minima.new ≡ writing words.old minima.old draw_id (buckets range) list.old }
+{
+    if !has_room(minima, words.len()) {
+        return Err(Refusal::BadArena);
+    }
+    let lo = range.first as usize;
+    let hi = range.end as usize;
+    if hi < lo || words.len() < hi || draw_id == 0 {
+        return Err(Refusal::BadRun);
+    }
+    if is_short(words, lo, hi, 0, list.len()) {
+        return Err(Refusal::NoRoom);
+    }
+    Ok(mark_and_mend(words, minima, lo, hi, draw_id, list))
+}
+
 /// Lists the unset runs of a bucket range as buckets, stores the id over them, mends the minima above them, and gives their number
 /// (for_each_unset_run_and_write). BadArena, 1, for minima of another length than the words ask for; BadRun, 12, for a range out of order or past the row's
 /// words, and for id 0; NoRoom, 14: no word changes.
@@ -195,17 +220,5 @@ pub fn unset_runs_and_write(
     ensures wrote { out-write result list.new depth.new.words.now depth.new.minima.now
         ≡ writing depth.old.words.now depth.old.minima.now draw_id (buckets range) list.old }
 {
-    let count = depth.words.len();
-    if !has_room(depth.minima, count) {
-        return Err(Refusal::BadArena);
-    }
-    let lo = range.first as usize;
-    let hi = range.end as usize;
-    if hi < lo || count < hi || draw_id == 0 {
-        return Err(Refusal::BadRun);
-    }
-    if is_short(depth.words, lo, hi, 0, list.len()) {
-        return Err(Refusal::NoRoom);
-    }
-    Ok(mark_and_mend(depth.words, depth.minima, lo, hi, draw_id, list))
+    write_row(depth.words, depth.minima, range, draw_id, list)
 }

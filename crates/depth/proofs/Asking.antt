@@ -1,5 +1,5 @@
 -- What the definition of the question says of each way through the code. Assumes nothing.
-use Rattle.std.proofs.Common.{◌≡◌, refl, sym, ◌∙◌, Bool, true, false, List, ℕ, ◌≤◌, ◌<◌, arith, length, eqb, eqb-true}
+use Rattle.std.proofs.Common.{◌≡◌, ◌∙◌, Bool, true, false, List, ℕ, ◌≤◌, ◌<◌, arith, length, eqb, eqb-true}
 use Rattle.rules.specs.Answers.{answer}
 use Rattle.rules.specs.Spans.{Span, bad-range}
 use Rattle.rules.specs.Minima.{half, minima-room, halvings, hidden-in, hidden_answer}

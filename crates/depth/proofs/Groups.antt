@@ -1,5 +1,5 @@
 -- Groups of buckets, by how many words they have. Assumes nothing.
-use Rattle.std.proofs.Common.{◌≡◌, refl, sym, ap, ◌∙◌, Bool, true, false, ◌&&◌, ◌||◌, cond, List, [], ◌∷◌, ◌++◌, ℕ, zero, suc, ◌+◌, ◌-◌, ◌/◌, min, ◌*◌, ◌≤◌, ◌<◌, arith, length, get_or, set, take, drop, take_all, length-drop, leb, ltb, ◌==◌, leb-true, leb-false, le-leb, lt-ltb, le-ltb, ne_eqb}
+use Rattle.std.proofs.Common.{◌≡◌, refl, sym, ap, ◌∙◌, Bool, true, false, ◌&&◌, ◌||◌, List, [], ◌∷◌, ◌++◌, ℕ, zero, suc, ◌+◌, ◌-◌, ◌/◌, min, ◌*◌, ◌≤◌, ◌<◌, arith, length, get_or, set, take, drop, take_all, length-drop, leb, ltb, ◌==◌, leb-true, leb-false, le-leb, lt-ltb, le-ltb, ne_eqb}
 use Rattle.std.proofs.Common.{◌^◌, max, eqb, add-zero, add-suc, le_refl}
 use Rattle.std.proofs.Math.Nat.{pow-suc}
 use Rattle.std.specs.Prelude.{Option, unwrap_or, slice_get}
@@ -10,7 +10,7 @@ use Rattle.span.specs.declared.TileSpan.{TileSpan}
 use Rattle.depth.specs.Listing.{numbers}
 use Rattle.depth.proofs.Laws.{span-back}
 use borrow.Author.Tests.{lt-leb}
-use Rattle.rules.specs.Minima.{past-end, size, top, minima, half, left-half, right-half, minima-room, halvings, summary, hidden-in, mended, mended-runs}
+use Rattle.rules.specs.Minima.{size, top, minima, half, left-half, right-half, minima-room, halvings, summary, hidden-in, mended, mended-runs}
 use Rattle.rules.proofs.All.{never}
 use Rattle.rules.proofs.laws.Minima.{size-some, size-above, half-is, half-next, halvings-are, room-covers}
 

@@ -87,7 +87,12 @@ fn mend_group(words: &[u32], group: &mut [u32], first: usize, end: usize)
     let (left, right) = rest.split_at_mut(half);
     let (low, high) = words.split_at(middle.min(words.len()));
     mend_group(low, left, first, end.min(middle));
-    mend_group(high, right, first.saturating_sub(middle), end.saturating_sub(middle));
+    mend_group(
+        high,
+        right,
+        first.saturating_sub(middle),
+        end.saturating_sub(middle),
+    );
     top[0] = left[0].min(right[0]);
 }
 
@@ -142,7 +147,12 @@ fn is_group_hidden(group: &[u32], first: usize, end: usize, draw_id: u32) -> boo
     }
     let (left, right) = rest.split_at(half);
     is_group_hidden(left, first, end.min(middle), draw_id)
-        && is_group_hidden(right, first.saturating_sub(middle), end.saturating_sub(middle), draw_id)
+        && is_group_hidden(
+            right,
+            first.saturating_sub(middle),
+            end.saturating_sub(middle),
+            draw_id,
+        )
 }
 
 /// Whether every bucket of a range of a row is hidden from an id, by the row's minima alone: each holds a greater id, if they are those of its words. BadArena, 1,

@@ -1,5 +1,5 @@
 -- So far the first n runs are mended.
-use Rattle.std.proofs.Common.{◌≡◌, List, ℕ, ◌++◌, ◌-◌, ◌≤◌, length, drop}
+use Rattle.std.proofs.Common.{◌≡◌, List, ℕ, ◌++◌, ◌-◌, length, drop}
 use Rattle.rules.specs.Spans.{Span}
 use Rattle.rules.specs.Minima.{halvings, mended-runs}
 use Rattle.depth.specs.Listing.{numbers}

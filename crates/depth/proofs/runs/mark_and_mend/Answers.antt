@@ -1,5 +1,4 @@
-use Rattle.std.proofs.Common.{◌≡◌, sym, ◌∙◌, arith, length}
-use Rattle.rules.specs.Minima.{minima-room}
+use Rattle.std.proofs.Common.{arith}
 use Rattle.depth.proofs.Laws.{listed-fits}
 use Rattle.depth.proofs.Answering.{listed-count, listed-list, listed-few}
 use Rattle.depth.proofs.runs.mark_and_mend.Goals as goal

@@ -10,7 +10,7 @@ use Rattle.rect.specs.Rects.{box_of}
 use Rattle.screen.specs.declared.Screen.{Screen}
 use Rattle.screen.specs.declared.lent.Lengths.{Lengths}
 use Rattle.screen.specs.Screens.{good_screen}
-use Rattle.screen.specs.Judging.{good-rooms, judged, good-tables, good-minima, arenas, judged_reset}
+use Rattle.screen.specs.Judging.{good-rooms, judged, good-tables, arenas, judged_reset}
 use Rattle.rules.proofs.All.{and_left, and_right}
 use Rattle.screen.proofs.ScreenLaws.{Room, room, few_rows, few-buckets}
 
@@ -61,12 +61,11 @@ module _ (s : Screen) (rows render fills : ℕ) where
 module _ (f : Frame) (l : Lengths) where
   -- each test of a reset that is judged 0
   pub reset-says : judged_reset f l ≡ 0
-      → (good_viewport f.viewport ≡ true) × (good-arenas f (arenas l) ≡ true) × (good-minima f l ≡ true) × (good-tables (rows_of f.viewport) l ≡ true)
+      → (good_viewport f.viewport ≡ true) × (good-arenas f (arenas l) ≡ true) × (good-tables (rows_of f.viewport) l ≡ true)
   unfolding judged_reset
   reset-says h =
-      let all = none_said (not (good_viewport f.viewport)) (not (good-arenas f (arenas l) && good-minima f l)) (not (good-tables (rows_of f.viewport) l)) h in
-      let a : (good-arenas f (arenas l) && good-minima f l) ≡ true = not-false _ all.1 in
-      (not-false _ all.0, and_left (good-arenas f (arenas l)) (good-minima f l) a, and_right (good-arenas f (arenas l)) (good-minima f l) a, not-false _ all.2)
+      let all = none_said (not (good_viewport f.viewport)) (not (good-arenas f (arenas l))) (not (good-tables (rows_of f.viewport) l)) h in
+      (not-false _ all.0, not-false _ all.1, not-false _ all.2)
 
   -- how many depth words and minima it is lent
   pub record DepthLong : Type 0 where
@@ -82,10 +81,11 @@ module _ (f : Frame) (l : Lengths) where
       let re = eqb l.render_cmds (n * (4 * f.c)) in
       let fi = eqb l.depth_cmds (n * (2 * f.d)) in
       let de = eqb l.depth (n * buckets-across f) in
-      let s : (re && fi && de) ≡ true = and_right (good-room f.c && good-room f.d) (re && fi && de) says.1 in
+      let mi = eqb l.minima (n * minima-room (buckets-across f)) in
+      let s : (re && fi && de && mi) ≡ true = and_right (good-room f.c && good-room f.d) (re && fi && de && mi) says.1 in
       record {
         few = few_rows _ says.0;
         narrow = few-buckets _ says.0 f.width;
-        words = eqb-true _ _ (and_right (re && fi) de s);
-        minima = eqb-true _ _ says.2;
+        words = eqb-true _ _ (and_right (re && fi) de (and_left (re && fi && de) mi s));
+        minima = eqb-true _ _ (and_right (re && fi && de) mi s);
       }

@@ -3,8 +3,7 @@ use Rattle.std.specs.Prelude.{ℕ, ◌*◌, Bool, ◌&&◌, not, [], ◌∷◌, 
 use Rattle.sizes.specs.Sizes.{row-size, open-layer-table, opacity-count, paint-attr-table, layer-attr-table, filter-paint-table}
 use Rattle.rules.specs.Answers.{first_of, BadArena, BadViewport, BadRecord}
 use Rattle.rules.specs.Boxes.{good_viewport, rows_of}
-use Rattle.rules.specs.Plans.{Frame, buckets-across}
-use Rattle.rules.specs.Minima.{minima-room}
+use Rattle.rules.specs.Plans.{Frame}
 use Rattle.rules.specs.Walk.{Arenas, good-room, good-arenas}
 use Rattle.rect.specs.Rects.{box_of}
 use Rattle.screen.specs.declared.Screen.{Screen}
@@ -39,17 +38,13 @@ abbrev pub good-tables : ℕ → Lengths → Bool
 good-tables n l = eqb l.rows (n * row-size) && eqb l.painting (n * 2) && good-fixed l
 
 abbrev pub arenas : Lengths → Arenas
-arenas l = record { render = l.render_cmds; fills = l.depth_cmds; depth = l.depth }
-
--- as many minima as a frame needs
-abbrev pub good-minima : Frame → Lengths → Bool
-good-minima f l = eqb l.minima (rows_of f.viewport * minima-room (buckets-across f))
+arenas l = record { render = l.render_cmds; fills = l.depth_cmds; depth = l.depth; minima = l.minima }
 
 -- a reset to a frame
 unfoldable pub judged_reset : Frame → Lengths → ℕ
 judged_reset f l =
     first_of
     ((not (good_viewport f.viewport), BadViewport)
-    ∷ (not (good-arenas f (arenas l) && good-minima f l), BadArena)
+    ∷ (not (good-arenas f (arenas l)), BadArena)
     ∷ (not (good-tables (rows_of f.viewport) l), BadRecord)
     ∷ [])

@@ -20,6 +20,7 @@ use Rattle.rules.proofs.laws.Bounds.{BoundedSpan, plan-ok}
 use Rattle.rules.proofs.laws.Maps.{PutOk}
 use Rattle.cmd.specs.Attrs.{words-at}
 use Rattle.screen.specs.Screens.{state-of}
+use Rattle.screen.specs.Depths.{Depths}
 use Rattle.screen.specs.Tables.{ScreenLent, float-0}
 use Rattle.layers.specs.Filter as filter
 use Rattle.layers.specs.Filter.{given, filter-number, filter-paint-words, filtered}
@@ -40,7 +41,7 @@ use Rattle.refine_steps.proofs.Alike.{box-same, Grown, grown-new, Alike, rows_is
 use Rattle.refine_steps.proofs.Planned.{painted, filter_alike, fill-alike, push-alike}
 
 -- an answer at the words, from its number and what stands afterwards
-pub settled : {X : Type 0} (f : X → ScreenLent) (k n : ℕ) (x y : X) (s t : rule.Screen Row) (b : Bool) (de pa : List ℕ)
+pub settled : {X : Type 0} (f : X → ScreenLent) (k n : ℕ) (x y : X) (s t : rule.Screen Row) (b : Bool) (de : Depths) (pa : List ℕ)
     → k ≡ n → f x ≡ lent_of s b de pa → (n ≡ Done → f y ≡ lent_of t false de pa) → with_value f (settle k x y) ≡ answer-of (settle n s t) b de pa
 settled f k n x y s t b de pa e p q = rw e (go (eqb n Done) refl)
   where
@@ -75,7 +76,7 @@ pub map-length : {A B : Type 0} (f : A → B) (xs : List A) → length (map f xs
 map-length f [] = refl
 map-length f (x ∷ xs) = ap suc (map-length f xs)
 
-module _ (s : rule.Screen Row) (h : Sound s) (b : Bool) (de pa : List ℕ) where
+module _ (s : rule.Screen Row) (h : Sound s) (b : Bool) (de : Depths) (pa : List ℕ) where
   abbrev st : State
   st = s.state
 

@@ -1,8 +1,8 @@
 -- Laws of the summary above the depth words: how many words a group has, where its halves stand, and how large a row's group is. Assumes nothing.
-use Rattle.std.proofs.Common.{◌≡◌, refl, sym, ap, ◌∙◌, Bool, true, false, cond, List, [], ◌∷◌, ◌++◌, ℕ, zero, suc, ◌+◌, ◌-◌, min, ◌≤◌, ◌<◌, arith, length, take, drop, length-append, leb, ltb, eqb, add-zero, add-suc, suc-add, zero-add, leb-true, leb-false, ltb-true, ltb-false, eqb-true}
+use Rattle.std.proofs.Common.{◌≡◌, refl, ap, Bool, true, false, List, [], ◌∷◌, ◌++◌, ℕ, zero, suc, ◌+◌, min, ◌≤◌, ◌<◌, arith, length, take, drop, length-append, leb, ltb, eqb, add-zero, add-suc, suc-add, zero-add, leb-true, leb-false, ltb-true, ltb-false, eqb-true}
 use Rattle.std.proofs.lemmas.Bool.{eqb-false}
 use lib.Seq.{take-append_seam, drop-append_seam}
-use Rattle.rules.specs.Minima.{size, top, minima, half, left-half, right-half, halvings-from, halvings, summary, minima-room, mended}
+use Rattle.rules.specs.Minima.{size, top, minima, half, left-half, right-half, halvings-from, halvings, summary, minima-room}
 
 pub size-some : (k : ℕ) → 0 < size k
 unfolding size
@@ -78,8 +78,8 @@ found-is (suc m) j k n a b c d =
     (λ x.
     let l = leb-false n (size j) x in
     rw x (when (eqb j k)
-        (λ z. let q = ap size (eqb-true j k z) in absurd (omega arith))
-        (λ z. found-is m (suc j) k n (let q = eqb-false j k z in omega arith) (omega arith) c d)))
+    (λ z. let q = ap size (eqb-true j k z) in absurd (omega arith))
+    (λ z. found-is m (suc j) k n (let q = eqb-false j k z in omega arith) (omega arith) c d)))
 
 pub halvings-are : (k n : ℕ) → k ≤ n → n ≤ size k → ((i : ℕ) → i < k → size i < n) → halvings n ≡ k
 unfolding halvings

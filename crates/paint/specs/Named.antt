@@ -100,4 +100,5 @@ depth_minima f m c =
 
 abbrev pub fill_painted : StoredRow → Bool → Fill → Mark → RowWords → rules.Painted
 fill_painted r l f m c =
-    fill-shown (bucket-tiles r.width) no-attrs (summary-at r.state.now) l m.id f.attrs_idx m.panel (tiles f.span) f.alpha (painter-at c.depth.now c.painting.now)
+    fill-shown (bucket-tiles r.width) no-attrs (summary-at r.state.now) l m.id f.attrs_idx m.panel (tiles f.span) f.alpha
+    (painter-at c.depth.now c.painting.now)

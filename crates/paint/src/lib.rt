@@ -1,5 +1,6 @@
 //! Painting: a row's commands and depth fills become pieces, one step or a whole row at a call. `begin_painting`, `paint_step`, `paint_row`, the three runs of
-//! a row's depth words, `is_hidden`, `can_skip` and those of `canvas::reading` are public calls; the others are parts of them, and the judges of `screen` are also a host's.
+//! a row's depth words, `is_hidden`, `can_skip` and those of `canvas::reading` are public calls; the others are parts of them, and the judges of `screen` are
+//! also a host's.
 #![tactic(auto)]
 
 pub mod canvas;

@@ -11,8 +11,8 @@ use screen::Screen;
 use screen::lent::blank_depth;
 use sizes::answers::Refusal;
 
-/// Clears the depth words, makes their minima afresh, and sets every row to its first step, at nesting 0. BadViewport, BadArena, BadRecord, or Open, 13, with a layer open: refused, the
-/// screen and every word stay.
+/// Clears the depth words, makes their minima afresh, and sets every row to its first step, at nesting 0. BadViewport, BadArena, BadRecord, or Open, 13, with a
+/// layer open: refused, the screen and every word stay.
 #[tactic(auto, unfolding(crate::specs::Beginning::beginning))]
 pub fn begin_painting(screen: &mut Screen, canvas: &mut Canvas<'_>) -> Result<(), Refusal>
     ensures same { SameCanvas canvas.old canvas.new }

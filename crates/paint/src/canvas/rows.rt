@@ -69,8 +69,8 @@ pub fn write_part(
     depth::unset_runs_and_write(&mut own, range, draw_id, list)
 }
 
-/// Lists the unset runs of a bucket range as buckets, stores the id there, and mends the minima above; how many. Done, it ends painting. 2, 1, 4, 12 for no such row, no range or id 0,
-/// 14: refused, the screen and every word stay.
+/// Lists the unset runs of a bucket range as buckets, stores the id there, and mends the minima above; how many. Done, it ends painting. 2, 1, 4, 12 for no
+/// such row, no range or id 0, 14: refused, the screen and every word stay.
 pub fn unset_runs_and_write(
     screen: &mut Screen,
     row: usize,
@@ -98,8 +98,8 @@ pub fn unset_runs_and_write(
     Ok(n)
 }
 
-/// Whether every bucket of a range of a row is hidden from an id, by the minima alone: each holds a greater id, if they are those of the row's depth words. 2, 1
-/// for the minima, 4 for the screen, 12 for no such row or no range of its buckets.
+/// Whether every bucket of a range of a row is hidden from an id, by the minima alone: each holds a greater id, if they are those of the row's depth words. 2,
+/// 1 for the minima, 4 for the screen, 12 for no such row or no range of its buckets.
 pub fn is_hidden(
     screen: Screen,
     row: usize,

@@ -2,7 +2,6 @@
 use Rattle.std.specs.Prelude.{◌≡◌}
 use Rattle.screen.specs.declared.lent.Lent.{Lent}
 use Rattle.screen.specs.declared.Screen.{Screen}
-use Rattle.depth.specs.Minima.{SameDepth}
 use Rattle.screen.specs.Depths.{depths_in}
 use Rattle.screen.specs.Tables.{Tables, tables, lengths, ScreenLent, screen_lent}
 
@@ -20,7 +19,8 @@ whole s l = screen_lent s (tables_in l)
 pub record SameLent (a b : Lent) : Type 0 where
   pub render : b.render_cmds.ghost_name ≡ a.render_cmds.ghost_name
   pub fills : b.depth_cmds.ghost_name ≡ a.depth_cmds.ghost_name
-  pub depth : SameDepth a.depth b.depth
+  pub depth : b.depth.words.ghost_name ≡ a.depth.words.ghost_name
+  pub minima : b.depth.minima.ghost_name ≡ a.depth.minima.ghost_name
   pub rows : b.rows.ghost_name ≡ a.rows.ghost_name
   pub painting : b.painting.ghost_name ≡ a.painting.ghost_name
   pub layers : b.layers.ghost_name ≡ a.layers.ghost_name

@@ -56,5 +56,15 @@ fn main() -> Result<(), Box<dyn Error>> {
     println!("tile 40: {}", received(&pieces, &paints, 40));
     println!("tile 25: {}", received(&pieces, &paints, 25));
     println!("tile 10: {}", received(&pieces, &paints, 10));
+
+    // Of the banner nothing shows in bucket 1, which the panel has whole.
+    let id = screen.paint_attrs().next().map_or(0, |attrs| attrs.draw_id);
+    for bucket in 0..4 {
+        let hidden = screen.is_hidden(0, bucket, bucket + 1, id)?;
+        println!(
+            "bucket {bucket}: the banner is {}",
+            if hidden { "hidden" } else { "seen" }
+        );
+    }
     Ok(())
 }

@@ -12,7 +12,8 @@ ghost use Rattle.depth.specs.Minima.{IsGroup, hidden-asked};
 use sizes::answers::Refusal;
 use span::BucketRange;
 
-/// Depth words and the minima above them, lent as one value: one row's, or a screen's, row by row.
+/// Depth words and the minima above them, lent as one value: one row's, or a screen's, row by row. Laid out as in C.
+#[repr(C)]
 #[derive(Drop)]
 pub struct Depth<'a> {
     /// A word a bucket: the id of the depth fill there, or 0.

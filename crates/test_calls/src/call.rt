@@ -81,6 +81,11 @@ pub enum Painting {
         tiles: TileSpan,
         id: u32,
     },
+    IsHidden {
+        row: usize,
+        buckets: BucketRange,
+        id: u32,
+    },
 }
 
 /// A word that is set to anything, which no call does.

@@ -46,3 +46,5 @@ pub mod Limits
 pub mod Roomless
 pub mod Minima
 pub mod Mending
+pub mod Compacted
+pub mod CompactedPieces

@@ -1,5 +1,5 @@
 -- Taking commands out of a row, one removal at a time: the pass with a stack is a chain of them, and leaves none to be made.
-use Rattle.std.proofs.Common.{ℕ, suc, ◌+◌, ◌≤◌, add-one, arith, ◌≡◌, refl, sym, ◌∙◌, ap, Bool, true, false, ◌&&◌, not, Option, List, [], ◌∷◌, ◌++◌, append_assoc, length, length-append}
+use Rattle.std.proofs.Common.{ℕ, zero, suc, ◌≤◌, arith, ◌≡◌, refl, sym, ◌∙◌, ap, Bool, true, false, ◌&&◌, not, Option, List, [], ◌∷◌, ◌++◌, append_assoc, length, length-append}
 use Rattle.rules.specs.Lists.{is-empty}
 use Rattle.rules.specs.Spans.{Span}
 use Rattle.rules.specs.Commands.{Command, paint-fill, layer-fill, push-buf, pop-buf}
@@ -156,7 +156,7 @@ module _ (w : ℕ) (a : Attrs) (bs : List ℕ) where
   balanced-after (paint-fill s x i ∷ front) ds es h n = balanced-after front ds es h n
   balanced-after (layer-fill s x i ∷ front) ds es h n = balanced-after front ds es h n
   balanced-after (push-buf s ∷ front) ds es h n = balanced-after front ds es h (suc n)
-  balanced-after (pop-buf ∷ front) ds es h 0 = refl
+  balanced-after (pop-buf ∷ front) ds es h zero = refl
   balanced-after (pop-buf ∷ front) ds es h (suc n) = balanced-after front ds es h n
 
   removed-balanced : {cs ds : List Command} → Removed w a bs cs ds → balanced 0 ds ≡ balanced 0 cs

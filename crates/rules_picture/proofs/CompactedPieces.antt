@@ -1,6 +1,6 @@
 -- A row's pieces are those of its depth fills, and of its commands against the depth words after them: what is taken out of a row gives none.
-use Rattle.std.proofs.Common.{ℕ, zero, suc, ◌+◌, ◌-◌, ◌≤◌, ◌<◌, zero-add, le_refl, add-zero, suc-add, arith, ◌≡◌, refl, sym, ◌∙◌, ap, Bool, true, false, Option, List, [], ◌∷◌, ◌++◌, map, append_assoc}
-use Rattle.std.proofs.Common.{length, get_or, drop, replicate, lt-ltb}
+use Rattle.std.proofs.Common.{ℕ, zero, suc, ◌+◌, ◌-◌, ◌≤◌, ◌<◌, zero-add, le_refl, add-zero, suc-add, arith, ◌≡◌, refl, sym, ◌∙◌, ap, true, false, Option, List, [], ◌∷◌, ◌++◌, map, append_assoc}
+use Rattle.std.proofs.Common.{length, drop, replicate, lt-ltb}
 use Rattle.rules.specs.Lists.{is-empty}
 use Rattle.rules.specs.Spans.{Span}
 use Rattle.rules.specs.Commands.{Command, paint-fill, layer-fill, push-buf, pop-buf, DepthFill}
@@ -111,19 +111,25 @@ module _ (w : ℕ) (a : Attrs) where
   words-after n [] = refl
   words-after n (f ∷ fs) = ap (λ (bs : List ℕ). written bs (paint-id a f.attribute) f.buckets) (words-after n fs)
 
+  first-is : (n : ℕ) (r : Row) → painter-after w a r n 0 ≡ begin n
+  unfolding painter-after
+  first-is n r = refl
+
   row-pieces : (n : ℕ) (r : Row) → paint-row w a n r ≡ paint-steps w a (length r.fills) r (begin n) ++ command-pieces w a (newest-ids a n r.fills) 0 r.commands
   unfolding paint-row
   row-pieces n r =
       let m = length r.fills in
       let s = stands w a r n m (le_refl m) in
       let z : m - m ≡ 0 = omega arith in
-      let at : painter-on w a m r (begin n) ≡ painter-after w a r n m = unfold painter-after in (on-after w a r n 0 m ∙ ap (painter-after w a r n) (zero-add m)) in
+      let at : painter-on w a m r (begin n) ≡ painter-after w a r n m =
+      ap (painter-on w a m r) (sym (first-is n r)) ∙ on-after w a r n 0 m ∙ ap (painter-after w a r n) (zero-add m) in
       let p = painter-after w a r n m in
       let words : p.buckets ≡ newest-ids a n r.fills = s.buckets ∙ rw z (sym (words-after n r.fills)) in
       steps-append m (length r.commands) r (begin n)
       ∙ ap (λ (x : Painter). paint-steps w a m r (begin n) ++ paint-steps w a (length r.commands) r x) at
       ∙ ap (λ (ps : List Piece). paint-steps w a m r (begin n) ++ ps) (commands-give r r.commands 0 p refl (s.steps ∙ sym (add-zero m)) ∙ rw (words, s.nesting))
 
+-- A compacted row gives the pieces that it gave before.
 pub compacted-same : Compacted-same
 compacted-same w n a r =
     row-pieces w a n (compact w n a r)

@@ -48,3 +48,4 @@ pub mod Minima
 pub mod Mending
 pub mod Compacted
 pub mod CompactedPieces
+pub mod CompactedCall

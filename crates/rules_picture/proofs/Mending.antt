@@ -1,17 +1,17 @@
 -- What a write works out again: from a summary that agreed, the summary of the words as they are now. Assumes nothing.
-use Rattle.std.proofs.Common.{ℕ, zero, suc, ◌+◌, ◌-◌, ◌≤◌, ◌<◌, min, ◌≡◌, refl, sym, ◌∙◌, ap, Bool, true, false, ◌&&◌, ◌||◌, cond, List, [], ◌∷◌, length, get_or, take, drop, arith, add-zero, add-suc, suc-add, zero-add}
-use Rattle.std.proofs.Common.{length-take, length-drop, get_or-drop, leb, ltb, eqb, leb-true, leb-false, ltb-true, ltb-false, le-leb, eqb-true}
+use Rattle.std.proofs.Common.{ℕ, zero, suc, ◌+◌, ◌-◌, ◌≤◌, ◌<◌, min, ◌≡◌, refl, sym, ◌∙◌, ap, Bool, true, false, ◌&&◌, cond, List, [], ◌∷◌, length, get_or, take, drop, arith, add-zero, add-suc, suc-add, zero-add}
+use Rattle.std.proofs.Common.{length-take, length-drop, leb, ltb, eqb, leb-true, leb-false, ltb-true, ltb-false}
 use Rattle.std.proofs.lemmas.List.{get_or_past, get_or_default}
-use Rattle.rules.specs.Lists.{such, slice}
+use Rattle.rules.specs.Lists.{slice}
 use Rattle.rules.specs.Answers.{Done}
 use borrow.Author.Tests.{not-false}
 use Rattle.rules.specs.Spans.{Span, span, covers, good-range, bad-range}
 use Rattle.rules.specs.Depth.{join-run, bucket-runs, runs-in, is-unset, write, write-runs, written, write_answer, write-after}
 use Rattle.rules.specs.Minima.{past-end, size, top, minima, halvings, summary, mended, mended-runs, minima-after}
-use Rattle.rules.proofs.All.{All, nil, cons, and_left, and_right, or_left, never}
+use Rattle.rules.proofs.All.{All, nil, cons, and_left, and_right}
 use Rattle.rules.proofs.laws.Minima.{left-is, right-is, row-fits}
 use Rattle.rules_picture.specs.Minima.{Mended-afresh}
-use Rattle.rules_picture.proofs.Cases.{by, not-passed, covers-yes, covers-no, covers_low, covers_high}
+use Rattle.rules_picture.proofs.Cases.{by, covers-yes, covers-no}
 use Rattle.rules_picture.proofs.Runs.{hits, range-hit}
 use Rattle.rules_picture.proofs.Newest.{written_at, written-length}
 use Rattle.rules_picture.proofs.Minima.{take-at, take-past, drop_at}

@@ -1,5 +1,5 @@
 -- The summary above a row's depth words: what the question says of the words, and what a write works out again. Assumes nothing.
-use Rattle.std.proofs.Common.{ℕ, zero, suc, ◌+◌, ◌-◌, ◌/◌, ◌≤◌, ◌<◌, min, ◌≡◌, refl, sym, ◌∙◌, ap, Bool, true, false, ◌&&◌, ◌||◌, cond, List, [], ◌∷◌, map, length, get_or, take, drop, take_all, arith}
+use Rattle.std.proofs.Common.{ℕ, zero, suc, ◌+◌, ◌-◌, ◌/◌, ◌≤◌, ◌<◌, min, ◌≡◌, refl, sym, ◌∙◌, ap, Bool, true, false, ◌&&◌, ◌||◌, cond, List, [], ◌∷◌, length, get_or, take, drop, take_all, arith}
 use Rattle.std.proofs.Common.{length-take, length-drop, get_or-take, get_or-drop, leb, ltb, leb-true, leb-false, ltb-true, ltb-false, lt-ltb, le-leb}
 use borrow.Author.Tests.{lt-leb}
 use Rattle.rules.specs.Lists.{every, slice}
@@ -191,7 +191,6 @@ says-every id bs a b m s =
     takes zero xs h f = refl
     takes (suc n) [] h f = refl
     takes (suc n) (x ∷ xs) h f = and_both (ltb id x) (every (λ (w : ℕ). ltb id w) (take n xs)) (lt-ltb id x (f 0 (omega arith))) (takes n xs (λ p. h (omega arith)) (λ j p. f (suc j) (omega arith)))
-
 
 pub summary-long : Summary-long
 summary-long bs = length-summary bs

@@ -1,5 +1,5 @@
 -- Room back in a crowded row: what is taken out, and what that leaves as it was.
-use Rattle.std.specs.Prelude.{ℕ, suc, ◌+◌, ◌<◌, ◌≤◌, ◌≡◌, Bool, true, false, List, [], ◌∷◌, length, eqb}
+use Rattle.std.specs.Prelude.{ℕ, zero, suc, ◌<◌, ◌≤◌, ◌≡◌, Bool, true, false, List, [], ◌∷◌, length, eqb}
 use Rattle.rules.specs.Answers.{Done}
 use Rattle.rules.specs.Commands.{Command, paint-fill, layer-fill, push-buf, pop-buf}
 use Rattle.rules.specs.Attributes.{Attrs}
@@ -15,7 +15,7 @@ balanced n [] = eqb n 0
 balanced n (paint-fill s x i ∷ cs) = balanced n cs
 balanced n (layer-fill s x i ∷ cs) = balanced n cs
 balanced n (push-buf s ∷ cs) = balanced (suc n) cs
-balanced 0 (pop-buf ∷ cs) = false
+balanced zero (pop-buf ∷ cs) = false
 balanced (suc n) (pop-buf ∷ cs) = balanced n cs
 
 -- What is left is what single removals lead to, and no removal is left.

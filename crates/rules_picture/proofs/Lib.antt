@@ -49,3 +49,4 @@ pub mod Mending
 pub mod Compacted
 pub mod CompactedPieces
 pub mod CompactedCall
+pub mod Ranged

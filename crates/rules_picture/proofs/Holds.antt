@@ -1,5 +1,5 @@
 -- What a row holds for the tile t after some steps, and how it grows with one step.
-use Rattle.std.proofs.Common.{ℕ, ◌+◌, ◌/◌, ◌≤◌, ◌<◌, arith, ◌≡◌, refl, sym, ◌∙◌, ap, Bool, List, [], ◌∷◌, ◌++◌, map, append-nil, true, false, leb, le-leb, leb-true}
+use Rattle.std.proofs.Common.{ℕ, ◌+◌, ◌/◌, ◌≤◌, ◌<◌, arith, ◌≡◌, refl, sym, ◌∙◌, ap, Bool, List, [], ◌∷◌, ◌++◌, map, append-nil, true, leb, le-leb, leb-true}
 use Rattle.rules.specs.Lists.{such}
 use Rattle.rules.specs.Boxes.{Box}
 use Rattle.rules.specs.Spans.{covers}

@@ -50,3 +50,4 @@ pub mod Compacted
 pub mod CompactedPieces
 pub mod CompactedCall
 pub mod Ranged
+pub mod CompactedFollows

@@ -1,5 +1,5 @@
 -- Each command and each depth fill of a row names an attribute that is there, on any screen that steps have built.
-use Rattle.std.proofs.Common.{ℕ, zero, suc, ◌+◌, ◌-◌, ◌≤◌, ◌<◌, arith, ◌≡◌, refl, sym, ◌∙◌, ap, Bool, true, false, not, cond, Option, None, Some, List, [], ◌∷◌, ◌++◌, map, append-nil, length, set, length-append, eqb}
+use Rattle.std.proofs.Common.{ℕ, zero, suc, ◌-◌, ◌≤◌, ◌<◌, arith, ◌≡◌, refl, sym, Bool, true, false, Option, None, Some, List, [], ◌∷◌, ◌++◌, append-nil, length, set, length-append, eqb}
 use Rattle.std.specs.Prelude.{⊤}
 use mathlib.Core.List.{foldl}
 use Rattle.rules.specs.Lists.{change, times, some_of, is-empty}
@@ -10,13 +10,11 @@ use Rattle.rules.specs.Split.{Part, regular, buckets, split}
 use Rattle.rules.specs.Segments.{Segment, Cut, cuts}
 use Rattle.rules.specs.Inputs.{Paint, Draw, draw-segments, Clip, Props, Filter, good-filter-fill}
 use Rattle.rules.specs.Commands.{Command, paint-fill, layer-fill, push-buf, pop-buf, DepthFill}
-use Rattle.rules.specs.Attributes.{PaintAttr, LayerAttr, Attrs}
 use Rattle.rules.specs.Rows.{Row, Level, row-ops, fresh-row, put-command, put-push-buf, pop-levels, put-pop-buf, put-depth-fill}
 use Rattle.rules.specs.Plans.{Frame, Layer, State, Step, a-fill, a-push, a-pop, a-filter, Act, paint, opaque, touch, close, pop, Put, on, Plan, box_of, draw-act, draw-puts, plan-fill, touches-all, layer-box, plan-push, close-puts, closing, plan-pop, filter-box, draws-nothing, filter-puts, plan-filter-in, plan-filter, plan}
 use Rattle.rules.specs.Steps.{Screen, reset, ensure, put-part, do-act, do-puts, done, touched, call}
 use Rattle.rules.proofs.All.{All, nil, cons, all_append, all_map, all-if, all-mapped, all_replicate, never}
 use Rattle.rules_picture.proofs.Cases.{by}
-use Rattle.rules_picture.proofs.Follows.{Leads}
 use Rattle.rules_picture.proofs.Stepped.{call-done, step-leads}
 
 module _ {A : Type 0} {P : A → Type 0} where

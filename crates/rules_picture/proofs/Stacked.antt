@@ -1,11 +1,10 @@
 -- The buffers of plain draw order and those of one row, step by step: the same, but for blank ones that the row has not pushed yet.
-use Rattle.std.proofs.Common.{ℕ, zero, suc, ◌+◌, ◌-◌, ◌/◌, ◌≤◌, ◌<◌, le_refl, arith, ◌≡◌, refl, sym, ◌∙◌, ap, Bool, true, false, cond, Option, None, Some, List, [], ◌∷◌, ◌++◌, map, append-nil, length, leb, eqb, le-leb}
+use Rattle.std.proofs.Common.{ℕ, zero, suc, ◌+◌, ◌-◌, ◌/◌, ◌≤◌, ◌<◌, le_refl, arith, ◌≡◌, refl, sym, ◌∙◌, ap, Bool, true, false, cond, Option, None, Some, List, [], ◌∷◌, ◌++◌, map, append-nil, length, leb, le-leb}
 use Rattle.rules.specs.Lists.{such, is-empty, some_of}
 use Rattle.rules.specs.Boxes.{Box}
 use Rattle.rules.specs.Spans.{Span, covers}
 use Rattle.rules.specs.Split.{split}
 use Rattle.rules.specs.Segments.{Cut}
-use Rattle.rules.specs.Depth.{write}
 use Rattle.rules.specs.Attributes.{Attrs}
 use Rattle.rules.specs.Rows.{Row, row-ops, put-command}
 use Rattle.rules.specs.Commands.{layer-fill}
@@ -18,7 +17,7 @@ use Rattle.rules_picture.specs.Colours.{Colours, drawn, Opaque}
 use Rattle.rules_picture.specs.StoredColours.{commands-drawn}
 use Rattle.rules_picture.proofs.Cases.{by}
 use Rattle.rules_picture.proofs.Buckets.{from-bucket, from-bucket-before}
-use Rattle.rules_picture.proofs.Shown.{hides-of, newest-hide, hider, write-past, newest-below, newest-last, all-such}
+use Rattle.rules_picture.proofs.Shown.{hides-of, newest-hide, hider, newest-below, newest-last, all-such}
 use Rattle.rules_picture.proofs.Held.{stays}
 use Rattle.rules_picture.proofs.Acts.{do-acts}
 use Rattle.rules_picture.proofs.Rows.{entry-told, told-fills, PaintHas, LayerHas}

@@ -2,6 +2,7 @@
 use Rattle.rules_picture.proofs.Compacted.{removals, twice-once, compacted-balanced, less-room}
 use Rattle.rules_picture.proofs.CompactedPieces.{compacted-same}
 use Rattle.rules_picture.proofs.CompactedCall.{twice-called, compacted-gives}
+use Rattle.rules_picture.proofs.CompactedFollows.{compacted-picture}
 use Rattle.rules_picture.proofs.compacting_changes_no_picture.Goals as goal
 
 pub returns-clause-removals : goal.returns-clause-removals
@@ -24,3 +25,6 @@ returns-clause-balanced c = compacted-balanced
 
 pub returns-clause-room : goal.returns-clause-room
 returns-clause-room c = less-room
+
+pub returns-clause-picture : goal.returns-clause-picture
+returns-clause-picture c = compacted-picture

@@ -20,6 +20,7 @@ pub mod Walk
 pub mod Lines
 pub mod Plain
 pub mod Calls
+pub mod Compacted
 pub mod Words
 pub mod Conversions
 pub mod Logged

@@ -5,5 +5,6 @@ pub mod WorkedExample
 pub mod Edges
 pub mod Refusals
 pub mod Minima
+pub mod Compacted
 pub mod Editions
 pub mod Conversions

@@ -46,3 +46,8 @@ pub mod Limits
 pub mod Roomless
 pub mod Minima
 pub mod Mending
+pub mod Compacted
+pub mod CompactedPieces
+pub mod CompactedCall
+pub mod Ranged
+pub mod CompactedFollows

@@ -13,3 +13,4 @@ pub mod Places
 pub mod Pixels
 pub mod ColourScenes
 pub mod Roomless
+pub mod Compacted

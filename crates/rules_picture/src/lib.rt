@@ -3,6 +3,7 @@
 #![tactic(auto)]
 
 ghost use Rattle.rules_picture.specs.ColourScenes.{AllNeeded, TwoScenes, WrongRows};
+ghost use Rattle.rules_picture.specs.Compacted.{Compacted-balanced, Compacted-gives, Compacted-picture, Compacted-same, Less-room, Removals, Twice-called, Twice-once};
 ghost use Rattle.rules_picture.specs.Edited.{Line-edited, Line-listed, Line-painted, Row-unchanged};
 ghost use Rattle.rules_picture.specs.EditedPairs.{EditedPairs};
 ghost use Rattle.rules_picture.specs.Minima.{Summary-long, Hidden-exact, Mended-afresh, Pieces-same};
@@ -62,4 +63,16 @@ pub fn summaries_tell_the_truth()
     ensures hidden { Hidden-exact }
     ensures afresh { Mended-afresh }
     ensures pieces { Pieces-same }
+{}
+
+/// Taking out of a row what nothing will ever show changes no picture.
+pub fn compacting_changes_no_picture()
+    ensures removals { Removals }
+    ensures twice { Twice-once }
+    ensures again { Twice-called }
+    ensures same { Compacted-same }
+    ensures turns { Compacted-gives }
+    ensures balanced { Compacted-balanced }
+    ensures room { Less-room }
+    ensures picture { Compacted-picture }
 {}

@@ -65,6 +65,36 @@ returns-clause-summaries c =
       past-row = refl;
     }
 
+pub returns-clause-compactions : goal.returns-clause-compactions
+unfolding computing
+returns-clause-compactions c =
+    record {
+      newest = refl;
+      hidden = refl;
+      equal-id = refl;
+      next-bucket = refl;
+      layer = refl;
+      width-0 = refl;
+      past-row = refl;
+      unset = refl;
+      all = refl;
+      nested = refl;
+      neighbours = refl;
+      buffer = refl;
+      closed = refl;
+      in-turn = refl;
+      none = refl;
+      before = refl;
+      after-it = refl;
+      rest = refl;
+      pieces = refl;
+      done = refl;
+      again = refl;
+      no-row = refl;
+      open-layer = refl;
+      no-row-first = refl;
+    }
+
 pub returns-clause-editions : goal.returns-clause-editions
 unfolding computing
 returns-clause-editions c =

@@ -11,6 +11,7 @@ use Rattle.rules.specs.Boxes.{rows_in}
 use Rattle.rules.specs.Segments.{Segment}
 use Rattle.rules.specs.Inputs.{Props}
 use Rattle.rules.specs.Attributes.{LayerAttr, Attrs, attrs-full, no-paint, no-layer}
+use Rattle.screen.specs.Depths.{Depths}
 use Rattle.screen.specs.Attributes.{layer-attr-words}
 use Rattle.rules.specs.Words.{segment-words}
 use Rattle.rules.specs.Rows.{Row, row-ops}
@@ -26,7 +27,6 @@ use Rattle.pop.specs.Closing.{touched-in, good-pops}
 use Rattle.refine_row.proofs.Refines.{refines}
 use Rattle.screen.specs.declared.Screen.{Screen}
 use Rattle.screen.specs.Screens.{some-filter, state-of, screen-after}
-use Rattle.screen.specs.Depths.{Depths}
 use Rattle.screen.specs.Tables.{Tables, ScreenLent, float-0}
 use Rattle.screen.specs.Layers.{no_words, open_at}
 use Rattle.screen.proofs.LayersLaws.{words-length}

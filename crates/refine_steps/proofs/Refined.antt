@@ -2,14 +2,14 @@
 -- nothing.
 use Rattle.std.proofs.Common.{◌≡◌, ap, ◌∙◌, Bool, false, cond, List, ℕ, eqb}
 use Rattle.rules.specs.Answers.{Answer, answer, Done}
-use Rattle.rules.specs.Boxes.{rows_of}
 use Rattle.rules.specs.Rows.{Row, fresh-row, row-ops}
 use Rattle.rules.specs.Plans.{Frame, buckets-across, Step, a-fill, a-push, a-pop, a-filter}
 use Rattle.rules.specs.Steps as rule
 use Rattle.rules.specs.Steps.{reset, call}
+use Rattle.rules.specs.Boxes.{rows_of}
+use Rattle.screen.specs.Depths.{Depths, blank}
 use Rattle.screen.specs.Judging.{judged_reset}
 use Rattle.screen.specs.Tables.{zeros, lengths, ScreenLent, reset_to}
-use Rattle.screen.specs.Depths.{Depths, blank}
 use Rattle.walk.specs.Steps.{call_at}
 use Rattle.refine_steps.specs.Sound.{Sound}
 use Rattle.refine_steps.specs.Lent.{lent_of, answer-of, Holds}

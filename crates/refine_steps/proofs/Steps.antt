@@ -9,6 +9,7 @@ use Rattle.rules.specs.Lists.{join, is-empty}
 use Rattle.rules.specs.Answers.{answer, settle, Done}
 use Rattle.rules.specs.Segments.{Segment}
 use Rattle.rules.specs.Inputs.{Paint, Draw, draw-segments, Clip, Props, Filter}
+use Rattle.screen.specs.Depths.{Depths}
 use Rattle.screen.specs.Attributes.{paint-attr-words}
 use Rattle.rules.specs.Words.{paint-words, segment-words}
 use Rattle.rules.specs.Rows.{Row, row-ops}
@@ -20,7 +21,6 @@ use Rattle.rules.proofs.laws.Bounds.{BoundedSpan, plan-ok}
 use Rattle.rules.proofs.laws.Maps.{PutOk}
 use Rattle.cmd.specs.Attrs.{words-at}
 use Rattle.screen.specs.Screens.{state-of}
-use Rattle.screen.specs.Depths.{Depths}
 use Rattle.screen.specs.Tables.{ScreenLent, float-0}
 use Rattle.layers.specs.Filter as filter
 use Rattle.layers.specs.Filter.{given, filter-number, filter-paint-words, filtered}

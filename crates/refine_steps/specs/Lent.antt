@@ -1,5 +1,5 @@
--- The words of a screen of the rules: every lent word is a function of the rules' state and rows, but the depth words, the minima above them and the
--- painter's words, which no building step reads or writes, and whether painting has begun.
+-- The words of a screen of the rules: every lent word is a function of the rules' state and rows, but the depth words, their minima and the painter's,
+-- which no building step reads or writes, and whether painting has begun.
 use Rattle.std.specs.Prelude.{ℕ, ◌-◌, ◌≡◌, Bool, false, cond, List, [], ◌∷◌, ◌++◌, map, eqb, length, replicate, pos, Float}
 use Rattle.std.specs.Float.{binary32}
 use Rattle.std.specs.Float.Ieee.{of_bits}
@@ -57,7 +57,7 @@ screen-of s painting =
 abbrev pub rows_of : rule.Screen Row → Words
 rows_of s = lay (map (encode s.state.frame.c s.state.frame.d) s.rows)
 
--- a screen and its words: whether painting has begun, the depth words with their minima and the painter's words are no part of the rules' screen
+-- a screen and its words: whether painting has begun, the depth words, their minima and the painter's are no part of the rules' screen
 unfoldable pub lent_of : rule.Screen Row → Bool → Depths → List ℕ → ScreenLent
 lent_of s begun depth painting =
     screen_lent (screen-of s.state begun)

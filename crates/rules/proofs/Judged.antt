@@ -27,7 +27,7 @@ asked c d m = record { c = c; d = d; mode = m; width = W128 }
 abbrev lent : ℕ → ℕ → ℕ → Place
 lent a b c = record { limit = 512; setup = asked 4 5 exact; arenas = record { render = 32 + a; fills = 20 + b; depth = 4 + c; minima = 6 } }
 
--- .. or that many minima
+-- .. or n minima in place of 6
 abbrev lent-minima : ℕ → Place
 lent-minima n = record { limit = 512; setup = asked 4 5 exact; arenas = record { render = 32; fills = 20; depth = 4; minima = n } }
 

@@ -1,5 +1,5 @@
 -- The recording call, from the form to the last step.
-use Rattle.std.proofs.Common.{ℕ, ◌≤◌, arith, ◌≡◌, refl, sym, ap, ◌∙◌, Bool, true, false, cond, List, Option, None, Some, length, eqb, eqb-true, eq-eqb, ne_eqb}
+use Rattle.std.proofs.Common.{ℕ, ◌≤◌, arith, ◌≡◌, refl, sym, ap, ◌∙◌, Bool, true, false, cond, List, Option, None, Some, length, eqb, eq-eqb, ne_eqb, eqb-true}
 use borrow.Author.Tests.{eqb-false}
 use Rattle.rules.specs.Answers.{Answer, answer}
 use Rattle.rules.specs.Boxes.{Box}
@@ -46,24 +46,29 @@ module _ (r : Recording) (fresh : ScreenLent) (m : ℕ) (s : ScreenLent) (e : an
   unfolding played
   not-played z = rw (← e, ne_eqb m 0 z)
 
-by_number : (n k : ℕ) (t : Bool) → eqb k 0 ≡ t → (a b c : ScreenLent) → n ≡ 0 → answer n a ≡ cond t (answer 0 c) (answer k b) → (k ≡ 0) × (a ≡ c)
-by_number n k true q a b c z e = (eqb-true k 0 q, ap (λ (x : Answer ScreenLent). x.value) e)
+by_number : (n k : ℕ) (t : Bool) → eqb k 0 ≡ t → (a b c : ScreenLent) → n ≡ 0 → answer n a ≡ cond t (answer 0 c) (answer k b) → a ≡ c
+by_number n k true q a b c z e = ap (λ (x : Answer ScreenLent). x.value) e
 by_number n k false q a b c z e = let y : k ≡ 0 = sym (ap (λ (x : Answer ScreenLent). x.number) e) ∙ z in absurd (eqb-false k 0 q y)
 
+by_judge : (n k : ℕ) (t : Bool) → eqb k 0 ≡ t → (a b c : ScreenLent) → n ≡ 0 → answer n a ≡ cond t (answer 0 c) (answer k b) → k ≡ 0
+by_judge n k true q a b c z e = eqb-true k 0 q
+by_judge n k false q a b c z e = sym (ap (λ (x : Answer ScreenLent). x.number) e) ∙ z
+
 module _ (f : Frame) (old : ScreenLent) (n : ℕ) (a : ScreenLent) (e : answer n a ≡ reset_to f old) (z : n ≡ 0) where
-  done_reset : (judged_reset f (lengths old.tables) ≡ 0) × (a ≡ screen_lent (fresh-screen f) (cleared f old.tables))
-  unfolding reset_to
-  done_reset = by_number n (judged_reset f (lengths old.tables)) _ refl a old _ z e
-
   emptied : a.tables ≡ cleared f old.tables
-  emptied = ap (λ (x : ScreenLent). x.tables) done_reset.1
+  unfolding reset_to
+  emptied = ap (λ (x : ScreenLent). x.tables) (by_number n (judged_reset f (lengths old.tables)) _ refl a old _ z e)
 
-  reset-frame : frame-of a.screen ≡ f
-  reset-frame = ap (λ (x : ScreenLent). frame-of x.screen) done_reset.1
+  begun : a.screen ≡ fresh-screen f
+  unfolding reset_to
+  begun = ap (λ (x : ScreenLent). x.screen) (by_number n (judged_reset f (lengths old.tables)) _ refl a old _ z e)
 
-  -- words as long as those that it was lent may be cleared
-  pub may-clear : (t : Tables) → lengths t ≡ lengths a.tables → lengths a.tables ≡ lengths old.tables → judged_reset (frame-of a.screen) (lengths t) ≡ 0
-  may-clear t p o = rw (reset-frame, p, o) done_reset.0
+  its-frame : frame-of a.screen ≡ f
+  its-frame = ap frame-of begun
+
+  judged-done : judged_reset f (lengths old.tables) ≡ 0
+  unfolding reset_to
+  judged-done = by_judge n (judged_reset f (lengths old.tables)) _ refl a old _ z e
 
 -- the whole call
 pub bad-file : (ws : File) (q : Setup) (old : ScreenLent) → parsed ws ≡ None → answer 3 old ≡ recorded ws q old
@@ -101,16 +106,14 @@ module _ (r : Recording) (ws : File) (g : recording_of (parsed ws) ≡ Some r) (
     pub all_done : m ≡ 0 → answer m s ≡ recorded ws q old
     all_done y = all-played r a m s f y ∙ sym then-played
 
-    pub left_fresh : (m ≡ 0 → ⊥) → (t : Tables) → lengths s.tables ≡ lengths a.tables → lengths a.tables ≡ lengths old.tables
-        → t ≡ cleared (frame-of a.screen) s.tables
+    -- so the words that the walk leaves are those of the screen, and can be cleared
+    pub can_clear : lengths s.tables ≡ lengths a.tables → lengths a.tables ≡ lengths old.tables → judged_reset (frame-of a.screen) (lengths s.tables) ≡ 0
+    can_clear p o = let f' = frame q (box_of v) in rw (its-frame f' old n a e z, p, o) (judged-done f' old n a e z)
+
+    pub left_fresh : (m ≡ 0 → ⊥) → (t : Tables) → lengths s.tables ≡ lengths a.tables → lengths a.tables ≡ lengths old.tables → t ≡ cleared (frame-of a.screen) s.tables
         → answer m (screen_lent a.screen t) ≡ recorded ws q old
     left_fresh x t p o k =
-        let fr = frame q (box_of v) in
-        let again : t ≡ a.tables =
-        k
-        ∙ ap (λ (x : Frame). cleared x s.tables) (reset-frame fr old n a e z)
-        ∙ same-cleared fr s.tables a.tables p
-        ∙ same-cleared fr a.tables old.tables o
-        ∙ sym (emptied fr old n a e z)
-        in
+        let f' = frame q (box_of v) in
+        let k' : t ≡ cleared f' s.tables = k ∙ ap (λ (g : Frame). cleared g s.tables) (its-frame f' old n a e z) in
+        let again : t ≡ a.tables = k' ∙ same-cleared f' s.tables a.tables p ∙ same-cleared f' a.tables old.tables o ∙ sym (emptied f' old n a e z) in
         rw again (not-played r a m s f x ∙ sym then-played)

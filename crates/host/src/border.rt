@@ -121,14 +121,7 @@ pub fn refuse_step(
 ) -> u32
     ensures { result ≡ refused_at (words_in state.now) (step-judged stored.now row depth minima painting) }
 {
-    before_4(judge_step(
-        screen_at(state),
-        row,
-        stored,
-        depth,
-        minima,
-        painting,
-    ))
+    before_4(judge_step(screen_at(state), row, stored, depth, minima, painting))
 }
 
 /// The number of a call that reads the runs of a row: 2 or 1 as it would answer, else 4.

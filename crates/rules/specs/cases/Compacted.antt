@@ -109,7 +109,8 @@ pub record CompactionsHold : Type 0 where
   pub rest : map bare (compact-screen 0 worked).rows ≡ map bare worked.rows
   pub pieces : pieces-in (compact-screen 0 worked) ≡ pieces-in worked
   -- the call: it ends painting, also where it removes nothing; 12 before 13; refused, it changes nothing
-  pub done : compact-call 0 worked-canvas ≡ record { number = Done; value = record { screen = compact-screen 0 worked; begun = false; painters = blank worked } }
+  pub done : compact-call 0 worked-canvas
+      ≡ record { number = Done; value = record { screen = compact-screen 0 worked; begun = false; painters = blank worked } }
   pub again : compact-call 0 (record { screen = compact-screen 0 worked; begun = true; painters = blank worked }) ≡ compact-call 0 worked-canvas
   pub no-row : compact-call 1 worked-canvas ≡ record { number = BadRun; value = worked-canvas }
   pub open-layer : compact-call 0 under-layer ≡ record { number = Open; value = under-layer }

@@ -1,10 +1,9 @@
 -- At all reached words each row's minima are the summary of its depth words. Assumes nothing.
-use Rattle.std.proofs.Common.{ℕ, ◌<◌, ◌∙◌, sym, ap, subst, length}
+use Rattle.std.proofs.Common.{◌<◌, ◌∙◌, sym, ap, subst, length}
 use Rattle.rules.specs.Minima.{minima-room, summary}
 use Rattle.rules.specs.Plans.{buckets-across}
 use Rattle.rules.specs.Painting.{begin}
 use Rattle.rules.specs.Calls.{Canvas}
-use Rattle.screen.specs.Tables.{ScreenLent}
 use Rattle.refine_steps.specs.Lent.{lent_of}
 use Rattle.refine_paint.specs.Canvases.{buckets-in, minima-in, WholeCanvas}
 use Rattle.refine_paint.proofs.Begin.{all-summaries}

@@ -9,11 +9,9 @@ use Rattle.rules.specs.Plans.{buckets-across}
 use Rattle.rules.specs.Painting.{begin}
 use Rattle.rules.specs.Calls.{Canvas, of_row, painter-of, hidden-call}
 use Rattle.rules.proofs.All.{and_right}
-use Rattle.screen.specs.Tables.{ScreenLent}
 use Rattle.refine_steps.specs.Lent.{lent_of}
 use Rattle.paint.specs.Judging.{wide}
 use Rattle.paint.specs.Stepping.{part}
-use Rattle.paint.specs.DirectRuns.{hidden-of-row}
 use Rattle.rules_picture.proofs.Minima.{hidden-exact}
 use Rattle.refine_paint.specs.Canvases.{buckets-in, minima-in, WholeCanvas}
 use Rattle.refine_paint.proofs.Begin.{all-summaries}

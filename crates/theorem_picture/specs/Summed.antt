@@ -17,7 +17,7 @@ Summed l =
     (r : ℕ) → r < count l.screen
     → part (minima-room (wide l.screen)) r l.tables.depth.minima ≡ summary (part (wide l.screen) r l.tables.depth.words)
 
--- Whatever calls were made, they are.
+-- Whatever calls were made, the minima are that.
 abbrev pub ReachedSummed : Type 0
 ReachedSummed = (f : Frame) (xs : List Step) (l : ScreenLent) → Reached f xs l → Summed l
 

@@ -28,8 +28,7 @@ ghost use Rattle.theorem_picture.specs.Edited.{LineListed, LinePieces, LineWords
 ghost use Rattle.theorem_picture.specs.Recorded.{RecordingAccepted, RecordingEarly, RecordingRefused, RecordingRules, RulesPicture, RulesPlayed};
 
 /// Whatever calls were made, the words are those of a screen that the rules have built by the same steps, and every call there answers as the
-/// rules do. Each row's minima are the summary of its depth words, so that
-/// `is_hidden` tells of the words.
+/// rules do. Each row's minima are the summary of its depth words, so that `is_hidden` tells of the words.
 pub fn reached_words_are_the_rules_screen()
     ensures stands { ReachedStands }
     ensures answered { StandsAnswered }

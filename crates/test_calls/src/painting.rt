@@ -19,7 +19,7 @@ impl Painting {
             Painting::UnsetRuns { room, .. }
             | Painting::VisibleRuns { room, .. }
             | Painting::UnsetRunsAndWrite { room, .. } => room,
-            Painting::Begin | Painting::CanSkip { .. } | Painting::IsHidden { .. } => 0,
+            Painting::CanSkip { .. } | Painting::IsHidden { .. } => 0,
         }
     }
 
@@ -28,17 +28,6 @@ impl Painting {
         let mut marks = [MARK; LIST];
         let list = &mut marks[..self.room().min(LIST)];
         match self {
-            Painting::Begin => {
-                let mut canvas = Canvas {
-                    depth: Depth {
-                        words: lent.depth.words,
-                        minima: lent.depth.minima,
-                    },
-                    painting: lent.painting,
-                };
-                let done = begin_painting(screen, &mut canvas);
-                answers.put(answer_number(done));
-            }
             Painting::UnsetRuns { row, tiles, .. } => {
                 let runs = unset_runs(*screen, row, lent.depth.words, tiles, list);
                 answers.put_runs(runs, list);
@@ -68,6 +57,19 @@ impl Painting {
 }
 
 impl Tables {
+    /// Begins painting, with what a screen is lent: the number.
+    pub fn begin(&mut self, screen: &mut Screen, short: Option<Table>) -> u32 {
+        let n = Shape::of_screen(*screen).lengths(short);
+        let mut canvas = Canvas {
+            depth: Depth {
+                words: first(&mut self.depth, n.depth),
+                minima: first(&mut self.minima, n.minima),
+            },
+            painting: first(&mut self.painting, n.painting),
+        };
+        answer_number(begin_painting(screen, &mut canvas))
+    }
+
     // A step of a row, with what a screen is lent. What it only reads and what it changes are parts of one loan, so it is made here.
     fn paint_step(
         &mut self,

@@ -73,7 +73,7 @@ impl Shape {
             render_cmds: 4 * room(c),
             depth_cmds: 2 * room(d),
             depth: buckets,
-            minima: minima_room(buckets as usize) as u32,
+            minima: u32::try_from(minima_room(buckets as usize)).unwrap_or(0),
         }
     }
 

@@ -56,10 +56,16 @@ Compacted-balanced = (w n : ℕ) (a : Attrs) (r : Row) → balanced 0 (compacted
 abbrev pub Less-room : Type 0
 Less-room = (w n : ℕ) (a : Attrs) (r : Row) → length (compacted w n a r) ≤ length r.commands
 
+-- So a step that is done on a screen is done on it with any of its rows compacted.
+abbrev pub Room-kept : Type 0
+Room-kept =
+    (x : Step) (i : ℕ) (s : Screen Row) → (call Row row-ops x s).number ≡ Done → (call Row row-ops x (compact-screen i s)).number ≡ Done
+
 -- A screen built from s to u by done steps xs, with rows compacted anywhere between them where no layer is open.
 pub data Kept-up : List Step → Screen Row → Screen Row → Type 0 where
   no_step : {s : Screen Row} → Kept-up [] s s
-  then : {x : Step} {xs : List Step} {s u : Screen Row} → (call Row row-ops x s).number ≡ Done → Kept-up xs (call Row row-ops x s).value u → Kept-up (x ∷ xs) s u
+  then : {x : Step} {xs : List Step} {s u : Screen Row} → (call Row row-ops x s).number ≡ Done
+      → Kept-up xs (call Row row-ops x s).value u → Kept-up (x ∷ xs) s u
   tidied : {xs : List Step} {s u : Screen Row} (i : ℕ) → s.state.layers ≡ [] → Kept-up xs (compact-screen i s) u → Kept-up xs s u
 
 -- The picture over such histories, of the building steps alone: when a row has finished, each of its tiles has received exactly what plain draw order

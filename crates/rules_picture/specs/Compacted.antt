@@ -1,6 +1,8 @@
 -- Room back in a crowded row: what is taken out, and what that leaves as it was.
-use Rattle.std.specs.Prelude.{ℕ, zero, suc, ◌/◌, ◌<◌, ◌≤◌, ◌≡◌, Bool, true, false, List, [], ◌∷◌, length, eqb}
+use Rattle.std.specs.Prelude.{ℕ, zero, suc, ◌/◌, ◌<◌, ◌≤◌, ◌≡◌, Bool, true, false, List, [], ◌∷◌, length, get_or, eqb}
 use Rattle.rules.specs.Answers.{Done}
+use Rattle.rules.specs.Spans.{Span, covers}
+use Rattle.rules.specs.Depth.{is-visible}
 use Rattle.rules.specs.Commands.{Command, paint-fill, layer-fill, push-buf, pop-buf}
 use Rattle.rules.specs.Attributes.{Attrs}
 use Rattle.rules.specs.Rows.{Row, row-ops, fresh-row}
@@ -9,8 +11,9 @@ use Rattle.rules.specs.Plans.{Frame, bucket, Step}
 use Rattle.rules.specs.Steps.{Screen, reset, call}
 use Rattle.rules.specs.Plain.{plain}
 use Rattle.rules.specs.Painting.{paint-row, received}
-use Rattle.rules.specs.Calls.{Canvas, begin-call}
+use Rattle.rules.specs.Calls.{Canvas, begin-call, painter-of, can-skip-call}
 use Rattle.rules.specs.Compacted.{newest-ids, Removed, Removes, compacted, compact, compact-screen, compact-call}
+use Rattle.rules_picture.specs.Skip.{FillsPainted}
 use Rattle.rules_picture.specs.Turns.{Turn, from, has-finished, painted}
 
 -- with n buffers open: none is closed that is not open, and in the end none is open
@@ -76,3 +79,12 @@ Compacted-picture =
     → (ts : List Turn) (r t : ℕ) → r < rows_of f.viewport → t < width f.viewport / 4
     → has-finished (painted ts k).canvas r ≡ true
     → received t (from r (painted ts k).log) ≡ plain (bucket f) f.viewport r t xs
+
+-- A yes of can_skip says over such histories too that each tile of the span that is on the screen is visible for the id.
+abbrev pub Compacted-skip : Type 0
+Compacted-skip =
+    (f : Frame) (xs : List Step) (k : Canvas) → Kept-up xs (reset fresh-row f) k.screen → (begin-call k).number ≡ Done
+    → (ts : List Turn) (r : ℕ) → r < rows_of f.viewport → FillsPainted (painted ts k).canvas r
+    → (s : Span) (id : ℕ) → (can-skip-call r s id (painted ts k).canvas).value ≡ true
+    → (t : ℕ) → covers s t ≡ true → t < width f.viewport / 4
+    → is-visible id (get_or (painter-of (painted ts k).canvas r).buckets (t / bucket f) 0) ≡ true

@@ -10,7 +10,7 @@ use depth::visible_runs;
 use sizes::width::Width;
 use span::TileSpan;
 
-/// Whether no tile of the span is visible for the id: each bucket that the span meets on the row holds a greater one, `ids` being the row's newest ids. A span of
+/// Whether no tile of the span is visible for the id: each bucket that the span meets on the row holds a greater one, `ids` being the row's newest ids. One of
 /// width 0 is hidden.
 pub fn is_hidden(ids: &[u32], span: TileSpan, id: u32, width: Width) -> bool
     requires { (span.first ≤ span.«end») × (span.«end» ≤ tile-end) }

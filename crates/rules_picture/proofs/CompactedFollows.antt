@@ -11,13 +11,13 @@ use Rattle.rules.specs.Attributes.{PaintAttr, LayerAttr, Attrs, no-paint, no-lay
 use Rattle.rules.specs.Rows.{Row, row-ops, fresh-row}
 use Rattle.rules.specs.Plans.{Frame, bucket, buckets-across, Step}
 use Rattle.rules.specs.Steps.{Screen, reset, done, touched, call}
-use Rattle.rules.specs.Depth.{visible-runs}
+use Rattle.rules.specs.Depth.{visible-runs, is-visible, can_skip}
 use Rattle.rules.specs.Painting.{paint-id, layer-id, paint-panel, layer-panel, received, paint-row}
 use Rattle.rules.specs.Plain.{Told, Story, OpenLayer, untold, tell-step, tell-steps, plain}
 use Rattle.rules.specs.Compacted.{newest-ids, is-hidden, a-fill, a-buffer, Removes, nothing, one-more, kept, passed, turned-round, compacted, compact, compact-screen}
 use Rattle.rules.proofs.All.{All, nil, cons, head, tail, all_append, all_first, all_rest, all-at, never}
 use Rattle.rules.proofs.laws.Widths.{bucket-some}
-use Rattle.rules_picture.specs.Compacted.{Kept-up, no_step, then, tidied, Compacted-picture}
+use Rattle.rules_picture.specs.Compacted.{Kept-up, no_step, then, tidied, Compacted-picture, Compacted-skip}
 use Rattle.rules_picture.proofs.Cases.{by}
 use Rattle.rules_picture.proofs.Buckets.{touched-end}
 use Rattle.rules_picture.proofs.Newest.{after-length, holds-newest}
@@ -31,7 +31,9 @@ use Rattle.rules_picture.proofs.Grown.{Grown}
 use Rattle.rules_picture.proofs.Follows.{layer-in, Leads, Follows}
 use Rattle.rules_picture.proofs.Stepped.{call-done, call-frame, step_follows, step-leads}
 use Rattle.rules_picture.proofs.Picture.{reset-follows}
-use Rattle.rules_picture.proofs.Turns.{finished-gave}
+use Rattle.rules_picture.proofs.Turns.{finished-gave, painted-screen}
+use Rattle.rules_picture.proofs.Skip.{said-yes, words-painted, skip-newest}
+use Rattle.rules_picture.specs.Turns.{painted}
 use Rattle.rules_picture.proofs.Compacted.{removed-one-by-one}
 use Rattle.rules_picture.proofs.CompactedPieces.{words-after}
 use Rattle.rules_picture.proofs.Ranged.{all_set, Names, Ranged, AllRanged, reset-ranged, step-ranged}
@@ -331,3 +333,18 @@ compacted-picture f xs k b e ts r t h on fin =
     ap (received t) (finished-gave ts k r e g.there fin)
     ∙ ap (λ (x : Frame). received t (paint-row (bucket x) k.screen.state.attrs (buckets-across x) row)) v
     ∙ holds-picture w k.screen.state.attrs t (bucket-some f.width) (buckets-across f) near _ _ row g.grown.holds
+
+-- The depth summary stays, and so does what can_skip says.
+pub compacted-skip : Compacted-skip
+unfolding reset
+compacted-skip f xs k b e ts r h fp s id can t c on =
+    let w = bucket f in
+    let a = k.screen.state.attrs in
+    let v : k.screen.state.frame ≡ f = kept-frame b in
+    let near : t / w < buckets-across f = touched-end w (bucket-some f.width) t (width f.viewport / 4) on in
+    let g = follows-kept f xs k.screen b r t h near in
+    let there : t / w < buckets-across k.screen.state.frame = rw v near in
+    let row = get_or k.screen.rows r fresh-row in
+    let y : can_skip row.depth s id ≡ true = rw (painted-screen ts k e) at (said-yes r s id (painted ts k).canvas can) in
+    ap (is-visible id) (words-painted k e ts r g.there fp (t / w) there)
+    ∙ skip-newest w a (bucket-some f.width) row g.grown.holds.summed s id y t c

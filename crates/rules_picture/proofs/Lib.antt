@@ -51,3 +51,4 @@ pub mod CompactedPieces
 pub mod CompactedCall
 pub mod Ranged
 pub mod CompactedFollows
+pub mod Roomier

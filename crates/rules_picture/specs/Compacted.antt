@@ -1,6 +1,8 @@
 -- Room back in a crowded row: what is taken out, and what that leaves as it was.
-use Rattle.std.specs.Prelude.{ℕ, zero, suc, ◌/◌, ◌<◌, ◌≤◌, ◌≡◌, Bool, true, false, List, [], ◌∷◌, length, eqb}
+use Rattle.std.specs.Prelude.{ℕ, zero, suc, ◌/◌, ◌<◌, ◌≤◌, ◌≡◌, Bool, true, false, List, [], ◌∷◌, length, get_or, eqb}
 use Rattle.rules.specs.Answers.{Done}
+use Rattle.rules.specs.Spans.{Span, covers}
+use Rattle.rules.specs.Depth.{is-visible}
 use Rattle.rules.specs.Commands.{Command, paint-fill, layer-fill, push-buf, pop-buf}
 use Rattle.rules.specs.Attributes.{Attrs}
 use Rattle.rules.specs.Rows.{Row, row-ops, fresh-row}
@@ -9,8 +11,9 @@ use Rattle.rules.specs.Plans.{Frame, bucket, Step}
 use Rattle.rules.specs.Steps.{Screen, reset, call}
 use Rattle.rules.specs.Plain.{plain}
 use Rattle.rules.specs.Painting.{paint-row, received}
-use Rattle.rules.specs.Calls.{Canvas, begin-call}
+use Rattle.rules.specs.Calls.{Canvas, begin-call, painter-of, can-skip-call}
 use Rattle.rules.specs.Compacted.{newest-ids, Removed, Removes, compacted, compact, compact-screen, compact-call}
+use Rattle.rules_picture.specs.Skip.{FillsPainted}
 use Rattle.rules_picture.specs.Turns.{Turn, from, has-finished, painted}
 
 -- with n buffers open: none is closed that is not open, and in the end none is open
@@ -56,10 +59,16 @@ Compacted-balanced = (w n : ℕ) (a : Attrs) (r : Row) → balanced 0 (compacted
 abbrev pub Less-room : Type 0
 Less-room = (w n : ℕ) (a : Attrs) (r : Row) → length (compacted w n a r) ≤ length r.commands
 
+-- So a step that is done on a screen is done on it with any of its rows compacted.
+abbrev pub Room-kept : Type 0
+Room-kept =
+    (x : Step) (i : ℕ) (s : Screen Row) → (call Row row-ops x s).number ≡ Done → (call Row row-ops x (compact-screen i s)).number ≡ Done
+
 -- A screen built from s to u by done steps xs, with rows compacted anywhere between them where no layer is open.
 pub data Kept-up : List Step → Screen Row → Screen Row → Type 0 where
   no_step : {s : Screen Row} → Kept-up [] s s
-  then : {x : Step} {xs : List Step} {s u : Screen Row} → (call Row row-ops x s).number ≡ Done → Kept-up xs (call Row row-ops x s).value u → Kept-up (x ∷ xs) s u
+  then : {x : Step} {xs : List Step} {s u : Screen Row} → (call Row row-ops x s).number ≡ Done
+      → Kept-up xs (call Row row-ops x s).value u → Kept-up (x ∷ xs) s u
   tidied : {xs : List Step} {s u : Screen Row} (i : ℕ) → s.state.layers ≡ [] → Kept-up xs (compact-screen i s) u → Kept-up xs s u
 
 -- The picture over such histories, of the building steps alone: when a row has finished, each of its tiles has received exactly what plain draw order
@@ -70,3 +79,12 @@ Compacted-picture =
     → (ts : List Turn) (r t : ℕ) → r < rows_of f.viewport → t < width f.viewport / 4
     → has-finished (painted ts k).canvas r ≡ true
     → received t (from r (painted ts k).log) ≡ plain (bucket f) f.viewport r t xs
+
+-- A yes of can_skip says over such histories too that each tile of the span that is on the screen is visible for the id.
+abbrev pub Compacted-skip : Type 0
+Compacted-skip =
+    (f : Frame) (xs : List Step) (k : Canvas) → Kept-up xs (reset fresh-row f) k.screen → (begin-call k).number ≡ Done
+    → (ts : List Turn) (r : ℕ) → r < rows_of f.viewport → FillsPainted (painted ts k).canvas r
+    → (s : Span) (id : ℕ) → (can-skip-call r s id (painted ts k).canvas).value ≡ true
+    → (t : ℕ) → covers s t ≡ true → t < width f.viewport / 4
+    → is-visible id (get_or (painter-of (painted ts k).canvas r).buckets (t / bucket f) 0) ≡ true

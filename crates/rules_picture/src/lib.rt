@@ -3,7 +3,7 @@
 #![tactic(auto)]
 
 ghost use Rattle.rules_picture.specs.ColourScenes.{AllNeeded, TwoScenes, WrongRows};
-ghost use Rattle.rules_picture.specs.Compacted.{Compacted-balanced, Compacted-gives, Compacted-picture, Compacted-same, Less-room, Removals, Twice-called, Twice-once};
+ghost use Rattle.rules_picture.specs.Compacted.{Compacted-balanced, Compacted-gives, Compacted-picture, Compacted-same, Compacted-skip, Less-room, Removals, Room-kept, Twice-called, Twice-once};
 ghost use Rattle.rules_picture.specs.Edited.{Line-edited, Line-listed, Line-painted, Row-unchanged};
 ghost use Rattle.rules_picture.specs.EditedPairs.{EditedPairs};
 ghost use Rattle.rules_picture.specs.Minima.{Summary-long, Hidden-exact, Mended-afresh, Pieces-same};
@@ -74,5 +74,7 @@ pub fn compacting_changes_no_picture()
     ensures turns { Compacted-gives }
     ensures balanced { Compacted-balanced }
     ensures room { Less-room }
+    ensures kept { Room-kept }
     ensures picture { Compacted-picture }
+    ensures skip { Compacted-skip }
 {}

@@ -2,7 +2,8 @@
 use Rattle.rules_picture.proofs.Compacted.{removals, twice-once, compacted-balanced, less-room}
 use Rattle.rules_picture.proofs.CompactedPieces.{compacted-same}
 use Rattle.rules_picture.proofs.CompactedCall.{twice-called, compacted-gives}
-use Rattle.rules_picture.proofs.CompactedFollows.{compacted-picture}
+use Rattle.rules_picture.proofs.CompactedFollows.{compacted-picture, compacted-skip}
+use Rattle.rules_picture.proofs.Roomier.{room-kept}
 use Rattle.rules_picture.proofs.compacting_changes_no_picture.Goals as goal
 
 pub returns-clause-removals : goal.returns-clause-removals
@@ -28,3 +29,9 @@ returns-clause-room c = less-room
 
 pub returns-clause-picture : goal.returns-clause-picture
 returns-clause-picture c = compacted-picture
+
+pub returns-clause-kept : goal.returns-clause-kept
+returns-clause-kept c = room-kept
+
+pub returns-clause-skip : goal.returns-clause-skip
+returns-clause-skip c = compacted-skip

@@ -74,6 +74,13 @@ int main(void) {
     tile(&screen, pieces, count, 25);
     tile(&screen, pieces, count, 10);
 
+    /* Of the banner nothing shows in bucket 1, which the panel has whole. */
+    for (uint32_t bucket = 0; bucket < 4; bucket++) {
+        int hidden;
+        must(coarse_bucketer_is_hidden(&screen, 0, bucket, bucket + 1, coarse_bucketer_paint_attrs(&screen, 0).draw_id, &hidden));
+        printf("bucket %u: the banner is %s\n", bucket, hidden ? "hidden" : "seen");
+    }
+
     /* The same two draws, recorded: what a tile receives can be listed without a screen. */
     coarse_recorder scene;
     uint32_t place;

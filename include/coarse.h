@@ -112,11 +112,13 @@ static inline const char *coarse_answer_text(uint32_t answer) {
 #define COARSE_FILTER_PAINT 4 /* a filter fill's paint, as a paint; its shifts are source_x less x0 and source_y less y0, in pixels */
 #define COARSE_PAINTING 2     /* where a row's painting stands: steps done, and the nesting there */
 
-/* How many there may be: layers open at once, attributes of each kind, paints of filter fills, buckets of a row. */
+/* How many there may be: layers open at once, attributes of each kind, paints of filter fills, buckets of a row, and
+ * minima above them. */
 #define COARSE_MOST_LAYERS 16
 #define COARSE_MOST_ATTRS 1024
 #define COARSE_MOST_FILTERS 256
 #define COARSE_MOST_BUCKETS 64
+#define COARSE_MOST_MINIMA (2 * COARSE_MOST_BUCKETS - 1)
 
 /* Lengths that no viewport changes. coarse_sizes gives the others. Opacities: of the open layers, then of the layer attributes. */
 #define COARSE_LAYERS (COARSE_MOST_LAYERS * COARSE_OPEN_LAYER)
@@ -205,16 +207,19 @@ typedef struct coarse_state {
     uint32_t c, d, next_draw_id, paint_attrs, layer_attrs, filter_paints, layers, painting, width;
 } coarse_state;
 
-/* How many elements each of the ten tables has. */
+/* How many elements each of the eleven tables has. */
 typedef struct coarse_lengths {
-    size_t render_cmds, depth_cmds, depth, rows, painting, layers, opacities, paint_attrs, layer_attrs, filter_paints;
+    size_t render_cmds, depth_cmds, depth, rows, painting, layers, opacities, paint_attrs, layer_attrs, filter_paints, minima;
 } coarse_lengths;
 
-/* The ten tables, with the lengths that coarse_sizes gives. Each pointer is followed by its length. */
+/* The eleven tables, with the lengths that coarse_sizes gives. Each pointer is followed by its length. minima: above the depth words, for each
+ * row the smallest id of the row, of each half, of each quarter and so on down to one bucket. A group has its own first, then those of its
+ * left half, then those of its right half; a place past the row's last bucket counts as 4,294,967,295. */
 typedef struct coarse_tables {
     uint32_t *render_cmds; size_t render_cmds_len;
     uint32_t *depth_cmds; size_t depth_cmds_len;
     uint32_t *depth; size_t depth_len;
+    uint32_t *minima; size_t minima_len;
     uint32_t *rows; size_t rows_len;
     uint32_t *painting; size_t painting_len;
     uint32_t *layers; size_t layers_len;
@@ -233,10 +238,11 @@ typedef struct coarse_stored {
     const uint32_t *layer_attrs; size_t layer_attrs_len;
 } coarse_stored;
 
-/* What painting writes: the depth words, and where each row's painting stands. One screen may be painted in several threads, each with
+/* What painting writes: the depth words and their minima, and where each row's painting stands. One screen may be painted in several threads, each with
  * a canvas of its own, if none changes the state and what is stored meanwhile. */
 typedef struct coarse_canvas {
     uint32_t *depth; size_t depth_len;
+    uint32_t *minima; size_t minima_len;
     uint32_t *painting; size_t painting_len;
 } coarse_canvas;
 
@@ -299,10 +305,11 @@ typedef struct coarse_span { uint32_t first, end; } coarse_span;
 typedef struct coarse_part { uint32_t kind, first, end; } coarse_part;
 typedef struct coarse_parts { coarse_part left, middle, right; } coarse_parts;
 
-/* The lengths of the ten tables for a viewport, in pixels of the scene, in a setup. */
+/* The lengths of the eleven tables for a viewport, in pixels of the scene, in a setup. */
 uint32_t coarse_sizes(coarse_rect viewport, coarse_setup setup, coarse_lengths *sizes);
 
-/* A fresh screen of this viewport, in pixels of the scene, in a setup: every lent word is 0. */
+/* A fresh screen of this viewport, in pixels of the scene, in a setup: every lent word is 0, but for the minima of groups that
+ * lie past a row's last bucket. */
 uint32_t coarse_reset(coarse_state *state, coarse_rect viewport, coarse_setup setup, coarse_tables *tables);
 
 /* A recording, as the little-endian words of its file, of a coarse_edition, bucketed from a fresh screen of its own viewport in a setup. The
@@ -358,7 +365,7 @@ uint32_t coarse_pop_layer(coarse_state *state, coarse_tables *tables, const uint
 /* Draws a filter layer's picture into a box. */
 uint32_t coarse_filter_fill(coarse_state *state, coarse_tables *tables, const coarse_filter *filter);
 
-/* Clears the depth words and sets every row to its first step. */
+/* Clears the depth words, makes their minima afresh, and sets every row to its first step. */
 uint32_t coarse_begin_painting(coarse_state *state, coarse_canvas *canvas);
 
 /* The next stored command of a row of the screen: its pieces at the start of the list, COARSE_PIECE words each, in tiles of that
@@ -385,10 +392,17 @@ uint32_t coarse_visible_runs(const coarse_state *state, const coarse_canvas *can
 uint32_t coarse_visible_spans(const coarse_state *state, const coarse_canvas *canvas, size_t row, coarse_span tiles,
                              uint32_t id, coarse_span *list, size_t list_len, size_t *count);
 
-/* Lists the unset runs of the buckets first to end of a row of the screen, in buckets, and stores the id there. Done, it ends
- * painting. */
+/* Lists the unset runs of the buckets first to end of a row of the screen, in buckets, and stores the id there; the minima follow. Done, it
+ * ends painting. */
 uint32_t coarse_unset_runs_and_write(coarse_state *state, coarse_canvas *canvas, size_t row, coarse_span buckets,
                                      uint32_t id, uint32_t *list, size_t list_len, size_t *count);
+
+/* 1 if every bucket from first to end of a row of the screen is hidden from the id, as each holds a greater one, else 0; of no bucket, 1. It reads the
+ * minima alone, of the state's screen or of a canvas, in a step or two for each halving, where coarse_visible_runs looks at every bucket. Refused,
+ * yes stays: 2 for the state's viewport; 1 where minima has another length than the screen asks for, or for C or D; 4 for a state that is none; 12
+ * for no such row, for a first bucket after the end and for an end past the row's buckets. */
+uint32_t coarse_is_hidden(const coarse_state *state, const uint32_t *minima, size_t minima_len, size_t row, coarse_span buckets,
+                          uint32_t id, uint32_t *yes);
 
 /* 1 if a draw of the id over the tiles first to end of a row of the screen need not look at the row's depth words, else 0. */
 uint32_t coarse_can_skip(const coarse_state *state, const coarse_stored *stored, size_t row, coarse_span tiles,

@@ -72,8 +72,8 @@ typedef struct coarse_bucketer {
 /* Tables of these lengths in one new block. The other parts of `b` stay. */
 static inline uint32_t coarse_bucketer_tables(coarse_bucketer *b, const coarse_lengths *n) {
     coarse_tables *t = &b->tables;
-    uint32_t *at = (uint32_t *)calloc(n->render_cmds + n->depth_cmds + n->depth + n->rows + n->painting + n->layers + n->opacities +
-                                          n->paint_attrs + n->layer_attrs + n->filter_paints,
+    uint32_t *at = (uint32_t *)calloc(n->render_cmds + n->depth_cmds + n->depth + n->minima + n->rows + n->painting + n->layers +
+                                          n->opacities + n->paint_attrs + n->layer_attrs + n->filter_paints,
                                       sizeof *at);
     if (!at)
         return COARSE_NO_MEMORY;
@@ -82,6 +82,7 @@ static inline uint32_t coarse_bucketer_tables(coarse_bucketer *b, const coarse_l
     t->render_cmds = at, t->render_cmds_len = n->render_cmds, at += n->render_cmds;
     t->depth_cmds = at, t->depth_cmds_len = n->depth_cmds, at += n->depth_cmds;
     t->depth = at, t->depth_len = n->depth, at += n->depth;
+    t->minima = at, t->minima_len = n->minima, at += n->minima;
     t->rows = at, t->rows_len = n->rows, at += n->rows;
     t->painting = at, t->painting_len = n->painting, at += n->painting;
     t->layers = at, t->layers_len = n->layers, at += n->layers;
@@ -95,6 +96,7 @@ static inline uint32_t coarse_bucketer_tables(coarse_bucketer *b, const coarse_l
     b->stored.paint_attrs = t->paint_attrs, b->stored.paint_attrs_len = n->paint_attrs;
     b->stored.layer_attrs = t->layer_attrs, b->stored.layer_attrs_len = n->layer_attrs;
     b->canvas.depth = t->depth, b->canvas.depth_len = n->depth;
+    b->canvas.minima = t->minima, b->canvas.minima_len = n->minima;
     b->canvas.painting = t->painting, b->canvas.painting_len = n->painting;
     return COARSE_DONE;
 }
@@ -253,7 +255,7 @@ static inline uint32_t coarse_bucketer_generate_filter_layer_fill(coarse_buckete
     return coarse_filter_fill(&b->state, &b->tables, &given);
 }
 
-/* Clears the depth words and sets every row to its first step. */
+/* Clears the depth words, makes their minima afresh, and sets every row to its first step. */
 static inline uint32_t coarse_bucketer_begin_painting(coarse_bucketer *b) {
     return coarse_begin_painting(&b->state, &b->canvas);
 }
@@ -323,11 +325,13 @@ static inline uint32_t coarse_bucketer_paint_step(coarse_bucketer *b, size_t row
  * done or not. The row is painted in passes, and the list grows between them. Where a pass has no memory or is refused, the row is
  * put back to where it stood. */
 static inline uint32_t coarse_bucketer_paint_row(coarse_bucketer *b, size_t row, const coarse_piece **pieces, size_t *count) {
-    size_t rows = b->sizes.painting / COARSE_PAINTING, buckets = rows ? b->sizes.depth / rows : 0, done = 0;
+    size_t rows = b->sizes.painting / COARSE_PAINTING, buckets = rows ? b->sizes.depth / rows : 0, least = rows ? b->sizes.minima / rows : 0;
+    size_t done = 0;
     coarse_painted result = {0, 0};
-    uint32_t depth[COARSE_MOST_BUCKETS] = {0}, painting[COARSE_PAINTING] = {0}, answer = COARSE_DONE;
+    uint32_t depth[COARSE_MOST_BUCKETS] = {0}, minima[COARSE_MOST_MINIMA] = {0}, painting[COARSE_PAINTING] = {0}, answer = COARSE_DONE;
     if (row < rows) {
         memcpy(depth, b->tables.depth + row * buckets, buckets * sizeof depth[0]);
+        memcpy(minima, b->tables.minima + row * least, least * sizeof minima[0]);
         memcpy(painting, b->tables.painting + row * COARSE_PAINTING, sizeof painting);
     }
     while (answer == COARSE_DONE && result.finished == 0) {
@@ -342,6 +346,7 @@ static inline uint32_t coarse_bucketer_paint_row(coarse_bucketer *b, size_t row,
         *count = done + result.pieces;
     } else if (row < rows) {
         memcpy(b->tables.depth + row * buckets, depth, buckets * sizeof depth[0]);
+        memcpy(b->tables.minima + row * least, minima, least * sizeof minima[0]);
         memcpy(b->tables.painting + row * COARSE_PAINTING, painting, sizeof painting);
     }
     return answer;
@@ -375,15 +380,23 @@ static inline const coarse_stored *coarse_bucketer_stored(const coarse_bucketer 
 /* A canvas beside the screen's own, at the first step of every row. COARSE_OPEN where painting has not begun: then, and without memory,
  * there is nothing to free. Several threads may paint one screen so, each with a canvas, while none changes the screen. */
 static inline uint32_t coarse_bucketer_canvas(const coarse_bucketer *b, coarse_canvas *canvas) {
-    uint32_t *words;
+    coarse_state state = b->state;
+    coarse_canvas begun;
+    uint32_t *words, answer;
     if (!coarse_bucketer_is_painting(b))
         return COARSE_OPEN;
-    words = (uint32_t *)calloc(b->sizes.depth + b->sizes.painting + 1, sizeof *words);
+    words = (uint32_t *)calloc(b->sizes.depth + b->sizes.minima + b->sizes.painting + 1, sizeof *words);
     if (!words)
         return COARSE_NO_MEMORY;
-    canvas->depth = words, canvas->depth_len = b->sizes.depth;
-    canvas->painting = words + b->sizes.depth, canvas->painting_len = b->sizes.painting;
-    return COARSE_DONE;
+    begun.depth = words, begun.depth_len = b->sizes.depth;
+    begun.minima = words + b->sizes.depth, begun.minima_len = b->sizes.minima;
+    begun.painting = begun.minima + b->sizes.minima, begun.painting_len = b->sizes.painting;
+    answer = coarse_begin_painting(&state, &begun);
+    if (answer == COARSE_DONE)
+        *canvas = begun;
+    else
+        free(words);
+    return answer;
 }
 
 static inline void coarse_bucketer_canvas_free(coarse_canvas *canvas) {
@@ -465,6 +478,16 @@ static inline uint32_t coarse_bucketer_unset_runs_and_write(coarse_bucketer *b, 
                                              b->run_room * COARSE_RUN, count);
     if (answer == COARSE_DONE)
         *runs = b->runs;
+    return answer;
+}
+
+/* Whether every bucket from first to end of a row of the screen is hidden from the id: each holds a greater one. */
+static inline uint32_t coarse_bucketer_is_hidden(const coarse_bucketer *b, size_t row, uint32_t first, uint32_t end, uint32_t id,
+                                                 int *yes) {
+    coarse_span span = {first, end};
+    uint32_t word = 0, answer = coarse_is_hidden(&b->state, b->canvas.minima, b->canvas.minima_len, row, span, id, &word);
+    if (answer == COARSE_DONE)
+        *yes = word == 1;
     return answer;
 }
 

@@ -43,11 +43,12 @@ static void null_pointers(void) {
     uint32_t *layer_attrs = calloc(COARSE_LAYER_ATTRS, 4);
     float *opacities = calloc(COARSE_OPACITIES, 4);
     int32_t *filter_paints = calloc(COARSE_FILTER_PAINTS, 4);
-    coarse_tables tables = {none, 0, none, 0, none, 0, none, 0, none, 0, layers, COARSE_LAYERS, opacities, COARSE_OPACITIES,
+    coarse_tables tables = {none, 0, none, 0, none, 0, none, 0, none, 0, none, 0, layers, COARSE_LAYERS, opacities, COARSE_OPACITIES,
                             paint_attrs, COARSE_PAINT_ATTRS, layer_attrs, COARSE_LAYER_ATTRS, filter_paints, COARSE_FILTER_PAINTS};
-    coarse_canvas canvas = {none, 0, none, 0};
+    coarse_canvas canvas = {none, 0, none, 0, none, 0};
     coarse_draw draw = {0, 0, 0, 0, {0, 3}, 0, 0};
     size_t count = 7;
+    uint32_t hidden = 7;
     coarse_setup one = {1, 1, COARSE_EXACT, COARSE_128};
     expect("reset to no rows", COARSE_DONE, coarse_reset(&state, (coarse_rect){0, 0, 128, 0}, one, &tables));
     expect("the structs hold what they held", 1, tables.layers == layers && tables.layers_len == COARSE_LAYERS && tables.render_cmds == none);
@@ -58,6 +59,8 @@ static void null_pointers(void) {
     expect("its count stays", 7, (uint32_t)count);
     expect("spans of no row", COARSE_BAD_RUN, coarse_visible_spans(&state, &canvas, 0, (coarse_span){0, 4}, 1, NULL, 0, &count));
     expect("their count stays", 7, (uint32_t)count);
+    expect("hidden in no row", COARSE_BAD_RUN, coarse_is_hidden(&state, NULL, 0, 0, (coarse_span){0, 0}, 1, &hidden));
+    expect("its answer stays", 7, hidden);
     expect("a recording of no words", COARSE_BAD_FORM, coarse_bucket_recording(&state, COARSE_EDITION_ONE, NULL, 0, one, &tables));
     free(layers), free(paint_attrs), free(layer_attrs), free(opacities), free(filter_paints);
 }
@@ -135,13 +138,101 @@ static uint32_t sum(const coarse_bucketer *b) {
     const uint32_t *words = (const uint32_t *)b->block;
     const coarse_lengths *lens = &b->sizes;
     size_t i, n = lens->render_cmds + lens->depth_cmds + lens->depth + lens->rows + lens->painting + lens->layers + lens->opacities +
-                  lens->paint_attrs + lens->layer_attrs + lens->filter_paints;
+                  lens->paint_attrs + lens->layer_attrs + lens->filter_paints + lens->minima;
     uint32_t mixed = 2166136261u;
     for (i = 0; i < n; i++)
         mixed = (mixed ^ words[i]) * 16777619u;
     for (i = 0; i < sizeof b->state / sizeof(uint32_t); i++)
         mixed = (mixed ^ ((const uint32_t *)&b->state)[i]) * 16777619u;
     return mixed;
+}
+
+/* What is asked of the range of buckets, and whether it is hidden. */
+static void asked(const coarse_bucketer *b, size_t row, uint32_t first, uint32_t end, uint32_t id, int want) {
+    int yes = 7;
+    expect("it is told", COARSE_DONE, coarse_bucketer_is_hidden(b, row, first, end, id, &yes));
+    expect(want ? "hidden" : "not hidden", (uint32_t)want, (uint32_t)yes);
+}
+
+/* What the minima tell, as the depth words do: of every range of every row, at the ids there and those beside. */
+static void asked_all(const coarse_bucketer *b) {
+    const uint32_t ids[] = {0, 1, 2, 3, 4, 5, 6, 7, 8, 0xfffffffeu, 0xffffffffu}, *words;
+    size_t row, count, i;
+    uint32_t first, end, k;
+    for (row = 0; row < coarse_bucketer_rows(b); row++) {
+        expect("a row's depth words", COARSE_DONE, coarse_bucketer_depth_words(b, row, &words, &count));
+        for (first = 0; first <= count; first++)
+            for (end = first; end <= count; end++)
+                for (i = 0; i < sizeof ids / sizeof ids[0]; i++) {
+                    int want = 1;
+                    for (k = first; k < end; k++)
+                        want = want && words[k] > ids[i];
+                    asked(b, row, first, end, ids[i], want);
+                }
+    }
+}
+
+/* Whether buckets are hidden, after a reset, a begin, steps, and runs that are written, or refused; what is refused leaves the answer. */
+static void hidden(void) {
+    const uint32_t across[] = {128, 256, 260, 640, 1024};
+    coarse_bucketer b;
+    coarse_canvas other;
+    coarse_state state;
+    const coarse_piece *pieces;
+    const coarse_run *runs;
+    uint32_t yes = 7;
+    coarse_painted painted = {0, 0};
+    size_t i, count = 0;
+    int finished = 0, told = 7;
+    for (i = 0; i < sizeof across / sizeof across[0]; i++) {
+        uint32_t buckets = (across[i] + 127) / 128, half = (buckets + 1) / 2;
+        expect("a screen", COARSE_DONE, coarse_bucketer_new(&b, (coarse_rect){0, 0, across[i], 8}, small));
+        asked_all(&b);
+        expect("a fill", COARSE_DONE, coarse_bucketer_generate_fill(&b, paints, 2, segments, 2, &both));
+        expect("painting", COARSE_DONE, coarse_bucketer_begin_painting(&b));
+        asked_all(&b);
+        expect("a step", COARSE_DONE, coarse_bucketer_paint_step(&b, 0, &finished, &pieces, &count));
+        asked_all(&b);
+        expect("a run", COARSE_DONE, coarse_bucketer_unset_runs_and_write(&b, 1, 0, half, 7, &runs, &count));
+        asked_all(&b);
+        expect("one past the row", COARSE_BAD_RUN, coarse_bucketer_unset_runs_and_write(&b, 1, 0, buckets + 1, 3, &runs, &count));
+        expect("none is left there", COARSE_DONE, coarse_bucketer_unset_runs_and_write(&b, 1, 0, half, 3, &runs, &count));
+        asked_all(&b);
+        expect("the rest", COARSE_DONE, coarse_bucketer_unset_runs_and_write(&b, 1, 0, buckets, 0xffffffffu, &runs, &count));
+        asked_all(&b);
+        expect("a begin", COARSE_DONE, coarse_bucketer_begin_painting(&b));
+        asked_all(&b);
+        coarse_bucketer_free(&b);
+    }
+    expect("a screen of 5 buckets", COARSE_DONE, coarse_bucketer_new(&b, (coarse_rect){0, 0, 640, 8}, small));
+    expect("15 minima in each of two rows", 30, (uint32_t)b.sizes.minima);
+    expect("an end past the row", COARSE_BAD_RUN, coarse_bucketer_is_hidden(&b, 0, 0, 6, 1, &told));
+    expect("backwards", COARSE_BAD_RUN, coarse_bucketer_is_hidden(&b, 0, 1, 0, 1, &told));
+    expect("an empty range past the end", COARSE_BAD_RUN, coarse_bucketer_is_hidden(&b, 0, 6, 6, 1, &told));
+    expect("no row 2", COARSE_BAD_RUN, coarse_bucketer_is_hidden(&b, 2, 0, 0, 1, &told));
+    expect("refused, it stays", 7, (uint32_t)told);
+    expect("a word short, before no row", COARSE_BAD_ARENA, coarse_is_hidden(&b.state, b.canvas.minima, 29, 2, (coarse_span){0, 0}, 1, &yes));
+    state = b.state, state.painting = 2;
+    expect("a state that is none, before no row", COARSE_BAD_RECORD, coarse_is_hidden(&state, b.canvas.minima, 30, 2, (coarse_span){0, 0}, 1, &yes));
+    expect("a word short before that", COARSE_BAD_ARENA, coarse_is_hidden(&state, b.canvas.minima, 31, 0, (coarse_span){0, 0}, 1, &yes));
+    state.viewport.x1 = 642;
+    expect("a bad viewport before that", COARSE_BAD_VIEWPORT, coarse_is_hidden(&state, b.canvas.minima, 31, 0, (coarse_span){0, 0}, 1, &yes));
+    expect("refused, the word stays", 7, yes);
+    /* A begin, a run and a step judge them with the depth words. */
+    other = b.canvas, other.minima_len = 29, state = b.state;
+    expect("a begin on short minima", COARSE_BAD_ARENA, coarse_begin_painting(&state, &other));
+    expect("a run on short minima", COARSE_BAD_ARENA, coarse_unset_runs_and_write(&state, &other, 0, (coarse_span){0, 1}, 1, NULL, 0, &count));
+    expect("a step on short minima", COARSE_BAD_ARENA, coarse_paint_step(&state, &b.stored, &other, 0, NULL, 0, &painted));
+    expect("a run that writes nothing reads none", COARSE_DONE, coarse_unset_runs(&state, &other, 0, (coarse_span){0, 0}, NULL, 0, &count));
+    b.tables.minima_len--;
+    expect("a reset on short minima", COARSE_BAD_ARENA, reset(&b, (coarse_rect){0, 0, 640, 8}, small));
+    b.tables.minima_len++;
+    /* A canvas of its own has minima of its own. */
+    expect("painting", COARSE_DONE, coarse_bucketer_begin_painting(&b));
+    expect("a canvas", COARSE_DONE, coarse_bucketer_canvas(&b, &other));
+    expect("the same minima", 0, memcmp(other.minima, b.canvas.minima, 30 * sizeof(uint32_t)) != 0);
+    coarse_bucketer_canvas_free(&other);
+    coarse_bucketer_free(&b);
 }
 
 /* The snapping mode: a screen of 1,366 x 768 pixels has 342 tiles in a row. */
@@ -152,13 +243,14 @@ static void snapped_screen(void) {
     const coarse_segment last[] = {{0, 191, 0, 342, 0}};
     const coarse_draw draw = {.start = 0, .end = 1, .paint = 0, .blend = COARSE_DEFAULT_BLEND};
     const coarse_piece *pieces;
-    coarse_lengths sizes = {0, 0, 0, 0, 0, 0, 0, 0, 0, 0};
+    coarse_lengths sizes = {0, 0, 0, 0, 0, 0, 0, 0, 0, 0, 0};
     size_t count = 0;
     expect("exact, it is refused", COARSE_BAD_VIEWPORT, coarse_bucketer_new(&b, odd, small));
     expect("exact, it has no sizes", COARSE_BAD_VIEWPORT, coarse_sizes(odd, small, &sizes));
     expect("snapping, it has", COARSE_DONE, coarse_sizes(odd, snapping, &sizes));
     expect("192 rows of 8 commands", 192 * 32, (uint32_t)sizes.render_cmds);
     expect("192 rows of 11 buckets", 192 * 11, (uint32_t)sizes.depth);
+    expect("with 31 minima", 192 * 31, (uint32_t)sizes.minima);
     expect("snapping, it is a screen", COARSE_DONE, coarse_bucketer_new(&b, odd, snapping));
     held = coarse_bucketer_viewport(&b);
     expect("to the next tile edge", 1368, held.x1);
@@ -202,7 +294,7 @@ static void snapped_screen(void) {
 static const uint32_t one_draw[] = {1, 0, 0, 256, 8, 1, 1, 1, 0, 0, 1, 0, 0, 0, 64, 0, 1, 0, 0, 1, 0, 0, 3, 0, 0, 1, 0, 1, 0, 1, 0, 1};
 
 /* What a refused call for sizes is to leave. */
-static const coarse_lengths sevens = {7, 7, 7, 7, 7, 7, 7, 7, 7, 7};
+static const coarse_lengths sevens = {7, 7, 7, 7, 7, 7, 7, 7, 7, 7, 7};
 
 /* Words that ask for no setup: every call that takes them gives this answer, a recording and a question after their 3. */
 static void unasked(uint32_t answer, coarse_bucketer *b, coarse_rect viewport, coarse_setup setup, coarse_lengths *sizes) {
@@ -702,7 +794,7 @@ static void coordinates(void) {
 
 /* The tables have the lengths that the header names. */
 static void named_sizes(void) {
-    coarse_lengths sizes = {0, 0, 0, 0, 0, 0, 0, 0, 0, 0};
+    coarse_lengths sizes = {0, 0, 0, 0, 0, 0, 0, 0, 0, 0, 0};
     expect("sizes", COARSE_DONE, coarse_sizes((coarse_rect){0, 0, 256, 8}, small, &sizes));
     expect("open layers", COARSE_LAYERS, (uint32_t)sizes.layers);
     expect("opacities", COARSE_OPACITIES, (uint32_t)sizes.opacities);
@@ -843,7 +935,7 @@ static void stored_commands(void) {
     coarse_command cmd;
     coarse_depth_fill fill;
     coarse_row_progress told;
-    coarse_canvas other = {NULL, 0, NULL, 0};
+    coarse_canvas other = {NULL, 0, NULL, 0, NULL, 0};
     coarse_painted painted = {0, 0};
     uint32_t list_words[700] = {0};
     const coarse_piece *pieces;
@@ -1167,6 +1259,7 @@ int main(void) {
     null_pointers();
     owned_tables();
     lent_spans();
+    hidden();
     snapped_screen();
     no_mode();
     widths();

@@ -13,8 +13,8 @@
 #include <stdlib.h>
 #include <string.h>
 
-/* The ten tables in the order of coarse_lengths, then what else a call may write. */
-enum { RENDER_CMDS, DEPTH_CMDS, DEPTH, ROWS, PAINTING, LAYERS, OPACITIES, PAINT_ATTRS, LAYER_ATTRS, FILTER_PAINTS, TABLES, STATE = TABLES, LIST, PARTS };
+/* The eleven tables in the order of coarse_lengths, then what else a call may write. */
+enum { RENDER_CMDS, DEPTH_CMDS, DEPTH, ROWS, PAINTING, LAYERS, OPACITIES, PAINT_ATTRS, LAYER_ATTRS, FILTER_PAINTS, MINIMA, TABLES, STATE = TABLES, LIST, PARTS };
 enum { SCREEN = (1 << (STATE + 1)) - 1, RESULTS = 1 << PARTS, LISTED = 1 << LIST | RESULTS };
 enum { LIST_WORDS = 512, ROOM = 1 << 17, BETWEEN = 3, MOST_SEGMENTS = 24, MOST_DRAWS = 6,
        FILES = 32, FILE_WORDS = 4096, STATE_WORDS = sizeof(coarse_state) / sizeof(uint32_t) };
@@ -104,10 +104,11 @@ static void lend(void) {
     length[LIST] = once_in(3) ? (size_t)below(LIST_WORDS + 1) : (size_t)LIST_WORDS;
     length[STATE] = STATE_WORDS;
     {
-        coarse_tables tables = {LENT(RENDER_CMDS), LENT(DEPTH_CMDS), LENT(DEPTH), LENT(ROWS), LENT(PAINTING), LENT(LAYERS), (float *)part[OPACITIES],
-                                length[OPACITIES], LENT(PAINT_ATTRS), LENT(LAYER_ATTRS), (int32_t *)part[FILTER_PAINTS], length[FILTER_PAINTS]};
+        coarse_tables tables = {LENT(RENDER_CMDS), LENT(DEPTH_CMDS), LENT(DEPTH), LENT(MINIMA), LENT(ROWS), LENT(PAINTING), LENT(LAYERS),
+                                (float *)part[OPACITIES], length[OPACITIES], LENT(PAINT_ATTRS), LENT(LAYER_ATTRS), (int32_t *)part[FILTER_PAINTS],
+                                length[FILTER_PAINTS]};
         coarse_stored stored = {LENT(ROWS), LENT(RENDER_CMDS), LENT(DEPTH_CMDS), LENT(PAINT_ATTRS), LENT(LAYER_ATTRS)};
-        coarse_canvas canvas = {LENT(DEPTH), LENT(PAINTING)};
+        coarse_canvas canvas = {LENT(DEPTH), LENT(MINIMA), LENT(PAINTING)};
         lent.tables = tables, lent.stored = stored, lent.canvas = canvas;
     }
 }
@@ -337,6 +338,11 @@ static uint32_t call_write(void) {
     return coarse_unset_runs_and_write(SCREEN_STATE, &lent.canvas, about(8), some_span(first, first + about(6)), about(40), LENT(LIST), &results.count);
 }
 
+static uint32_t call_hidden(void) {
+    uint32_t first = below(4);
+    return coarse_is_hidden(SCREEN_STATE, LENT(MINIMA), about(8), some_span(first, first + about(6)), about(40), &results.yes);
+}
+
 static uint32_t call_skip(void) { return coarse_can_skip(SCREEN_STATE, &lent.stored, about(8), some_span(below(60), about(8192)), about(40), &results.yes); }
 
 static uint32_t call_split(void) {
@@ -395,13 +401,14 @@ static struct {
     {"coarse_push_layer", ready_none, call_push, ROWS_TOO | 1 << LAYERS | 1 << OPACITIES, 14, 0, 0},
     {"coarse_pop_layer", ready_none, call_pop, ROWS_TOO | 1 << LAYERS | 1 << OPACITIES | 1 << LAYER_ATTRS, 20, 0, 0},
     {"coarse_filter_fill", ready_none, call_filter, ROWS_TOO | 1 << PAINT_ATTRS | 1 << FILTER_PAINTS, 8, 0, 0},
-    {"coarse_begin_painting", ready_none, call_begin, 1 << STATE | 1 << DEPTH | 1 << PAINTING, 20, 0, 0},
-    {"coarse_paint_step", ready_none, call_step, 1 << DEPTH | 1 << PAINTING | LISTED, 40, 0, 0},
-    {"coarse_paint_row", ready_none, call_row, 1 << DEPTH | 1 << PAINTING | LISTED, 20, 0, 0},
+    {"coarse_begin_painting", ready_none, call_begin, 1 << STATE | 1 << DEPTH | 1 << MINIMA | 1 << PAINTING, 20, 0, 0},
+    {"coarse_paint_step", ready_none, call_step, 1 << DEPTH | 1 << MINIMA | 1 << PAINTING | LISTED, 40, 0, 0},
+    {"coarse_paint_row", ready_none, call_row, 1 << DEPTH | 1 << MINIMA | 1 << PAINTING | LISTED, 20, 0, 0},
     {"coarse_unset_runs", ready_none, call_unset, LISTED, 6, 0, 0},
     {"coarse_visible_runs", ready_none, call_visible, LISTED, 6, 0, 0},
     {"coarse_visible_spans", ready_none, call_spans, LISTED, 6, 0, 0},
-    {"coarse_unset_runs_and_write", ready_none, call_write, 1 << STATE | 1 << DEPTH | LISTED, 4, 0, 0},
+    {"coarse_unset_runs_and_write", ready_none, call_write, 1 << STATE | 1 << DEPTH | 1 << MINIMA | LISTED, 4, 0, 0},
+    {"coarse_is_hidden", ready_none, call_hidden, RESULTS, 6, 0, 0},
     {"coarse_can_skip", ready_none, call_skip, RESULTS, 6, 0, 0},
     {"coarse_split_opaque_span", ready_none, call_split, RESULTS, 3, 0, 0},
     {"coarse_row_lengths", ready_none, call_lengths, RESULTS, 6, 0, 0},

@@ -38,7 +38,7 @@ static uint64_t sum_of(uint64_t sum, const void *at, size_t size) {
 
 static uint64_t everything(const coarse_bucketer *b) {
     const coarse_lengths *n = &b->sizes;
-    size_t words = n->render_cmds + n->depth_cmds + n->depth + n->rows + n->painting + n->layers + n->opacities + n->paint_attrs + n->layer_attrs + n->filter_paints;
+    size_t words = n->render_cmds + n->depth_cmds + n->depth + n->rows + n->painting + n->layers + n->opacities + n->paint_attrs + n->layer_attrs + n->filter_paints + n->minima;
     uint64_t sum = 14695981039346656037u;
     sum = sum_of(sum, &b->setup, sizeof b->setup);
     sum = sum_of(sum, &b->state, sizeof b->state);

@@ -164,7 +164,7 @@ static void filter_step(void) {
 
 static size_t words_of(const coarse_bucketer *b) {
     const coarse_lengths *n = &b->sizes;
-    return n->render_cmds + n->depth_cmds + n->depth + n->rows + n->painting + n->layers + n->opacities + n->paint_attrs + n->layer_attrs + n->filter_paints;
+    return n->render_cmds + n->depth_cmds + n->depth + n->rows + n->painting + n->layers + n->opacities + n->paint_attrs + n->layer_attrs + n->filter_paints + n->minima;
 }
 
 /* The two screens hold the same words. */

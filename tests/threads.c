@@ -86,7 +86,7 @@ static void *draw_and_paint(void *given) {
 }
 
 static job job_on(const coarse_bucketer *screen) {
-    job made = {screen, {NULL, 0, NULL, 0}, NULL, 0, 0};
+    job made = {screen, {NULL, 0, NULL, 0, NULL, 0}, NULL, 0, 0};
     made.pieces = (uint32_t *)calloc(ROOM, sizeof(uint32_t));
     if (coarse_bucketer_canvas(screen, &made.canvas) != COARSE_DONE || !made.pieces)
         exit(2);

@@ -70,6 +70,16 @@ fn main() -> Result<(), Box<dyn Error>> {
     println!("tile 25: {}", received(&pieces, &paints, 25));
     println!("tile 10: {}", received(&pieces, &paints, 10));
 
+    // Of the banner nothing shows in bucket 1, which the panel has whole.
+    let id = screen.paint_attrs().next().map_or(0, |attrs| attrs.draw_id);
+    for bucket in 0..4 {
+        let hidden = screen.is_hidden(0, bucket, bucket + 1, id)?;
+        println!(
+            "bucket {bucket}: the banner is {}",
+            if hidden { "hidden" } else { "seen" }
+        );
+    }
+
     // The same two draws, recorded: what a tile receives can be listed without a screen.
     let mut scene = Recorder::new(Rect::new(0, 0, 512, 4));
     scene.segments(&segments)?;

@@ -88,6 +88,7 @@ pub(crate) struct Tables {
     pub(crate) render_cmds: Vec<u32>,
     pub(crate) depth_cmds: Vec<u32>,
     pub(crate) depth: Vec<u32>,
+    pub(crate) minima: Vec<u32>,
     pub(crate) rows: Vec<u32>,
     pub(crate) painting: Vec<u32>,
     pub(crate) layers: Vec<u32>,
@@ -104,6 +105,7 @@ impl Tables {
             render_cmds: sys::Lent::of(&mut self.render_cmds),
             depth_cmds: sys::Lent::of(&mut self.depth_cmds),
             depth: sys::Lent::of(&mut self.depth),
+            minima: sys::Lent::of(&mut self.minima),
             rows: sys::Lent::of(&mut self.rows),
             painting: sys::Lent::of(&mut self.painting),
             layers: sys::Lent::of(&mut self.layers),
@@ -121,6 +123,7 @@ impl Tables {
         };
         let canvas = sys::CanvasWords {
             depth: lent.depth,
+            minima: lent.minima,
             painting: lent.painting,
         };
         (lent, stored, canvas)
@@ -131,6 +134,7 @@ impl Tables {
             render_cmds: vec![0; sizes.render_cmds],
             depth_cmds: vec![0; sizes.depth_cmds],
             depth: vec![0; sizes.depth],
+            minima: vec![0; sizes.minima],
             rows: vec![0; sizes.rows],
             painting: vec![0; sizes.painting],
             layers: vec![0; sizes.layers],
@@ -153,6 +157,7 @@ impl Tables {
             paint_attrs: self.paint_attrs.len(),
             layer_attrs: self.layer_attrs.len(),
             filter_paints: self.filter_paints.len(),
+            minima: self.minima.len(),
         }
     }
 }
@@ -518,7 +523,7 @@ impl CommandBucketer {
 
 /// Painting, on the screen's own canvas.
 impl CommandBucketer {
-    /// Ends drawing, clears the depth words and sets every row to its first step. What is drawn afterwards ends painting.
+    /// Ends drawing, clears the depth words, makes their minima afresh and sets every row to its first step. What is drawn afterwards ends painting.
     ///
     /// # Errors
     /// [`Answer::Open`] where a layer is open.
@@ -697,6 +702,22 @@ impl CommandBucketer {
         }
     }
 
+    /// Whether every bucket from `first` to `end` of a row of the screen is hidden from a draw: each holds a greater id. Of no bucket, yes. It is told
+    /// from the minima above the depth words, without a look at every bucket.
+    ///
+    /// # Errors
+    /// [`Answer::BadRun`] for no such row, no range, or an end past the row's buckets.
+    pub fn is_hidden(
+        &self,
+        row: usize,
+        first: u32,
+        end: u32,
+        draw_id: u32,
+    ) -> Result<bool, Answer> {
+        self.brush
+            .is_hidden(&self.state, row, BucketRange { first, end }, draw_id)
+    }
+
     /// Whether a draw over the tiles `first` to `end` of a row of the screen need not look at the row's depth words.
     ///
     /// # Errors
@@ -779,6 +800,11 @@ impl CommandBucketer {
 impl CommandBucketer {
     pub(crate) fn state(&self) -> &sys::StateWords {
         &self.state
+    }
+
+    /// How many minima the screen has.
+    pub(crate) fn minima_len(&self) -> usize {
+        self.tables.minima.len()
     }
 
     pub(crate) fn stored(&self) -> &sys::StoredWords {

@@ -331,13 +331,29 @@ impl Brush {
         })
     }
 
+    pub(crate) fn is_hidden(
+        &self,
+        state: &sys::StateWords,
+        row: usize,
+        buckets: BucketRange,
+        id: u32,
+    ) -> Result<bool, Answer> {
+        let BucketRange { first, end } = buckets;
+        let sys::Read { at, len } = self.words.minima.read();
+        let mut yes = 0;
+        Answer::check(unsafe {
+            sys::coarse_is_hidden(state, at, len, row, TileSpan { first, end }, id, &mut yes)
+        })?;
+        Ok(yes == 1)
+    }
+
     #[cfg(test)]
     pub(crate) fn pieces(&mut self) -> &mut Vec<Piece> {
         &mut self.pieces
     }
 }
 
-/// What one thread writes while it paints a screen: depth words, and how far each row is painted. A [`CommandBucketer`] has one of its own; with
+/// What one thread writes while it paints a screen: depth words with their minima, and how far each row is painted. A [`CommandBucketer`] has one of its own; with
 /// others, which [`CommandBucketer::canvas`] makes once painting has begun, several threads paint one screen. Each paints the rows that it likes, and
 /// none knows of the others.
 ///
@@ -363,6 +379,7 @@ impl Brush {
 #[derive(Debug)]
 pub struct Canvas {
     depth: Vec<u32>,
+    minima: Vec<u32>,
     painting: Vec<u32>,
     brush: Brush,
     /// The number of the beginning that it belongs to, or 0.
@@ -375,13 +392,17 @@ unsafe impl Sync for Canvas {}
 
 impl Clone for Canvas {
     fn clone(&self) -> Self {
-        let (mut depth, mut painting) = (self.depth.clone(), self.painting.clone());
+        let mut depth = self.depth.clone();
+        let mut minima = self.minima.clone();
+        let mut painting = self.painting.clone();
         let words = sys::CanvasWords {
             depth: sys::Lent::of(&mut depth),
+            minima: sys::Lent::of(&mut minima),
             painting: sys::Lent::of(&mut painting),
         };
         Self {
             depth,
+            minima,
             painting,
             brush: self.brush.over(words),
             begun: self.begun,
@@ -395,13 +416,15 @@ impl Canvas {
     /// # Errors
     /// [`Answer::Open`] where painting has not begun.
     pub fn new(screen: &CommandBucketer) -> Result<Self, Answer> {
-        let (mut depth, mut painting) = (Vec::new(), Vec::new());
+        let (mut depth, mut minima, mut painting) = (Vec::new(), Vec::new(), Vec::new());
         let words = sys::CanvasWords {
             depth: sys::Lent::of(&mut depth),
+            minima: sys::Lent::of(&mut minima),
             painting: sys::Lent::of(&mut painting),
         };
         let mut canvas = Self {
             depth,
+            minima,
             painting,
             brush: Brush::new(words, 0),
             begun: 0,
@@ -421,9 +444,11 @@ impl Canvas {
         }
         let rows = screen.rows().len();
         self.depth.resize(rows * screen.buckets(), 0);
+        self.minima.resize(screen.minima_len(), 0);
         self.painting.resize(rows * PAINTING, 0);
         self.brush.words = sys::CanvasWords {
             depth: sys::Lent::of(&mut self.depth),
+            minima: sys::Lent::of(&mut self.minima),
             painting: sys::Lent::of(&mut self.painting),
         };
         self.brush.make_room(screen.buckets());
@@ -526,6 +551,23 @@ impl Canvas {
             .unset_runs_and_write(&mut state, row, range, draw_id)?;
         self.begun = 0;
         Ok(runs)
+    }
+
+    /// As [`CommandBucketer::is_hidden`], on this canvas.
+    ///
+    /// # Errors
+    /// As [`progress`](Self::progress); [`Answer::BadRun`] also for no range or an end past the row's buckets.
+    pub fn is_hidden(
+        &self,
+        screen: &CommandBucketer,
+        row: usize,
+        first: u32,
+        end: u32,
+        draw_id: u32,
+    ) -> Result<bool, Answer> {
+        self.belongs(screen)?;
+        self.brush
+            .is_hidden(screen.state(), row, BucketRange { first, end }, draw_id)
     }
 
     /// All depth words, a word for each bucket, row after row of the screen: the id of the newest depth fill that is painted there, or 0.

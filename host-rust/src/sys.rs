@@ -95,7 +95,7 @@ impl<T> Lent<T> {
     }
 }
 
-/// How many elements each of the ten tables has.
+/// How many elements each of the eleven tables has.
 #[repr(C)]
 #[derive(Clone, Copy, Debug, Default, PartialEq, Eq)]
 pub struct Lengths {
@@ -109,15 +109,17 @@ pub struct Lengths {
     pub paint_attrs: usize,
     pub layer_attrs: usize,
     pub filter_paints: usize,
+    pub minima: usize,
 }
 
-/// The ten tables, as they cross: a pointer and a length each.
+/// The eleven tables, as they cross: a pointer and a length each.
 #[repr(C)]
 #[derive(Clone, Copy, Debug)]
 pub struct TableWords {
     pub render_cmds: Lent<u32>,
     pub depth_cmds: Lent<u32>,
     pub depth: Lent<u32>,
+    pub minima: Lent<u32>,
     pub rows: Lent<u32>,
     pub painting: Lent<u32>,
     pub layers: Lent<u32>,
@@ -152,6 +154,7 @@ pub struct StoredWords {
 #[derive(Clone, Copy, Debug)]
 pub struct CanvasWords {
     pub depth: Lent<u32>,
+    pub minima: Lent<u32>,
     pub painting: Lent<u32>,
 }
 
@@ -493,6 +496,16 @@ extern "C" {
         list: *mut u32,
         list_len: usize,
         count: *mut usize,
+    ) -> u32;
+
+    pub fn coarse_is_hidden(
+        state: *const StateWords,
+        minima: *const u32,
+        minima_len: usize,
+        row: usize,
+        buckets: TileSpan,
+        id: u32,
+        yes: *mut u32,
     ) -> u32;
 
     pub fn coarse_can_skip(

@@ -929,6 +929,71 @@ fn runs_and_skips() {
     assert_eq!(bucketer.can_skip(9, 0, 32, 1), Err(Answer::BadRun));
 }
 
+/// Every range of a row's buckets, as the depth words have it, at ids there and beside.
+fn hidden_as_the_words_say(bucketer: &CommandBucketer) {
+    for row in 0..bucketer.rows().len() {
+        let words = bucketer.depth_words_of(row).unwrap();
+        let buckets = u32::try_from(words.len()).unwrap();
+        for end in 0..=buckets {
+            for first in 0..=end {
+                for id in [0, 1, 2, 6, 7, 8, u32::MAX - 1, u32::MAX] {
+                    let all = words[first as usize..end as usize]
+                        .iter()
+                        .all(|&word| word > id);
+                    assert_eq!(
+                        bucketer.is_hidden(row, first, end, id),
+                        Ok(all),
+                        "{first} to {end} at {id}"
+                    );
+                }
+            }
+        }
+    }
+}
+
+#[test]
+fn hidden_buckets() {
+    for (width, across) in [
+        (Width::W64, 4_096),
+        (Width::W64, 4_032),
+        (Width::W128, 640),
+        (Width::W128, 128),
+        (Width::W256, 768),
+        (Width::W256, 300),
+    ] {
+        let setup = Setup::new(8, 8).with_width(width);
+        let mut bucketer = CommandBucketer::from_wh(across, 8, setup).unwrap();
+        hidden_as_the_words_say(&bucketer);
+        let buckets = u32::try_from(bucketer.buckets()).unwrap();
+        bucketer
+            .generate_fill(
+                &[Paint::new(true, 1)],
+                &[Segment::solid(0, 0, across / 4)],
+                &fill(0, 1, 0),
+            )
+            .unwrap();
+        bucketer.begin_painting().unwrap();
+        hidden_as_the_words_say(&bucketer);
+        bucketer.paint_row(0).unwrap();
+        hidden_as_the_words_say(&bucketer);
+        let half = buckets.div_ceil(2);
+        bucketer.unset_runs_and_write(1, 0, half, 7).unwrap();
+        hidden_as_the_words_say(&bucketer);
+        bucketer
+            .unset_runs_and_write(1, 0, buckets, u32::MAX)
+            .unwrap();
+        hidden_as_the_words_say(&bucketer);
+        for (row, first, end) in [
+            (0, 0, buckets + 1),
+            (0, 1, 0),
+            (0, buckets + 1, buckets + 1),
+            (2, 0, 0),
+        ] {
+            assert_eq!(bucketer.is_hidden(row, first, end, 1), Err(Answer::BadRun));
+        }
+    }
+}
+
 #[test]
 fn spans_in_a_lent_list() {
     let mut bucketer = CommandBucketer::from_wh(512, 8, Setup::new(8, 8)).unwrap();

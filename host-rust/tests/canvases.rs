@@ -108,6 +108,12 @@ fn one_canvas() {
         canvas.unset_runs(&screen, 3, 0, 256).unwrap(),
         screen.unset_runs(3, 0, 256).unwrap()
     );
+    for id in 0..16 {
+        assert_eq!(
+            canvas.is_hidden(&screen, 3, 1, 3, id).unwrap(),
+            screen.is_hidden(3, 1, 3, id).unwrap()
+        );
+    }
     assert_eq!(canvas.paint_row(&screen, ROWS), Err(Answer::BadRun));
 }
 

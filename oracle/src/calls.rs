@@ -98,6 +98,12 @@ pub enum Call {
     },
     NextId(u32),
     Show,
+    Hidden {
+        row: u32,
+        first: u32,
+        end: u32,
+        id: u32,
+    },
 }
 
 fn list<const N: usize>(records: &[[u32; N]]) -> Vec<u32> {
@@ -173,6 +179,12 @@ impl Call {
             Self::CanSkip { row, tiles, id } => vec![10, *row, tiles[0], tiles[1], *id],
             Self::NextId(id) => vec![11, *id],
             Self::Show => vec![12],
+            Self::Hidden {
+                row,
+                first,
+                end,
+                id,
+            } => vec![17, *row, *first, *end, *id],
         }
     }
 
@@ -295,6 +307,15 @@ impl Call {
                     range,
                     paints: records(rest)?,
                     segments: records(rest)?,
+                }
+            }
+            17 => {
+                let [row, first, end, id] = take(rest)?;
+                Self::Hidden {
+                    row,
+                    first,
+                    end,
+                    id,
                 }
             }
             _ => return None,
@@ -455,6 +476,12 @@ impl Sequence {
             } => self.write(*row, *id, *buckets, *words),
             Call::CanSkip { row, tiles, id } => self.can_skip(*row, *tiles, *id),
             Call::Show => [vec![0], self.show()].concat(),
+            Call::Hidden {
+                row,
+                first,
+                end,
+                id,
+            } => self.is_hidden(*row, (*first, *end), *id),
         }
     }
 
@@ -833,6 +860,15 @@ impl Sequence {
         vec![0, says.into()]
     }
 
+    fn is_hidden(&self, row: u32, (first, end): Range, id: u32) -> Vec<u32> {
+        match self.painters.get(row as usize) {
+            Some(painter) if first <= end && end as usize <= painter.depth.words().len() => {
+                vec![0, painter.depth.is_hidden((first, end), id).into()]
+            }
+            _ => vec![BAD_RUN, 0],
+        }
+    }
+
     /// The screen's numbers, each row's words, the attributes.
     fn show(&self) -> Vec<u32> {
         let screen = &self.screen;
@@ -852,6 +888,7 @@ impl Sequence {
                 out.extend([packed(fill.buckets), fill.attribute]);
             }
             out.extend(painter.depth.words());
+            out.extend(painter.depth.minima());
             out.extend([count(painter.steps), painter.nesting]);
         }
         for (i, attr) in (0..).zip(screen.paint_attrs()) {

@@ -19,6 +19,7 @@ mod kurbo {
 pub mod leaves;
 mod limits;
 pub mod lists;
+mod minima;
 pub mod original;
 pub mod painting;
 mod panels;

@@ -1,5 +1,6 @@
 //! The width of a depth bucket, which a screen chooses, and the original at that width with the oracle's own account beside it.
 
+use crate::minima;
 use crate::rules::{self, Summary};
 use crate::screen::{Buffer, Part, Range, Screen, Stage};
 use crate::{coarse, coarse_256, coarse_64};
@@ -132,6 +133,21 @@ impl Depth {
         assert_eq!(runs, own, "writing {buckets:?}, then {:?}", self.words);
         self.must_agree();
         runs
+    }
+
+    /// The minima of its words, made afresh.
+    pub(crate) fn minima(&self) -> Vec<u32> {
+        minima::minima(&self.words)
+    }
+
+    /// Whether a range of its buckets is hidden from an id: by the minima, by the words themselves, and by the visible runs, of which there must be none.
+    pub(crate) fn is_hidden(&self, buckets: Range, id: u32) -> bool {
+        let says = minima::is_hidden(&self.minima(), buckets, id);
+        let own = (buckets.0..buckets.1).all(|bucket| self.words[bucket as usize] > id);
+        assert_eq!(says, own, "hidden {buckets:?} at {id} of {:?}", self.words);
+        let runs = self.visible(self.width.tiles_of(buckets), id);
+        assert_eq!(says, runs.is_empty(), "{buckets:?} at {id}: {runs:?}");
+        says
     }
 
     fn must_agree(&self) {

@@ -1,11 +1,12 @@
 -- What the rules' answers say of each way through the calls over runs. Assumes nothing.
-use Rattle.std.proofs.Common.{◌≡◌, refl, sym, ap, ◌∙◌, Bool, true, false, ◌&&◌, ◌||◌, not, cond, List, [], map, ℕ, ◌≤◌, ◌<◌, ◌+◌, ◌-◌, ◌/◌, min, arith, length, leb, ltb, eqb, le-leb, le-ltb, ne_eqb, eq-eqb}
+use Rattle.std.proofs.Common.{◌≡◌, refl, sym, ap, ◌∙◌, Bool, true, false, ◌&&◌, ◌||◌, not, cond, List, [], map, ℕ, ◌≤◌, ◌<◌, ◌+◌, ◌-◌, ◌*◌, ◌/◌, min, arith, length, leb, ltb, eqb, le-leb, le-ltb, ne_eqb, eq-eqb, ltb-false}
 use lib.ListN.{length-map}
 use borrow.Author.Tests.{lt-leb}
 use Rattle.rules.specs.Answers.{Answer, answer}
 use Rattle.rules.specs.Spans.{Span, span, common, bad-range}
 use Rattle.rules.specs.Depth.{runs-in, runs, tiles-of, is-visible, listed, unset-runs, visible-runs, unset_answer, visible_answer, write-runs, write_answer, write-after, written}
-use Rattle.depth.specs.Listing.{RunsOut, numbers, listing, done, cut-runs, open-runs, met-end, OutWrite, writing}
+use Rattle.rules.specs.Minima.{minima-room, halvings, mended-runs, minima-after}
+use Rattle.depth.specs.Listing.{RunsOut, numbers, over, listing, done, cut-runs, open-runs, met-end, OutWrite, writing}
 use Rattle.depth.proofs.Skipping.{or-true}
 use Rattle.depth.proofs.Searching.{runs-few, runs-shorter, runs-end, unset-visible}
 
@@ -32,17 +33,17 @@ module _ (n : ℕ) (rs : List Span) (l : List ℕ) where
 listed-done : (n : ℕ) (rs : List Span) (bad : Bool) → bad ≡ false → ltb n (length rs) ≡ false → answer 0 rs ≡ listed bad n rs
 listed-done n rs bad e f = rw (e, f)
 
-backward : (n : ℕ) (s : Span) → s.end < s.first → bad-range n s ≡ true
+pub backward : (n : ℕ) (s : Span) → s.end < s.first → bad-range n s ≡ true
 backward n s h = rw (lt-leb _ _ h)
 
-past : (n : ℕ) (s : Span) → n < s.end → bad-range n s ≡ true
+pub past : (n : ℕ) (s : Span) → n < s.end → bad-range n s ≡ true
 past n s h = rw (lt-leb _ _ h) (go (leb s.first s.end))
   where
     go : (t : Bool) → not (t && false) ≡ true
     go true = refl
     go false = refl
 
-good : (n : ℕ) (s : Span) → s.first ≤ s.end → s.end ≤ n → bad-range n s ≡ false
+pub good : (n : ℕ) (s : Span) → s.first ≤ s.end → s.end ≤ n → bad-range n s ≡ false
 good n s h g = rw (le-leb _ _ h, le-leb _ _ g)
 
 -- a span of tiles, at w tiles a bucket
@@ -86,33 +87,59 @@ unfolding visible_answer unset_answer visible-runs unset-runs
 unset-same w bs s n = rw unset-visible
 
 -- a range of buckets
-module _ (bs : List ℕ) (id : ℕ) (r : Span) (l : List ℕ) where
+module _ (bs ws : List ℕ) (id : ℕ) (r : Span) (l : List ℕ) where
   abbrev pub refused-write : ℕ → OutWrite
-  refused-write n = record { listed = refused n l; depth = bs }
+  refused-write n = record { listed = refused n l; depth = bs; minima = ws }
 
-  bad-write : (bad-range (length bs) r || eqb id 0) ≡ true → refused-write 12 ≡ writing bs id r l
-  unfolding write_answer write-after listing numbers
-  bad-write e = rw e
+  pub write-unfit : eqb (length ws) (minima-room (length bs)) ≡ false → refused-write 1 ≡ writing bs ws id r l
+  unfolding listing numbers
+  write-unfit e = rw e
 
-  pub write-backward : r.end < r.first → refused-write 12 ≡ writing bs id r l
-  write-backward h = bad-write (rw (backward (length bs) r h))
+  module _ (fit : eqb (length ws) (minima-room (length bs)) ≡ true) where
+    bad-write : (bad-range (length bs) r || eqb id 0) ≡ true → refused-write 12 ≡ writing bs ws id r l
+    unfolding write_answer write-after minima-after listing numbers
+    bad-write e = rw (fit, e)
 
-  pub write-past : length bs < r.end → refused-write 12 ≡ writing bs id r l
-  write-past h = bad-write (rw (past (length bs) r h))
+    pub write-backward : r.end < r.first → refused-write 12 ≡ writing bs ws id r l
+    write-backward h = bad-write (rw (backward (length bs) r h))
 
-  pub write-no-id : id ≡ 0 → refused-write 12 ≡ writing bs id r l
-  write-no-id h = bad-write (rw (eq-eqb id 0 h) (or-true (bad-range (length bs) r)))
+    pub write-past : length bs < r.end → refused-write 12 ≡ writing bs ws id r l
+    write-past h = bad-write (rw (past (length bs) r h))
 
-  module _ (h : r.first ≤ r.end) (g : r.end ≤ length bs) (k : id ≡ 0 → ⊥) where
-    fine : (bad-range (length bs) r || eqb id 0) ≡ false
-    fine = rw (good (length bs) r h g, ne_eqb id 0 k)
+    pub write-no-id : id ≡ 0 → refused-write 12 ≡ writing bs ws id r l
+    write-no-id h = bad-write (rw (eq-eqb id 0 h) (or-true (bad-range (length bs) r)))
 
-    pub write-short : true ≡ ltb (length l / 2) (length (runs-in (is-visible 0) bs r)) → refused-write 14 ≡ writing bs id r l
-    unfolding write_answer write-after write-runs listing numbers
-    write-short q = rw (fine, unset-visible, ← q)
+    module _ (h : r.first ≤ r.end) (g : r.end ≤ length bs) (k : id ≡ 0 → ⊥) where
+      fine : (bad-range (length bs) r || eqb id 0) ≡ false
+      fine = rw (good (length bs) r h g, ne_eqb id 0 k)
 
-    pub write_done : (n : ℕ) (l' bs' : List ℕ) → false ≡ ltb (length l / 2) (length (runs-in (is-visible 0) bs r))
-        → done n l' ≡ listing (open-runs bs r.first r.end) l → bs' ≡ written bs id r
-        → record { listed = done n l'; depth = bs' } ≡ writing bs id r l
-    unfolding write_answer write-after write-runs
-    write_done n l' bs' q d m = rw (fine, unset-visible, ← q, d, m)
+      pub write-short : true ≡ ltb (length l / 2) (length (runs-in (is-visible 0) bs r)) → refused-write 14 ≡ writing bs ws id r l
+      unfolding write_answer write-after minima-after write-runs listing numbers
+      write-short q = rw (fit, fine, unset-visible, ← q)
+
+      pub write_done : (n : ℕ) (l' bs' ws' : List ℕ) → false ≡ ltb (length l / 2) (length (runs-in (is-visible 0) bs r))
+          → done n l' ≡ listing (open-runs bs r.first r.end) l → bs' ≡ written bs id r → ws' ≡ mended-runs (halvings (length bs)) ws bs' (runs-in (is-visible 0) bs r)
+          → record { listed = done n l'; depth = bs'; minima = ws' } ≡ writing bs ws id r l
+      unfolding write_answer write-after minima-after write-runs
+      write_done n l' bs' ws' q d m w = rw (fit, fine, unset-visible, ← q, d, w, m)
+
+-- what is listed of the unset runs: their number, and the list
+module _ (n : ℕ) (l' bs l : List ℕ) (lo hi : ℕ) (e : done n l' ≡ listing (open-runs bs lo hi) l) where
+  pub listed-count : n ≡ length (runs-in (is-visible 0) bs (span lo hi))
+  unfolding listing
+  listed-count = ap (λ (o : RunsOut). o.count) e
+
+  pub listed-list : l' ≡ over (numbers (runs-in (is-visible 0) bs (span lo hi))) l
+  unfolding listing
+  listed-list = ap (λ (o : RunsOut). o.list) e
+
+  -- no more runs than buckets
+  pub listed-few : hi ≤ length bs → n ≤ length bs
+  listed-few h = let c = listed-count in let f = runs-few (is-visible 0) bs lo hi in fewer (length (runs-in (is-visible 0) bs (span lo hi))) f c
+    where
+      fewer : (m : ℕ) → m * 2 ≤ hi - lo + 1 → n ≡ m → n ≤ length bs
+      fewer m f c = omega arith
+
+-- room for the runs, where the list is not short
+pub list-room : (rs : List Span) (l : List ℕ) → false ≡ ltb (length l / 2) (length rs) → length rs * 2 ≤ length l
+list-room rs l e = let h = ltb-false (length l / 2) (length rs) (sym e) in omega arith

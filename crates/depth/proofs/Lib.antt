@@ -1,6 +1,8 @@
 pub mod Answering
 pub mod Filling
 pub mod Marking
+pub mod Groups
+pub mod Asking
 pub mod Once
 pub mod Searching
 pub mod Skipping

@@ -32,6 +32,9 @@ split_of r = answered parts_of [] r
 abbrev pub skip_of : Result Bool Refusal → rules.Answer Bool
 skip_of r = answered (λ yes. yes) false r
 
+abbrev pub hidden_of : Result Bool Refusal → rules.Answer Bool
+hidden_of r = answered (λ yes. yes) false r
+
 abbrev pub piece_of : ℕ → ℕ → Option TileSpan
 piece_of a b = cond (ltb a b) (Some (record { first = a; end = b })) None
 

@@ -1,10 +1,11 @@
 -- What a call over runs leaves in the words that are lent to it.
-use Rattle.std.specs.Prelude.{Result, Ok, Err, ℕ, ◌+◌, ◌-◌, ◌/◌, min, cond, List, [], ◌∷◌, ◌++◌, map, length, drop, ltb}
+use Rattle.std.specs.Prelude.{Result, Ok, Err, ℕ, ◌+◌, ◌-◌, ◌/◌, min, cond, List, [], ◌∷◌, ◌++◌, map, length, drop, ltb, eqb}
 use Rattle.sizes.specs.declared.answers.Refusal.{Refusal}
 use Rattle.sizes.specs.Refusals.{number_of}
-use Rattle.rules.specs.Answers.{Answer, answer, Done}
+use Rattle.rules.specs.Answers.{Answer, answer, Done, BadArena}
 use Rattle.rules.specs.Spans.{Span, span, common}
 use Rattle.rules.specs.Depth.{is-visible, runs-in, tiles-of, write_answer, write-after}
+use Rattle.rules.specs.Minima.{minima-room, minima-after}
 
 -- an answer, how many runs are listed, and the list's words
 pub record RunsOut : Type 0 where
@@ -44,14 +45,18 @@ open-runs bs lo hi = answer Done (runs-in (is-visible 0) bs (span lo hi))
 abbrev pub met-end : ℕ → Span → ℕ → ℕ
 met-end w s n = cond (ltb s.first s.end) (min ((s.end + (w - 1)) / w) n) 0
 
--- .. and the depth words
+-- .. and a row's depth words and minima
 pub record OutWrite : Type 0 where
   pub listed : RunsOut
   pub depth : List ℕ
+  pub minima : List ℕ
 
-abbrev pub out-write : Result ℕ Refusal → List ℕ → List ℕ → OutWrite
-out-write r l bs = record { listed = out r l; depth = bs }
+abbrev pub out-write : Result ℕ Refusal → List ℕ → List ℕ → List ℕ → OutWrite
+out-write r l bs ws = record { listed = out r l; depth = bs; minima = ws }
 
--- what the writing form leaves
-abbrev pub writing : List ℕ → ℕ → Span → List ℕ → OutWrite
-writing bs id r l = record { listed = listing (write_answer bs id r (length l / 2)) l; depth = write-after bs id r (length l / 2) }
+-- what the writing form leaves: 1 for minima of another length
+abbrev pub writing : List ℕ → List ℕ → ℕ → Span → List ℕ → OutWrite
+writing bs ws id r l =
+    cond (eqb (length ws) (minima-room (length bs)))
+    (record { listed = listing (write_answer bs id r (length l / 2)) l; depth = write-after bs id r (length l / 2); minima = minima-after ws bs id r (length l / 2) })
+    (record { listed = listing (answer BadArena []) l; depth = bs; minima = ws })

@@ -3,11 +3,14 @@
 ghost use Rattle.std.specs.Prelude.{◌≡◌, ◌≤◌, ◌<◌, ◌*◌, ◌/◌, length, ltb};
 ghost use Rattle.sizes.specs.Sizes.{tile-end};
 ghost use Rattle.rules.specs.Spans.{span};
+ghost use Rattle.rules.specs.Minima.{halvings, minima-room, mended-runs};
 ghost use Rattle.rules.specs.Depth.{is-visible, runs-in, unset_answer, visible_answer, written};
 ghost use Rattle.span.specs.Spans.{tiles, buckets};
 ghost use Rattle.sizes.specs.Widths.{bucket-tiles};
+ghost use Rattle.depth.specs.Minima.{SameDepth};
 ghost use Rattle.depth.specs.Listing.{out, out-write, done, cut-runs, open-runs, listing, writing, met-end};
 
+use crate::minima::{Depth, has_room, mend_runs};
 use crate::search::next_run;
 use sizes::TILE_END;
 use sizes::answers::Refusal;
@@ -156,24 +159,66 @@ fn mark_runs(depth: &mut [u32], lo: usize, hi: usize, draw_id: u32, list: &mut [
     n
 }
 
-/// Lists the unset runs of a bucket range as buckets, stores the id over them, and gives their number (for_each_unset_run_and_write). BadRun, 12, for a range
-/// out of order or past the row's words, and for id 0; NoRoom, 14: the words stay.
+// The same, and the minima above each run are mended.
+fn mark_and_mend(
+    words: &mut [u32],
+    minima: &mut [u32],
+    lo: usize,
+    hi: usize,
+    draw_id: u32,
+    list: &mut [u32],
+) -> usize
+    requires hi_in_bounds { hi ≤ length words.old }
+    requires hi_bound { hi < 4294967296 }
+    requires room { length minima.old ≡ minima-room (length words.old) }
+    requires list_room { length (runs-in (is-visible 0) words.old (span lo hi)) * 2 ≤ length list.old }
+    ensures list_after { done result list.new ≡ listing (open-runs words.old lo hi) list.old }
+    ensures words_after { words.new ≡ written words.old draw_id (span lo hi) }
+    ensures minima_after { minima.new ≡ mended-runs (halvings (length words.old)) minima.old words.new (runs-in (is-visible 0) words.old (span lo hi)) }
+{
+    let n = mark_runs(words, lo, hi, draw_id, list);
+    mend_runs(words, minima, list, n);
+    n
+}
+
+// The writing form over a row's words and minima.
 #[inline(always)]
-pub fn unset_runs_and_write(
-    depth: &mut [u32],
+fn write_row(
+    words: &mut [u32],
+    minima: &mut [u32],
     range: BucketRange,
     draw_id: u32,
     list: &mut [u32],
 ) -> Result<usize, Refusal>
-    ensures { out-write result list.new depth.new ≡ writing depth.old draw_id (buckets range) list.old }
+    ensures { out-write result list.new words.new minima.new ≡ writing words.old minima.old draw_id (buckets range) list.old }
 {
+    if !has_room(minima, words.len()) {
+        return Err(Refusal::BadArena);
+    }
     let lo = range.first as usize;
     let hi = range.end as usize;
-    if hi < lo || depth.len() < hi || draw_id == 0 {
+    if hi < lo || words.len() < hi || draw_id == 0 {
         return Err(Refusal::BadRun);
     }
-    if is_short(depth, lo, hi, 0, list.len()) {
+    if is_short(words, lo, hi, 0, list.len()) {
         return Err(Refusal::NoRoom);
     }
-    Ok(mark_runs(depth, lo, hi, draw_id, list))
+    Ok(mark_and_mend(words, minima, lo, hi, draw_id, list))
+}
+
+/// Lists the unset runs of a bucket range as buckets, stores the id over them, mends the minima above them, and gives their number
+/// (for_each_unset_run_and_write). BadArena, 1, for minima of another length than the words ask for; BadRun, 12, for a range out of order or past the row's
+/// words, and for id 0; NoRoom, 14: no word changes.
+#[inline(always)]
+pub fn unset_runs_and_write(
+    depth: &mut Depth<'_>,
+    range: BucketRange,
+    draw_id: u32,
+    list: &mut [u32],
+) -> Result<usize, Refusal>
+    ensures same { SameDepth depth.old depth.new }
+    ensures wrote { out-write result list.new depth.new.words.now depth.new.minima.now
+        ≡ writing depth.old.words.now depth.old.minima.now draw_id (buckets range) list.old }
+{
+    write_row(depth.words, depth.minima, range, draw_id, list)
 }

@@ -7,6 +7,7 @@ use Rattle.rules.specs.Setups.{Setup, frame}
 use Rattle.rect.specs.declared.Rect.{Rect}
 use Rattle.rect.specs.Rects.{box_of}
 use Rattle.row.specs.Words.{Words}
+use Rattle.screen.specs.Depths.{Depths}
 use Rattle.screen.specs.declared.Screen.{Screen}
 use Rattle.screen.specs.Tables.{Tables, ScreenLent, screen_lent, reset_to}
 use Rattle.walk.specs.Recorded.{recorded}
@@ -50,7 +51,7 @@ module _ (st st' : List ℕ) (s s' : Screen) (r n : ℕ) (h : Some s ≡ screen_
   pop_built ss l l' e =
       rw (rn, sw) (ap pop-left e ∙ ap (λ (x : Option Screen). at_held x st (st, l) (λ (s : Screen). pop-left (popped s l ss))) h)
 
-  pub begin_built : (d d' p p' : List ℕ) → answer n (canvas s' d' p') ≡ beginning (canvas s d p) → answer r (st', d', p') ≡ begin_call st d p
+  pub begin_built : (d d' : Depths) (p p' : List ℕ) → answer n (canvas s' d' p') ≡ beginning (canvas s d p) → answer r (st', d', p') ≡ begin_call st d p
   unfolding begin_call
   begin_built d d' p p' e =
       rw (rn, sw) (ap begin-left e ∙ ap (λ (x : Option Screen). at_held x st (st, d, p) (λ (s : Screen). begin-left (beginning (canvas s d p)))) h)

@@ -44,10 +44,11 @@ use Rattle.walk.specs.Recorded.{or-fresh, played, recorded-in, of-sections, reco
 use Rattle.refine_steps.proofs.Refined.{reset-refines}
 use Rattle.refine_steps.proofs.Walks.{walk-refines}
 use Rattle.paint.specs.Painting as paint
-use Rattle.paint.specs.Judging.{wide, begin_number, runs_number, skip_number}
+use Rattle.paint.specs.Judging.{wide, begin_number, runs_number, write_number, hidden_number, skip_number}
+use Rattle.rules.specs.Minima.{minima-room, hidden_answer}
 use Rattle.paint.specs.Beginning.{Canvas, beginning}
 use Rattle.paint.specs.Stepping.{Attributes, part, own, number, row_step, stepped}
-use Rattle.paint.specs.DirectRuns.{Wrote, or-runs, write-in-place, record-skip, unset-of, visible-of, write-of, skip-of-row}
+use Rattle.paint.specs.DirectRuns.{Wrote, or-runs, write-in-place, record-skip, unset-of, visible-of, write-of, hidden-of-row, skip-of-row}
 use Rattle.paint.specs.Running.{goes_on, one_more, run, standing, call_step, row-painted}
 use Rattle.depth.specs.Listing.{listing, writing}
 use Rattle.paint.specs.Summaries.{good-summary}
@@ -135,9 +136,9 @@ pop-early s l ws =
     ∙ ap before_4 (pop-number s l ws)
 
 -- Painting.
-pub begin-early : (k : Canvas) → before_4 (begin_number k.screen (length k.depth) (length k.painting)) ≡ before_4 (beginning k).number
+pub begin-early : (k : Canvas) → before_4 (begin_number k.screen (length k.depth.words) (length k.depth.minima) (length k.painting)) ≡ before_4 (beginning k).number
 unfolding beginning
-begin-early k = ap before_4 (sym (settle-number (begin_number k.screen (length k.depth) (length k.painting)) _ _))
+begin-early k = ap before_4 (sym (settle-number (begin_number k.screen (length k.depth.words) (length k.depth.minima) (length k.painting)) _ _))
 
 row-late : (o : Option rules.Painted) (d p l : List ℕ) → Late (paint.settled o d p l).answer.number
 unfolding paint.settled
@@ -215,6 +216,18 @@ module _ (s : Screen) (r : ℕ) (d : List ℕ) (t : Span) where
       after n (write_answer mine id t (length l / 2)).number (listed-late (bad-range (length mine) t || eqb id 0) (length l / 2) (write-runs mine t))
       ∙ ap before_4
       (wrote-number (eqb n Done) n (write-in-place s r d (writing mine id t l)) (record { listed = listing (answer n []) l; screen = s; depth = d }) refl)
+
+hidden-late : (ms : List ℕ) (b : ℕ) (t : Span) (id : ℕ) → Late (hidden_answer ms b t id).number
+unfolding hidden_answer
+hidden-late ms b t id = by (bad-range b t) (λ y. rw y (λ e. omega arith)) (λ n. rw n late-done)
+
+pub hidden-early : (s : Screen) (r : ℕ) (ms : List ℕ) (t : Span) (id : ℕ) → before_4 (hidden_number s r (length ms)) ≡ before_4 (hidden-of-row s r ms t id).number
+unfolding hidden-of-row
+hidden-early s r ms t id =
+    let n = hidden_number s r (length ms) in
+    let own = part (minima-room (wide s)) r ms in
+    let a = hidden_answer own (wide s) t id in
+    after n a.number (hidden-late own (wide s) t id) ∙ ap before_4 (answer-number (eqb n Done) n a (answer n false) refl)
 
 skip-late : (ws : List ℕ) (t : Span) (id : ℕ) → Late (record-skip ws t id).number
 unfolding can_skip_answer

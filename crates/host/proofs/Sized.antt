@@ -19,7 +19,7 @@ use Rattle.host.specs.Sizes.{length-words, size-words, size_number, sizes-of, si
 use Rattle.paint.proofs.Kept.{Refused, unsettled}
 use Rattle.host.proofs.Refused.{asked-kept}
 
-pub sized : (f : Frame) (l : Lengths) → size_number f 10 ≡ 0 → length-words l ≡ size-words f → judged_reset f l ≡ 0
+pub sized : (f : Frame) (l : Lengths) → size_number f 11 ≡ 0 → length-words l ≡ size-words f → judged_reset f l ≡ 0
 unfolding judged_reset
 sized k l q e = by (good_viewport k.viewport) (good-room k.c) (good-room k.d) refl refl refl q
   where
@@ -29,7 +29,7 @@ sized k l q e = by (good_viewport k.viewport) (good-room k.c) (good-room k.d) re
     by : (x y z : Bool) → good_viewport k.viewport ≡ x → good-room k.c ≡ y → good-room k.d ≡ z
         → first_of ((not x, rule.BadViewport) ∷ (not (y && z), BadArena) ∷ []) ≡ 0 → judged_reset k l ≡ 0
     by true true true f g h q =
-        rw (f, g, h, eq-eqb _ _ (field 0), eq-eqb _ _ (field 1), eq-eqb _ _ (field 2), eq-eqb _ _ (field 3), eq-eqb _ _ (field 4), eq-eqb _ _ (field 5), eq-eqb _ _ (field 6), eq-eqb _ _ (field 7), eq-eqb _ _ (field 8), eq-eqb _ _ (field 9))
+        rw (f, g, h, eq-eqb _ _ (field 0), eq-eqb _ _ (field 1), eq-eqb _ _ (field 2), eq-eqb _ _ (field 3), eq-eqb _ _ (field 4), eq-eqb _ _ (field 5), eq-eqb _ _ (field 6), eq-eqb _ _ (field 7), eq-eqb _ _ (field 8), eq-eqb _ _ (field 9), eq-eqb _ _ (field 10))
     by true true false f g h q = absurd (omega arith)
     by true false z f g h q = absurd (omega arith)
     by false y z f g h q = absurd (omega arith)

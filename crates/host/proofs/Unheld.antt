@@ -11,6 +11,7 @@ use Rattle.row.specs.Words.{Words}
 use Rattle.screen.specs.declared.Screen.{Screen}
 use Rattle.screen.specs.Judging.{judged, arenas}
 use Rattle.screen.specs.Tables.{Tables, lengths, screen_lent, reset_to}
+use Rattle.screen.specs.Depths.{Depths}
 use Rattle.walk.specs.Recorded.{recorded}
 use Rattle.inputs.specs.declared.Draw.{Draw}
 use Rattle.fill.specs.Fills as fills
@@ -23,18 +24,18 @@ use Rattle.pop.specs.Pop.{popped}
 use Rattle.layers.specs.Filter as filter
 use Rattle.layers.specs.Filter.{FilterGiven, filtered}
 use Rattle.paint.specs.Painting as paint
-use Rattle.paint.specs.Judging.{begin_number, runs_number, skip_number}
+use Rattle.paint.specs.Judging.{begin_number, runs_number, write_number, hidden_number, skip_number}
 use Rattle.paint.specs.Beginning.{canvas, beginning}
 use Rattle.paint.specs.Stepping.{Attributes, number, stepped}
-use Rattle.paint.specs.DirectRuns.{unset-of, visible-of, write-of, skip-of-row}
+use Rattle.paint.specs.DirectRuns.{unset-of, visible-of, write-of, hidden-of-row, skip-of-row}
 use Rattle.paint.specs.Running.{row-painted}
 use Rattle.host.specs.State.{screen_of, refused_at}
 use Rattle.host.proofs.Words.{refused-on}
 use Rattle.host.specs.Border.{arenas_number, file_number}
 use Rattle.host.specs.Building.{tables-left, reset_in, recording_in, fill-left, fill_call, push-left, push_call, pop-left, pop_call, filter-left, filter_call}
 use Rattle.host.specs.Results.{skip-left}
-use Rattle.host.specs.Painting.{begin-left, begin_call, step_left, step_call, row_call, runs-left, unset_call, visible_call, write-left, write_call, skip_call}
-use Rattle.host.proofs.Early.{fill-early, push-early, filter-early, pop-early, begin-early, step-is-early, row-is-early, unset-early, visible-early, write-early, skip-early, reset-early, recorded-is-early}
+use Rattle.host.specs.Painting.{begin-left, begin_call, step_left, step_call, row_call, runs-left, unset_call, visible_call, write-left, write_call, hidden_call, skip_call}
+use Rattle.host.proofs.Early.{fill-early, push-early, filter-early, pop-early, begin-early, step-is-early, row-is-early, unset-early, visible-early, write-early, hidden-early, skip-early, reset-early, recorded-is-early}
 
 module _ (st : List ℕ) (n : ℕ) where
   pub reset_unheld : (v : Rect) (q : Setup) (t : Tables) → None ≡ screen_of true st
@@ -81,10 +82,11 @@ module _ (st : List ℕ) (n : ℕ) where
       refused-on (screen_of (leb flag 1) st) st (st, w, pas, fps) (λ (s : Screen). filter-left (filtered g (filter.filter_lent s w pas fps)))
       (λ (s : Screen). judged s (length w.state) (length w.render) (length w.fills)) n h q (λ (s : Screen). filter-early g (filter.filter_lent s w pas fps))
 
-  pub begin_unheld : (d p : List ℕ) → None ≡ screen_of true st → n ≡ refused_at st (λ (s : Screen). begin_number s (length d) (length p)) → answer n (st, d, p) ≡ begin_call st d p
+  pub begin_unheld : (d : Depths) (p : List ℕ) → None ≡ screen_of true st → n ≡ refused_at st (λ (s : Screen). begin_number s (length d.words) (length d.minima) (length p)) → answer n (st, d, p) ≡ begin_call st d p
   unfolding begin_call
   begin_unheld d p h q =
-      refused-on (screen_of true st) st (st, d, p) (λ (s : Screen). begin-left (beginning (canvas s d p))) (λ (s : Screen). begin_number s (length d) (length p)) n h q
+      refused-on (screen_of true st) st (st, d, p) (λ (s : Screen). begin-left (beginning (canvas s d p)))
+      (λ (s : Screen). begin_number s (length d.words) (length d.minima) (length p)) n h q
       (λ (s : Screen). begin-early (canvas s d p))
 
   module _ (r : ℕ) where
@@ -116,12 +118,21 @@ module _ (st : List ℕ) (n : ℕ) where
         refused-on (screen_of (eqb (length c) 1) st) st (l, c) (λ (s : Screen). runs-left c (visible-of s r d t id l)) (λ (s : Screen). runs_number s r (length d)) n h q
         (λ (s : Screen). visible-early s r d t id l)
 
-    pub write_unheld : (t : Span) (id : ℕ) (d l c : List ℕ) → None ≡ screen_of (eqb (length c) 1) st → n ≡ refused_at st (λ (s : Screen). runs_number s r (length d))
+    pub write_unheld : (t : Span) (id : ℕ) (d : Depths) (l c : List ℕ) → None ≡ screen_of (eqb (length c) 1) st
+        → n ≡ refused_at st (λ (s : Screen). write_number s r (length d.words) (length d.minima))
         → answer n (st, d, l, c) ≡ write_call r t id st d l c
     unfolding write_call
     write_unheld t id d l c h q =
-        refused-on (screen_of (eqb (length c) 1) st) st (st, d, l, c) (λ (s : Screen). write-left c (write-of s r d id t l)) (λ (s : Screen). runs_number s r (length d)) n h q
+        refused-on (screen_of (eqb (length c) 1) st) st (st, d, l, c) (λ (s : Screen). write-left c (write-of s r d id t l))
+        (λ (s : Screen). write_number s r (length d.words) (length d.minima)) n h q
         (λ (s : Screen). write-early s r d t id l)
+
+    pub hidden_unheld : (t : Span) (id : ℕ) (ms old : List ℕ) → None ≡ screen_of (eqb (length old) 1) st → n ≡ refused_at st (λ (s : Screen). hidden_number s r (length ms))
+        → answer n old ≡ hidden_call r t id st ms old
+    unfolding hidden_call
+    hidden_unheld t id ms old h q =
+        refused-on (screen_of (eqb (length old) 1) st) st old (λ (s : Screen). skip-left old (hidden-of-row s r ms t id)) (λ (s : Screen). hidden_number s r (length ms)) n h q
+        (λ (s : Screen). hidden-early s r ms t id)
 
     pub skip_unheld : (t : Span) (id : ℕ) (rows old : List ℕ) → None ≡ screen_of (eqb (length old) 1) st → n ≡ refused_at st (λ (s : Screen). skip_number s r (length rows))
         → answer n old ≡ skip_call r t id st rows old

@@ -1,4 +1,4 @@
--- What a reset says of its frame and the three arenas (2, 1 or 0), and a recording file before its records are looked at.
+-- What a reset says of its frame and the four arenas (2, 1 or 0), and a recording file before its records are looked at.
 use Rattle.std.specs.Prelude.{ℕ, not, List, [], ◌∷◌, length}
 use Rattle.std.specs.Prelude.{Option, None, Some}
 use Rattle.sizes.specs.declared.answers.Refusal.{Refusal}
@@ -45,7 +45,7 @@ unasked_number f = unasked (parsed f)
 abbrev pub rows-judged : Rows → Screen → ℕ
 rows-judged w s = judged s (length w.state.now) (length w.render_cmds.now) (length w.depth_cmds.now)
 
-abbrev pub step-judged : Stored → ℕ → ℕ → ℕ → Screen → ℕ
-step-judged t row depth painting s =
-    step_number s row (arenas-long s (length t.render_cmds.now) (length t.depth_cmds.now) depth)
+abbrev pub step-judged : Stored → ℕ → ℕ → ℕ → ℕ → Screen → ℕ
+step-judged t row depth minima painting s =
+    step_number s row (arenas-long s (length t.render_cmds.now) (length t.depth_cmds.now) depth minima)
     (tables-long s (length t.rows.now) painting (length t.paint_attrs.now) (length t.layer_attrs.now))

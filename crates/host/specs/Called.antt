@@ -8,6 +8,7 @@ use Rattle.rules.specs.Spans.{span}
 use Rattle.screen.specs.declared.lent.Lent.{Lent}
 use Rattle.screen.specs.Lent.{tables_in}
 use Rattle.screen.specs.Tables.{Tables}
+use Rattle.screen.specs.Depths.{Depths, depths_in}
 use Rattle.paint.specs.declared.canvas.stored.Stored.{Stored}
 use Rattle.paint.specs.Named.{row_lent, row_attrs}
 use Rattle.host.specs.declared.state.StateWords.{StateWords}
@@ -58,18 +59,18 @@ abbrev pub why_on : FileWords → SetupWords → QuestionWords → StateWords �
 why_on file s q w t r = why_call file s q.row q.tile q.layer q.attribute (words_in w) (tables_in t) (reason_in r)
 
 -- painting: the canvas, the list and the result
-abbrev pub canvas_out : Canvas → List ℕ → PaintedWords → List ℕ × List ℕ × List ℕ × List ℕ
-canvas_out c l p = (c.depth.now, c.painting.now, l, painted_in p)
+abbrev pub canvas_out : Canvas → List ℕ → PaintedWords → Depths × List ℕ × List ℕ × List ℕ
+canvas_out c l p = (depths_in c.depth, c.painting.now, l, painted_in p)
 
-abbrev pub step_on : ℕ → StateWords → Stored → Canvas → List ℕ → PaintedWords → Answer (List ℕ × List ℕ × List ℕ × List ℕ)
+abbrev pub step_on : ℕ → StateWords → Stored → Canvas → List ℕ → PaintedWords → Answer (Depths × List ℕ × List ℕ × List ℕ)
 step_on row w s c l p = step_call row (row_attrs s) (words_in w) (row_lent s c l) (painted_in p)
 
-abbrev pub row_on : ℕ → StateWords → Stored → Canvas → List ℕ → PaintedWords → Answer (List ℕ × List ℕ × List ℕ × List ℕ)
+abbrev pub row_on : ℕ → StateWords → Stored → Canvas → List ℕ → PaintedWords → Answer (Depths × List ℕ × List ℕ × List ℕ)
 row_on row w s c l p = row_call row (row_attrs s) (words_in w) (row_lent s c l) (painted_in p)
 
--- runs that are written: the state, the depth words, the list and the count
-abbrev pub write_out : StateWords → Canvas → List ℕ → ℕ → List ℕ × List ℕ × List ℕ × List ℕ
-write_out w c l n = (words_in w, c.depth.now, l, one n)
+-- runs that are written: the state, the depth words with their minima, the list and the count
+abbrev pub write_out : StateWords → Canvas → List ℕ → ℕ → List ℕ × Depths × List ℕ × List ℕ
+write_out w c l n = (words_in w, depths_in c.depth, l, one n)
 
-abbrev pub write_on : ℕ → TileSpan → ℕ → StateWords → Canvas → List ℕ → ℕ → Answer (List ℕ × List ℕ × List ℕ × List ℕ)
-write_on row b id w c l n = write_call row (span b.first b.end) id (words_in w) c.depth.now l (one n)
+abbrev pub write_on : ℕ → TileSpan → ℕ → StateWords → Canvas → List ℕ → ℕ → Answer (List ℕ × Depths × List ℕ × List ℕ)
+write_on row b id w c l n = write_call row (span b.first b.end) id (words_in w) (depths_in c.depth) l (one n)

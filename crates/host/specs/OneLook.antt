@@ -57,9 +57,9 @@ abbrev pub rows-long : ℕ → StateWords → ℕ → ℕ → ℕ → Bool
 rows-long n s rows render fills = eqb render (n * (4 * s.c)) && eqb fills (n * (2 * s.d)) && eqb rows (n * row-size)
 
 -- a painting step is not refused by its judge, the words stand for a screen, and a row of it has b buckets
-abbrev pub Sure : StateWords → ℕ → Stored → ℕ → ℕ → ℕ → Type 0
-Sure w row t depth painting b =
-    (step-judged t row depth painting (screen-at (words_in w)) ≡ 0)
+abbrev pub Sure : StateWords → ℕ → Stored → ℕ → ℕ → ℕ → ℕ → Type 0
+Sure w row t depth minima painting b =
+    (step-judged t row depth minima painting (screen-at (words_in w)) ≡ 0)
     × (Some (screen-at (words_in w)) ≡ screen_of true (words_in w))
     × (b ≡ wide (screen-at (words_in w)))
 

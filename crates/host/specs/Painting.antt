@@ -1,4 +1,4 @@
--- Painting, the runs, `can_skip` and the split on a host's words. Results go into lent words of a fixed length; another length is refused,
+-- Painting, the runs, what is hidden, `can_skip` and the split on a host's words. Results go into lent words of a fixed length; another length is refused,
 -- and a refusal leaves them as they were.
 use Rattle.std.specs.Prelude.{ℕ, true, cond, List, length, eqb}
 use Rattle.std.specs.Prelude.{Result, Ok, Err}
@@ -13,7 +13,8 @@ use Rattle.depth.specs.Listing.{RunsOut}
 use Rattle.paint.specs.Painting as paint
 use Rattle.paint.specs.Beginning.{Canvas, canvas, beginning}
 use Rattle.paint.specs.Stepping.{Attributes, stepped}
-use Rattle.paint.specs.DirectRuns.{Wrote, unset-of, visible-of, write-of, skip-of-row}
+use Rattle.screen.specs.Depths.{Depths}
+use Rattle.paint.specs.DirectRuns.{Wrote, unset-of, visible-of, write-of, hidden-of-row, skip-of-row}
 use Rattle.paint.specs.Running.{row-painted}
 use Rattle.host.specs.State.{screen-words, on}
 use Rattle.host.specs.Results.{step-result, count_left, skip-left, split-left}
@@ -22,24 +23,24 @@ use Rattle.host.specs.Results.{step-result, count_left, skip-left, split-left}
 abbrev pub with-room : {T : Type 0} → ℕ → List ℕ → T → Answer T → Answer T
 with-room n ws t a = cond (eqb (length ws) n) a (answer BadRecord t)
 
--- the depth words and the painting table
-abbrev pub begin-left : Answer Canvas → Answer (List ℕ × List ℕ × List ℕ)
+-- the depth words with their minima, and the painting table
+abbrev pub begin-left : Answer Canvas → Answer (List ℕ × Depths × List ℕ)
 begin-left a = answer a.number (screen-words a.value.screen, a.value.depth, a.value.painting)
 
-unfoldable pub begin_call : List ℕ → List ℕ → List ℕ → Answer (List ℕ × List ℕ × List ℕ)
+unfoldable pub begin_call : List ℕ → Depths → List ℕ → Answer (List ℕ × Depths × List ℕ)
 begin_call st d p = on true st (st, d, p) (λ s. begin-left (beginning (canvas s d p)))
 
--- a step's result, with the depth words, the painting table and the list
-abbrev pub step_left : List ℕ → paint.StepOut → Answer (List ℕ × List ℕ × List ℕ × List ℕ)
+-- a step's result, with the depth words and their minima, the painting table and the list
+abbrev pub step_left : List ℕ → paint.StepOut → Answer (Depths × List ℕ × List ℕ × List ℕ)
 step_left res o = answer o.answer.number (o.depth, o.painting, o.list, (step-result res o.answer).value)
 
-unfoldable pub step_call : ℕ → Attributes → List ℕ → paint.RowLent → List ℕ → Answer (List ℕ × List ℕ × List ℕ × List ℕ)
+unfoldable pub step_call : ℕ → Attributes → List ℕ → paint.RowLent → List ℕ → Answer (Depths × List ℕ × List ℕ × List ℕ)
 step_call r a st l res =
     on (eqb (length res) 2) st (l.depth, l.painting, l.list, res)
     (λ s. step_left res (stepped s r a l))
 
 -- a row's next steps in one call
-unfoldable pub row_call : ℕ → Attributes → List ℕ → paint.RowLent → List ℕ → Answer (List ℕ × List ℕ × List ℕ × List ℕ)
+unfoldable pub row_call : ℕ → Attributes → List ℕ → paint.RowLent → List ℕ → Answer (Depths × List ℕ × List ℕ × List ℕ)
 row_call r a st l res =
     on (eqb (length res) 2) st (l.depth, l.painting, l.list, res)
     (λ s. step_left res (row-painted s r a l))
@@ -54,15 +55,18 @@ unset_call r t st d l n = on (eqb (length n) 1) st (l, n) (λ s. runs-left n (un
 unfoldable pub visible_call : ℕ → Span → ℕ → List ℕ → List ℕ → List ℕ → List ℕ → Answer (List ℕ × List ℕ)
 visible_call r t id st d l n = on (eqb (length n) 1) st (l, n) (λ s. runs-left n (visible-of s r d t id l))
 
--- .. and the depth words
-abbrev pub write-left : List ℕ → Wrote → Answer (List ℕ × List ℕ × List ℕ × List ℕ)
+-- .. and the depth words with their minima
+abbrev pub write-left : List ℕ → Wrote → Answer (List ℕ × Depths × List ℕ × List ℕ)
 write-left n o =
     answer o.listed.number
     (screen-words o.screen, o.depth, o.listed.list, (count_left n o.listed).value)
 
-unfoldable pub write_call : ℕ → Span → ℕ → List ℕ → List ℕ → List ℕ → List ℕ → Answer (List ℕ × List ℕ × List ℕ × List ℕ)
+unfoldable pub write_call : ℕ → Span → ℕ → List ℕ → Depths → List ℕ → List ℕ → Answer (List ℕ × Depths × List ℕ × List ℕ)
 write_call r t id st d l n =
     on (eqb (length n) 1) st (st, d, l, n) (λ s. write-left n (write-of s r d id t l))
+
+unfoldable pub hidden_call : ℕ → Span → ℕ → List ℕ → List ℕ → List ℕ → Answer (List ℕ)
+hidden_call r t id st ms old = on (eqb (length old) 1) st old (λ s. skip-left old (hidden-of-row s r ms t id))
 
 unfoldable pub skip_call : ℕ → Span → ℕ → List ℕ → List ℕ → List ℕ → Answer (List ℕ)
 skip_call r t id st rows old = on (eqb (length old) 1) st old (λ s. skip-left old (skip-of-row s r rows t id))

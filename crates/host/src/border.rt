@@ -6,16 +6,19 @@ ghost use Rattle.rules.specs.Boxes.{good_viewport};
 ghost use Rattle.rect.specs.Rects.{box_of};
 ghost use Rattle.screen.specs.declared.Screen.{Screen as Numbers};
 ghost use Rattle.screen.specs.Screens.{setup-of, frame, frame-of};
-ghost use Rattle.paint.specs.Judging.{begin_number, runs_number, skip_number};
+ghost use Rattle.paint.specs.Judging.{begin_number, runs_number, write_number, hidden_number, skip_number};
 ghost use Rattle.file.specs.Held.{file_of};
 ghost use Rattle.host.specs.State.{refused_at};
 ghost use Rattle.host.specs.Held.{words_in};
 ghost use Rattle.host.specs.Border.{arenas-in, arenas_number, file_number, unasked_number, rows-judged, step-judged};
 
 use crate::state::{StateWords, before_4, screen_at};
+use depth::minima_room;
 use file::{File, Recording};
 use paint::Stored;
-use paint::canvas::judge::{judge_begin, judge_runs, judge_skip, judge_step};
+use paint::canvas::judge::{
+    judge_begin, judge_hidden, judge_runs, judge_skip, judge_step, judge_write,
+};
 use rect::Rect;
 use row::Rows;
 use screen::{Lent, Screen, Setup, fresh, is_good_rooms, judge_screen};
@@ -28,20 +31,22 @@ fn judge_lent(screen: Screen, lent: &Lent<'_>) -> Result<(), Refusal>
     ensures { answer_number result ≡ arenas_number (frame-of screen) (arenas-in lent.now) }
 {
     let n = screen.rows();
+    let b = screen.buckets();
     if !is_good_rooms(
         n,
         screen.c,
         screen.d,
         lent.render_cmds.len(),
         lent.depth_cmds.len(),
-    ) || lent.depth.len() != n * screen.buckets()
+    ) || lent.depth.words.len() != n * b
+        || lent.depth.minima.len() != n * minima_room(b)
     {
         return Err(Refusal::BadArena);
     }
     Ok(())
 }
 
-// 2, then 1: what a reset says of a viewport, a setup and the three arenas.
+// 2, then 1: what a reset says of a viewport, a setup and the four arenas.
 fn judge_arenas(viewport: Rect, setup: Setup, lent: &Lent<'_>) -> Result<(), Refusal>
     ensures { answer_number result ≡ arenas_number (frame setup viewport) (arenas-in lent.now) }
 {
@@ -98,10 +103,10 @@ pub fn refuse_build(state: &StateWords, rows: &Rows<'_>) -> u32
 
 /// The number of a beginning of painting: 2 or 1 as it would answer, else 4.
 #[tactic(auto, unfolding(crate::specs::State::refused_at))]
-pub fn refuse_begin(state: &StateWords, depth: usize, painting: usize) -> u32
-    ensures { result ≡ refused_at (words_in state.now) (λ (s : Numbers). begin_number s depth painting) }
+pub fn refuse_begin(state: &StateWords, depth: usize, minima: usize, painting: usize) -> u32
+    ensures { result ≡ refused_at (words_in state.now) (λ (s : Numbers). begin_number s depth minima painting) }
 {
-    before_4(judge_begin(screen_at(state), depth, painting))
+    before_4(judge_begin(screen_at(state), depth, minima, painting))
 }
 
 /// The number of a painting step, or of a whole row's steps: 2 or 1 as it would answer, else 4.
@@ -111,19 +116,36 @@ pub fn refuse_step(
     row: usize,
     stored: &Stored<'_>,
     depth: usize,
+    minima: usize,
     painting: usize,
 ) -> u32
-    ensures { result ≡ refused_at (words_in state.now) (step-judged stored.now row depth painting) }
+    ensures { result ≡ refused_at (words_in state.now) (step-judged stored.now row depth minima painting) }
 {
-    before_4(judge_step(screen_at(state), row, stored, depth, painting))
+    before_4(judge_step(screen_at(state), row, stored, depth, minima, painting))
 }
 
-/// The number of a call for the runs of a row: 2 or 1 as it would answer, else 4.
+/// The number of a call that reads the runs of a row: 2 or 1 as it would answer, else 4.
 #[tactic(auto, unfolding(crate::specs::State::refused_at))]
 pub fn refuse_runs(state: &StateWords, row: usize, depth: usize) -> u32
     ensures { result ≡ refused_at (words_in state.now) (λ (s : Numbers). runs_number s row depth) }
 {
     before_4(judge_runs(screen_at(state), row, depth))
+}
+
+/// The number of the writing run of a row: 2 or 1 as it would answer, else 4.
+#[tactic(auto, unfolding(crate::specs::State::refused_at))]
+pub fn refuse_write(state: &StateWords, row: usize, depth: usize, minima: usize) -> u32
+    ensures { result ≡ refused_at (words_in state.now) (λ (s : Numbers). write_number s row depth minima) }
+{
+    before_4(judge_write(screen_at(state), row, depth, minima))
+}
+
+/// The number of `is_hidden`: 2 or 1 as it would answer, else 4.
+#[tactic(auto, unfolding(crate::specs::State::refused_at))]
+pub fn refuse_hidden(state: &StateWords, row: usize, minima: usize) -> u32
+    ensures { result ≡ refused_at (words_in state.now) (λ (s : Numbers). hidden_number s row minima) }
+{
+    before_4(judge_hidden(screen_at(state), row, minima))
 }
 
 /// The number of `can_skip`: 2 as it would answer, or 1 for C or D, else 4.

@@ -1,4 +1,4 @@
-//! The calls of reset, of the building steps and of a recording. A state has a screen's numbers; `screen::Lent` has the ten tables.
+//! The calls of reset, of the building steps and of a recording. A state has a screen's numbers; `screen::Lent` has the eleven tables.
 ghost use Rattle.std.specs.Prelude.{◌≡◌};
 ghost use Rattle.rules.specs.Answers.{answer};
 ghost use Rattle.screen.specs.Tables.{Tables};

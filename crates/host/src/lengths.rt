@@ -1,5 +1,5 @@
 //! How many words a host lends.
-ghost use Rattle.std.specs.Prelude.{◌≡◌, ◌∷◌, true};
+ghost use Rattle.std.specs.Prelude.{◌≡◌, [], ◌∷◌, ◌++◌, true};
 ghost use Rattle.sizes.specs.Refusals.{answer_number};
 ghost use Rattle.rules.specs.Answers.{answer};
 ghost use Rattle.rules.specs.Boxes.{good_viewport};
@@ -9,12 +9,13 @@ ghost use Rattle.host.specs.Held.{rect_of};
 ghost use Rattle.host.specs.Sizes.{fixed, length-words, sizes-of, size_call};
 
 use crate::state::{Corners, SetupWords, box_of, read_setup};
+use depth::minima_room;
 use rect::Rect;
 use screen::{Lengths, Screen, Setup, fresh, is_good_room};
 use sizes::answers::{Refusal, answer_number};
 use sizes::{FILTER_TABLE, LAYER_TABLE, OPACITIES, OPEN_TABLE, PAINT_TABLE, ROW};
 
-// The lengths of ten tables: five that the screen decides, five that are always the same.
+// The lengths of eleven tables: six that the screen decides, five that are always the same.
 fn put_sizes(
     sizes: &mut Lengths,
     render_cmds: usize,
@@ -22,8 +23,9 @@ fn put_sizes(
     depth: usize,
     rows: usize,
     painting: usize,
+    minima: usize,
 )
-    ensures { length-words sizes.new ≡ render_cmds ∷ depth_cmds ∷ depth ∷ rows ∷ painting ∷ fixed }
+    ensures { length-words sizes.new ≡ (render_cmds ∷ depth_cmds ∷ depth ∷ rows ∷ painting ∷ fixed) ++ (minima ∷ []) }
 {
     *sizes = Lengths {
         render_cmds,
@@ -36,10 +38,11 @@ fn put_sizes(
         paint_attrs: PAINT_TABLE,
         layer_attrs: LAYER_TABLE,
         filter_paints: FILTER_TABLE,
+        minima,
     };
 }
 
-// 1, or the ten lengths for a fresh screen.
+// 1, or the eleven lengths for a fresh screen.
 fn put_lengths_of(screen: Screen, sizes: &mut Lengths) -> Result<(), Refusal>
     requires { good_viewport (box_of screen.viewport) ≡ true }
     ensures { answer (answer_number result) (length-words sizes.new) ≡ sizes-of (frame-of screen) (length-words sizes.old) }
@@ -48,20 +51,22 @@ fn put_lengths_of(screen: Screen, sizes: &mut Lengths) -> Result<(), Refusal>
         return Err(Refusal::BadArena);
     }
     let n = screen.rows();
+    let b = screen.buckets();
     let render_cmds = n * (4 * screen.c as usize);
     let depth_cmds = n * (2 * screen.d as usize);
     put_sizes(
         sizes,
         render_cmds,
         depth_cmds,
-        n * screen.buckets(),
+        n * b,
         n * ROW,
         n * 2,
+        n * minima_room(b),
     );
     Ok(())
 }
 
-// 2, then 1, or the ten lengths for the frame that a reset makes.
+// 2, then 1, or the eleven lengths for the frame that a reset makes.
 fn put_lengths(viewport: Rect, setup: Setup, sizes: &mut Lengths) -> Result<(), Refusal>
     ensures { answer (answer_number result) (length-words sizes.new) ≡ sizes-of (frame setup viewport) (length-words sizes.old) }
 {

@@ -1,35 +1,43 @@
-//! The calls of painting, of the runs of a row, of `can_skip` and of the split. Each refuses as the call of its name in `paint` or `depth`.
+//! The calls of painting, of the runs of a row, of `is_hidden`, of `can_skip` and of the split. Each refuses as the call of its name in `paint` or `depth`.
 ghost use Rattle.std.specs.Prelude.{◌≡◌};
 ghost use Rattle.rules.specs.Answers.{answer};
 ghost use Rattle.rules.specs.Spans.{span};
 ghost use Rattle.paint.specs.Named.{SameCanvas};
 ghost use Rattle.host.specs.Held.{words_in, one, parts_in};
+ghost use Rattle.screen.specs.Depths.{depths_in};
 ghost use Rattle.host.specs.Called.{canvas_out, step_on, row_on, write_out, write_on};
-ghost use Rattle.host.specs.Painting.{begin_call, unset_call, visible_call, skip_call, split_call};
+ghost use Rattle.host.specs.Painting.{begin_call, unset_call, visible_call, hidden_call, skip_call, split_call};
 
-use crate::border::{refuse_begin, refuse_runs, refuse_skip, refuse_step};
-use crate::results::{PaintedWords, SplitWords, put_runs, put_skip, put_split, put_step};
+use crate::border::{
+    refuse_begin, refuse_hidden, refuse_runs, refuse_skip, refuse_step, refuse_write,
+};
+use crate::results::{PaintedWords, SplitWords, put_runs, put_split, put_step, put_yes};
 use crate::state::{StateWords, leave, put_screen, screen_at, screen_of};
 use crate::sure::sure_buckets;
 use depth::split_opaque_span;
 use paint::whole::{MOST_STEPS, row_part};
 use paint::{
-    Canvas, Stored, begin_painting, can_skip, paint_row, paint_step, unset_runs,
+    Canvas, Stored, begin_painting, can_skip, is_hidden, paint_row, paint_step, unset_runs,
     unset_runs_and_write, visible_runs,
 };
 use sizes::width::Width;
 use span::{BucketRange, TileSpan};
 
-/// Clears the depth words and sets every row to its first step, at nesting 0.
+/// Clears the depth words, makes their minima afresh, and sets every row to its first step, at nesting 0.
 #[unsafe(no_mangle)]
 #[tactic(auto, using(crate::proofs::Unheld::begin_unheld))]
 pub extern "C" fn coarse_begin_painting(state: &mut StateWords, canvas: &mut Canvas<'_>) -> u32
     ensures same { SameCanvas canvas.old canvas.new }
-    ensures begun { answer result (words_in state.new, canvas.new.depth.now, canvas.new.painting.now)
-        ≡ begin_call (words_in state.old) canvas.old.depth.now canvas.old.painting.now }
+    ensures begun { answer result (words_in state.new, depths_in canvas.new.depth, canvas.new.painting.now)
+        ≡ begin_call (words_in state.old) (depths_in canvas.old.depth) canvas.old.painting.now }
 {
     let Some(mut screen) = screen_of(state, true) else {
-        return refuse_begin(state, canvas.depth.len(), canvas.painting.len());
+        return refuse_begin(
+            state,
+            canvas.depth.words.len(),
+            canvas.depth.minima.len(),
+            canvas.painting.len(),
+        );
     };
     let done = begin_painting(&mut screen, canvas);
     leave(state, screen, done)
@@ -54,7 +62,8 @@ fn judged_step(
             state,
             row,
             stored,
-            canvas.depth.len(),
+            canvas.depth.words.len(),
+            canvas.depth.minima.len(),
             canvas.painting.len(),
         );
     };
@@ -79,7 +88,8 @@ pub extern "C" fn coarse_paint_step(
         state,
         row,
         stored,
-        canvas.depth.len(),
+        canvas.depth.words.len(),
+        canvas.depth.minima.len(),
         canvas.painting.len(),
     );
     if 64 < b {
@@ -108,7 +118,8 @@ fn judged_row(
             state,
             row,
             stored,
-            canvas.depth.len(),
+            canvas.depth.words.len(),
+            canvas.depth.minima.len(),
             canvas.painting.len(),
         );
     };
@@ -134,7 +145,8 @@ pub extern "C" fn coarse_paint_row(
         state,
         row,
         stored,
-        canvas.depth.len(),
+        canvas.depth.words.len(),
+        canvas.depth.minima.len(),
         canvas.painting.len(),
     );
     if 64 < b {
@@ -156,12 +168,12 @@ pub extern "C" fn coarse_unset_runs(
     count: &mut usize,
 ) -> u32
     ensures { answer result (list.new, one count.new)
-        ≡ unset_call row (span tiles.first tiles.end) (words_in state.now) canvas.now.depth.now list.old (one count.old) }
+        ≡ unset_call row (span tiles.first tiles.end) (words_in state.now) canvas.now.depth.words.now list.old (one count.old) }
 {
     let Some(screen) = screen_of(state, true) else {
-        return refuse_runs(state, row, canvas.depth.len());
+        return refuse_runs(state, row, canvas.depth.words.len());
     };
-    let runs = unset_runs(screen, row, canvas.depth, tiles, list);
+    let runs = unset_runs(screen, row, canvas.depth.words, tiles, list);
     put_runs(runs, count)
 }
 
@@ -178,16 +190,16 @@ pub extern "C" fn coarse_visible_runs(
     count: &mut usize,
 ) -> u32
     ensures { answer result (list.new, one count.new)
-        ≡ visible_call row (span tiles.first tiles.end) id (words_in state.now) canvas.now.depth.now list.old (one count.old) }
+        ≡ visible_call row (span tiles.first tiles.end) id (words_in state.now) canvas.now.depth.words.now list.old (one count.old) }
 {
     let Some(screen) = screen_of(state, true) else {
-        return refuse_runs(state, row, canvas.depth.len());
+        return refuse_runs(state, row, canvas.depth.words.len());
     };
-    let runs = visible_runs(screen, row, canvas.depth, tiles, id, list);
+    let runs = visible_runs(screen, row, canvas.depth.words, tiles, id, list);
     put_runs(runs, count)
 }
 
-/// Lists the unset runs of the buckets first to end, as buckets, and stores the id there; count: how many. Done, it ends painting.
+/// Lists the unset runs of the buckets first to end, as buckets, stores the id there and mends the minima above; count: how many. Done, it ends painting.
 #[unsafe(no_mangle)]
 #[tactic(auto, using(crate::proofs::Unheld::write_unheld))]
 pub extern "C" fn coarse_unset_runs_and_write(
@@ -204,15 +216,44 @@ pub extern "C" fn coarse_unset_runs_and_write(
     ensures written { answer result (write_out state.new canvas.new list.new count.new) ≡ write_on row buckets id state.old canvas.old list.old count.old }
 {
     let Some(mut screen) = screen_of(state, true) else {
-        return refuse_runs(state, row, canvas.depth.len());
+        return refuse_write(
+            state,
+            row,
+            canvas.depth.words.len(),
+            canvas.depth.minima.len(),
+        );
     };
     let range = BucketRange {
         first: buckets.first,
         end: buckets.end,
     };
-    let runs = unset_runs_and_write(&mut screen, row, canvas.depth, range, id, list);
+    let runs = unset_runs_and_write(&mut screen, row, &mut canvas.depth, range, id, list);
     put_screen(state, screen);
     put_runs(runs, count)
+}
+
+/// Whether every bucket from first to end is hidden from an id, by the minima alone; yes: 1 or 0.
+#[unsafe(no_mangle)]
+#[tactic(auto, using(crate::proofs::Unheld::hidden_unheld))]
+pub extern "C" fn coarse_is_hidden(
+    state: &StateWords,
+    minima: &[u32],
+    row: usize,
+    buckets: TileSpan,
+    id: u32,
+    yes: &mut u32,
+) -> u32
+    ensures { answer result (one yes.new)
+        ≡ hidden_call row (span buckets.first buckets.end) id (words_in state.now) minima.now (one yes.old) }
+{
+    let Some(screen) = screen_of(state, true) else {
+        return refuse_hidden(state, row, minima.len());
+    };
+    let range = BucketRange {
+        first: buckets.first,
+        end: buckets.end,
+    };
+    put_yes(is_hidden(screen, row, minima, range, id), yes)
 }
 
 /// Whether a draw over the tiles first to end need not look at the row's depth words; yes: 1 or 0.
@@ -233,7 +274,7 @@ pub extern "C" fn coarse_can_skip(
         return refuse_skip(state, row, stored.rows.len());
     };
     let skip = can_skip(screen, row, stored.rows, tiles, id);
-    put_skip(skip, yes)
+    put_yes(skip, yes)
 }
 
 /// Rule 7: the parts of an opaque span, at so many pixels a bucket. 2 for no width of a bucket, 12 for no range.

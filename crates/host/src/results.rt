@@ -50,12 +50,12 @@ pub fn put_runs(runs: Result<usize, Refusal>, count: &mut usize) -> u32
 }
 
 /// 1 for yes and 0 for no, where it is not refused.
-pub fn put_skip(skip: Result<bool, Refusal>, yes: &mut u32) -> u32
-    ensures { answer result (one yes.new) ≡ skip-left (one yes.old) (skip_of skip) }
+pub fn put_yes(asked: Result<bool, Refusal>, yes: &mut u32) -> u32
+    ensures { answer result (one yes.new) ≡ skip-left (one yes.old) (skip_of asked) }
 {
-    match skip {
-        Ok(skips) => {
-            *yes = u32::from(skips);
+    match asked {
+        Ok(told) => {
+            *yes = u32::from(told);
             0
         }
         Err(refusal) => refusal.number(),

@@ -44,7 +44,7 @@ fn found_spans(
     count: &mut usize,
 ) -> Found
     ensures { answer result.number (result.count, result.words, one count.new)
-        ≡ found_call row (span tiles.first tiles.end) id (words_in state.now) canvas.now.depth.now room (one count.old) }
+        ≡ found_call row (span tiles.first tiles.end) id (words_in state.now) canvas.now.depth.words.now room (one count.old) }
 {
     let mut words = [0u32; BUCKET_END];
     let n = words_for(room);
@@ -76,7 +76,7 @@ pub extern "C" fn coarse_visible_spans(
     count: &mut usize,
 ) -> u32
     ensures { answer result (list.new, one count.new)
-        ≡ spans_call row (span tiles.first tiles.end) id (words_in state.now) canvas.now.depth.now list.old (one count.old) }
+        ≡ spans_call row (span tiles.first tiles.end) id (words_in state.now) canvas.now.depth.words.now list.old (one count.old) }
 {
     let found = found_spans(state, canvas, row, tiles, id, list.len(), count);
     let words = found.words;

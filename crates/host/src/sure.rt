@@ -5,12 +5,14 @@ ghost use Rattle.std.specs.Prelude.{◌≡◌, ◌≤◌, ◌+◌, ◌-◌, ◌*
 ghost use Rattle.sizes.specs.Sizes.{most-rows, most-room};
 ghost use Rattle.sizes.specs.Widths.{bucket-tiles};
 ghost use Rattle.rules.specs.Boxes.{box};
+ghost use Rattle.rules.specs.Minima.{minima-room};
 ghost use Rattle.rect.specs.Rects.{same-box};
 ghost use Rattle.host.specs.State.{width-at};
 ghost use Rattle.host.specs.OneLook.{corner-box, Side, Viewed, Counted, clip-in, rows-long, Sure, Built, BuiltFor, PushSure, FilterSure};
 
 use crate::layer::{FilterWords, PropsWords};
 use crate::state::{Corners, StateWords};
+use depth::minima_room;
 use paint::Stored;
 use screen::Lent;
 use sizes::width::Width;
@@ -93,11 +95,11 @@ fn is_long(n: usize, state: &StateWords, rows: usize, render_cmds: usize, depth_
 
 // The words of a canvas have their lengths, for n rows of b buckets.
 #[inline(always)]
-fn is_canvas_long(n: usize, b: usize, depth: usize, painting: usize) -> bool
+fn is_canvas_long(n: usize, b: usize, depth: usize, minima: usize, painting: usize) -> bool
     requires { (n ≤ most-rows) × (b ≤ 64) }
-    ensures { result ≡ (eqb depth (n * b) && eqb painting (n * 2)) }
+    ensures { result ≡ (eqb depth (n * b) && eqb minima (n * minima-room b) && eqb painting (n * 2)) }
 {
-    (depth == n * b) & (painting == n * 2)
+    (depth == n * b) & (minima == n * minima_room(b)) & (painting == n * 2)
 }
 
 // The buckets of so many tiles at a word's width, if it is one.
@@ -121,9 +123,10 @@ pub fn sure_buckets(
     row: usize,
     stored: &Stored<'_>,
     depth: usize,
+    minima: usize,
     painting: usize,
 ) -> usize
-    ensures { result ≤ 64 → Sure state.now row stored.now depth painting result }
+    ensures { result ≤ 64 → Sure state.now row stored.now depth minima painting result }
 {
     let w = side(state.viewport.x0, state.viewport.x1);
     let h = side(state.viewport.y0, state.viewport.y1);
@@ -146,7 +149,7 @@ pub fn sure_buckets(
             stored.render_cmds.len(),
             stored.depth_cmds.len(),
         )
-        & is_canvas_long(n, b, depth, painting)
+        & is_canvas_long(n, b, depth, minima, painting)
         & ((stored.paint_attrs.len() == PAINT_TABLE) & (stored.layer_attrs.len() == LAYER_TABLE));
     if !long {
         return 65;

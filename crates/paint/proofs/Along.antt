@@ -5,7 +5,8 @@ use Rattle.rules.specs.Attributes.{Attrs}
 use Rattle.cmd.specs.Attrs.{words-at}
 use Rattle.cmd.proofs.Tables.{length_at}
 use Rattle.paint.specs.Summaries.{summary-at}
-use Rattle.paint.specs.Painting.{word, StepOut, next-step, painted-row}
+use Rattle.screen.specs.Depths.{Depths, depths}
+use Rattle.paint.specs.Painting.{word, StepOut, next-step, next-minima, painted-row}
 use Rattle.paint.specs.Running.{one_more, run, own-step}
 use Rattle.cmd.specs.Commands.{cmd_at}
 use Rattle.paint.specs.Kinds.{step-to, Gives, Calm, Place, place, stands, Reaches}
@@ -13,7 +14,7 @@ use Rattle.paint.proofs.WholeRuns.{more}
 use Rattle.paint.proofs.Putting.{words-none}
 
 -- any step
-module _ (step : List ℕ → List ℕ → List ℕ → StepOut) (D : List ℕ) (d : ℕ) where
+module _ (step : Depths → List ℕ → List ℕ → StepOut) (D : Depths) (d : ℕ) where
   none_more : (n f k : ℕ) (g : StepOut) → run step f k g ≡ run step (f - (n - n)) (k + (n - n)) g
   none_more n f k g = let e : n - n ≡ 0 = omega arith in let i : f - 0 ≡ f = omega arith in let j : k + 0 ≡ k = omega arith in rw (e, i, j)
 
@@ -47,20 +48,20 @@ module _ (step : List ℕ → List ℕ → List ℕ → StepOut) (D : List ℕ) 
           ∙ rw (n, m)
 
 -- the steps of a row's commands
-module _ (v : ℕ) (a : Attrs) (s re fi D : List ℕ) (c : Calm s re fi) where
+module _ (v : ℕ) (a : Attrs) (s re fi D M : List ℕ) (c : Calm s re fi) where
   abbrev d : ℕ
   d = word s 1
 
-  abbrev steps : List ℕ → List ℕ → List ℕ → StepOut
+  abbrev steps : Depths → List ℕ → List ℕ → StepOut
   steps = own-step v a s re fi
 
   module _ (at m : ℕ) (h : at < word s 0) (g : m ≤ 16) where
     one-back : d + at - d ≡ at
     one-back = omega arith
 
-    taken : (l : List ℕ) → steps D ((d + at) ∷ m ∷ []) l
-        ≡ step-to v a (summary-at s) D m (cmd_at re at) (d + at) ((d + at) ∷ m ∷ []) l
-    unfolding painted-row next-step
+    taken : (l : List ℕ) → steps (depths D M) ((d + at) ∷ m ∷ []) l
+        ≡ step-to v a (summary-at s) D m (cmd_at re at) M (d + at) ((d + at) ∷ m ∷ []) l
+    unfolding painted-row next-step next-minima
     taken l =
         rw (
           le-ltb (length re) (4 * word s 0) c.renders,
@@ -74,25 +75,25 @@ module _ (v : ℕ) (a : Attrs) (s re fi D : List ℕ) (c : Calm s re fi) where
         )
 
   -- a command whose step gives k pieces, with the words ws, and nesting j
-  module _ (start : Place) (at n m : ℕ) (l : List ℕ) (z : Reaches steps D d start (place at n m l)) (h : at < word s 0) (k : ℕ) (ws : List ℕ) (j : ℕ)
+  module _ (start : Place) (at n m : ℕ) (l : List ℕ) (z : Reaches steps (depths D M) d start (place at n m l)) (h : at < word s 0) (k : ℕ) (ws : List ℕ) (j : ℕ)
       (g : Gives v a (summary-at s) D m (cmd_at re at) k ws j) (long : length ws ≡ piece-size * k) (shallow : j ≤ 16) (room : piece-size * (n + k) ≤ length l) where
     one_up : d + at + 1 ≡ d + (at + 1)
     one_up = omega arith
 
-    given : one_more steps (stands D d (place at n m l)) ≡ stands D d (place (at + 1) (n + k) j (words-at l (piece-size * n) ws))
+    given : one_more steps (stands (depths D M) d (place at n m l)) ≡ stands (depths D M) d (place (at + 1) (n + k) j (words-at l (piece-size * n) ws))
     unfolding one_more
     given =
-        let o = taken at m h z.shallow (drop (piece-size * n) l) ∙ g.step (d + at) ((d + at) ∷ m ∷ []) (drop (piece-size * n) l) (rw length-drop (omega arith)) in
+        let o = taken at m h z.shallow (drop (piece-size * n) l) ∙ g.step M (d + at) ((d + at) ∷ m ∷ []) (drop (piece-size * n) l) (rw length-drop (omega arith)) in
         rw (o, one_up, drop-drop (length ws) (piece-size * n) l, append_assoc)
 
-    pub on_given : (l' : List ℕ) → l' ≡ words-at l (piece-size * n) ws → Reaches steps D d start (place (at + 1) (n + k) j l')
+    pub on_given : (l' : List ℕ) → l' ≡ words-at l (piece-size * n) ws → Reaches steps (depths D M) d start (place (at + 1) (n + k) j l')
     on_given l' i =
         let e : length (words-at l (piece-size * n) ws) ≡ length l = length_at l (piece-size * n) ws (rw long (omega arith)) in
-        rw i (reach-more steps D d start (place at n m l) z (place (at + 1) (n + k) j (words-at l (piece-size * n) ws)) refl given shallow (rw e (omega arith)) e)
+        rw i (reach-more steps (depths D M) d start (place at n m l) z (place (at + 1) (n + k) j (words-at l (piece-size * n) ws)) refl given shallow (rw e (omega arith)) e)
 
   -- .. none
-  pub on_bare : (start : Place) (at n m : ℕ) (l : List ℕ) → Reaches steps D d start (place at n m l) → at < word s 0
-      → (j : ℕ) → j ≤ 16 → Gives v a (summary-at s) D m (cmd_at re at) 0 [] j → Reaches steps D d start (place (at + 1) n j l)
+  pub on_bare : (start : Place) (at n m : ℕ) (l : List ℕ) → Reaches steps (depths D M) d start (place at n m l) → at < word s 0
+      → (j : ℕ) → j ≤ 16 → Gives v a (summary-at s) D m (cmd_at re at) 0 [] j → Reaches steps (depths D M) d start (place (at + 1) n j l)
   on_bare start at n m l z h j i g =
       let e : n + 0 ≡ n = omega arith in
       (rw e at (on_given start at n m l z h 0 [] j g refl i (omega (arith, z.few)) l (sym (words-none l (piece-size * n)))))

@@ -4,13 +4,15 @@ use lib.ListN.{length-map, get_or-eq_default}
 use Rattle.sizes.specs.declared.width.Width.{Width}
 use Rattle.sizes.specs.Widths.{bucket-tiles}
 use Rattle.rules.specs.Commands.{Command, paint-fill, layer-fill, push-buf, pop-buf, DepthFill}
-use Rattle.rules.specs.Depth.{Summary}
+use Rattle.rules.specs.Depth.{Summary, write-runs, written}
 use Rattle.rules.specs.Rows.{Row}
 use Rattle.rules.specs.Attributes.{PaintAttr, LayerAttr, Attrs, no-paint, no-layer}
 use Rattle.rules.specs.Painting.{Painter, paint-id, paint-panel, layer-id, layer-panel, no-fill, paint-depth, paint-fill-runs, paint-command, paint-when, paint-step}
-use Rattle.paint.specs.Painting.{word, paint-at, layer-at, attrs-at, RowLent, words_lent, painter-at, good-command, fill-shown, command-shown, depth-step, command-step, depth-fill-at, command-at, bad-row, next-step, painted-row}
+use Rattle.rules.specs.Minima.{halvings, mended-runs}
+use Rattle.screen.specs.Depths.{Depths, depths}
+use Rattle.paint.specs.Painting.{word, paint-at, layer-at, attrs-at, RowLent, words_lent, painter-at, good-command, fill-shown, command-shown, depth-step, command-step, depth-fill-at, command-at, bad-row, fill-minima, next-step, next-minima, painted-row}
 use Rattle.paint.specs.Summaries.{summary-at, Sound, Included}
-use Rattle.paint.specs.Standing.{Stands, PainterReady, Holds}
+use Rattle.paint.specs.Standing.{step-minima, Stands, PainterReady, Holds}
 use Rattle.paint.proofs.Skips.{same_runs, sound-after}
 use Rattle.paint.proofs.Judging.{length-count, paint-is, layer-is}
 
@@ -51,11 +53,16 @@ module _ (v : ℕ) (a b : Attrs) (s : Same a b) (p : Painter) where
   same-command-step u None = refl
   same-command-step u (Some c) = rw (same_good p.nesting c, same-shown u c)
 
+same-minima : (a b : Attrs) → Same a b → (d : Depths) (o : Option DepthFill) → fill-minima a d o ≡ fill-minima b d o
+unfolding fill-minima
+same-minima a b s d None = refl
+same-minima a b s d (Some f) = rw (s.paint-ids f.attribute)
+
 pub same_row : (v : ℕ) (a b : Attrs) → Same a b → (w : RowLent) → painted-row v a w ≡ painted-row v b w
-unfolding painted-row next-step
+unfolding painted-row next-step next-minima
 same_row v a b s w =
-    let p = painter-at w.depth w.painting in
-    rw (same-depth-step v a b s p, same-command-step v a b s p (summary-at w.state))
+    let p = painter-at w.depth.words w.painting in
+    rw (same-depth-step v a b s p, same-command-step v a b s p (summary-at w.state), same-minima a b s w.depth)
 
 -- the tables' attributes are such
 module _ (a : Attrs) (ps : List ℕ) (paints : ℕ) (ls : List ℕ) (layers : ℕ) (h : Holds a ps paints ls layers) where
@@ -117,12 +124,12 @@ by-summary width a u (push-buf t) p o = refl
 by-summary width a u pop-buf p o = refl
 
 -- the words of a row stand for it, the painter is within it, and its summary is sound
-module _ (width : Width) (a : Attrs) (r : Row) (s re fi D P l : List ℕ) (g : Stands a (length D) r s re fi) (q : PainterReady a r (painter-at D P))
+module _ (width : Width) (a : Attrs) (r : Row) (s re fi D M P l : List ℕ) (g : Stands a (length D) r s re fi) (q : PainterReady a r (painter-at D P))
     (o : Sound (bucket-tiles width) (summary-at s) D) where
   abbrev v : ℕ
   v = bucket-tiles width
 
-  good : bad-row (words_lent s re fi D P l) ≡ false
+  good : bad-row (words_lent s re fi (depths D M) P l) ≡ false
   good =
       rw (g.renders, g.depths, le-ltb _ _ g.few-renders, le-ltb _ _ g.few-depths, le-ltb _ _ q.shallow, le-ltb _ _ q.steps-left, g.summary)
 
@@ -140,7 +147,7 @@ module _ (width : Width) (a : Attrs) (r : Row) (s re fi D P l : List ℕ) (g : S
   unfolding command-step
   command-place m h = rw (g.commands-at _ h, q.good-next m h, by-summary width a (summary-at s) (get_or r.commands (word P 0 - length r.fills) pop-buf) (painter-at D P) o)
 
-  pub next : next-step v a (words_lent s re fi D P l) ≡ Some (paint-step v a r (painter-at D P))
+  pub next : next-step v a (words_lent s re fi (depths D M) P l) ≡ Some (paint-step v a r (painter-at D P))
   unfolding next-step paint-step paint-when
   next = rw (good, g.depths, g.renders) (go (ltb (word P 0) (length r.fills)) (ltb (word P 0 - length r.fills) (length r.commands)) refl refl)
     where
@@ -155,6 +162,22 @@ module _ (width : Width) (a : Attrs) (r : Row) (s re fi D P l : List ℕ) (g : S
       go true u e f = depth-place (ltb-true _ _ e)
       go false true e f = command-place (ltb-false _ _ e) (ltb-true _ _ f)
       go false false e f = refl
+
+  pub next-mended : next-minima a (words_lent s re fi (depths D M) P l) ≡ step-minima a r (painter-at D P) M
+  unfolding next-minima fill-minima step-minima
+  next-mended = rw g.depths (go (ltb (word P 0) (length r.fills)) refl)
+    where
+      f : DepthFill
+      f = get_or r.fills (length r.fills - (word P 0 + 1)) no-fill
+
+      go : (t : Bool) → ltb (word P 0) (length r.fills) ≡ t
+          → cond t (fill-minima a (depths D M) (depth-fill-at (length D) fi (length r.fills - (word P 0 + 1)))) M
+          ≡ cond t (mended-runs (halvings (length D)) M (written D (paint-id a f.attribute) f.buckets) (write-runs D f.buckets)) M
+      go true e =
+          let h = ltb-true _ _ e in
+          let k : length r.fills - (word P 0 + 1) < length r.fills = omega arith in
+          rw (g.fills-at _ k)
+      go false e = refl
 
 -- Painting keeps the summary of a row sound, if it includes each of the row's depth fills.
 abbrev pub AllIncluded : ℕ → Attrs → Summary → Row → Type 0

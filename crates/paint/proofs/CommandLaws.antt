@@ -11,26 +11,29 @@ use Rattle.rules.specs.Rows.{Row}
 use Rattle.rules.specs.Attributes.{Attrs}
 use Rattle.rules.specs.Painting as rules
 use Rattle.rules.specs.Painting.{paint-depth, paint-command, paint-step}
-use Rattle.paint.specs.Painting.{word, attrs-at, RowLent, words_lent, StepOut, out, painter-at, good-paint, good-command, fill-shown, command-shown, depth-step, command-step, depth-fill-at, command-at, bad-row, refused, left, next-step, settled, painted-row}
+use Rattle.rules.specs.Minima.{minima-room}
+use Rattle.screen.specs.Depths.{Depths, depths}
+use Rattle.paint.specs.Painting.{word, attrs-at, RowLent, words_lent, StepOut, out, painter-at, good-paint, good-command, fill-shown, command-shown, depth-step, command-step, depth-fill-at, command-at, bad-row, refused, left, fill-minima, next-step, next-minima, settled, painted-row}
 use Rattle.paint.specs.Summaries.{summary-at, Sound}
-use Rattle.paint.specs.Standing.{Stands, PainterReady, Holds}
-use Rattle.paint.proofs.ByRules.{held, same_row, next}
+use Rattle.paint.specs.Standing.{Stands, PainterReady, Holds, step-minima}
+use Rattle.paint.proofs.ByRules.{held, same_row, next, next-mended}
+use Rattle.paint.proofs.Mended.{length-mends}
 
 -- Nothing is forged, and the summary is sound for the depth words: the step is the rules' step of the row. It is refused, by 14, only if the list is shorter than its pieces.
 module _ (width : Width) (a : Attrs) (ps : List ℕ) (paints : ℕ) (ls : List ℕ) (layers : ℕ) (h : Holds a ps paints ls layers)
-    (r : Row) (s re fi D P l : List ℕ) (g : Stands a (length D) r s re fi) (q : PainterReady a r (painter-at D P))
+    (r : Row) (s re fi D M P l : List ℕ) (g : Stands a (length D) r s re fi) (q : PainterReady a r (painter-at D P))
     (o : Sound (bucket-tiles width) (summary-at s) D) where
   abbrev v : ℕ
   v = bucket-tiles width
 
-  stands : painted-row v a (words_lent s re fi D P l) ≡ settled (Some (paint-step v a r (painter-at D P))) D P l
+  stands : painted-row v a (words_lent s re fi (depths D M) P l) ≡ settled (Some (paint-step v a r (painter-at D P))) (step-minima a r (painter-at D P) M) (depths D M) P l
   unfolding painted-row
-  stands = rw (next width a r s re fi D P l g q o)
+  stands = rw (next width a r s re fi D M P l g q o, next-mended width a r s re fi D M P l g q o)
 
-  pub by-rules : painted-row v (attrs-at ps paints ls layers) (words_lent s re fi D P l) ≡ settled (Some (paint-step v a r (painter-at D P))) D P l
-  by-rules = same_row v (attrs-at ps paints ls layers) a (held a ps paints ls layers h) (words_lent s re fi D P l) ∙ stands
+  pub by-rules : painted-row v (attrs-at ps paints ls layers) (words_lent s re fi (depths D M) P l) ≡ settled (Some (paint-step v a r (painter-at D P))) (step-minima a r (painter-at D P) M) (depths D M) P l
+  by-rules = same_row v (attrs-at ps paints ls layers) a (held a ps paints ls layers h) (words_lent s re fi (depths D M) P l) ∙ stands
 
--- A step leaves as many depth words as there were, and two painting words.
+-- A step leaves as many depth words and minima as there were, and two painting words.
 length-written : (id : ℕ) (r : Span) (i : ℕ) (bs : List ℕ) → length (written_from i id r bs) ≡ length bs
 length-written id r i [] = refl
 length-written id r i (b ∷ bs) = ap suc (length-written id r (suc i) bs)
@@ -61,17 +64,17 @@ module _ (v : ℕ) (a : Attrs) (u : Summary) (p : rules.Painter) where
   long-command None = tt
   long-command (Some c) = long-if _ (good-command a p.nesting c) _ (long-shown c)
 
-long-next : (v : ℕ) (a : Attrs) (w : RowLent) → Long (length w.depth) (next-step v a w)
+long-next : (v : ℕ) (a : Attrs) (w : RowLent) → Long (length w.depth.words) (next-step v a w)
 unfolding next-step
 long-next v a w = go (bad-row w) (ltb p.steps (word w.state 1)) (ltb (p.steps - word w.state 1) (word w.state 0))
   where
     p : rules.Painter
-    p = painter-at w.depth w.painting
+    p = painter-at w.depth.words w.painting
 
     go : (t y x : Bool)
-        → Long (length w.depth)
+        → Long (length w.depth.words)
         (cond t None
-        (cond y (depth-step v a p (depth-fill-at (length w.depth) w.fills (word w.state 1 - (p.steps + 1))))
+        (cond y (depth-step v a p (depth-fill-at (length w.depth.words) w.fills (word w.state 1 - (p.steps + 1))))
         (cond x (command-step v a (summary-at w.state) p (command-at w.render (p.steps - word w.state 1)))
         (Some (record { finished = true; pieces = []; painter = p })))))
     go true y x = tt
@@ -79,19 +82,36 @@ long-next v a w = go (bad-row w) (ltb p.steps (word w.state 1)) (ltb (p.steps - 
     go false false true = long-command v a (summary-at w.state) p _
     go false false false = refl
 
-abbrev SameLong : StepOut → List ℕ → Type 0
-SameLong o d = (length o.depth ≡ length d) × (length o.painting ≡ 2)
+long-fill : (a : Attrs) (d : Depths) → length d.minima ≡ minima-room (length d.words) → (o : Option DepthFill) → length (fill-minima a d o) ≡ length d.minima
+unfolding fill-minima
+long-fill a d e None = refl
+long-fill a d e (Some f) = length-mends d.words d.minima (written d.words (rules.paint-id a f.attribute) f.buckets) f.buckets e
 
-settled-long : (o : Option rules.Painted) (d p l : List ℕ) → length p ≡ 2 → Long (length d) o → SameLong (settled o d p l) d
-unfolding settled
-settled-long None d p l e h = (refl, e)
-settled-long (Some o) d p l e h = go (ltb (length l / piece-size) (length o.pieces))
+long-minima : (a : Attrs) (w : RowLent) → length w.depth.minima ≡ minima-room (length w.depth.words) → length (next-minima a w) ≡ length w.depth.minima
+unfolding next-minima
+long-minima a w e = go (ltb (word w.painting 0) (word w.state 1))
   where
-    go : (t : Bool) → SameLong (cond t (out (refused 14) d p l) (left o l)) d
-    go true = (refl, e)
-    go false = (h, refl)
+    f : Option DepthFill
+    f = depth-fill-at (length w.depth.words) w.fills (word w.state 1 - (word w.painting 0 + 1))
 
-pub same-lengths : (v : ℕ) (a : Attrs) (w : RowLent) → length w.painting ≡ 2
-    → (length (painted-row v a w).depth ≡ length w.depth) × (length (painted-row v a w).painting ≡ 2)
+    go : (t : Bool) → length (cond t (fill-minima a w.depth f) w.depth.minima) ≡ length w.depth.minima
+    go true = long-fill a w.depth e f
+    go false = refl
+
+abbrev pub SameLong : StepOut → Depths → Type 0
+SameLong o d = (length o.depth.words ≡ length d.words) × (length o.depth.minima ≡ length d.minima) × (length o.painting ≡ 2)
+
+settled-long : (o : Option rules.Painted) (ms : List ℕ) (d : Depths) (p l : List ℕ) → length p ≡ 2 → length ms ≡ length d.minima → Long (length d.words) o
+    → SameLong (settled o ms d p l) d
+unfolding settled
+settled-long None ms d p l e m h = (refl, refl, e)
+settled-long (Some o) ms d p l e m h = go (ltb (length l / piece-size) (length o.pieces))
+  where
+    go : (t : Bool) → SameLong (cond t (out (refused 14) d p l) (left o ms l)) d
+    go true = (refl, refl, e)
+    go false = (h, m, refl)
+
+pub same-lengths : (v : ℕ) (a : Attrs) (w : RowLent) → length w.depth.minima ≡ minima-room (length w.depth.words) → length w.painting ≡ 2
+    → SameLong (painted-row v a w) w.depth
 unfolding painted-row
-same-lengths v a w e = settled-long (next-step v a w) w.depth w.painting w.list e (long-next v a w)
+same-lengths v a w m e = settled-long (next-step v a w) (next-minima a w) w.depth w.painting w.list e (long-minima a w m) (long-next v a w)

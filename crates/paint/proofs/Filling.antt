@@ -1,5 +1,5 @@
 -- The two calls over runs as a step makes them, and what the step leaves of their pieces. Assumes nothing.
-use Rattle.std.proofs.Common.{◌≡◌, refl, ap, ◌∙◌, Bool, true, false, ◌||◌, cond, List, [], ◌∷◌, map, Option, None, Some, Result, Ok, Err, ℕ, ◌≤◌, ◌<◌, ◌+◌, ◌-◌, ◌*◌, ◌/◌, mul-one, arith, length, ltb, eqb, le-leb, ne_eqb}
+use Rattle.std.proofs.Common.{◌≡◌, refl, ap, ◌∙◌, Bool, true, false, ◌||◌, cond, List, [], ◌∷◌, map, Option, None, Some, Result, Ok, Err, ℕ, ◌≤◌, ◌<◌, ◌+◌, ◌-◌, ◌*◌, ◌/◌, mul-one, arith, length, ltb, eqb, le-leb, ne_eqb, eq-eqb}
 use lib.ListN.{length-map}
 use Rattle.sizes.specs.Sizes.{piece-size}
 use Rattle.rules.specs.Answers.{settle}
@@ -23,6 +23,8 @@ use Rattle.cmd.specs.Pieces.{laid}
 use Rattle.paint.specs.Pieces.{Fits, run_at, runs-at}
 use Rattle.paint.specs.Summaries.{shown_runs}
 use Rattle.paint.specs.Answers.{Painted, Advanced, advanced}
+use Rattle.rules.specs.Minima.{minima-room, halvings, mended-runs, minima-after}
+use Rattle.screen.specs.Depths.{depths}
 use Rattle.paint.specs.Painting.{word, out, painter-at, refused, listed, fill-shown, settled}
 use Rattle.paint.proofs.Spreading.{piece}
 use Rattle.paint.proofs.Within.{shown-fits, depth-fits}
@@ -32,21 +34,21 @@ same_map : {A B : Type 0} (f g : A → B) → ((x : A) → f x ≡ g x) → (xs 
 same_map f g h [] = refl
 same_map f g h (x ∷ xs) = rw (h x, same_map f g h xs)
 
-module _ (D P l : List ℕ) (o : rules.Painted) where
+module _ (D M P l : List ℕ) (o : rules.Painted) (ms : List ℕ) where
   -- no room for the pieces
-  pub no_room : ltb (length l / piece-size) (length o.pieces) ≡ true → out (refused 14) D P l ≡ settled (Some o) D P l
+  pub no_room : ltb (length l / piece-size) (length o.pieces) ≡ true → out (refused 14) (depths D M) P l ≡ settled (Some o) ms (depths D M) P l
   unfolding settled
   no_room e = rw e
 
   -- room for them
-  pub room : (D' P' l' : List ℕ) (n : ℕ) → ltb (length l / piece-size) (length o.pieces) ≡ false → o.finished ≡ false
-      → n ≡ length o.pieces → D' ≡ o.painter.buckets → P' ≡ o.painter.steps ∷ o.painter.nesting ∷ [] → l' ≡ laid o.pieces l
-      → out (listed n) D' P' l' ≡ settled (Some o) D P l
+  pub room : (D' M' P' l' : List ℕ) (n : ℕ) → ltb (length l / piece-size) (length o.pieces) ≡ false → o.finished ≡ false
+      → n ≡ length o.pieces → D' ≡ o.painter.buckets → M' ≡ ms → P' ≡ o.painter.steps ∷ o.painter.nesting ∷ [] → l' ≡ laid o.pieces l
+      → out (listed n) (depths D' M') P' l' ≡ settled (Some o) ms (depths D M) P l
   unfolding settled
-  room D' P' l' n e f q d p h = rw (e, f, q, d, p, h)
+  room D' M' P' l' n e f q d m p h = rw (e, f, q, d, m, p, h)
 
 -- a fill's call over its span, on the part of the list that is lent for runs
-module _ (width : Width) (D P l ys : List ℕ) (u : Summary) (layer : Bool) (id i panel : ℕ) (t : TileSpan) (a : Option ℕ) (h : t.first ≤ t.end) (g : t.end ≤ 8192) where
+module _ (width : Width) (D M P l ys : List ℕ) (u : Summary) (layer : Bool) (id i panel : ℕ) (t : TileSpan) (a : Option ℕ) (h : t.first ≤ t.end) (g : t.end ≤ 8192) where
   runs : List Span
   runs = shown_runs (bucket-tiles width) u D id (tiles t)
 
@@ -59,11 +61,11 @@ module _ (width : Width) (D P l ys : List ℕ) (u : Summary) (layer : Bool) (id 
   told r e = e ∙ rw (lent-room l)
 
   pub fill_refused : (k : Refusal) → Told (Err k)
-      → out (refused (number_of k)) D P (back l ys) ≡ settled (Some (fill-shown (bucket-tiles width) no-attrs u layer id i panel (tiles t) a (painter-at D P))) D P l
+      → out (refused (number_of k)) (depths D M) P (back l ys) ≡ settled (Some (fill-shown (bucket-tiles width) no-attrs u layer id i panel (tiles t) a (painter-at D P))) M (depths D M) P l
   unfolding fill-shown runs
   fill_refused k e =
       let w = when_refused runs l ys k (told (Err k) e) in
-      rw (w.0, w.1) (no_room D P l _ (rw length-map w.2))
+      rw (w.0, w.1) (no_room D M P l _ M (rw length-map w.2))
 
   module _ (n : ℕ) (e : Told (Ok n)) where
     found : Listed runs l n (back l ys)
@@ -82,23 +84,25 @@ module _ (width : Width) (D P l ys : List ℕ) (u : Summary) (layer : Bool) (id 
 
     pub fill_done : (p : Painted) (P' l' : List ℕ) → advanced p P' ≡ advanced (listed n) ((word P 0 + 1) ∷ word P 1 ∷ [])
         → l' ≡ laid (map (piece 1 brush) (runs-at n (back l ys))) (back l ys)
-        → out p D P' l'
-        ≡ settled (Some (fill-shown (bucket-tiles width) no-attrs u layer id i panel (tiles t) a (painter-at D P))) D P l
+        → out p (depths D M) P' l'
+        ≡ settled (Some (fill-shown (bucket-tiles width) no-attrs u layer id i panel (tiles t) a (painter-at D P))) M (depths D M) P l
     unfolding fill-shown runs
     fill_done p P' l' o v =
         let f : Span → Piece = fill-piece (bucket-tiles width) no-attrs layer i panel (tiles t) a (word P 1) in
         let same : map (piece 1 brush) runs ≡ map f runs = same_map (piece 1 brush) f (λ x. simp mul-one) runs in
-        ap (λ (x : Advanced). out x.answer D x.painting l') o
-        ∙ room D P l _ D ((word P 0 + 1) ∷ word P 1 ∷ []) l' n
+        ap (λ (x : Advanced). out x.answer (depths D M) x.painting l') o
+        ∙ room D M P l _ M D M ((word P 0 + 1) ∷ word P 1 ∷ []) l' n
         (rw length-map found.roomy)
         refl
         (found.many ∙ rw length-map)
         refl
         refl
+        refl
         (listed-spread runs l n (back l ys) found 1 brush l' v ∙ ap (λ (x : List Piece). laid x l) same)
 
 -- a depth fill's call over its buckets, which writes
-module _ (width : Width) (D P l ys D' : List ℕ) (id i panel : ℕ) (b : BucketRange) (h : b.first ≤ b.end) (g : b.end ≤ length D) (k : 0 < id) where
+module _ (width : Width) (D M P l ys D' M' : List ℕ) (id i panel : ℕ) (b : BucketRange) (h : b.first ≤ b.end) (g : b.end ≤ length D) (k : 0 < id)
+    (fit : length M ≡ minima-room (length D)) where
   unset : List Span
   unset = write-runs D (buckets b)
 
@@ -106,15 +110,15 @@ module _ (width : Width) (D P l ys D' : List ℕ) (id i panel : ℕ) (b : Bucket
   good = rw (le-leb _ _ h, le-leb _ _ g, ne_eqb id 0 (λ z. omega arith))
 
   abbrev pub ToldWrite : Result ℕ Refusal → Type 0
-  ToldWrite r = depth.out-write r ys D' ≡ depth.writing D id (buckets b) (lent l)
+  ToldWrite r = depth.out-write r ys D' M' ≡ depth.writing D M id (buckets b) (lent l)
 
   told-write : (r : Result ℕ Refusal) → ToldWrite r → depth.out r ys ≡ depth.listing (rule.listed false (length l / piece-size) unset) (lent l)
   unfolding write_answer unset
-  told-write r e = ap (λ (o : depth.OutWrite). o.listed) e ∙ rw (good, lent-room l)
+  told-write r e = ap (λ (o : depth.OutWrite). o.listed) e ∙ rw (eq-eqb _ _ fit, good, lent-room l)
 
   after : (r : Result ℕ Refusal) → ToldWrite r → (t : Bool) → ltb (length l / piece-size) (length unset) ≡ t → D' ≡ cond t D (written D id (buckets b))
   unfolding write_answer write-after unset
-  after r e t q = ap (λ (o : depth.OutWrite). o.depth) e ∙ rw (good, lent-room l, q) (go t)
+  after r e t q = ap (λ (o : depth.OutWrite). o.depth) e ∙ rw (eq-eqb _ _ fit, good, lent-room l, q) (go t)
     where
       go : (t : Bool)
           → cond (eqb (settle (cond t 14 0) [] (write-runs D (buckets b))).number 0) (written D id (buckets b)) D
@@ -122,15 +126,27 @@ module _ (width : Width) (D P l ys D' : List ℕ) (id i panel : ℕ) (b : Bucket
       go true = refl
       go false = refl
 
+  -- the minima after it
+  abbrev pub mends : List ℕ
+  mends = mended-runs (halvings (length D)) M (written D id (buckets b)) (write-runs D (buckets b))
+
+  mended-after : (r : Result ℕ Refusal) → ToldWrite r → (t : Bool) → ltb (length l / piece-size) (length unset) ≡ t → M' ≡ cond t M mends
+  unfolding write_answer minima-after unset
+  mended-after r e t q = ap (λ (o : depth.OutWrite). o.minima) e ∙ rw (eq-eqb _ _ fit, good, lent-room l, q) (go t)
+    where
+      go : (t : Bool) → cond (eqb (settle (cond t 14 0) [] (write-runs D (buckets b))).number 0) mends M ≡ cond t M mends
+      go true = refl
+      go false = refl
+
   -- the depth fill's step
   abbrev pub marked : rules.Painted
   marked = gives (map (depth-piece (bucket-tiles width) no-attrs i panel) (write-runs D (buckets b))) (written D id (buckets b)) (word P 0 + 1) (word P 1)
 
-  pub depth_refused : (k : Refusal) → ToldWrite (Err k) → out (refused (number_of k)) D' P (back l ys) ≡ settled (Some marked) D P l
+  pub depth_refused : (k : Refusal) → ToldWrite (Err k) → out (refused (number_of k)) (depths D' M') P (back l ys) ≡ settled (Some marked) mends (depths D M) P l
   unfolding unset
   depth_refused k e =
       let w = when_refused unset l ys k (told-write (Err k) e) in
-      rw (w.0, w.1, after (Err k) e true w.2) (no_room D P l marked (rw length-map w.2))
+      rw (w.0, w.1, after (Err k) e true w.2, mended-after (Err k) e true w.2) (no_room D M P l marked mends (rw length-map w.2))
 
   module _ (n : ℕ) (e : ToldWrite (Ok n)) where
     found-unset : Listed unset l n (back l ys)
@@ -149,14 +165,15 @@ module _ (width : Width) (D P l ys D' : List ℕ) (id i panel : ℕ) (b : Bucket
 
     pub depth_done : (p : Painted) (P' l' : List ℕ) → advanced p P' ≡ advanced (listed n) ((word P 0 + 1) ∷ word P 1 ∷ [])
         → l' ≡ laid (map (piece (bucket-tiles width) depth-brush) (runs-at n (back l ys))) (back l ys)
-        → out p D' P' l' ≡ settled (Some marked) D P l
+        → out p (depths D' M') P' l' ≡ settled (Some marked) mends (depths D M) P l
     unfolding unset
     depth_done p P' l' u v =
-        ap (λ (x : Advanced). out x.answer D' x.painting l') u
-        ∙ room D P l marked D' ((word P 0 + 1) ∷ word P 1 ∷ []) l' n
+        ap (λ (x : Advanced). out x.answer (depths D' M') x.painting l') u
+        ∙ room D M P l marked mends D' M' ((word P 0 + 1) ∷ word P 1 ∷ []) l' n
         (rw length-map found-unset.roomy)
         refl
         (found-unset.many ∙ rw length-map)
         (after (Ok n) e false found-unset.roomy)
+        (mended-after (Ok n) e false found-unset.roomy)
         refl
         (listed-spread unset l n (back l ys) found-unset (bucket-tiles width) depth-brush l' v)

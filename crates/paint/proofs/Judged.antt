@@ -1,15 +1,20 @@
 -- What the judges' numbers say. Assumes nothing.
-use Rattle.std.proofs.Common.{◌≡◌, refl, Bool, true, false, ◌&&◌, not, cond, ℕ, ◌≤◌, ◌<◌, arith, leb, eqb, eqb-true, leb-false}
+use Rattle.std.proofs.Common.{◌≡◌, refl, Bool, true, false, ◌&&◌, not, cond, ℕ, ◌≤◌, ◌<◌, ◌*◌, mul-le-mul, arith, leb, eqb, eqb-true, leb-false}
 use borrow.Author.Tests.{eqb-false, not-false}
-use Rattle.rules.specs.Boxes.{good_viewport}
+use Rattle.sizes.specs.declared.width.Width.{Width}
+use Rattle.sizes.specs.Widths.{bucket-tiles}
+use Rattle.rules.specs.Boxes.{Box, good_viewport, rows_of, buckets-of}
+use Rattle.rules.specs.Minima.{minima-room}
+use Rattle.rules.proofs.laws.Widths.{each}
 use Rattle.rules.specs.Walk.{good-room}
 use Rattle.rect.specs.Rects.{box_of}
 use Rattle.screen.specs.declared.Screen.{Screen}
 use Rattle.screen.specs.Screens.{good_screen}
 use Rattle.rules.proofs.All.{and_left, and_right}
 use Rattle.screen.proofs.ScreenLaws.{Room, room, few_rows, few-buckets}
+use Rattle.screen.proofs.Blanks.{few-minima}
 use Rattle.screen.proofs.Passed.{none_said}
-use Rattle.paint.specs.Judging.{count, wide, depth-long, rows_long, judged, of_row, paints-on, step_number, runs_number, skip_number}
+use Rattle.paint.specs.Judging.{count, wide, depth-long, minima-long, depths-long, rows_long, painting-long, judged, begin_number, of_row, paints-on, step_number, runs_number, write_number, hidden_number, skip_number}
 
 -- What it says that a number is 0.
 pub record Passed (s : Screen) (a t : Bool) : Type 0 where
@@ -74,6 +79,31 @@ module _ (s : Screen) (r : ℕ) where
   unfolding runs_number
   runs-there depth h = there-by s r _ _ h
 
+  pub write-there : (depth minima : ℕ) → write_number s r depth minima ≡ 0 → There s r (depths-long s depth minima) true
+  unfolding write_number
+  write-there depth minima h = there-by s r _ _ h
+
+  pub hidden-there : (minima : ℕ) → hidden_number s r minima ≡ 0 → There s r (minima-long s minima) true
+  unfolding hidden_number
+  hidden-there minima h = there-by s r _ _ h
+
   pub skip-there : (rows : ℕ) → skip_number s r rows ≡ 0 → There s r true (rows_long s rows)
   unfolding skip_number
   skip-there rows h = there-by s r _ _ h
+
+-- what beginning is lent: the rows and their buckets are few, and the words of depth have their lengths
+pub begin-lent : (s : Screen) (depth minima painting : ℕ) → begin_number s depth minima painting ≡ 0
+    → (count s ≤ 512) × (wide s ≤ 64) × (depth ≡ count s * wide s) × (minima ≡ count s * minima-room (wide s))
+unfolding begin_number
+begin-lent s depth minima painting h =
+    let p = passed s (depths-long s depth minima) (painting-long s painting) (past-begun _ (eqb s.layers 0) h) in
+    let de = depth-long s depth in
+    let mi = minima-long s minima in
+    (p.few, p.narrow, eqb-true _ _ (and_left de mi p.arenas), eqb-true _ _ (and_right de mi p.arenas))
+
+-- how many minima any screen's numbers ask for, also where its viewport is not good
+pub few-lent : (v : Box) (w : Width) → v.x1 < 4294967296 → v.y1 < 4294967296 → rows_of v * minima-room (buckets-of (bucket-tiles w) v) ≤ 1152921504606846976
+few-lent v w h g =
+    let m = few-minima (buckets-of (bucket-tiles w) v) in
+    let b : buckets-of (bucket-tiles w) v ≤ 268435456 = each (λ w. buckets-of w v ≤ 268435456) (omega arith) (omega arith) (omega arith) w in
+    mul-le-mul {n₁ = rows_of v} {m₁ = minima-room (buckets-of (bucket-tiles w) v)} {n₂ = 1073741824} {m₂ = 1073741824} (omega arith) (omega arith)

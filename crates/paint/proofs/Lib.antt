@@ -6,6 +6,7 @@ pub mod Skips
 pub mod Judging
 pub mod Within
 pub mod Listing
+pub mod Mended
 pub mod Filling
 pub mod Steps
 pub mod ByRules

@@ -17,6 +17,7 @@ use Rattle.rules.proofs.All.{and_both}
 use Rattle.cmd.proofs.Commands.{tag-1, tag-2, tag-3, tag-4, tag-5, tag-6, tag-7}
 use Rattle.paint.specs.Summaries.{shown_runs}
 use Rattle.cmd.specs.Pieces.{tag-of, index_of, piece-words}
+use Rattle.screen.specs.Depths.{depths}
 use Rattle.paint.specs.Painting.{good-paint, good-layer, out, fill-shown, command-shown, command-step, settled, listed}
 use Rattle.paint.specs.declared.command.marks.Mark.{Mark}
 use Rattle.paint.specs.Reading.{paint_mark, layer_mark}
@@ -40,11 +41,11 @@ fill-words layer a w i = record { tag = tag-of layer a; span = record { 0 = w };
 -- at v tiles a bucket
 module _ (v : ℕ) (attrs : Attrs) (u : Summary) (D : List ℕ) (m : ℕ) where
   -- a fill that is shown whole
-  fill-whole : (layer : Bool) (a : Option ℕ) (w i id p q : ℕ) (P l : List ℕ) → shown_runs v u D id (word-span w) ≡ word-span w ∷ [] → piece-size * 1 ≤ length l
-      → settled (Some (fill-shown v attrs u layer id i p (word-span w) a (at-step D q m))) D P l
-      ≡ out (listed 1) D ((q + 1) ∷ m ∷ []) (over (whole_words (fill-words layer a w i) m p) l)
+  fill-whole : (layer : Bool) (a : Option ℕ) (w i id p q : ℕ) (M P l : List ℕ) → shown_runs v u D id (word-span w) ≡ word-span w ∷ [] → piece-size * 1 ≤ length l
+      → settled (Some (fill-shown v attrs u layer id i p (word-span w) a (at-step D q m))) M (depths D M) P l
+      ≡ out (listed 1) (depths D M) ((q + 1) ∷ m ∷ []) (over (whole_words (fill-words layer a w i) m p) l)
   unfolding fill-shown settled
-  fill-whole layer a w i id p q P l e h = rw (e, stay a (w / 65536), le-ltb (length l / piece-size) 1 (omega arith))
+  fill-whole layer a w i id p q M P l e h = rw (e, stay a (w / 65536), le-ltb (length l / piece-size) 1 (omega arith))
 
   -- the pieces of a fill's runs
   module _ (layer : Bool) (a : Option ℕ) (w i p : ℕ) where
@@ -64,12 +65,12 @@ module _ (v : ℕ) (attrs : Attrs) (u : Summary) (D : List ℕ) (m : ℕ) where
         ap (λ (ws : List ℕ). ws ++ join piece-words (map (fill-piece v attrs layer i p (word-span w) a m) cut)) (piece-same layer a r)
         ∙ ap (λ (ws : List ℕ). run-words v (fill-words layer a w i) m p r ++ ws) (pieces-same rs)
 
-    fill-runs : (id q : ℕ) (P l : List ℕ) (rs : List Span)
+    fill-runs : (id q : ℕ) (M P l : List ℕ) (rs : List Span)
         → shown_runs v u D id (word-span w) ≡ map (λ (r : Span). common (word-span w) (tiles-of v r)) rs → piece-size * length rs ≤ length l
-        → settled (Some (fill-shown v attrs u layer id i p (word-span w) a (at-step D q m))) D P l
-        ≡ out (listed (length rs)) D ((q + 1) ∷ m ∷ []) (over (join (run-words v (fill-words layer a w i) m p) rs) l)
+        → settled (Some (fill-shown v attrs u layer id i p (word-span w) a (at-step D q m))) M (depths D M) P l
+        ≡ out (listed (length rs)) (depths D M) ((q + 1) ∷ m ∷ []) (over (join (run-words v (fill-words layer a w i) m p) rs) l)
     unfolding fill-shown settled
-    fill-runs id q P l rs e h =
+    fill-runs id q M P l rs e h =
         let n : length (map (fill-piece v attrs layer i p (word-span w) a m) (map (λ (r : Span). common (word-span w) (tiles-of v r)) rs)) ≡ length rs = rw (length-map, length-map) in
         rw (e, n, le-ltb (length l / piece-size) (length rs) (omega arith), pieces-same rs)
 
@@ -77,11 +78,11 @@ module _ (v : ℕ) (attrs : Attrs) (u : Summary) (D : List ℕ) (m : ℕ) where
     -- buffers
     gives-push : (s : Option Span) → m < 16 → read-words c ≡ Some (push-buf s) → Gives v attrs u D m c 0 [] (m + 1)
     unfolding command-step command-shown paint-command
-    gives-push s h e = record { step = λ q P l k. rw (e, lt-ltb m 16 h) (sym (bare D P l false (at-step D (q + 1) (m + 1)) refl)) }
+    gives-push s h e = record { step = λ M q P l k. rw (e, lt-ltb m 16 h) (sym (bare D M P l false (at-step D (q + 1) (m + 1)) refl)) }
 
     gives-pop : 0 < m → read-words c ≡ Some pop-buf → Gives v attrs u D m c 0 [] (m - 1)
     unfolding command-step command-shown paint-command
-    gives-pop h e = record { step = λ q P l k. rw (e, lt-ltb 0 m h) (sym (bare D P l false (at-step D (q + 1) (m - 1)) refl)) }
+    gives-pop h e = record { step = λ M q P l k. rw (e, lt-ltb 0 m h) (sym (bare D M P l false (at-step D (q + 1) (m - 1)) refl)) }
 
     module _ (ex : c.alpha ≡ 0) (ei : c.attrs_idx ≡ 0) where
       pub push-bare : c.tag ≡ 5 → c.span.0 ≡ 0 → m < 16 → (m < 16) × Gives v attrs u D m c 0 [] (m + 1)
@@ -106,20 +107,20 @@ module _ (v : ℕ) (attrs : Attrs) (u : Summary) (D : List ℕ) (m : ℕ) where
       pub gives-whole : Shows v u D k.id c (word-span c.span.0 ∷ []) → Gives v attrs u D m c 1 (whole_words c m k.panel) m
       gives-whole s =
           record {
-            step = λ q P l h.
-                ap (λ (o : Option rules.Painted). settled o D P l) (f.step q)
-                ∙ fill-whole f.layer f.index c.span.0 c.attrs_idx k.id k.panel q P l s.runs h
-                ∙ ap (λ (e : CmdWords). out (listed 1) D ((q + 1) ∷ m ∷ []) (over (whole_words e m k.panel) l)) f.same;
+            step = λ M q P l h.
+                ap (λ (o : Option rules.Painted). settled o M (depths D M) P l) (f.step q)
+                ∙ fill-whole f.layer f.index c.span.0 c.attrs_idx k.id k.panel q M P l s.runs h
+                ∙ ap (λ (e : CmdWords). out (listed 1) (depths D M) ((q + 1) ∷ m ∷ []) (over (whole_words e m k.panel) l)) f.same;
           }
 
       gives-runs : (rs : List Span) → Shows v u D k.id c (map (λ (r : Span). common (word-span c.span.0) (tiles-of v r)) rs)
           → Gives v attrs u D m c (length rs) (join (run-words v c m k.panel) rs) m
       gives-runs rs s =
           record {
-            step = λ q P l h.
-                ap (λ (o : Option rules.Painted). settled o D P l) (f.step q)
-                ∙ fill-runs f.layer f.index c.span.0 c.attrs_idx k.panel k.id q P l rs s.runs h
-                ∙ ap (λ (e : CmdWords). out (listed (length rs)) D ((q + 1) ∷ m ∷ []) (over (join (run-words v e m k.panel) rs) l)) f.same;
+            step = λ M q P l h.
+                ap (λ (o : Option rules.Painted). settled o M (depths D M) P l) (f.step q)
+                ∙ fill-runs f.layer f.index c.span.0 c.attrs_idx k.panel k.id q M P l rs s.runs h
+                ∙ ap (λ (e : CmdWords). out (listed (length rs)) (depths D M) ((q + 1) ∷ m ∷ []) (over (join (run-words v e m k.panel) rs) l)) f.same;
           }
 
       pub gives-none : Shows v u D k.id c [] → Gives v attrs u D m c 0 [] m

@@ -10,8 +10,10 @@ use Rattle.rect.specs.declared.Rect.{Rect}
 use Rattle.rect.specs.Rects.{box_of}
 use Rattle.screen.specs.declared.Screen.{Screen}
 use Rattle.screen.specs.Screens.{good_clip, good_screen, screen-in}
+use Rattle.rules.specs.Minima.{size, half, halvings, minima-room, mended, mended-runs}
+use Rattle.screen.specs.Depths.{depths}
 use Rattle.paint.specs.Summaries.{shown_runs}
-use Rattle.paint.specs.Painting.{attrs-at, words_lent, StepOut, out, settled, fill-shown, command-shown, depth-step, command-step, next-step, painted-row}
+use Rattle.paint.specs.Painting.{attrs-at, words_lent, StepOut, out, settled, fill-shown, command-shown, depth-step, command-step, fill-minima, next-step, next-minima, painted-row}
 use Rattle.paint.specs.Judging.{judged, step_number}
 use Rattle.paint.specs.Stepping.{Attributes, attributes, row_step, stepped}
 
@@ -44,7 +46,7 @@ turn b r o =
     (words_lent records commands (65538 ∷ 0 ∷ 0 ∷ 0 ∷ []) o.depth o.painting (replicate (piece-size + 1) 9))
 
 start : StepOut
-start = out (record { number = 0; finished = false; pieces = 0 }) (0 ∷ 0 ∷ 0 ∷ 0 ∷ []) (0 ∷ 0 ∷ 0 ∷ 0 ∷ []) []
+start = out (record { number = 0; finished = false; pieces = 0 }) (depths (0 ∷ 0 ∷ 0 ∷ 0 ∷ []) (0 ∷ 0 ∷ 0 ∷ 0 ∷ 0 ∷ 0 ∷ [])) (0 ∷ 0 ∷ 0 ∷ 0 ∷ []) []
 
 -- what the steps of these rows answer, with the pieces that they list
 pub record Told : Type 0 where
@@ -72,10 +74,10 @@ by-turns : turns true (0 ∷ 1 ∷ 0 ∷ 1 ∷ 0 ∷ 1 ∷ 1 ∷ 1 ∷ []) start
     ∷ says 0 false []
     ∷ says 0 true []
     ∷ []
-unfolding whole screen tables records commands turn start told says turns stepped row_step judged step_number good_viewport good_screen good_clip attrs-at painted-row next-step depth-step command-step command-shown fill-shown shown_runs can_skip settled paint-depth paint-command depth_fill_of command_of written write-runs visible-runs runs runs-in bucket-runs
+unfolding whole screen tables records commands turn start told says turns stepped row_step judged step_number good_viewport good_screen good_clip minima-room attrs-at painted-row next-step next-minima fill-minima mended-runs mended halvings half size depth-step command-step command-shown fill-shown shown_runs can_skip settled paint-depth paint-command depth_fill_of command_of written write-runs visible-runs runs runs-in bucket-runs
 by-turns = refl
 
 -- no third row; painting not begun
 refusals : turns true (2 ∷ []) start ++ turns false (0 ∷ 2 ∷ []) start ≡ says 12 false [] ∷ says 13 false [] ∷ says 12 false [] ∷ []
-unfolding whole screen tables records commands turn start told says turns stepped row_step judged step_number good_viewport good_screen good_clip attrs-at painted-row next-step depth-step command-step command-shown fill-shown shown_runs can_skip settled paint-depth paint-command depth_fill_of command_of written write-runs visible-runs runs runs-in bucket-runs
+unfolding whole screen tables records commands turn start told says turns stepped row_step judged step_number good_viewport good_screen good_clip minima-room attrs-at painted-row next-step next-minima fill-minima mended-runs mended halvings half size depth-step command-step command-shown fill-shown shown_runs can_skip settled paint-depth paint-command depth_fill_of command_of written write-runs visible-runs runs runs-in bucket-runs
 refusals = refl

@@ -6,14 +6,15 @@ use Rattle.rules.specs.Attributes.{Attrs}
 use Rattle.rules.specs.Rows.{Row}
 use Rattle.rules.specs.Painting.{paint-step}
 use Rattle.row.proofs.RowsLaws.{part-0, part-suc, less, tail-0, head-suc, tail-suc, part-long}
+use Rattle.rules.specs.Minima.{minima-room}
 use Rattle.screen.specs.declared.Screen.{Screen}
 use Rattle.rules.proofs.All.{and_left, and_right}
 use Rattle.paint.specs.Painting.{attrs-at, RowLent, StepOut, out, painter-at, refused, settled, painted-row}
 use Rattle.paint.specs.Summaries.{summary-at, Sound}
-use Rattle.paint.specs.Standing.{Stands, PainterReady, Holds}
+use Rattle.paint.specs.Standing.{Stands, PainterReady, Holds, step-minima}
 use Rattle.paint.proofs.CommandLaws.{by-rules, same-lengths}
 use Rattle.paint.specs.Judging.{count, wide}
-use Rattle.paint.specs.Stepping.{part, with_part, Attributes, own, in_place, number, row_step, stepped}
+use Rattle.paint.specs.Stepping.{part, with_part, depth-part, Attributes, own, in_place, number, row_step, stepped}
 use Rattle.paint.proofs.Judged.{step-there}
 
 -- a part that is put in its place leaves every other row's as it was
@@ -29,37 +30,46 @@ part-other k (suc n) (suc r) (suc q) xs ys h g d l m =
     ∙ rw (tail-suc k r xs ys n l m) (part-other k n r q (drop k xs) ys (omega arith) (omega arith) (λ e. d (ap suc e)) (less n k xs l) m)
     ∙ part-suc k q xs
 
--- A step of row r, refused or done, leaves the depth and painting words of every other row as they were.
+-- A step of row r, refused or done, leaves the depth words, the minima and the painting words of every other row as they were.
 module _ (s : Screen) (r : ℕ) (a : Attributes) (l : RowLent) where
-  lengths : number s r a l ≡ 0 → (r < count s) × (length l.depth ≡ count s * wide s) × (length l.painting ≡ count s * 2)
+  lengths : number s r a l ≡ 0 → (r < count s) × (length l.depth.words ≡ count s * wide s) × (length l.depth.minima ≡ count s * minima-room (wide s)) × (length l.painting ≡ count s * 2)
   lengths h =
       let re = eqb (length l.render) (count s * (4 * s.c)) in
       let fi = eqb (length l.fills) (count s * (2 * s.d)) in
-      let de = eqb (length l.depth) (count s * wide s) in
+      let de = eqb (length l.depth.words) (count s * wide s) in
+      let mi = eqb (length l.depth.minima) (count s * minima-room (wide s)) in
       let ro = eqb (length l.state) (count s * 54) in
       let pa = eqb (length l.painting) (count s * 2) in
       let ps = eqb (length a.paints) paint-attr-table in
       let ls = eqb (length a.layers) layer-attr-table in
-      let t = step-there s r (re && fi && de) (ro && pa && ps && ls) h in
+      let t = step-there s r (re && fi && (de && mi)) (ro && pa && ps && ls) h in
+      let dm : (de && mi) ≡ true = and_right (re && fi) (de && mi) t.passed.arenas in
       let k : (ro && pa && ps) ≡ true = and_left (ro && pa && ps) ls t.passed.tables in (
         t.there,
-        eqb-true _ _ (and_right (re && fi) de t.passed.arenas),
+        eqb-true _ _ (and_left de mi dm),
+        eqb-true _ _ (and_right de mi dm),
         eqb-true _ _ (and_right ro pa (and_left (ro && pa) ps k)),
       )
 
   module _ (q : ℕ) (g : q < count s) (d : q ≡ r → ⊥) where
     abbrev Alone : StepOut → Type 0
-    Alone o = (part (wide s) q o.depth ≡ part (wide s) q l.depth) × (part 2 q o.painting ≡ part 2 q l.painting)
+    Alone o = (depth-part (wide s) q o.depth ≡ depth-part (wide s) q l.depth) × (part 2 q o.painting ≡ part 2 q l.painting)
 
     done-alone : number s r a l ≡ 0 → Alone (row_step s r a l)
     unfolding row_step
     done-alone h =
         let n = lengths h in
         let b = attrs-at a.paints s.paint_attrs a.layers s.layer_attrs in
-        let o = same-lengths (bucket-tiles s.width) b (own s r l) (part-long (count s) r 2 l.painting n.0 n.2) in (
-          part-other (wide s) (count s) r q l.depth (painted-row (bucket-tiles s.width) b (own s r l)).depth n.0 g d n.1
-              (o.0 ∙ part-long (count s) r (wide s) l.depth n.0 n.1),
-          part-other 2 (count s) r q l.painting (painted-row (bucket-tiles s.width) b (own s r l)).painting n.0 g d n.2 o.1,
+        let m = minima-room (wide s) in
+        let words = part-long (count s) r (wide s) l.depth.words n.0 n.1 in
+        let minima = part-long (count s) r m l.depth.minima n.0 n.2 in
+        let o = same-lengths (bucket-tiles s.width) b (own s r l) (rw words minima) (part-long (count s) r 2 l.painting n.0 n.3) in
+        let p = painted-row (bucket-tiles s.width) b (own s r l) in (
+          rw (
+            part-other (wide s) (count s) r q l.depth.words p.depth.words n.0 g d n.1 (o.0 ∙ words),
+            part-other m (count s) r q l.depth.minima p.depth.minima n.0 g d n.2 (o.1 ∙ minima),
+          ),
+          part-other 2 (count s) r q l.painting p.painting n.0 g d n.3 o.2,
         )
 
     pub step-alone : Alone (stepped s r a l)
@@ -74,13 +84,14 @@ module _ (s : Screen) (r : ℕ) (a : Attributes) (l : RowLent) where
 -- Nothing of row r is forged, and its summary is sound for its depth words: a step is the rules' step of the row.
 module _ (s : Screen) (r : ℕ) (t : Attributes) (l : RowLent) (k : number s r t l ≡ 0) (a : Attrs)
     (h : Holds a t.paints s.paint_attrs t.layers s.layer_attrs) (w : Row)
-    (g : Stands a (length (own s r l).depth) w (own s r l).state (own s r l).render (own s r l).fills)
-    (q : PainterReady a w (painter-at (own s r l).depth (own s r l).painting)) (o : Sound (bucket-tiles s.width) (summary-at (own s r l).state) (own s r l).depth) where
+    (g : Stands a (length (own s r l).depth.words) w (own s r l).state (own s r l).render (own s r l).fills)
+    (q : PainterReady a w (painter-at (own s r l).depth.words (own s r l).painting)) (o : Sound (bucket-tiles s.width) (summary-at (own s r l).state) (own s r l).depth.words) where
   pub step-by-rules : stepped s r t l
       ≡ in_place s r l
-      (settled (Some (paint-step (bucket-tiles s.width) a w (painter-at (own s r l).depth (own s r l).painting))) (own s r l).depth (own s r l).painting l.list)
+      (settled (Some (paint-step (bucket-tiles s.width) a w (painter-at (own s r l).depth.words (own s r l).painting)))
+      (step-minima a w (painter-at (own s r l).depth.words (own s r l).painting) (own s r l).depth.minima) (own s r l).depth (own s r l).painting l.list)
   unfolding stepped row_step
   step-by-rules =
       rw (eq-eqb _ _ k)
       (ap (in_place s r l)
-      (by-rules s.width a t.paints s.paint_attrs t.layers s.layer_attrs h w (own s r l).state (own s r l).render (own s r l).fills (own s r l).depth (own s r l).painting l.list g q o))
+      (by-rules s.width a t.paints s.paint_attrs t.layers s.layer_attrs h w (own s r l).state (own s r l).render (own s r l).fills (own s r l).depth.words (own s r l).depth.minima (own s r l).painting l.list g q o))

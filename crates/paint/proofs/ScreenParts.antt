@@ -3,16 +3,18 @@ use Rattle.std.proofs.Common.{◌≡◌, sym, true, ◌&&◌, List, ℕ, ◌≤�
 use borrow.Rule.Slice.PartMut.{put_mid}
 use Rattle.sizes.specs.Sizes.{paint-attr-table, layer-attr-table}
 use Rattle.row.proofs.RowsLaws.{within, small}
+use Rattle.rules.specs.Minima.{minima-room}
 use Rattle.screen.specs.declared.Screen.{Screen}
+use Rattle.screen.proofs.Blanks.{few-minima}
 use Rattle.screen.specs.Screens.{good_screen}
 use Rattle.rules.proofs.All.{and_left, and_right}
 use Rattle.sizes.specs.declared.answers.Refusal.{Refusal}
 use Rattle.sizes.specs.Refusals.{number_of}
 use Rattle.sizes.proofs.Refusals.{not_done}
 use Rattle.paint.specs.Painting.{RowLent, StepOut, out, refused}
-use Rattle.paint.specs.Judging.{count, wide, runs_number, skip_number}
+use Rattle.paint.specs.Judging.{count, wide, depth-long, minima-long, runs_number, write_number, hidden_number, skip_number}
 use Rattle.paint.specs.Stepping.{part, with_part, Within, Attributes, number, StepReady, row_step, stepped}
-use Rattle.paint.proofs.Judged.{step-there, runs-there, skip-there}
+use Rattle.paint.proofs.Judged.{step-there, runs-there, write-there, hidden-there, skip-there}
 
 -- a part as code cuts it out
 as_long : (a j : ℕ) → a + j - a ≡ j
@@ -39,6 +41,22 @@ module _ (s : Screen) (r : ℕ) where
       let t = runs-there s r (length depth) (sym h) in
       lies (count s) r (wide s) depth t.there t.passed.few (omega (arith, t.passed.narrow)) t.passed.arenas
 
+  pub minima_within : (minima : List ℕ) → 0 ≡ hidden_number s r (length minima) → Within (minima-room (wide s)) r minima
+  minima_within minima h =
+      let t = hidden-there s r (length minima) (sym h) in
+      lies (count s) r (minima-room (wide s)) minima t.there t.passed.few (omega (arith, few-minima (wide s), t.passed.narrow)) t.passed.arenas
+
+  -- both parts of what the writing run is lent
+  pub write_within : (depth minima : List ℕ) → 0 ≡ write_number s r (length depth) (length minima)
+      → Within (wide s) r depth × Within (minima-room (wide s)) r minima
+  write_within depth minima h =
+      let t = write-there s r (length depth) (length minima) (sym h) in
+      let de = depth-long s (length depth) in
+      let mi = minima-long s (length minima) in (
+        lies (count s) r (wide s) depth t.there t.passed.few (omega (arith, t.passed.narrow)) (and_left de mi t.passed.arenas),
+        lies (count s) r (minima-room (wide s)) minima t.there t.passed.few (omega (arith, few-minima (wide s), t.passed.narrow)) (and_right de mi t.passed.arenas),
+      )
+
   pub state_within : (rows : List ℕ) → 0 ≡ skip_number s r (length rows) → Within 54 r rows
   state_within rows h =
       let t = skip-there s r (length rows) (sym h) in
@@ -61,14 +79,16 @@ ready s r a l h =
     let n = count s in
     let re = eqb (length l.render) (n * (4 * s.c)) in
     let fi = eqb (length l.fills) (n * (2 * s.d)) in
-    let de = eqb (length l.depth) (n * wide s) in
+    let de = eqb (length l.depth.words) (n * wide s) in
+    let mi = eqb (length l.depth.minima) (n * minima-room (wide s)) in
     let ro = eqb (length l.state) (n * 54) in
     let pa = eqb (length l.painting) (n * 2) in
     let ps = eqb (length a.paints) paint-attr-table in
     let ls = eqb (length a.layers) layer-attr-table in
-    let t = step-there s r (re && fi && de) (ro && pa && ps && ls) h in
+    let t = step-there s r (re && fi && (de && mi)) (ro && pa && ps && ls) h in
     let o = t.passed in
-    let g : (re && fi) ≡ true = and_left (re && fi) de o.arenas in
+    let g : (re && fi) ≡ true = and_left (re && fi) (de && mi) o.arenas in
+    let dm : (de && mi) ≡ true = and_right (re && fi) (de && mi) o.arenas in
     let k : (ro && pa && ps) ≡ true = and_left (ro && pa && ps) ls o.tables in
     let m : (ro && pa) ≡ true = and_left (ro && pa) ps k in
     let few = few-attrs s o.screen in
@@ -76,7 +96,8 @@ ready s r a l h =
       state = lies n r 54 l.state t.there o.few (omega arith) (and_left ro pa m);
       render = lies n r (4 * s.c) l.render t.there o.few (omega (arith, o.c-room.few)) (and_left re fi g);
       fills = lies n r (2 * s.d) l.fills t.there o.few (omega (arith, o.d-room.few)) (and_right re fi g);
-      depth = lies n r (wide s) l.depth t.there o.few (omega (arith, o.narrow)) (and_right (re && fi) de o.arenas);
+      depth = lies n r (wide s) l.depth.words t.there o.few (omega (arith, o.narrow)) (and_left de mi dm);
+      minima = lies n r (minima-room (wide s)) l.depth.minima t.there o.few (omega (arith, few-minima (wide s), o.narrow)) (and_right de mi dm);
       painting = lies n r 2 l.painting t.there o.few (omega arith) (and_right ro pa m);
       few-commands = o.c-room.few;
       few-fills = o.d-room.few;

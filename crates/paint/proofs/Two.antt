@@ -1,15 +1,17 @@
--- A row's painting words are two; a canvas that stays the lent one twice stays it. Assumes nothing.
+-- A row's painting words are two; words that stay the lent ones twice stay them. Assumes nothing.
 use Rattle.std.proofs.Common.{◌≡◌, refl, ◌∙◌, List, [], ◌∷◌, ℕ, arith, length, set}
-use Rattle.paint.specs.declared.canvas.stored.Canvas.{Canvas}
+use Rattle.paint.specs.declared.canvas.stored.RowWords.{RowWords}
 use Rattle.paint.specs.Answers.{word}
-use Rattle.paint.specs.Named.{SameCanvas}
+use Rattle.paint.specs.Named.{SameRow}
 
-pub same_then : {a b c : Canvas} → SameCanvas a b → SameCanvas b c → SameCanvas a c
+pub same_then : {a b c : RowWords} → SameRow a b → SameRow b c → SameRow a c
 same_then x y =
     record {
       depth = y.depth ∙ x.depth;
+      minima = y.minima ∙ x.minima;
       painting = y.painting ∙ x.painting;
       depth-long = y.depth-long ∙ x.depth-long;
+      minima-long = y.minima-long ∙ x.minima-long;
       painting-long = y.painting-long ∙ x.painting-long;
     }
 

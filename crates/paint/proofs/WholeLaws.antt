@@ -3,9 +3,10 @@ use Rattle.std.proofs.Common.{◌≡◌, refl, ◌∙◌, Bool, true, false, con
 use Rattle.sizes.specs.Sizes.{piece-size}
 use Rattle.rules.specs.Lists.{times}
 use Rattle.screen.specs.declared.Screen.{Screen}
+use Rattle.screen.specs.Depths.{Depths}
 use Rattle.paint.specs.Painting.{RowLent, words_lent, StepOut}
 use Rattle.paint.specs.Judging.{count, wide}
-use Rattle.paint.specs.Stepping.{part, Attributes}
+use Rattle.paint.specs.Stepping.{part, depth-part, Attributes}
 use Rattle.paint.proofs.ScreenLaws.{step-alone}
 use Rattle.paint.specs.Running.{goes_on, ended, one_more, run, most, standing, call_step, row-painted}
 
@@ -19,12 +20,12 @@ Same o g =
     × (o.list ≡ g.list)
 
 -- o is what so many steps leave, from g on, the pieces of each after those before
-pub record Steps (step : List ℕ → List ℕ → List ℕ → StepOut) (most : ℕ) (g o : StepOut) : Type 0 where
+pub record Steps (step : Depths → List ℕ → List ℕ → StepOut) (most : ℕ) (g o : StepOut) : Type 0 where
   pub number : ℕ
   pub few : number ≤ most
   pub same : Same o (times number (one_more step) g)
 
-pub run-steps : (step : List ℕ → List ℕ → List ℕ → StepOut) (f k : ℕ) (g : StepOut) → Steps step f g (run step f k g)
+pub run-steps : (step : Depths → List ℕ → List ℕ → StepOut) (f k : ℕ) (g : StepOut) → Steps step f g (run step f k g)
 unfolding run
 run-steps step zero k g = record { number = 0; few = omega arith; same = (refl, refl, refl, refl, refl) }
 run-steps step (suc f) k g = go (goes_on (one_more step g).answer) (run-steps step f (k + 1) (one_more step g))
@@ -40,10 +41,10 @@ module _ (s : Screen) (r : ℕ) (a : Attributes) (l : RowLent) where
   unfolding row-painted
   row-steps = run-steps (call_step s r a l.state l.render l.fills) most 0 (standing l.depth l.painting l.list)
 
-  -- Every other row's depth and painting words are as they were.
+  -- Every other row's depth words, minima and painting words are as they were.
   module _ (q : ℕ) (h : q < count s) (d : q ≡ r → ⊥) where
     abbrev Alone : StepOut → Type 0
-    Alone o = (part (wide s) q o.depth ≡ part (wide s) q l.depth) × (part 2 q o.painting ≡ part 2 q l.painting)
+    Alone o = (depth-part (wide s) q o.depth ≡ depth-part (wide s) q l.depth) × (part 2 q o.painting ≡ part 2 q l.painting)
 
     one-alone : (g : StepOut) → Alone g → Alone (one_more (call_step s r a l.state l.render l.fills) g)
     unfolding one_more

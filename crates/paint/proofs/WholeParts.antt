@@ -12,28 +12,38 @@ use Rattle.sizes.specs.declared.answers.Refusal.{Refusal}
 use Rattle.sizes.specs.Refusals.{number_of}
 use Rattle.sizes.proofs.Refusals.{not_done}
 use Rattle.paint.specs.Answers.{Painted}
+use Rattle.rules.specs.Minima.{minima-room}
+use Rattle.screen.specs.Depths.{Depths, depths}
 use Rattle.paint.specs.Painting.{attrs-at, RowLent, words_lent, StepOut, out, refused, left, settled, painted-row}
 use Rattle.paint.proofs.CommandLaws.{same-lengths}
 use Rattle.paint.specs.Judging.{wide}
-use Rattle.paint.specs.Stepping.{part, with_part, Within, Attributes, own-parts, put-parts, own, in_place, number, row_step, stepped}
+use Rattle.paint.specs.Stepping.{part, with_part, depth-part, with-depth-part, put-depth, Within, Attributes, own-parts, own, in_place, number, row_step, stepped}
 use Rattle.paint.proofs.ScreenParts.{part-is, put_is, ready}
 use Rattle.paint.specs.Running.{goes_on, ended, one_more, run, most, standing, own-step, own-run, row-run, call_step, row-painted}
 use Rattle.paint.proofs.WholeRuns.{stops, more}
 
--- the steps of the row's own parts, put back in their places
-module _ (v f : ℕ) (a : Attrs) (b c d r : ℕ) (l : RowLent) (o : Painted) (q p t : List ℕ) where
-  pub run-back : out o q p t ≡ own-run v f a
-      (words_lent (part 54 r l.state) (part (4 * c) r l.render) (part (2 * d) r l.fills)
-      (take (r * b + b - r * b) (drop (r * b) l.depth))
+-- steps over the row's own depth words and minima, which are put back in their places
+module _ (b r : ℕ) (d : Depths) (f : Depths → StepOut) (o : Painted) (q ms p t : List ℕ) (k : ℕ) (j : k ≡ minima-room b) where
+  pub depth-back : out o (depths q ms) p t ≡ f (depths (take (r * b + b - r * b) (drop (r * b) d.words)) (take (r * k + k - r * k) (drop (r * k) d.minima)))
+      → out o (depths (put_mid (r * b) (r * b + b - r * b) d.words q) (put_mid (r * k) (r * k + k - r * k) d.minima ms)) p t
+      ≡ put-depth b r d (f (depth-part b r d))
+  depth-back h =
+      let i : out o (depths q ms) p t ≡ f (depth-part b r d) = rw (part-is b r d.words, part-is k r d.minima, j) at h in
+      rw (put_is b r d.words q, put_is k r d.minima ms, j) (ap (put-depth b r d) i)
+
+-- .. and then the painting words
+module _ (v f : ℕ) (a : Attrs) (b c d r : ℕ) (l : RowLent) (o : Painted) (q : Depths) (p t : List ℕ) where
+  pub run-back : out o q p t ≡ put-depth b r l.depth (own-run v f a
+      (words_lent (part 54 r l.state) (part (4 * c) r l.render) (part (2 * d) r l.fills) (depth-part b r l.depth)
       (take (r * 2 + 2 - r * 2) (drop (r * 2) l.painting))
-      l.list)
-      → out o (put_mid (r * b) (r * b + b - r * b) l.depth q)
-      (put_mid (r * 2) (r * 2 + 2 - r * 2) l.painting p) t
+      l.list))
+      → out o q (put_mid (r * 2) (r * 2 + 2 - r * 2) l.painting p) t
       ≡ row-run v f a b c d r l
   unfolding row-run
   run-back h =
-      let i : out o q p t ≡ own-run v f a (own-parts b c d r l) = rw (part-is b r l.depth, part-is 2 r l.painting) at h in
-      rw (put_is b r l.depth q, put_is 2 r l.painting p) (ap (put-parts b r l) i)
+      let i : out o q p t ≡ put-depth b r l.depth (own-run v f a (own-parts b c d r l)) = rw (part-is 2 r l.painting) at h in
+      rw (put_is 2 r l.painting p)
+      (ap (λ (x : StepOut). out x.answer x.depth (with_part 2 r l.painting x.painting) x.list) i)
 
 -- a part in its place: it stands there, and another takes its place
 module _ (k r : ℕ) (xs ys : List ℕ) (h : Within k r xs) (e : length ys ≡ k) where
@@ -63,47 +73,49 @@ module _ (s : Screen) (r : ℕ) (a : Attributes) (l : RowLent) (z : number s r a
   abbrev b : Attrs
   b = attrs-at a.paints s.paint_attrs a.layers s.layer_attrs
 
-  abbrev mine : List ℕ → List ℕ → List ℕ → StepOut
+  abbrev mine : Depths → List ℕ → List ℕ → StepOut
   mine = own-step (bucket-tiles s.width) b (own s r l).state (own s r l).render (own s r l).fills
 
-  abbrev called : List ℕ → List ℕ → List ℕ → StepOut
+  abbrev called : Depths → List ℕ → List ℕ → StepOut
   called = call_step s r a l.state l.render l.fills
 
-  -- the row's own depth and painting words have their lengths
+  -- the row's own depth words, minima and painting words have their lengths
   abbrev Long : StepOut → Type 0
-  Long g = (length g.depth ≡ wide s) × (length g.painting ≡ 2)
+  Long g = (length g.depth.words ≡ wide s) × (length g.depth.minima ≡ minima-room (wide s)) × (length g.painting ≡ 2)
 
-  module _ (d p t : List ℕ) (x : length d ≡ wide s) (y : length p ≡ 2) where
+  module _ (d : Depths) (p t : List ℕ) (x : length d.words ≡ wide s) (m : length d.minima ≡ minima-room (wide s)) (y : length p ≡ 2) where
     abbrev then : RowLent
-    then = words_lent l.state l.render l.fills (with_part (wide s) r l.depth d) (with_part 2 r l.painting p) t
+    then = words_lent l.state l.render l.fills (with-depth-part (wide s) r l.depth d) (with_part 2 r l.painting p) t
 
     still : number s r a then ≡ 0
     still =
         let g = ready s r a l z in
-        rw (put-long (wide s) r l.depth d g.depth x, put-long 2 r l.painting p g.painting y) z
+        rw (put-long (wide s) r l.depth.words d.words g.depth x, put-long (minima-room (wide s)) r l.depth.minima d.minima g.minima m, put-long 2 r l.painting p g.painting y) z
 
-    call-mine : called (with_part (wide s) r l.depth d) (with_part 2 r l.painting p) t ≡ in_place s r l (mine d p t)
+    call-mine : called (with-depth-part (wide s) r l.depth d) (with_part 2 r l.painting p) t ≡ in_place s r l (mine d p t)
     unfolding stepped row_step
     call-mine =
         let g = ready s r a l z in
         let o = painted-row (bucket-tiles s.width) b (words_lent (own s r l).state (own s r l).render (own s r l).fills d p t) in
         rw (
           eq-eqb _ _ still,
-          part-there (wide s) r l.depth d g.depth x,
+          part-there (wide s) r l.depth.words d.words g.depth x,
+          part-there (minima-room (wide s)) r l.depth.minima d.minima g.minima m,
           part-there 2 r l.painting p g.painting y,
-          part-again (wide s) r l.depth d g.depth x o.depth,
+          part-again (wide s) r l.depth.words d.words g.depth x o.depth.words,
+          part-again (minima-room (wide s)) r l.depth.minima d.minima g.minima m o.depth.minima,
           part-again 2 r l.painting p g.painting y o.painting,
         )
 
   one-mine : (g : StepOut) → Long g → one_more called (in_place s r l g) ≡ in_place s r l (one_more mine g)
   unfolding one_more
-  one-mine g h = rw (call-mine g.depth g.painting (drop (piece-size * g.answer.pieces) g.list) h.0 h.1)
+  one-mine g h = rw (call-mine g.depth g.painting (drop (piece-size * g.answer.pieces) g.list) h.0 h.1 h.2)
 
   one-long : (g : StepOut) → Long g → Long (one_more mine g)
   unfolding one_more
   one-long g h =
-      let o = same-lengths (bucket-tiles s.width) b (words_lent (own s r l).state (own s r l).render (own s r l).fills g.depth g.painting (drop (piece-size * g.answer.pieces) g.list)) h.1 in
-      (o.0 ∙ h.0, o.1)
+      let o = same-lengths (bucket-tiles s.width) b (words_lent (own s r l).state (own s r l).render (own s r l).fills g.depth g.painting (drop (piece-size * g.answer.pieces) g.list)) (rw h.0 h.1) h.2 in
+      (o.0 ∙ h.0, o.1 ∙ h.1, o.2)
 
   run-mine : (f k : ℕ) (g : StepOut) → Long g → run called f k (in_place s r l g) ≡ in_place s r l (run mine f k g)
   unfolding run
@@ -120,8 +132,8 @@ module _ (s : Screen) (r : ℕ) (a : Attributes) (l : RowLent) (z : number s r a
   unfolding row-painted row-run own-run
   calls-are-run =
       let g = ready s r a l z in
-      let e = run-mine most 0 (standing (own s r l).depth (own s r l).painting l.list) (part-of-length (wide s) r l.depth g.depth, part-of-length 2 r l.painting g.painting) in
-      (rw (put_same (r * wide s) (wide s) l.depth, put_same (r * 2) 2 l.painting) at e)
+      let e = run-mine most 0 (standing (own s r l).depth (own s r l).painting l.list) (part-of-length (wide s) r l.depth.words g.depth, part-of-length (minima-room (wide s)) r l.depth.minima g.minima, part-of-length 2 r l.painting g.painting) in
+      (rw (put_same (r * wide s) (wide s) l.depth.words, put_same (r * minima-room (wide s)) (minima-room (wide s)) l.depth.minima, put_same (r * 2) 2 l.painting) at e)
 
 -- the call, refused or done
 module _ (s : Screen) (r : ℕ) (a : Attributes) (l : RowLent) where
@@ -145,24 +157,24 @@ module _ (s : Screen) (r : ℕ) (a : Attributes) (l : RowLent) where
 abbrev again : StepOut → StepOut
 again o = out (record { number = o.answer.number; finished = o.answer.finished; pieces = o.answer.pieces }) o.depth o.painting o.list
 
-settled-again : (x : Option rules.Painted) (d p l : List ℕ) → again (settled x d p l) ≡ settled x d p l
+settled-again : (x : Option rules.Painted) (ms : List ℕ) (d : Depths) (p l : List ℕ) → again (settled x ms d p l) ≡ settled x ms d p l
 unfolding settled
-settled-again None d p l = refl
-settled-again (Some o) d p l = go (ltb (length l / piece-size) (length o.pieces))
+settled-again None ms d p l = refl
+settled-again (Some o) ms d p l = go (ltb (length l / piece-size) (length o.pieces))
   where
-    go : (b : Bool) → again (cond b (out (refused 14) d p l) (left o l)) ≡ cond b (out (refused 14) d p l) (left o l)
+    go : (b : Bool) → again (cond b (out (refused 14) d p l) (left o ms l)) ≡ cond b (out (refused 14) d p l) (left o ms l)
     go true = refl
     go false = refl
 
 row-again : (v : ℕ) (a : Attrs) (w : RowLent) → again (painted-row v a w) ≡ painted-row v a w
 unfolding painted-row
-row-again v a w = settled-again _ _ _ _
+row-again v a w = settled-again _ _ _ _ _
 
-first_one : (step : List ℕ → List ℕ → List ℕ → StepOut) (d p l : List ℕ) → one_more step (standing d p l) ≡ again (step d p l)
+first_one : (step : Depths → List ℕ → List ℕ → StepOut) (d : Depths) (p l : List ℕ) → one_more step (standing d p l) ≡ again (step d p l)
 unfolding one_more
 first_one step d p l = rw zero-add
 
-one-run : (step : List ℕ → List ℕ → List ℕ → StepOut) (d p l : List ℕ) → run step 1 0 (standing d p l) ≡ again (step d p l)
+one-run : (step : Depths → List ℕ → List ℕ → StepOut) (d : Depths) (p l : List ℕ) → run step 1 0 (standing d p l) ≡ again (step d p l)
 unfolding run
 one-run step d p l = go (goes_on (one_more step (standing d p l)).answer) refl
   where

@@ -7,23 +7,24 @@ use Rattle.sizes.specs.Sizes.{piece-size}
 use Rattle.rules.specs.Attributes.{Attrs}
 use Rattle.rules.specs.Painting as rules
 use Rattle.paint.specs.Answers.{Painted}
+use Rattle.screen.specs.Depths.{Depths}
 use Rattle.paint.specs.Painting.{RowLent, words_lent, StepOut, out, listed, settled, painted-row}
 use Rattle.paint.specs.Running.{goes_on, ended, one_more, run, own-step}
 use Rattle.paint.specs.Kinds.{Onward}
 
 -- a step's pieces have room in its list
-settled-few : (x : Option rules.Painted) (d p l : List ℕ) → piece-size * (settled x d p l).answer.pieces ≤ length l
+settled-few : (x : Option rules.Painted) (ms : List ℕ) (d : Depths) (p l : List ℕ) → piece-size * (settled x ms d p l).answer.pieces ≤ length l
 unfolding settled
-settled-few None d p l = omega arith
-settled-few (Some o) d p l = go (ltb (length l / piece-size) (length o.pieces)) refl
+settled-few None ms d p l = omega arith
+settled-few (Some o) ms d p l = go (ltb (length l / piece-size) (length o.pieces)) refl
   where
-    go : (b : Bool) → ltb (length l / piece-size) (length o.pieces) ≡ b → piece-size * (settled (Some o) d p l).answer.pieces ≤ length l
+    go : (b : Bool) → ltb (length l / piece-size) (length o.pieces) ≡ b → piece-size * (settled (Some o) ms d p l).answer.pieces ≤ length l
     go true e = rw e (omega arith)
     go false e = rw e (omega (arith, ltb-false (length l / piece-size) (length o.pieces) e))
 
 row-few : (v : ℕ) (a : Attrs) (w : RowLent) → piece-size * (painted-row v a w).answer.pieces ≤ length w.list
 unfolding painted-row
-row-few v a w = settled-few _ _ _ w.list
+row-few v a w = settled-few _ _ _ _ w.list
 
 -- what is lent of a list from a place on, and what comes back
 module _ (xs : List ℕ) (a : ℕ) (h : a ≤ length xs) where
@@ -37,7 +38,7 @@ module _ (xs : List ℕ) (a : ℕ) (h : a ≤ length xs) where
   lent-after = take_all (length xs - a) (drop a xs) all_after
 
 -- one step more of a row's own words
-module _ (v : ℕ) (a : Attrs) (s re fi d p xs : List ℕ) (n : ℕ) (h : piece-size * n ≤ length xs) (q : Painted) (e g ys : List ℕ)
+module _ (v : ℕ) (a : Attrs) (s re fi : List ℕ) (d : Depths) (p xs : List ℕ) (n : ℕ) (h : piece-size * n ≤ length xs) (q : Painted) (e : Depths) (g ys : List ℕ)
     (f : out q e g ys ≡ painted-row v a (words_lent s re fi d p (take (length xs - piece-size * n) (drop (piece-size * n) xs)))) where
   same : out q e g ys ≡ own-step v a s re fi d p (drop (piece-size * n) xs)
   same = f ∙ rw (lent-after xs (piece-size * n) h)
@@ -56,7 +57,7 @@ module _ (v : ℕ) (a : Attrs) (s re fi d p xs : List ℕ) (n : ℕ) (h : piece-
       omega (arith, j, length-drop (piece-size * n) xs)
 
 -- the steps of a row, from the first to the last
-module _ (step : List ℕ → List ℕ → List ℕ → StepOut) where
+module _ (step : Depths → List ℕ → List ℕ → StepOut) where
   less_one : (n : ℕ) → suc n - 1 ≡ n
   less_one n = omega arith
 
@@ -87,7 +88,7 @@ module _ (step : List ℕ → List ℕ → List ℕ → StepOut) where
     no-and true = refl
     no-and false = refl
 
-    module _ {start now : StepOut} {k : ℕ} (z : Rest start now k) (h : k < limit) (q : Painted) (d p l : List ℕ) (e : out q d p l ≡ one_more step now) where
+    module _ {start now : StepOut} {k : ℕ} (z : Rest start now k) (h : k < limit) (q : Painted) (d : Depths) (p l : List ℕ) (e : out q d p l ≡ one_more step now) where
       halted : goes_on q ≡ false → ended k (out q d p l) ≡ run step limit 0 start
       halted g =
           let i : goes_on (one_more step now).answer ≡ false = ap (λ (o : StepOut). goes_on o.answer) (sym e) ∙ g in

@@ -1,18 +1,19 @@
--- Beginning to paint: the depth words are cleared, every row is at its first step, at nesting 0.
+-- Beginning to paint: the depth words are cleared and their minima made afresh, every row is at its first step, at nesting 0.
 use Rattle.std.specs.Prelude.{ℕ, Bool, true, List, length}
 use Rattle.rules.specs.Answers.{Answer, settle}
 use Rattle.screen.specs.declared.Screen.{Screen}
 use Rattle.screen.specs.Screens.{frame-of, screen-in}
+use Rattle.screen.specs.Depths.{Depths, blank}
 use Rattle.screen.specs.Tables.{zeros}
-use Rattle.paint.specs.Judging.{begin_number}
+use Rattle.paint.specs.Judging.{count, wide, begin_number}
 
--- a screen with its depth words and where its rows' painting stands
+-- a screen with its depth words, their minima, and where its rows' painting stands
 pub record Canvas : Type 0 where
   pub screen : Screen
-  pub depth : List ℕ
+  pub depth : Depths
   pub painting : List ℕ
 
-abbrev pub canvas : Screen → List ℕ → List ℕ → Canvas
+abbrev pub canvas : Screen → Depths → List ℕ → Canvas
 canvas s d p = record { screen = s; depth = d; painting = p }
 
 -- the screen with painting begun, or ended
@@ -23,5 +24,5 @@ begun b s =
 -- what is refused alters nothing
 unfoldable pub beginning : Canvas → Answer Canvas
 beginning k =
-    settle (begin_number k.screen (length k.depth) (length k.painting)) k
-    (canvas (begun true k.screen) (zeros 0 k.depth) (zeros 0 k.painting))
+    settle (begin_number k.screen (length k.depth.words) (length k.depth.minima) (length k.painting)) k
+    (canvas (begun true k.screen) (blank (count k.screen) (wide k.screen) k.depth) (zeros 0 k.painting))

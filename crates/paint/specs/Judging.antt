@@ -4,6 +4,7 @@ use Rattle.sizes.specs.Sizes.{row-size, paint-attr-table, layer-attr-table}
 use Rattle.sizes.specs.Widths.{bucket-tiles}
 use Rattle.rules.specs.Answers.{first_of, Done, BadArena, BadViewport, BadRecord, BadRun, Open}
 use Rattle.rules.specs.Boxes.{good_viewport, rows_of, buckets-of}
+use Rattle.rules.specs.Minima.{minima-room}
 use Rattle.rules.specs.Walk.{good-room}
 use Rattle.rect.specs.Rects.{box_of}
 use Rattle.screen.specs.declared.Screen.{Screen}
@@ -20,9 +21,16 @@ wide s = buckets-of (bucket-tiles s.width) (box_of s.viewport)
 abbrev pub depth-long : Screen → ℕ → Bool
 depth-long s depth = eqb depth (count s * wide s)
 
-abbrev pub arenas-long : Screen → ℕ → ℕ → ℕ → Bool
-arenas-long s render fills depth =
-    eqb render (count s * (4 * s.c)) && eqb fills (count s * (2 * s.d)) && depth-long s depth
+abbrev pub minima-long : Screen → ℕ → Bool
+minima-long s minima = eqb minima (count s * minima-room (wide s))
+
+-- .. of the depth words and their minima, lent as one
+abbrev pub depths-long : Screen → ℕ → ℕ → Bool
+depths-long s depth minima = depth-long s depth && minima-long s minima
+
+abbrev pub arenas-long : Screen → ℕ → ℕ → ℕ → ℕ → Bool
+arenas-long s render fills depth minima =
+    eqb render (count s * (4 * s.c)) && eqb fills (count s * (2 * s.d)) && depths-long s depth minima
 
 -- .. and the tables'
 abbrev pub rows_long : Screen → ℕ → Bool
@@ -49,9 +57,9 @@ abbrev pub of_row : ℕ → Screen → ℕ → ℕ
 of_row n s r = cond (eqb n Done) (cond (leb (count s) r) BadRun Done) n
 
 -- beginning to paint: 13 with a layer open
-unfoldable pub begin_number : Screen → ℕ → ℕ → ℕ
-begin_number s depth painting =
-    let n = judged s (depth-long s depth) (painting-long s painting) in
+unfoldable pub begin_number : Screen → ℕ → ℕ → ℕ → ℕ
+begin_number s depth minima painting =
+    let n = judged s (depths-long s depth minima) (painting-long s painting) in
     cond (eqb n Done) (cond (eqb s.layers 0) Done Open) n
 
 -- no layer is open, and painting has begun
@@ -63,9 +71,15 @@ unfoldable pub step_number : Screen → ℕ → Bool → Bool → ℕ
 step_number s r arenas tables =
     let n = of_row (judged s arenas tables) s r in cond (eqb n Done) (cond (paints-on s) Done Open) n
 
--- runs are lent the depth words, `can_skip` the rows' records
+-- reading runs are lent the depth words, the writing run those and their minima, `is_hidden` the minima, `can_skip` the rows' records
 unfoldable pub runs_number : Screen → ℕ → ℕ → ℕ
 runs_number s r depth = of_row (judged s (depth-long s depth) true) s r
+
+unfoldable pub write_number : Screen → ℕ → ℕ → ℕ → ℕ
+write_number s r depth minima = of_row (judged s (depths-long s depth minima) true) s r
+
+unfoldable pub hidden_number : Screen → ℕ → ℕ → ℕ
+hidden_number s r minima = of_row (judged s (minima-long s minima) true) s r
 
 unfoldable pub skip_number : Screen → ℕ → ℕ → ℕ
 skip_number s r rows = of_row (judged s true (rows_long s rows)) s r

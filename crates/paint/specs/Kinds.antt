@@ -11,6 +11,7 @@ use Rattle.cmd.specs.declared.command.CmdWords.{CmdWords}
 use Rattle.paint.specs.declared.whole.reading.Partly.{Partly}
 use Rattle.rules.specs.Attributes.{Attrs}
 use Rattle.depth.specs.Listing.{over}
+use Rattle.screen.specs.Depths.{Depths, depths}
 use Rattle.paint.specs.Summaries.{good-summary, shown_runs}
 use Rattle.paint.specs.Painting.{word, StepOut, out, listed, command-step, settled}
 use Rattle.paint.specs.Running.{run}
@@ -86,13 +87,13 @@ whole_words c m p = c.tag ∷ c.attrs_idx ∷ (c.span.0 / 65536) ∷ (c.span.0 %
 
 -- at v tiles a bucket, over the depth words D, at nesting m
 module _ (v : ℕ) (attrs : Attrs) (u : Summary) (D : List ℕ) (m : ℕ) (c : CmdWords) where
-  -- the step of a command's words, after q steps
-  abbrev pub step-to : ℕ → List ℕ → List ℕ → StepOut
-  step-to q P l = settled (command-step v attrs u (record { buckets = D; steps = q; nesting = m }) (read-words c)) D P l
+  -- the step of a command's words, after q steps; ms: the minima above the depth words
+  abbrev pub step-to : List ℕ → ℕ → List ℕ → List ℕ → StepOut
+  step-to ms q P l = settled (command-step v attrs u (record { buckets = D; steps = q; nesting = m }) (read-words c)) ms (depths D ms) P l
 
   -- the step gives n pieces, with these words, and nesting j
   pub record Gives (n : ℕ) (ws : List ℕ) (j : ℕ) : Type 0 where
-    pub step : (q : ℕ) (P l : List ℕ) → piece-size * n ≤ length l → step-to q P l ≡ out (listed n) D ((q + 1) ∷ j ∷ []) (over ws l)
+    pub step : (ms : List ℕ) (q : ℕ) (P l : List ℕ) → piece-size * n ≤ length l → step-to ms q P l ≡ out (listed n) (depths D ms) ((q + 1) ∷ j ∷ []) (over ws l)
 
   -- a fill that is shown in part: what the look has seen of it, and its pieces
   pub record GivesPart (q : Partly) : Type 0 where
@@ -107,7 +108,7 @@ pub record Calm (s re fi : List ℕ) : Type 0 where
   pub summary : good-summary s ≡ true
 
 -- the steps from one place of a row to another, n of them, are steps of the run
-abbrev pub Onward : (List ℕ → List ℕ → List ℕ → StepOut) → ℕ → StepOut → StepOut → Type 0
+abbrev pub Onward : (Depths → List ℕ → List ℕ → StepOut) → ℕ → StepOut → StepOut → Type 0
 Onward step n g o = (f k : ℕ) → n ≤ f → run step f k g ≡ run step (f - n) (k + n) o
 
 -- where a run of commands stands: the place of the next one, the pieces listed, the nesting, the list
@@ -120,12 +121,12 @@ pub record Place : Type 0 where
 abbrev pub place : ℕ → ℕ → ℕ → List ℕ → Place
 place a n m l = record { at = a; pieces = n; nesting = m; list = l }
 
--- .. as where the painting stands, over the depth words D and after d depth fills
-abbrev pub stands : List ℕ → ℕ → Place → StepOut
+-- .. as where the painting stands, over the depth words and minima D and after d depth fills
+abbrev pub stands : Depths → ℕ → Place → StepOut
 stands D d p = out (listed p.pieces) D ((d + p.at) ∷ p.nesting ∷ []) p.list
 
 -- the commands from one place to another are steps of the run
-pub record Reaches (step : List ℕ → List ℕ → List ℕ → StepOut) (D : List ℕ) (d : ℕ) (a b : Place) : Type 0 where
+pub record Reaches (step : Depths → List ℕ → List ℕ → StepOut) (D : Depths) (d : ℕ) (a b : Place) : Type 0 where
   pub after : a.at ≤ b.at
   pub onward : Onward step (b.at - a.at) (stands D d a) (stands D d b)
   pub shallow : b.nesting ≤ most-layers

@@ -7,7 +7,7 @@ use Rattle.rules.specs.Blends.{default-blend}
 use Rattle.rules.specs.Answers.{Done, BadRecord, NoRoom}
 use Rattle.rules.specs.Spans.{Span}
 use Rattle.rules.specs.Inputs.{good-panel}
-use Rattle.rules.specs.Depth.{Summary}
+use Rattle.rules.specs.Depth.{Summary, write-runs, written}
 use Rattle.rules.specs.Commands.{Command, paint-fill, layer-fill, push-buf, pop-buf, DepthFill}
 use Rattle.cmd.specs.Reading.{only_if}
 use Rattle.cmd.specs.Commands.{cmd_at, read-words}
@@ -15,7 +15,9 @@ use Rattle.cmd.specs.DepthFills.{depth_words_at, read-depth-words}
 use Rattle.rules.specs.Attributes.{PaintAttr, LayerAttr, Attrs}
 use Rattle.rules.specs.Painting as rules
 use Rattle.rules.specs.Painting.{Painter, paint-id, paint-panel, layer-id, layer-panel, gives, fill-piece, paint-depth, paint-command}
+use Rattle.rules.specs.Minima.{halvings, mended-runs}
 use Rattle.cmd.specs.Pieces.{laid}
+use Rattle.screen.specs.Depths.{Depths, depths}
 use Rattle.paint.specs.Answers.{Painted}
 pub use Rattle.paint.specs.Answers.{word, refused, listed}
 use Rattle.paint.specs.Summaries.{good-summary, summary-at, shown_runs}
@@ -39,26 +41,26 @@ unfoldable pub attrs-at : List ℕ → ℕ → List ℕ → ℕ → Attrs
 attrs-at ps paints ls layers =
     record { paints = map (paint-at ps) (count-from 0 paints); layers = map (layer-at ls) (count-from 0 layers); filters = [] }
 
--- The words that a step is lent: the row's record, commands and depth fills, its depth words, where its painting stands, the result list.
+-- The words that a step is lent: the row's record, commands and depth fills, its depth words and their minima, where its painting stands, the result list.
 pub record RowLent : Type 0 where
   pub state : List ℕ
   pub render : List ℕ
   pub fills : List ℕ
-  pub depth : List ℕ
+  pub depth : Depths
   pub painting : List ℕ
   pub list : List ℕ
 
-abbrev pub words_lent : List ℕ → List ℕ → List ℕ → List ℕ → List ℕ → List ℕ → RowLent
+abbrev pub words_lent : List ℕ → List ℕ → List ℕ → Depths → List ℕ → List ℕ → RowLent
 words_lent s r f d p l = record { state = s; render = r; fills = f; depth = d; painting = p; list = l }
 
 -- What it gives: its answer, and the words that it may change.
 pub record StepOut : Type 0 where
   pub answer : Painted
-  pub depth : List ℕ
+  pub depth : Depths
   pub painting : List ℕ
   pub list : List ℕ
 
-abbrev pub out : Painted → List ℕ → List ℕ → List ℕ → StepOut
+abbrev pub out : Painted → Depths → List ℕ → List ℕ → StepOut
 out r d p l = record { answer = r; depth = d; painting = p; list = l }
 
 -- where the painting of the row stands
@@ -132,23 +134,35 @@ unfoldable pub next-step : ℕ → Attrs → RowLent → Option rules.Painted
 next-step v attrs w =
     let renders = word w.state 0 in
     let depths = word w.state 1 in
-    let p = painter-at w.depth w.painting in
+    let p = painter-at w.depth.words w.painting in
     cond (bad-row w) None
-    (cond (ltb p.steps depths) (depth-step v attrs p (depth-fill-at (length w.depth) w.fills (depths - (p.steps + 1))))
+    (cond (ltb p.steps depths) (depth-step v attrs p (depth-fill-at (length w.depth.words) w.fills (depths - (p.steps + 1))))
     (cond (ltb (p.steps - depths) renders) (command-step v attrs (summary-at w.state) p (command-at w.render (p.steps - depths)))
     (Some (record { finished = true; pieces = []; painter = p }))))
 
--- What the step leaves in the words: 4 if there is none, 14 if the list has no room for its pieces. A refusal changes nothing.
-abbrev pub left : rules.Painted → List ℕ → StepOut
-left o l =
+-- A row's minima after a depth fill is painted: those over a bucket that it wrote are worked out again, run by run. Nothing else changes them.
+unfoldable pub fill-minima : Attrs → Depths → Option DepthFill → List ℕ
+fill-minima attrs d None = d.minima
+fill-minima attrs d (Some f) =
+    mended-runs (halvings (length d.words)) d.minima (written d.words (paint-id attrs f.attribute) f.buckets) (write-runs d.words f.buckets)
+
+unfoldable pub next-minima : Attrs → RowLent → List ℕ
+next-minima attrs w =
+    let depths = word w.state 1 in
+    let steps = word w.painting 0 in
+    cond (ltb steps depths) (fill-minima attrs w.depth (depth-fill-at (length w.depth.words) w.fills (depths - (steps + 1)))) w.depth.minima
+
+-- What the step leaves in the words, ms being the minima after it: 4 if there is none, 14 if the list has no room for its pieces. A refusal changes nothing.
+abbrev pub left : rules.Painted → List ℕ → List ℕ → StepOut
+left o ms l =
     out (record { number = Done; finished = o.finished; pieces = length o.pieces })
-    o.painter.buckets
+    (depths o.painter.buckets ms)
     (o.painter.steps ∷ o.painter.nesting ∷ [])
     (laid o.pieces l)
 
-unfoldable pub settled : Option rules.Painted → List ℕ → List ℕ → List ℕ → StepOut
-settled None d p l = out (refused BadRecord) d p l
-settled (Some o) d p l = cond (ltb (length l / piece-size) (length o.pieces)) (out (refused NoRoom) d p l) (left o l)
+unfoldable pub settled : Option rules.Painted → List ℕ → Depths → List ℕ → List ℕ → StepOut
+settled None ms d p l = out (refused BadRecord) d p l
+settled (Some o) ms d p l = cond (ltb (length l / piece-size) (length o.pieces)) (out (refused NoRoom) d p l) (left o ms l)
 
 unfoldable pub painted-row : ℕ → Attrs → RowLent → StepOut
-painted-row v attrs w = settled (next-step v attrs w) w.depth w.painting w.list
+painted-row v attrs w = settled (next-step v attrs w) (next-minima attrs w) w.depth w.painting w.list

@@ -4,10 +4,11 @@ use Rattle.rules.specs.Attributes.{Attrs}
 use Rattle.rules.specs.Depth.{Summary}
 use Rattle.sizes.specs.Sizes.{most-layers}
 use Rattle.sizes.specs.Widths.{bucket-tiles}
+use Rattle.screen.specs.Depths.{Depths}
 use Rattle.paint.specs.Summaries.{summary-at}
 use Rattle.paint.specs.declared.command.reading.StoredRow.{StoredRow}
 use Rattle.paint.specs.declared.command.marks.Mark.{Mark}
-use Rattle.paint.specs.Painting.{word, words_lent, StepOut, painter-at, depth-step, command-step, depth-fill-at, settled}
+use Rattle.paint.specs.Painting.{word, words_lent, StepOut, painter-at, depth-step, command-step, depth-fill-at, fill-minima, settled}
 use Rattle.paint.specs.Reading.{attrs_of, paint_mark, layer_mark}
 use Rattle.paint.specs.Running.{own-step, own-run}
 use Rattle.rules.specs.Commands.{Command}
@@ -22,20 +23,21 @@ use Rattle.paint.specs.declared.whole.reading.FillLook.TheVariants as fill
 use Rattle.paint.specs.declared.whole.reading.Look.{Look}
 use Rattle.paint.specs.declared.whole.reading.Look.TheVariants as look
 
-abbrev pub steps_of : StoredRow → List ℕ → List ℕ → List ℕ → StepOut
+abbrev pub steps_of : StoredRow → Depths → List ℕ → List ℕ → StepOut
 steps_of r = own-step (bucket-tiles r.width) (attrs_of r.attrs) r.state.now r.render_cmds.now r.depth_cmds.now
 
 -- the step of the depth fill at place k, and of a command
-abbrev pub depth_step_of : StoredRow → ℕ → List ℕ → List ℕ → List ℕ → StepOut
+abbrev pub depth_step_of : StoredRow → ℕ → Depths → List ℕ → List ℕ → StepOut
 depth_step_of r k d p l =
-    settled (depth-step (bucket-tiles r.width) (attrs_of r.attrs) (painter-at d p) (depth-fill-at (length d) r.depth_cmds.now k)) d p l
+    let f = depth-fill-at (length d.words) r.depth_cmds.now k in
+    settled (depth-step (bucket-tiles r.width) (attrs_of r.attrs) (painter-at d.words p) f) (fill-minima (attrs_of r.attrs) d f) d p l
 
-abbrev pub command_step_of : StoredRow → Command → List ℕ → List ℕ → List ℕ → StepOut
+abbrev pub command_step_of : StoredRow → Command → Depths → List ℕ → List ℕ → StepOut
 command_step_of r c d p l =
-    settled (command-step (bucket-tiles r.width) (attrs_of r.attrs) (summary-at r.state.now) (painter-at d p) (Some c)) d p l
+    settled (command-step (bucket-tiles r.width) (attrs_of r.attrs) (summary-at r.state.now) (painter-at d.words p) (Some c)) d.minima d p l
 
 -- at most f steps
-abbrev pub run_of : StoredRow → ℕ → List ℕ → List ℕ → List ℕ → StepOut
+abbrev pub run_of : StoredRow → ℕ → Depths → List ℕ → List ℕ → StepOut
 run_of r f d p l = own-run (bucket-tiles r.width) f (attrs_of r.attrs) (words_lent r.state.now r.render_cmds.now r.depth_cmds.now d p l)
 
 -- the counts of its record have room, and its summary is in order
@@ -43,7 +45,7 @@ abbrev pub CalmRow : StoredRow → Type 0
 CalmRow r = Calm r.state.now r.render_cmds.now r.depth_cmds.now
 
 -- its commands from `start` at nesting m, the pieces so far being p, up to where their run ended, with the pieces p'
-abbrev pub Ran : StoredRow → List ℕ → ℕ → ℕ → Pieces → Reached → Pieces → Type 0
+abbrev pub Ran : StoredRow → Depths → ℕ → ℕ → Pieces → Reached → Pieces → Type 0
 Ran r D start m p o p' = Reaches (steps_of r) D (word r.state.now 1) (place start p.count m p.list.now) (place o.at p'.count o.nesting p'.list.now)
 
 -- what a fill's attribute says, a paint's or a layer's by the tag

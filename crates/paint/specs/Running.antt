@@ -4,6 +4,7 @@ use Rattle.sizes.specs.Sizes.{piece-size}
 use Rattle.rules.specs.Answers.{Done}
 use Rattle.rules.specs.Attributes.{Attrs}
 use Rattle.screen.specs.declared.Screen.{Screen}
+use Rattle.screen.specs.Depths.{Depths}
 use Rattle.sizes.specs.declared.answers.Refusal.{Refusal}
 use Rattle.sizes.specs.Refusals.{number_of}
 use Rattle.paint.specs.declared.pieces.Stepped.{Stepped}
@@ -27,8 +28,8 @@ ended k o =
     o.painting
     o.list
 
--- what a step gives of the depth words, the painting words and a list
-module _ (step : List ℕ → List ℕ → List ℕ → StepOut) where
+-- what a step gives of the depth words and their minima, the painting words and a list
+module _ (step : Depths → List ℕ → List ℕ → StepOut) where
   -- one step more, on what is left of the list: its pieces stand after those so far
   unfoldable pub one_more : StepOut → StepOut
   one_more g =
@@ -49,23 +50,23 @@ abbrev pub most : ℕ
 most = 2049
 
 -- before the first step
-abbrev pub standing : List ℕ → List ℕ → List ℕ → StepOut
+abbrev pub standing : Depths → List ℕ → List ℕ → StepOut
 standing d p l = out (listed 0) d p l
 
 -- the steps of one row's own words, at v tiles a bucket
-abbrev pub own-step : ℕ → Attrs → List ℕ → List ℕ → List ℕ → List ℕ → List ℕ → List ℕ → StepOut
+abbrev pub own-step : ℕ → Attrs → List ℕ → List ℕ → List ℕ → Depths → List ℕ → List ℕ → StepOut
 own-step v a s re fi d p l = painted-row v a (words_lent s re fi d p l)
 
 -- at most f of them
 unfoldable pub own-run : ℕ → ℕ → Attrs → RowLent → StepOut
 own-run v f a w = run (own-step v a w.state w.render w.fills) f 0 (standing w.depth w.painting w.list)
 
--- .. of row r of rows of b depth words, with room for c commands and d depth fills, each part in its place
+-- .. of row r of rows of b buckets, with room for c commands and d depth fills, each part in its place
 unfoldable pub row-run : ℕ → ℕ → Attrs → ℕ → ℕ → ℕ → ℕ → RowLent → StepOut
 row-run v f a b c d r l = put-parts b r l (own-run v f a (own-parts b c d r l))
 
 -- calls of a painting step of row r of a screen
-abbrev pub call_step : Screen → ℕ → Attributes → List ℕ → List ℕ → List ℕ → List ℕ → List ℕ → List ℕ → StepOut
+abbrev pub call_step : Screen → ℕ → Attributes → List ℕ → List ℕ → List ℕ → Depths → List ℕ → List ℕ → StepOut
 call_step s r a rs re fi d p l = stepped s r a (words_lent rs re fi d p l)
 
 unfoldable pub row-painted : Screen → ℕ → Attributes → RowLent → StepOut

@@ -1,11 +1,13 @@
 -- A row's words in which nothing is forged: they stand for a row of the rules, and the tables for the rules' attributes.
-use Rattle.std.specs.Prelude.{ℕ, ◌+◌, ◌-◌, ◌*◌, ◌≤◌, ◌<◌, ◌≡◌, true, List, length, get_or}
+use Rattle.std.specs.Prelude.{ℕ, ◌+◌, ◌-◌, ◌*◌, ◌≤◌, ◌<◌, ◌≡◌, true, cond, List, length, get_or, ltb}
 use Rattle.std.specs.Prelude.{Some}
 use Rattle.sizes.specs.Sizes.{most-layers}
 use Rattle.rules.specs.Commands.{pop-buf}
 use Rattle.rules.specs.Rows.{Row}
 use Rattle.rules.specs.Attributes.{Attrs}
 use Rattle.rules.specs.Painting.{Painter, paint-id, paint-panel, layer-id, layer-panel, no-fill}
+use Rattle.rules.specs.Depth.{write-runs, written}
+use Rattle.rules.specs.Minima.{halvings, mended-runs}
 use Rattle.paint.specs.Summaries.{good-summary}
 use Rattle.paint.specs.Painting.{word, paint-at, layer-at, command-at, depth-fill-at, good-paint, good-command}
 
@@ -26,6 +28,14 @@ pub record PainterReady (attrs : Attrs) (r : Row) (p : Painter) : Type 0 where
   pub shallow : p.nesting ≤ most-layers
   pub good-next : length r.fills ≤ p.steps → p.steps - length r.fills < length r.commands
       → good-command attrs p.nesting (get_or r.commands (p.steps - length r.fills) pop-buf) ≡ true
+
+-- the minima ms of the painter's depth words after the rules' step: those over a bucket that a depth fill writes are worked out again
+unfoldable pub step-minima : Attrs → Row → Painter → List ℕ → List ℕ
+step-minima attrs r p ms =
+    let f = get_or r.fills (length r.fills - (p.steps + 1)) no-fill in
+    cond (ltb p.steps (length r.fills))
+    (mended-runs (halvings (length p.buckets)) ms (written p.buckets (paint-id attrs f.attribute) f.buckets) (write-runs p.buckets f.buckets))
+    ms
 
 -- the tables hold the attributes' ids and panels
 pub record Holds (attrs : Attrs) (paint-table : List ℕ) (paints : ℕ) (layer-table : List ℕ) (layers : ℕ) : Type 0 where

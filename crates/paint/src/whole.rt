@@ -1,11 +1,15 @@
 //! A row painted from where it stands: one step, or all of them. `paint_step` and `paint_row` are public calls: they have no `requires`. The
 //! others are their parts.
-ghost use Rattle.std.specs.Prelude.{◌≡◌, ◌≤◌};
+ghost use Rattle.std.specs.Prelude.{◌≡◌, ◌≤◌, length};
+ghost use Rattle.rules.specs.Minima.{minima-room};
+ghost use Rattle.depth.specs.Minima.{SameDepth};
+ghost use Rattle.screen.specs.Depths.{depths_in};
 ghost use Rattle.sizes.specs.Widths.{bucket-tiles};
 ghost use Rattle.paint.specs.Answers.{painted_of};
 ghost use Rattle.paint.specs.Painting.{out};
 ghost use Rattle.paint.specs.Judging.{wide};
-ghost use Rattle.paint.specs.Stepping.{stepped};
+ghost use Rattle.paint.specs.Stepping.{Within, depth-part, put-depth, stepped};
+ghost use Rattle.paint.specs.Rows.{run_of};
 ghost use Rattle.paint.specs.Named.{SameCanvas, step_out, RowReady, row_lent, row_attrs, used_attrs};
 ghost use Rattle.paint.specs.Running.{most, row-run, row-painted};
 
@@ -13,6 +17,7 @@ use crate::canvas::judge::judge_step;
 use crate::canvas::{Canvas, Stepped, Stored};
 use crate::command::{Attributes, StoredRow};
 use crate::whole::run::run_parts;
+use depth::{Depth, minima_room};
 use row::part;
 use screen::Screen;
 use sizes::answers::Refusal;
@@ -27,6 +32,38 @@ pub mod run;
 
 /// No row has more steps: C, D and the one that finds nothing left.
 pub const MOST_STEPS: usize = 2 * MOST_ROOM as usize + 1;
+
+// At most `limit` steps of a row of `b` buckets, its own painting words being lent.
+#[inline(always)]
+fn run_part(
+    read: &StoredRow<'_>,
+    b: usize,
+    row: usize,
+    depth: &mut Depth<'_>,
+    painting: &mut [u32],
+    list: &mut [u32],
+    limit: usize,
+) -> Result<Stepped, Refusal>
+    requires limit { limit ≤ most }
+    requires words { Within b row depth.old.words.now }
+    requires minima { Within (minima-room b) row depth.old.minima.now }
+    requires painting { length painting.old ≡ 2 }
+    ensures same { SameDepth depth.old depth.new }
+    ensures run { out (painted_of result) (depths_in depth.new) painting.new list.new
+        ≡ put-depth b row (depths_in depth.old) (run_of read.now limit (depth-part b row (depths_in depth.old)) painting.old list.old) }
+{
+    let over = minima_room(b);
+    let u = row * b;
+    let m = row * over;
+    run_parts(
+        read,
+        &mut depth.words[u..u + b],
+        &mut depth.minima[m..m + over],
+        painting,
+        list,
+        limit,
+    )
+}
 
 /// At most `limit` steps of a row that is there, of `b` buckets, painting having begun: the row's own parts are handed on. A part of the calls, and of those
 /// of a host.
@@ -48,7 +85,6 @@ pub fn row_part(
         ≡ row-run (bucket-tiles screen.width) limit (used_attrs screen stored.now) (wide screen) screen.c screen.d row
         (row_lent stored.now canvas.old list.old) }
 {
-    let u = row * b;
     let v = row * 2;
     let read = StoredRow {
         state: part(stored.rows, ROW, row),
@@ -62,9 +98,11 @@ pub fn row_part(
         },
         width: screen.width,
     };
-    run_parts(
+    run_part(
         &read,
-        &mut canvas.depth[u..u + b],
+        b,
+        row,
+        &mut canvas.depth,
         &mut canvas.painting[v..v + 2],
         list,
         limit,
@@ -88,7 +126,8 @@ pub fn paint_step(
         screen,
         row,
         stored,
-        canvas.depth.len(),
+        canvas.depth.words.len(),
+        canvas.depth.minima.len(),
         canvas.painting.len(),
     )?;
     let b = screen.buckets();
@@ -112,7 +151,8 @@ pub fn paint_row(
         screen,
         row,
         stored,
-        canvas.depth.len(),
+        canvas.depth.words.len(),
+        canvas.depth.minima.len(),
         canvas.painting.len(),
     )?;
     let b = screen.buckets();

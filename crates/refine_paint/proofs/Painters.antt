@@ -1,9 +1,11 @@
 -- Painters that begin and painting steps make are ready for the next step, on a fair row. Assumes nothing.
-use Rattle.std.proofs.Common.{◌≡◌, refl, sym, ap, ◌∙◌, Bool, true, false, ◌&&◌, cond, List, [], ◌∷◌, Option, None, Some, ℕ, zero, suc, ◌+◌, ◌-◌, ◌≤◌, ◌<◌, arith, leb, ltb, eqb, length, get_or, take, lt-ltb, ltb-true, ltb-false, ne_eqb}
+use Rattle.std.proofs.Common.{◌≡◌, refl, sym, ap, ◌∙◌, Bool, true, false, ◌&&◌, cond, List, [], ◌∷◌, Option, None, Some, ℕ, zero, suc, ◌+◌, ◌-◌, ◌≤◌, ◌<◌, arith, leb, ltb, eqb, length, get_or, take, lt-ltb, le-leb, le-ltb, ltb-true, ltb-false, ne_eqb}
 use lib.ListN.{length-replicate}
 use Rattle.rules.specs.Lists.{is_none, is-empty}
+use Rattle.rules.specs.Answers.{Done}
 use Rattle.rules.specs.Spans.{Span, span}
-use Rattle.rules.specs.Depth.{Summary, written}
+use Rattle.rules.specs.Depth.{Summary, write-runs, written, write_answer, write-after}
+use Rattle.rules.specs.Minima.{halvings, summary, mended-runs, minima-after}
 use Rattle.rules.specs.Commands.{Command, paint-fill, layer-fill, push-buf, pop-buf, DepthFill}
 use Rattle.rules.specs.Inputs.{good-panel}
 use Rattle.rules.specs.Attributes.{Attrs}
@@ -14,9 +16,10 @@ use Rattle.refine_row.specs.Encode.{first_of, end_of, state-of, Fine}
 use Rattle.paint.specs.Summaries.{summary-at, Sound}
 use Rattle.paint.proofs.Skips.{sound-blank}
 use Rattle.paint.specs.Painting.{good-id, good-paint, good-command}
-use Rattle.paint.specs.Standing.{PainterReady}
+use Rattle.paint.specs.Standing.{PainterReady, step-minima}
 use Rattle.paint.proofs.ByRules.{AllIncluded, sound-step}
 use Rattle.rules_picture.proofs.Newest.{written-length}
+use Rattle.rules_picture.proofs.Mending.{mended-afresh}
 use Rattle.refine_paint.specs.Fair.{FairCommand, Nested, nesting-after, Fair}
 use Rattle.refine_paint.specs.Painters.{Going}
 
@@ -67,6 +70,23 @@ summary-same d (Some s) e n h =
 some-there : {A : Type 0} (xs : List A) → 0 < length xs → is-empty xs ≡ false
 some-there [] h = absurd (omega arith)
 some-there (x ∷ xs) h = refl
+
+-- a write of a range within the row leaves the summary of what it leaves
+module _ (bs : List ℕ) (id : ℕ) (r : Span) where
+  write-done : r.first ≤ r.end → r.end ≤ length bs → 0 < id → eqb (write_answer bs id r (length (write-runs bs r))).number Done ≡ true
+  unfolding write_answer
+  write-done f e z =
+      let n = length (write-runs bs r) in
+      rw (le-leb _ _ f, le-leb _ _ e, ne_eqb id 0 (λ q. omega arith), le-ltb n n (omega arith))
+
+  pub write-mended : r.first ≤ r.end → r.end ≤ length bs → 0 < id
+      → mended-runs (halvings (length bs)) (summary bs) (written bs id r) (write-runs bs r) ≡ summary (written bs id r)
+  unfolding minima-after write-after
+  write-mended f e z = on _ _ (eqb (write_answer bs id r (length (write-runs bs r))).number Done) (write-done f e z) (mended-afresh bs id r (length (write-runs bs r)))
+    where
+      on : (xs ys : List ℕ) (t : Bool) → t ≡ true → cond t xs (summary bs) ≡ summary (cond t ys bs) → xs ≡ summary ys
+      on xs ys true e h = h
+      on xs ys false e h = never (sym e)
 
 -- an attribute that is there has an id that a draw took
 pub taken : (a : Attrs) (i : ℕ) → good-paint a i ≡ true → 0 < paint-id a i
@@ -143,3 +163,21 @@ module _ {v : ℕ} (a : Attrs) (n : ℕ) (r : Row) (o : Fine r) (h : Fair v a n 
               sound = q;
             }
         go false false e f q = g
+
+    -- .. and its minima the summary of its depth words
+    pub step-mended : step-minima a r p (summary p.buckets) ≡ summary (paint-step v a r p).painter.buckets
+    unfolding step-minima paint-step paint-when paint-depth
+    step-mended = go (ltb p.steps (length r.fills)) (ltb place (length r.commands)) refl
+      where
+        f : DepthFill
+        f = get_or r.fills (length r.fills - (p.steps + 1)) no-fill
+
+        go : (t u : Bool) → ltb p.steps (length r.fills) ≡ t
+            → cond t (mended-runs (halvings (length p.buckets)) (summary p.buckets) (written p.buckets (paint-id a f.attribute) f.buckets) (write-runs p.buckets f.buckets)) (summary p.buckets)
+            ≡ summary (paint-when v a t u r p).painter.buckets
+        go true u e =
+            let l : p.steps < length r.fills = ltb-true _ _ e in
+            let o = all-at h.fills (length r.fills - (p.steps + 1)) no-fill (omega arith) in
+            write-mended p.buckets (paint-id a f.attribute) f.buckets o.good.in_order (rw g.wide o.good.in-limit) (taken a f.attribute o.attributed)
+        go false true e = ap summary (sym (command-nesting (get_or r.commands place pop-buf)).2)
+        go false false e = refl

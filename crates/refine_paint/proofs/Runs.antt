@@ -1,6 +1,6 @@
 -- The direct runs and `can_skip` at the words of a canvas are the rules', and the writing run keeps a canvas whole. Assumes nothing.
 use Rattle.std.proofs.Common.{◌≡◌, refl, sym, ap, ◌∙◌, Bool, true, false, ◌||◌, cond, List, [], ◌∷◌, Option, None, Some, ℕ, ◌/◌, ◌≤◌, ◌<◌, arith, leb, ltb, eqb, length, get_or, length-set, eq-eqb, eqb-true, le-leb, leb-false}
-use Rattle.rules.specs.Lists.{is-empty}
+use Rattle.rules.specs.Lists.{join, is-empty}
 use Rattle.rules.specs.Answers.{Answer, answer, settle, first_of, Done, BadRun, NoRoom}
 use Rattle.rules.specs.Spans.{Span, span, bad-range}
 use Rattle.rules.specs.Commands.{DepthFill}
@@ -11,9 +11,11 @@ use Rattle.rules.specs.Plans.{buckets-across}
 use Rattle.rules.specs.Steps as rule
 use Rattle.rules.specs.Painting.{Painter, begin, no-fill}
 use Rattle.rules.specs.Calls as calls
-use Rattle.rules.specs.Calls.{unset-call, visible-call, write-call, can-skip-call, with-painter}
+use Rattle.rules.specs.Minima.{summary, minima-room, minima-after, hidden_answer}
+use Rattle.rules.specs.Calls.{unset-call, visible-call, write-call, hidden-call, can-skip-call, with-painter}
 use Rattle.rules.proofs.All.{never, all-at}
 use Rattle.rules.proofs.laws.Answers.{settle-kept}
+use Rattle.rules.proofs.laws.Minima.{length-summary}
 use Rattle.rules.proofs.laws.Widths.{each, meets}
 use Rattle.row.specs.Words.{Words}
 use Rattle.depth.specs.Listing.{listing, writing}
@@ -21,19 +23,21 @@ use Rattle.refine_row.specs.Encode.{encode, state-of, Fine}
 use Rattle.refine_steps.specs.Lent.{screen-of, rows_of}
 use Rattle.refine_steps.proofs.Judged.{rows_long}
 use Rattle.screen.specs.declared.Screen.{Screen}
+use Rattle.screen.specs.Depths.{Depths, depths}
 use Rattle.paint.specs.Summaries.{good-summary, summary-at}
 use Rattle.paint.proofs.Skips.{passes}
 use Rattle.paint.specs.Judging as judging
-use Rattle.paint.specs.Judging.{runs_number, skip_number}
+use Rattle.paint.specs.Judging.{runs_number, write_number, hidden_number, skip_number}
 use Rattle.paint.specs.Beginning.{begun}
 use Rattle.paint.specs.Stepping.{part, with_part}
-use Rattle.paint.specs.DirectRuns.{Wrote, or-runs, unset-of, visible-of, write-in-place, write-of, record-skip, skip-of-row}
+use Rattle.paint.specs.DirectRuns.{Wrote, or-runs, unset-of, visible-of, write-in-place, write-of, hidden-of-row, record-skip, skip-of-row}
 use Rattle.rules_picture.proofs.Newest.{written-length}
+use Rattle.rules_picture.proofs.Mending.{mended-afresh}
 use Rattle.refine_paint.specs.Fair.{Fair}
-use Rattle.refine_paint.specs.Canvases.{buckets-in, standing-in, depth-of, painting-of, WholeCanvas, wrote_of}
+use Rattle.refine_paint.specs.Canvases.{buckets-in, minima-in, standing-in, depth-of, painting-of, WholeCanvas, wrote_of}
 use Rattle.refine_paint.proofs.Kept.{fine-at, own-words, row-stands}
 use Rattle.refine_paint.proofs.Painters.{summary-same, taken}
-use Rattle.refine_paint.proofs.Begin.{judged-0, all-standing, depth-long}
+use Rattle.refine_paint.proofs.Begin.{judged-0, all-standing, all-summaries, depth-long, minima-long, depths-judged}
 use Rattle.refine_paint.proofs.Step.{part_join, put-join, set_same}
 use Rattle.refine_paint.proofs.Whole.{all_set}
 
@@ -72,16 +76,26 @@ module _ (k : calls.Canvas) (w : WholeCanvas k) (i : ℕ) where
   abbrev here : Screen
   here = screen-of s.state k.begun
 
-  abbrev depth : List ℕ
+  abbrev depth : Depths
   depth = depth-of k.painters
 
   abbrev p : Painter
   p = get_or k.painters i (begin 0)
 
-  runs-judged : runs_number here i (length depth) ≡ cond (leb (length s.rows) i) BadRun Done
+  runs-judged : runs_number here i (length depth.words) ≡ cond (leb (length s.rows) i) BadRun Done
   unfolding runs_number
   runs-judged =
-      let x : judging.depth-long here (length depth) ≡ true = eq-eqb _ _ (depth-long k w) in
+      let x : judging.depth-long here (length depth.words) ≡ true = eq-eqb _ _ (depth-long k w) in
+      rw (judged-0 s w.sound k.begun _ true x refl, ← w.sound.count)
+
+  write-judged : write_number here i (length depth.words) (length depth.minima) ≡ cond (leb (length s.rows) i) BadRun Done
+  unfolding write_number
+  write-judged = rw (judged-0 s w.sound k.begun _ true (depths-judged k w) refl, ← w.sound.count)
+
+  hidden-judged : hidden_number here i (length depth.minima) ≡ cond (leb (length s.rows) i) BadRun Done
+  unfolding hidden_number
+  hidden-judged =
+      let x : judging.minima-long here (length depth.minima) ≡ true = eq-eqb _ _ (minima-long k w) in
       rw (judged-0 s w.sound k.begun _ true x refl, ← w.sound.count)
 
   skip-judged : skip_number here i (length (rows_of s).state) ≡ cond (leb (length s.rows) i) BadRun Done
@@ -93,26 +107,39 @@ module _ (k : calls.Canvas) (w : WholeCanvas k) (i : ℕ) where
   there : leb (length s.rows) i ≡ false → i < length k.painters
   there e = rw w.count (leb-false _ _ e)
 
-  own-depth : leb (length s.rows) i ≡ false → part n i depth ≡ p.buckets
+  own-depth : leb (length s.rows) i ≡ false → part n i depth.words ≡ p.buckets
   own-depth e = part_join buckets-in n w.wide i (begin 0) (there e)
+
+  own-minima : leb (length s.rows) i ≡ false → part (minima-room n) i depth.minima ≡ summary p.buckets
+  own-minima e = part_join minima-in (minima-room n) (all-summaries k w) i (begin 0) (there e)
 
   -- runs that are only read
   module _ (f : List ℕ → Answer (List Span)) (l : List ℕ) where
-    by_runs : listing (or-runs (runs_number here i (length depth)) (f (part n i depth))) l ≡ listing (calls.of_row (leb (length s.rows) i) [] (f p.buckets)) l
+    by_runs : listing (or-runs (runs_number here i (length depth.words)) (f (part n i depth.words))) l ≡ listing (calls.of_row (leb (length s.rows) i) [] (f p.buckets)) l
     by_runs = rw runs-judged (go (leb (length s.rows) i) refl)
       where
-        go : (b : Bool) → leb (length s.rows) i ≡ b → listing (or-runs (cond b BadRun Done) (f (part n i depth))) l ≡ listing (calls.of_row b [] (f p.buckets)) l
+        go : (b : Bool) → leb (length s.rows) i ≡ b → listing (or-runs (cond b BadRun Done) (f (part n i depth.words))) l ≡ listing (calls.of_row b [] (f p.buckets)) l
         go true e = refl
         go false e = rw (own-depth e)
 
   -- The calls at the words: the rules' numbers and runs, 12 and 14 among them.
-  pub unset-by : (t : Span) (l : List ℕ) → unset-of here i depth t l ≡ listing (unset-call i (length l / 2) t k) l
+  pub unset-by : (t : Span) (l : List ℕ) → unset-of here i depth.words t l ≡ listing (unset-call i (length l / 2) t k) l
   unfolding unset-of unset-call
   unset-by t l = by_runs (λ bs. unset_answer v bs t (length l / 2)) l
 
-  pub visible-by : (id : ℕ) (t : Span) (l : List ℕ) → visible-of here i depth t id l ≡ listing (visible-call id i (length l / 2) t k) l
+  pub visible-by : (id : ℕ) (t : Span) (l : List ℕ) → visible-of here i depth.words t id l ≡ listing (visible-call id i (length l / 2) t k) l
   unfolding visible-of visible-call
   visible-by id t l = by_runs (λ bs. visible_answer v bs id t (length l / 2)) l
+
+  pub hidden-by : (t : Span) (id : ℕ) → hidden-of-row here i depth.minima t id ≡ hidden-call i t id k
+  unfolding hidden-of-row hidden-call
+  hidden-by t id = rw hidden-judged (go (leb (length s.rows) i) refl)
+    where
+      go : (b : Bool) → leb (length s.rows) i ≡ b
+          → cond (eqb (cond b BadRun Done) Done) (hidden_answer (part (minima-room n) i depth.minima) n t id) (answer (cond b BadRun Done) false)
+          ≡ calls.of_row b false (hidden_answer (summary p.buckets) (length p.buckets) t id)
+      go true e = refl
+      go false e = rw (own-minima e, all-at w.wide i (begin 0) (there e))
 
   module _ (id : ℕ) (t : Span) (m : ℕ) where
     abbrev wrote-answer : Answer (List Span)
@@ -200,26 +227,33 @@ module _ (k : calls.Canvas) (w : WholeCanvas k) (i : ℕ) where
     abbrev a : Answer (List Span)
     a = write_answer p.buckets id t m
 
+    -- the depth words and minima after the row's own are written
+    abbrev left-depth : Depths
+    left-depth =
+        depths (with_part n i depth.words (write-after p.buckets id t m))
+        (with_part (minima-room n) i depth.minima (minima-after (summary p.buckets) p.buckets id t m))
+
     place : leb (length s.rows) i ≡ false → (b : Bool) → eqb a.number Done ≡ b
-        → ◌≡◌ {A = Wrote} (record { listed = listing a l; screen = cond b (begun false here) here; depth = with_part n i depth (write-after p.buckets id t m) })
+        → ◌≡◌ {A = Wrote} (record { listed = listing a l; screen = cond b (begun false here) here; depth = left-depth })
         (wrote_of (settled id t m b) l)
     place e true u =
         let y : listing a l ≡ listing (answer Done a.value) l = ap (λ (j : ℕ). listing (answer j a.value) l) (eqb-true a.number Done u) in
-        rw (put-join buckets-in n w.wide i (q id t m) (there e), y)
+        rw (mended-afresh p.buckets id t m, put-join buckets-in n w.wide i (q id t m) (there e), put-join minima-in (minima-room n) (all-summaries k w) i (q id t m) (there e), y)
     place e false u =
-        let z : with_part n i depth p.buckets ≡ depth = put-join buckets-in n w.wide i p (there e) ∙ ap depth-of (set_same k.painters i (begin 0) (there e)) in
+        let z : with_part n i depth.words p.buckets ≡ depth.words = put-join buckets-in n w.wide i p (there e) ∙ ap (join buckets-in) (set_same k.painters i (begin 0) (there e)) in
+        let x : with_part (minima-room n) i depth.minima (summary p.buckets) ≡ depth.minima = put-join minima-in (minima-room n) (all-summaries k w) i p (there e) ∙ ap (join minima-in) (set_same k.painters i (begin 0) (there e)) in
         let y : listing a l ≡ listing (answer a.number []) l = ap (λ (rs : List Span). listing (answer a.number rs) l) (refused_none id t m u) in
-        rw (kept id t m u, z, y)
+        rw (mended-afresh p.buckets id t m, kept id t m u, z, x, y)
 
     pub write-by : write-of here i depth id t l ≡ wrote_of (write-call id i (length l / 2) t k) l
     unfolding write-of write-call listing
-    write-by = rw runs-judged (go (leb (length s.rows) i) refl)
+    write-by = rw write-judged (go (leb (length s.rows) i) refl)
       where
         go : (b : Bool) → leb (length s.rows) i ≡ b
-            → cond (eqb (cond b BadRun Done) Done) (write-in-place here i depth (writing (part n i depth) id t l)) (record { listed = listing (answer (cond b BadRun Done) []) l; screen = here; depth = depth })
+            → cond (eqb (cond b BadRun Done) Done) (write-in-place here i depth (writing (part n i depth.words) (part (minima-room n) i depth.minima) id t l)) (record { listed = listing (answer (cond b BadRun Done) []) l; screen = here; depth = depth })
             ≡ wrote_of (written_on id t m b) l
         go true e = refl
-        go false e = rw (own-depth e) (place e (eqb a.number Done) refl)
+        go false e = rw (own-depth e, own-minima e, eq-eqb _ _ (length-summary p.buckets)) (place e (eqb a.number Done) refl)
 
   abbrev r : Row
   r = get_or s.rows i fresh-row
@@ -243,7 +277,7 @@ module _ (k : calls.Canvas) (w : WholeCanvas k) (i : ℕ) where
           rw (own-state h, f, skip-same s.state.attrs n r (fine-at w.sound.built.fine i) (w.fair i) t id)
 
   -- While painting goes on, no depth word hides a tile of a span for which `can_skip` says yes.
-  pub skip-clear : k.begun ≡ true → (t : Span) (id : ℕ) → (can-skip-call i t id k).value ≡ true → (x : ℕ) → t.first ≤ x → x < t.end → get_or (part n i depth) (x / v) 0 ≤ id
+  pub skip-clear : k.begun ≡ true → (t : Span) (id : ℕ) → (can-skip-call i t id k).value ≡ true → (x : ℕ) → t.first ≤ x → x < t.end → get_or (part n i depth.words) (x / v) 0 ≤ id
   unfolding can-skip-call can_skip_answer
   skip-clear b t id y x lo hi = go (leb (length s.rows) i) refl y
     where
@@ -256,6 +290,6 @@ module _ (k : calls.Canvas) (w : WholeCanvas k) (i : ℕ) where
           passes s.state.frame.width (summary-at (state-of r)) p.buckets (w.going b i h).sound id t
           (skip-same s.state.attrs n r (fine-at w.sound.built.fine i) (w.fair i) t id ∙ q) (x / v) low (meets s.state.frame.width x t.end hi) (omega arith)
 
-      go : (c : Bool) → leb (length s.rows) i ≡ c → (calls.of_row c false (can_skip_answer r.depth t id)).value ≡ true → get_or (part n i depth) (x / v) 0 ≤ id
+      go : (c : Bool) → leb (length s.rows) i ≡ c → (calls.of_row c false (can_skip_answer r.depth t id)).value ≡ true → get_or (part n i depth.words) (x / v) 0 ≤ id
       go true e q = never (sym q)
       go false e q = rw (own-depth e) (tested (leb-false _ _ e) (bad-range 8192 t) q)

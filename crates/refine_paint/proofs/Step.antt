@@ -13,12 +13,14 @@ use Rattle.rules.specs.Painting.{Painter, Painted, begin, paint-step}
 use Rattle.rules.specs.Plans.{buckets-across, Layer}
 use Rattle.rules.specs.Calls as calls
 use Rattle.rules.specs.Calls.{paint-call, given, with-painter}
+use Rattle.rules.specs.Minima.{summary, minima-room}
 use Rattle.rules.proofs.All.{All, nil, cons, neither, all-at, and_right}
 use Rattle.row.specs.Words.{Words}
 use Rattle.row.specs.Arena.{sizes, Long}
 use Rattle.row.proofs.RowsLaws.{part-0, part-suc, put-0, put-suc}
 use Rattle.refine_row.specs.Encode.{encode, state-of}
 use Rattle.refine_row.proofs.Screens.{screen-long}
+use Rattle.screen.specs.Depths.{depths}
 use Rattle.refine_steps.specs.Lent.{table, attr-words, screen-of, rows_of}
 use Rattle.refine_steps.proofs.Tables.{table-length, join-length}
 use Rattle.paint.specs.Summaries.{summary-at, Sound}
@@ -27,11 +29,11 @@ use Rattle.paint.specs.Standing.{Stands, PainterReady, Holds}
 use Rattle.paint.specs.Judging.{arenas-long, tables-long, step_number}
 use Rattle.paint.specs.Stepping.{part, with_part, in_place, number, stepped}
 use Rattle.paint.proofs.ScreenLaws.{step-by-rules}
-use Rattle.refine_paint.specs.Canvases.{buckets-in, standing-in, depth-of, painting-of, WholeCanvas, given_out, attributes-of, words_of}
+use Rattle.refine_paint.specs.Canvases.{buckets-in, minima-in, standing-in, depth-of, painting-of, WholeCanvas, given_out, attributes-of, words_of}
 use Rattle.refine_paint.proofs.Standing.{join-at}
 use Rattle.refine_paint.proofs.Kept.{fine-at, own-words, row-stands}
-use Rattle.refine_paint.proofs.Painters.{going-ready}
-use Rattle.refine_paint.proofs.Begin.{judged-0, all-standing, depth-long, painting-long}
+use Rattle.refine_paint.proofs.Painters.{going-ready, step-mended}
+use Rattle.refine_paint.proofs.Begin.{judged-0, all-standing, all-summaries, depth-long, minima-long, painting-long}
 
 -- a painter's own part, and another painter's words in its place
 module _ (f : Painter → List ℕ) (k : ℕ) where
@@ -104,11 +106,12 @@ module _ (k : calls.Canvas) (w : WholeCanvas k) (i : ℕ) (l : List ℕ) where
       let e1 = eq-eqb _ _ long.render in
       let e2 = eq-eqb _ _ long.fills in
       let e3 = eq-eqb _ _ (depth-long k w) in
+      let e8 = eq-eqb _ _ (minima-long k w) in
       let e4 = eq-eqb _ _ long.state in
       let e5 = eq-eqb _ _ (painting-long k w) in
       let e6 = eq-eqb _ _ paints-long in
       let e7 = eq-eqb _ _ layers-long in
-      let x : arenas-long (screen-of s.state k.begun) (length (rows_of s).render) (length (rows_of s).fills) (length (depth-of k.painters)) ≡ true = rw (e1, e2, e3) in
+      let x : arenas-long (screen-of s.state k.begun) (length (rows_of s).render) (length (rows_of s).fills) (length (depth-of k.painters).words) (length (depth-of k.painters).minima) ≡ true = rw (e1, e2, e3, e8) in
       let y : tables-long (screen-of s.state k.begun) (length (rows_of s).state) (length (painting-of k.painters)) (length (attributes-of s).paints) (length (attributes-of s).layers) ≡ true = rw (e4, e5, e6, e7) in
       rw (judged-0 s w.sound k.begun _ _ x y, ← w.sound.count, none_open s.state.layers) (row_number (leb (length s.rows) i) (calls.paints-on k))
 
@@ -129,8 +132,11 @@ module _ (k : calls.Canvas) (w : WholeCanvas k) (i : ℕ) (l : List ℕ) where
     there : i < length k.painters
     there = rw w.count h
 
-    own-depth : part n i (depth-of k.painters) ≡ p.buckets
+    own-depth : part n i (depth-of k.painters).words ≡ p.buckets
     own-depth = part_join buckets-in n w.wide i (begin 0) there
+
+    own-minima : part (minima-room n) i (depth-of k.painters).minima ≡ summary p.buckets
+    own-minima = part_join minima-in (minima-room n) (all-summaries k w) i (begin 0) there
 
     own-painting : part 2 i (painting-of k.painters) ≡ standing-in p
     own-painting = part_join standing-in 2 (all-standing k.painters) i (begin 0) there
@@ -143,19 +149,20 @@ module _ (k : calls.Canvas) (w : WholeCanvas k) (i : ℕ) (l : List ℕ) where
     done-number = step-judged ∙ rw (lt-leb (length s.rows) i h, b)
 
     by-step : stepped (screen-of s.state k.begun) i (attributes-of s) (words_of k l)
-        ≡ in_place (screen-of s.state k.begun) i (words_of k l) (settled (Some o) p.buckets (standing-in p) l)
+        ≡ in_place (screen-of s.state k.begun) i (words_of k l) (settled (Some o) (summary o.painter.buckets) (depths p.buckets (summary p.buckets)) (standing-in p) l)
     by-step =
         let a = s.state.attrs in
         let m : length p.buckets ≡ n = all-at w.wide i (begin 0) there in
-        let g : Stands a (length (part n i (depth-of k.painters))) r (part 54 i (rows_of s).state) (part (4 * s.state.frame.c) i (rows_of s).render) (part (2 * s.state.frame.d) i (rows_of s).fills) =
+        let mended = step-mended a n r (fine-at w.sound.built.fine i) (w.fair i) p (w.going on i h) in
+        let g : Stands a (length (part n i (depth-of k.painters).words)) r (part 54 i (rows_of s).state) (part (4 * s.state.frame.c) i (rows_of s).render) (part (2 * s.state.frame.d) i (rows_of s).fills) =
         rw (own-depth, m) (row-stands s i h w.sound w.fair) in
-        let q : PainterReady a r (painter-at (part n i (depth-of k.painters)) (part 2 i (painting-of k.painters))) =
+        let q : PainterReady a r (painter-at (part n i (depth-of k.painters).words) (part 2 i (painting-of k.painters))) =
         rw (own-depth, own-painting) (going-ready a n r (fine-at w.sound.built.fine i) (w.fair i) p (w.going on i h)) in
-        let u : Sound (calls.bucket-on k) (summary-at (part 54 i (rows_of s).state)) (part n i (depth-of k.painters)) = rw (own-state, own-depth) (w.going on i h).sound in
-        step-by-rules (screen-of s.state k.begun) i (attributes-of s) (words_of k l) done-number a (holds s) r g q u ∙ rw (own-depth, own-painting)
+        let u : Sound (calls.bucket-on k) (summary-at (part 54 i (rows_of s).state)) (part n i (depth-of k.painters).words) = rw (own-state, own-depth) (w.going on i h).sound in
+        step-by-rules (screen-of s.state k.begun) i (attributes-of s) (words_of k l) done-number a (holds s) r g q u ∙ rw (own-depth, own-minima, own-painting, mended)
 
     -- 14 alters nothing; done, the row's painter is the rules'
-    step-out : in_place (screen-of s.state k.begun) i (words_of k l) (settled (Some o) p.buckets (standing-in p) l) ≡ given_out (paint-call i (length l / piece-size) k) l
+    step-out : in_place (screen-of s.state k.begun) i (words_of k l) (settled (Some o) (summary o.painter.buckets) (depths p.buckets (summary p.buckets)) (standing-in p) l) ≡ given_out (paint-call i (length l / piece-size) k) l
     unfolding settled paint-call
     step-out = rw (lt-leb (length s.rows) i h, b, on) (go (ltb (length l / piece-size) (length o.pieces)))
       where
@@ -163,14 +170,14 @@ module _ (k : calls.Canvas) (w : WholeCanvas k) (i : ℕ) (l : List ℕ) where
         kept f m a = put-join f m a i p there ∙ ap (join f) (set_same k.painters i (begin 0) there)
 
         go : (u : Bool)
-            → in_place (screen-of s.state true) i (words_of k l) (cond u (out (refused NoRoom) p.buckets (standing-in p) l) (left o l))
+            → in_place (screen-of s.state true) i (words_of k l) (cond u (out (refused NoRoom) (depths p.buckets (summary p.buckets)) (standing-in p) l) (left o (summary o.painter.buckets) l))
             ≡ given_out
             (settle (cond u NoRoom Done)
             (given (record { finished = false; pieces = []; painter = p }) (record { screen = s; begun = true; painters = k.painters }))
             (given o (with-painter k true i o.painter)))
             l
-        go true = rw (kept buckets-in n w.wide, kept standing-in 2 (all-standing k.painters))
-        go false = rw (put-join buckets-in n w.wide i o.painter there, put-join standing-in 2 (all-standing k.painters) i o.painter there)
+        go true = rw (kept buckets-in n w.wide, kept minima-in (minima-room n) (all-summaries k w), kept standing-in 2 (all-standing k.painters))
+        go false = rw (put-join buckets-in n w.wide i o.painter there, put-join minima-in (minima-room n) (all-summaries k w) i o.painter there, put-join standing-in 2 (all-standing k.painters) i o.painter there)
 
   abbrev Same : Type 0
   Same = stepped (screen-of s.state k.begun) i (attributes-of s) (words_of k l) ≡ given_out (paint-call i (length l / piece-size) k) l

@@ -6,10 +6,12 @@ use Rattle.rules.specs.Answers.{Answer, answer}
 use Rattle.rules.specs.Spans.{Span}
 use Rattle.rules.specs.Rows.{Row, fresh-row}
 use Rattle.screen.specs.Attributes.{paint-attr-words}
+use Rattle.screen.specs.Depths.{Depths, depths}
 use Rattle.rules.specs.Plans.{buckets-across}
 use Rattle.rules.specs.Steps.{Screen}
 use Rattle.rules.specs.Painting.{Painter, Painted, begin}
 use Rattle.rules.specs.Calls as rule
+use Rattle.rules.specs.Minima.{summary}
 use Rattle.rules.proofs.All.{All}
 use Rattle.refine_steps.specs.Sound.{Sound}
 use Rattle.refine_steps.specs.Lent.{screen-of, table, attr-words, rows_of}
@@ -25,13 +27,17 @@ use Rattle.refine_paint.specs.Painters.{Going}
 abbrev pub buckets-in : Painter → List ℕ
 buckets-in p = p.buckets
 
+-- the minima above a row's depth words: their summary
+abbrev pub minima-in : Painter → List ℕ
+minima-in p = summary p.buckets
+
 -- steps done, nesting
 abbrev pub standing-in : Painter → List ℕ
 standing-in p = p.steps ∷ p.nesting ∷ []
 
--- the depth words and the painting words
-abbrev pub depth-of : List Painter → List ℕ
-depth-of ps = join buckets-in ps
+-- the depth words with the minima above them, and the painting words
+abbrev pub depth-of : List Painter → Depths
+depth-of ps = depths (join buckets-in ps) (join minima-in ps)
 
 abbrev pub painting-of : List Painter → List ℕ
 painting-of ps = join standing-in ps
@@ -49,14 +55,14 @@ pub record WholeCanvas (k : rule.Canvas) : Type 0 where
   pub going : k.begun ≡ true → (i : ℕ) → i < length k.screen.rows
       → Going (rule.bucket-on k) (buckets-across k.screen.state.frame) (get_or k.screen.rows i fresh-row) (get_or k.painters i (begin 0))
 
--- what a painting step of the rules gives, as words: the answer, the depth and painting words, the list
+-- what a painting step of the rules gives, as words: the answer, the depth words and minima, the painting words, the list
 abbrev pub given_out : Answer (rule.Given Painted) → List ℕ → StepOut
 given_out g l =
     let o = g.value.result in
     let k = g.value.canvas in
     out (record { number = g.number; finished = o.finished; pieces = length o.pieces }) (depth-of k.painters) (painting-of k.painters) (laid o.pieces l)
 
--- what a writing run of the rules gives, as words: the answer and the list, the screen and the depth words
+-- what a writing run of the rules gives, as words: the answer and the list, the screen, the depth words and minima
 abbrev pub wrote_of : Answer (rule.Given (List Span)) → List ℕ → Wrote
 wrote_of g l =
     let k = g.value.canvas in

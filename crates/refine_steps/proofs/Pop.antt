@@ -11,6 +11,7 @@ use Rattle.rules.specs.Boxes.{rows_in}
 use Rattle.rules.specs.Segments.{Segment}
 use Rattle.rules.specs.Inputs.{Props}
 use Rattle.rules.specs.Attributes.{LayerAttr, Attrs, attrs-full, no-paint, no-layer}
+use Rattle.screen.specs.Depths.{Depths}
 use Rattle.screen.specs.Attributes.{layer-attr-words}
 use Rattle.rules.specs.Words.{segment-words}
 use Rattle.rules.specs.Rows.{Row, row-ops}
@@ -57,7 +58,7 @@ map_more : {A B : Type 0} (g : A → B) (xs : List A) (x : A) → map g (xs ++ (
 map_more g [] x = refl
 map_more g (y ∷ ys) x = ap (λ t. g y ∷ t) (map_more g ys x)
 
-module _ (f : Frame) (n : ℕ) (a : Attrs) (rows : List Row) (b : Bool) (de pa : List ℕ) (ss : List Segment) where
+module _ (f : Frame) (n : ℕ) (a : Attrs) (rows : List Row) (b : Bool) (de : Depths) (pa : List ℕ) (ss : List Segment) where
   -- the words that are lent, and the rows' words
   abbrev at : List Layer → ScreenLent
   at ls = lent_of (screen f n a ls rows) b de pa
@@ -261,7 +262,7 @@ module _ (f : Frame) (n : ℕ) (a : Attrs) (rows : List Row) (b : Bool) (de pa :
     pop-after e = rw (pop-screen (l ∷ ls) h, pop-rows (l ∷ ls) h e, new_is, layers-left, opacities-left (room-left e), attrs-left, theirs-leave.0, theirs-leave.1)
 
 -- an answer at the words, from its number and what stands afterwards
-pop-settled : (t : Tables) (k n : ℕ) (x y : Screen) (u v : pop.PopLent) (s s' : rule.Screen Row) (b : Bool) (de pa : List ℕ) → k ≡ n
+pop-settled : (t : Tables) (k n : ℕ) (x y : Screen) (u v : pop.PopLent) (s s' : rule.Screen Row) (b : Bool) (de : Depths) (pa : List ℕ) → k ≡ n
     → pop-into t (pop.out n x u) ≡ answer n (lent_of s b de pa) → (n ≡ Done → pop-into t (pop.out Done y v) ≡ answer Done (lent_of s' false de pa))
     → pop-into t (cond (eqb k Done) (pop.out Done y v) (pop.out k x u)) ≡ answer-of (settle n s s') b de pa
 pop-settled t k n x y u v s s' b de pa e p q = rw e (go (eqb n Done) refl)
@@ -270,7 +271,7 @@ pop-settled t k n x y u v s s' b de pa e p q = rw e (go (eqb n Done) refl)
     go true z = q (eqb-true n Done z)
     go false z = rw z p
 
-module _ (f : Frame) (n : ℕ) (a : Attrs) (rows : List Row) (b : Bool) (de pa : List ℕ) (ss : List Segment) where
+module _ (f : Frame) (n : ℕ) (a : Attrs) (rows : List Row) (b : Bool) (de : Depths) (pa : List ℕ) (ss : List Segment) where
   none_open : Sound (screen f n a [] rows) → refusal Row row-ops (theirs f n a rows b de pa ss []) (done Row row-ops (theirs f n a rows b de pa ss []) (screen f n a [] rows)) ≡ Done → ⊥
   unfolding plan-pop
   none_open h e = let z : NoLayer ≡ Done = (passing (theirs f n a rows b de pa ss []) (done Row row-ops (theirs f n a rows b de pa ss []) (screen f n a [] rows)) e).own in omega arith
@@ -306,5 +307,5 @@ module _ (f : Frame) (n : ℕ) (a : Attrs) (rows : List Row) (b : Bool) (de pa :
       (screen f n a ls rows) (done Row row-ops (theirs f n a rows b de pa ss ls) (screen f n a ls rows)) b de pa
       (pop-number f n a rows b de pa ss ls h) (same-lent _ ls) (afterwards ls h))
 
-pub pop-stepped : (s : rule.Screen Row) → Sound s → (b : Bool) (de pa : List ℕ) (ss : List Segment) → call_at (a-pop ss) (lent_of s b de pa) ≡ answer-of (call Row row-ops (a-pop ss) s) b de pa
+pub pop-stepped : (s : rule.Screen Row) → Sound s → (b : Bool) (de : Depths) (pa : List ℕ) (ss : List Segment) → call_at (a-pop ss) (lent_of s b de pa) ≡ answer-of (call Row row-ops (a-pop ss) s) b de pa
 pop-stepped s h b de pa ss = pop-as s.state.frame s.state.next s.state.attrs s.rows b de pa ss s.state.layers h

@@ -3,9 +3,11 @@
 use Rattle.std.proofs.Common.{◌≡◌, ap, ◌∙◌, Bool, false, cond, List, ℕ, eqb}
 use Rattle.rules.specs.Answers.{Answer, answer, Done}
 use Rattle.rules.specs.Rows.{Row, fresh-row, row-ops}
-use Rattle.rules.specs.Plans.{Frame, Step, a-fill, a-push, a-pop, a-filter}
+use Rattle.rules.specs.Plans.{Frame, buckets-across, Step, a-fill, a-push, a-pop, a-filter}
 use Rattle.rules.specs.Steps as rule
 use Rattle.rules.specs.Steps.{reset, call}
+use Rattle.rules.specs.Boxes.{rows_of}
+use Rattle.screen.specs.Depths.{Depths, blank}
 use Rattle.screen.specs.Judging.{judged_reset}
 use Rattle.screen.specs.Tables.{zeros, lengths, ScreenLent, reset_to}
 use Rattle.walk.specs.Steps.{call_at}
@@ -17,7 +19,7 @@ use Rattle.refine_steps.proofs.Pop.{pop-stepped}
 use Rattle.refine_steps.proofs.Reset.{fresh-sound, fresh-words}
 
 -- Every step, refused or done: at the words of a sound screen it has the rules' number, and leaves the words of the rules' screen.
-pub stepped : (x : Step) (s : rule.Screen Row) → Sound s → (b : Bool) (de pa : List ℕ) → call_at x (lent_of s b de pa) ≡ answer-of (call Row row-ops x s) b de pa
+pub stepped : (x : Step) (s : rule.Screen Row) → Sound s → (b : Bool) (de : Depths) (pa : List ℕ) → call_at x (lent_of s b de pa) ≡ answer-of (call Row row-ops x s) b de pa
 stepped (a-fill ps ss d) s h b de pa = fill-stepped s h b de pa ps ss d
 stepped (a-push p) s h b de pa = push-stepped s h b de pa p
 stepped (a-pop ss) s h b de pa = pop-stepped s h b de pa ss
@@ -41,7 +43,7 @@ reset-refines f l z =
       number = ap (λ (w : Answer ScreenLent). w.number) e;
       value = record {
         sound = fresh-sound f l z;
-        holds = record { begun = false; depth = zeros 0 l.tables.depth; painting = zeros 0 l.tables.painting; same = ap (λ (w : Answer ScreenLent). w.value) e };
+        holds = record { begun = false; depth = blank (rows_of f.viewport) (buckets-across f) l.tables.depth; painting = zeros 0 l.tables.painting; same = ap (λ (w : Answer ScreenLent). w.value) e };
       };
     }
 

@@ -12,10 +12,11 @@ use Rattle.rules.specs.Walk.{good-room, good-arenas}
 use Rattle.row.specs.Words.{Words, words}
 use Rattle.row.specs.Arena.{lay}
 use Rattle.refine_row.proofs.Screens.{blank-row, reset-words}
-use Rattle.rules.specs.Plans.{Frame}
+use Rattle.rules.specs.Plans.{Frame, buckets-across}
 use Rattle.screen.specs.Screens.{fresh-screen}
 use Rattle.screen.specs.declared.lent.Lengths.{Lengths}
 use Rattle.screen.specs.Judging.{good-tables, arenas, judged_reset}
+use Rattle.screen.specs.Depths.{blank}
 use Rattle.screen.specs.Tables.{zeros, lengths, ScreenLent, float-0, reset_to}
 use Rattle.screen.proofs.Passed.{reset-says}
 use Rattle.layers.specs.Filter.{filter-paint-words}
@@ -132,6 +133,6 @@ module _ (f : Frame) (l : ScreenLent) (z : judged_reset f (lengths l.tables) ≡
   screen-is = refl
 
   -- a done reset
-  pub fresh-words : reset_to f l ≡ answer 0 (lent_of (reset fresh-row f) false (zeros 0 l.tables.depth) (zeros 0 l.tables.painting))
+  pub fresh-words : reset_to f l ≡ answer 0 (lent_of (reset fresh-row f) false (blank n (buckets-across f) l.tables.depth) (zeros 0 l.tables.painting))
   unfolding reset_to lent_of
   fresh-words = rw (z, screen-is, render-is, fills-is, rows_is, layers-is, opacities-is, paints-is, attrs-is, filters-is)

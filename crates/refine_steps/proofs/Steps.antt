@@ -9,6 +9,7 @@ use Rattle.rules.specs.Lists.{join, is-empty}
 use Rattle.rules.specs.Answers.{answer, settle, Done}
 use Rattle.rules.specs.Segments.{Segment}
 use Rattle.rules.specs.Inputs.{Paint, Draw, draw-segments, Clip, Props, Filter}
+use Rattle.screen.specs.Depths.{Depths}
 use Rattle.screen.specs.Attributes.{paint-attr-words}
 use Rattle.rules.specs.Words.{paint-words, segment-words}
 use Rattle.rules.specs.Rows.{Row, row-ops}
@@ -40,7 +41,7 @@ use Rattle.refine_steps.proofs.Alike.{box-same, Grown, grown-new, Alike, rows_is
 use Rattle.refine_steps.proofs.Planned.{painted, filter_alike, fill-alike, push-alike}
 
 -- an answer at the words, from its number and what stands afterwards
-pub settled : {X : Type 0} (f : X → ScreenLent) (k n : ℕ) (x y : X) (s t : rule.Screen Row) (b : Bool) (de pa : List ℕ)
+pub settled : {X : Type 0} (f : X → ScreenLent) (k n : ℕ) (x y : X) (s t : rule.Screen Row) (b : Bool) (de : Depths) (pa : List ℕ)
     → k ≡ n → f x ≡ lent_of s b de pa → (n ≡ Done → f y ≡ lent_of t false de pa) → with_value f (settle k x y) ≡ answer-of (settle n s t) b de pa
 settled f k n x y s t b de pa e p q = rw e (go (eqb n Done) refl)
   where
@@ -75,7 +76,7 @@ pub map-length : {A B : Type 0} (f : A → B) (xs : List A) → length (map f xs
 map-length f [] = refl
 map-length f (x ∷ xs) = ap suc (map-length f xs)
 
-module _ (s : rule.Screen Row) (h : Sound s) (b : Bool) (de pa : List ℕ) where
+module _ (s : rule.Screen Row) (h : Sound s) (b : Bool) (de : Depths) (pa : List ℕ) where
   abbrev st : State
   st = s.state
 

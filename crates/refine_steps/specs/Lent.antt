@@ -1,4 +1,4 @@
--- The words of a screen of the rules: every lent word is a function of the rules' state and rows, but the depth words and the painter's,
+-- The words of a screen of the rules: every lent word is a function of the rules' state and rows, but the depth words, their minima and the painter's,
 -- which no building step reads or writes, and whether painting has begun.
 use Rattle.std.specs.Prelude.{ℕ, ◌-◌, ◌≡◌, Bool, false, cond, List, [], ◌∷◌, ◌++◌, map, eqb, length, replicate, pos, Float}
 use Rattle.std.specs.Float.{binary32}
@@ -17,6 +17,7 @@ use Rattle.refine_row.specs.Encode.{encode}
 use Rattle.screen.specs.declared.Screen.{Screen}
 use Rattle.rect.specs.Rects.{rect-of}
 use Rattle.screen.specs.Screens.{screen-in}
+use Rattle.screen.specs.Depths.{Depths}
 use Rattle.screen.specs.Tables.{tables, ScreenLent, screen_lent, float-0}
 use Rattle.screen.specs.Layers.{layer-words}
 use Rattle.layers.specs.Filter.{filter-paint-words}
@@ -56,8 +57,8 @@ screen-of s painting =
 abbrev pub rows_of : rule.Screen Row → Words
 rows_of s = lay (map (encode s.state.frame.c s.state.frame.d) s.rows)
 
--- a screen and its words: whether painting has begun, the depth words and the painter's are no part of the rules' screen
-unfoldable pub lent_of : rule.Screen Row → Bool → List ℕ → List ℕ → ScreenLent
+-- a screen and its words: whether painting has begun, the depth words, their minima and the painter's are no part of the rules' screen
+unfoldable pub lent_of : rule.Screen Row → Bool → Depths → List ℕ → ScreenLent
 lent_of s begun depth painting =
     screen_lent (screen-of s.state begun)
     (tables (rows_of s).render (rows_of s).fills depth (rows_of s).state painting (table 0 open-layer-table (layers-words s.state.layers))
@@ -67,12 +68,12 @@ lent_of s begun depth painting =
     (table (pos 0) filter-paint-table (join filter-paint-words s.state.attrs.filters)))
 
 -- an answer of the rules, at the words: a done step ends painting
-abbrev pub answer-of : Answer (rule.Screen Row) → Bool → List ℕ → List ℕ → Answer ScreenLent
+abbrev pub answer-of : Answer (rule.Screen Row) → Bool → Depths → List ℕ → Answer ScreenLent
 answer-of a begun depth painting = answer a.number (lent_of a.value (cond (eqb a.number Done) false begun) depth painting)
 
 -- l holds the words of the screen s
 pub record Holds (s : rule.Screen Row) (l : ScreenLent) : Type 0 where
   pub begun : Bool
-  pub depth : List ℕ
+  pub depth : Depths
   pub painting : List ℕ
   pub same : l ≡ lent_of s begun depth painting

@@ -9,6 +9,7 @@ use Rattle.rules.specs.Answers.{Answer, answer, settle, Done, BadForm}
 use Rattle.rules.specs.Boxes.{Box, box, good_viewport, rows_of, buckets-of}
 use Rattle.rules.specs.Rows.{Row, fresh-row, row-ops}
 use Rattle.rules.specs.Plans.{Frame, buckets-across}
+use Rattle.rules.specs.Minima.{minima-room}
 use Rattle.rules.specs.Setups.{Setup, frame}
 use Rattle.rules.specs.Steps.{Screen, reset, call}
 use Rattle.rules.specs.Recording.{Recording, File, in-edition, head, parsed, recording, box-in}
@@ -262,7 +263,7 @@ module _ (q : Setup) (u : Usual q) (w : File) (bs : List ℕ) (room : 264256 ≤
           )
 
       arenas-good : good-arenas f (arenas (lengths t)) ≡ true
-      arenas-good = rw (u.c, u.d, eq-eqb _ _ h.render, eq-eqb _ _ h.fills, eq-eqb _ _ h.depth)
+      arenas-good = rw (u.c, u.d, eq-eqb _ _ h.render, eq-eqb _ _ h.fills, eq-eqb _ _ h.depth, eq-eqb _ _ h.minima)
 
       judged-0 : judged_reset f (lengths t) ≡ 0
       unfolding judged_reset
@@ -295,6 +296,7 @@ module _ (q : Setup) (u : Usual q) (w : File) (bs : List ℕ) (room : 264256 ≤
             eq-eqb (n * 256) (n * 256) refl,
             eq-eqb (n * 128) (n * 128) refl,
             eq-eqb (n * buckets-across f) (n * buckets-across f) refl,
+            eq-eqb (n * minima-room (buckets-across f)) (n * minima-room (buckets-across f)) refl,
           )
 
       at-words-play : play (Screen Row) (call Row row-ops) (reset fresh-row) (place q given) old w ≡ theirs

@@ -25,7 +25,11 @@ abbrev asked : ℕ → ℕ → Mode → Setup
 asked c d m = record { c = c; d = d; mode = m; width = W128 }
 
 abbrev lent : ℕ → ℕ → ℕ → Place
-lent a b c = record { limit = 512; setup = asked 4 5 exact; arenas = record { render = 32 + a; fills = 20 + b; depth = 4 + c } }
+lent a b c = record { limit = 512; setup = asked 4 5 exact; arenas = record { render = 32 + a; fills = 20 + b; depth = 4 + c; minima = 6 } }
+
+-- .. or n minima in place of 6
+abbrev lent-minima : ℕ → Place
+lent-minima n = record { limit = 512; setup = asked 4 5 exact; arenas = record { render = 32; fills = 20; depth = 4; minima = n } }
 
 -- the screen before
 abbrev old : Screen Row
@@ -115,6 +119,11 @@ judgements =
     ∷ (plays (lent 1 0 0) worked-words).number is BadArena
     ∷ (plays (lent 0 1 0) worked-words).number is BadArena
     ∷ (plays (lent 0 0 1) worked-words).number is BadArena
+    ∷ (plays (lent-minima 5) worked-words).number is BadArena
+    ∷ (plays (lent-minima 6) worked-words).number is Done
+    ∷ (plays (lent-minima 7) worked-words).number is BadArena
+    ∷ (plays (lent-minima 7) (file One (rec (box 2 0 256 8) [] [] [] [] 0 0))).number is BadViewport
+    ∷ (plays (lent-minima 7) (file One (rec (box 0 0 256 8) [] [] [] [] 1 0))).number is BadArena
     ∷ (plays (lent 1 0 0) (file One (rec (box 2 0 256 8) [] [] [] [] 0 0))).number is BadViewport
     ∷ (plays (lent 1 0 0) (file One (rec (box 0 0 256 8) [] [] [] [] 1 0))).number is BadArena
     ∷ (plays (lent 0 0 0) (file One (rec (box 0 0 256 8) [] [] [] [] 1 0))).number is BadRecord
@@ -175,8 +184,8 @@ pub all-judged : every (λ (t : Judged). eqb t.got t.due) judgements ≡ true
 unfolding computing
 all-judged = refl
 
--- Answer 1: rows x 4C, rows x 2D and rows x buckets words.
-pub arenas-needed : needed (record { viewport = box 0 0 260 8; c = 3; d = 5; width = W128 }) ≡ record { render = 24; fills = 20; depth = 6 }
+-- Answer 1: rows x 4C, rows x 2D and rows x buckets words, and for a row of 3 buckets 7 minima.
+pub arenas-needed : needed (record { viewport = box 0 0 260 8; c = 3; d = 5; width = W128 }) ≡ record { render = 24; fills = 20; depth = 6; minima = 14 }
 unfolding computing
 arenas-needed = refl
 
@@ -207,7 +216,7 @@ left-by-5 = refl
 
 -- A layer that reaches itself, after a draw: 6 at the 17th push, and nothing of the walk is kept.
 pub left-by-6 :
-    plays (record { limit = 512; setup = asked 64 5 exact; arenas = record { render = 512; fills = 20; depth = 4 } })
+    plays (record { limit = 512; setup = asked 64 5 exact; arenas = record { render = 512; fills = 20; depth = 4; minima = 6 } })
     (file One (rec (box 0 0 256 8) (solid 0 0 4 ∷ []) (draw 0 1 ∷ []) (layer 0 1 ∷ []) (node 0 1 1 ∷ []) 0 1)) ≡
     answer Deep (reset fresh-row (record { viewport = box 0 0 256 8; c = 64; d = 5; width = W128 }))
 unfolding computing

@@ -38,10 +38,12 @@ buckets-there = refl
 abbrev two-rows : Width → Frame
 two-rows w = record { viewport = box 0 0 260 8; c = 3; d = 5; width = w }
 
-pub arenas-at-64 : needed (two-rows W64) ≡ record { render = 24; fills = 20; depth = 10 }
+pub arenas-at-64 : needed (two-rows W64) ≡ record { render = 24; fills = 20; depth = 10; minima = 30 }
+unfolding computing
 arenas-at-64 = refl
 
-pub arenas-at-256 : needed (two-rows W256) ≡ record { render = 24; fills = 20; depth = 4 }
+pub arenas-at-256 : needed (two-rows W256) ≡ record { render = 24; fills = 20; depth = 4; minima = 6 }
+unfolding computing
 arenas-at-256 = refl
 
 -- rule 7

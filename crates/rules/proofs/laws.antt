@@ -7,3 +7,4 @@ pub mod Pixmaps
 pub mod Viewports
 pub mod Snapping
 pub mod Widths
+pub mod Minima

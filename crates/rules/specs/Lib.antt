@@ -7,6 +7,7 @@ pub mod Segments
 pub mod Blends
 pub mod Commands
 pub mod Depth
+pub mod Minima
 pub mod Rows
 pub mod Inputs
 pub mod Attributes
@@ -19,6 +20,7 @@ pub mod Walk
 pub mod Lines
 pub mod Plain
 pub mod Calls
+pub mod Compacted
 pub mod Words
 pub mod Conversions
 pub mod Logged

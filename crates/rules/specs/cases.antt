@@ -4,5 +4,7 @@ pub mod KnownPoints
 pub mod WorkedExample
 pub mod Edges
 pub mod Refusals
+pub mod Minima
+pub mod Compacted
 pub mod Editions
 pub mod Conversions

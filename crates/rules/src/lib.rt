@@ -9,14 +9,19 @@ ghost use Rattle.rules.specs.cases.Edges.{EdgesHold};
 ghost use Rattle.rules.specs.cases.Editions.{EditionsHold};
 ghost use Rattle.rules.specs.cases.Conversions.{ConversionsHold};
 ghost use Rattle.rules.specs.cases.Refusals.{AnswersDue, LeftAlone};
+ghost use Rattle.rules.specs.cases.Minima.{SummariesHold};
+ghost use Rattle.rules.specs.cases.Compacted.{CompactionsHold};
 
-/// The rules at known points, their worked example, each answer and each bound on both sides of its edge, a recording file's editions, and conversions between them.
+/// The rules at known points, their worked example, each answer and each bound on both sides of its edge, the summary above a row's depth words, what is
+/// taken out of a crowded row, a recording file's editions, and conversions between them.
 pub fn rules_hold_at_known_points()
     ensures points { KnownPoints }
     ensures worked { WorkedExample }
     ensures answers { AnswersDue }
     ensures left { LeftAlone }
     ensures edges { EdgesHold }
+    ensures summaries { SummariesHold }
+    ensures compactions { CompactionsHold }
     ensures editions { EditionsHold }
     ensures conversions { ConversionsHold }
 {}

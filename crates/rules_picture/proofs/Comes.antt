@@ -130,8 +130,8 @@ module _ {B : Type 0} (c : Colours B) where
       unfolding steps-drawn commands-drawn
       commands-come [] j p bs e s len long = refl
       commands-come (d ∷ cs) j p bs e s len long =
-          let (at, rest, h) = drop_head w attrs t pos r n on j r.commands d cs e in
-          let q : paint-step w attrs r p ≡ paint-command w attrs d p = command-next w attrs t pos r n on p j s h ∙ ap (λ (x : Command). paint-command w attrs x p) at in
+          let (at, rest, h) = drop_head j r.commands d cs e in
+          let q : paint-step w attrs r p ≡ paint-command w attrs d p = command-next w attrs r p j s h ∙ ap (λ (x : Command). paint-command w attrs x p) at in
           ap (λ (o : Painted). steps-drawn (length cs) r o.painter (step-drawn c t p o bs)) q
           ∙ command-comes d cs p.buckets p.steps p.nesting len bs long
           (λ m ds l. commands-come cs (suc j) (record { buckets = p.buckets; steps = p.steps + 1; nesting = m }) ds rest (omega arith) len l)

@@ -49,10 +49,18 @@ passes-such b (t ∷ ts) = by t.hides
     (λ n. rw n (ap (λ (us : List Told). keep (leb b t.id) (record { entry = t.entry; id = t.id; hides = false }) us) (passes-such b ts)))
 
 module _ (w : ℕ) (attrs : Attrs) (t : ℕ) where
-  -- the row holds the entries ts
+  -- the newest depth fill over the tile's bucket, by its id, or 0
+  abbrev pub newest-over : Row → ℕ
+  newest-over r = newest-hide (told-fills w attrs t r.fills)
+
+  -- what is no older than that
+  abbrev pub seen : Row → List Told → List Told
+  seen r ts = such (no-older (newest-over r)) ts
+
+  -- the row holds the entries ts: those that hide as its depth fills, and as its commands those of the others that are seen
   pub record Held (ts : List Told) (r : Row) : Type 0 where
     pub hidden : such hides-of ts ≡ told-fills w attrs t r.fills
-    pub open_told : such stays ts ≡ told-commands w attrs t 0 r.commands
+    pub open_told : seen r (such stays ts) ≡ seen r (told-commands w attrs t 0 r.commands)
     pub rising : Rising 0 ts
     pub numbered : All (Numbered w attrs t) r.fills
 
@@ -62,5 +70,5 @@ module _ (w : ℕ) (attrs : Attrs) (t : ℕ) where
   held-picture pos n on ts r h =
       let fs = told-fills w attrs t r.fills in
       let e : hider fs ++ such (no-older (newest-hide fs)) (told-commands w attrs t 0 r.commands) ≡ shown ts =
-      rw (← h.hidden, ← h.open_told, ← hider-such ts, ← newest-such ts, ← passes-such (newest-hide ts) ts) (two-passes-show h.rising) in
+      rw (← h.open_told, ← h.hidden, ← hider-such ts, ← newest-such ts, ← passes-such (newest-hide ts) ts) (two-passes-show h.rising) in
       row-received w attrs t pos r n on h.numbered ∙ ap (map entry-told) e

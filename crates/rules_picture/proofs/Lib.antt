@@ -44,3 +44,11 @@ pub mod StoredColours
 pub mod Places
 pub mod Limits
 pub mod Roomless
+pub mod Minima
+pub mod Mending
+pub mod Compacted
+pub mod CompactedPieces
+pub mod CompactedCall
+pub mod Ranged
+pub mod CompactedFollows
+pub mod Roomier

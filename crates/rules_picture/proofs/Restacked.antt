@@ -13,7 +13,7 @@ use Rattle.rules.specs.Plain.{Told, OpenLayer, touch-all, tell, whole-bucket}
 use Rattle.rules.proofs.All.{All, and_left, all-mapped}
 use Rattle.rules_picture.specs.Colours.{Colours, closed, dropped, drawn, Opaque}
 use Rattle.rules_picture.proofs.Cases.{by}
-use Rattle.rules_picture.proofs.Shown.{hides-of, newest-hide, hider}
+use Rattle.rules_picture.proofs.Shown.{hides-of, newest-hide, hider, newest-below, all-such}
 use Rattle.rules_picture.proofs.Acts.{do-acts}
 use Rattle.rules_picture.proofs.Rows.{told-fills, PaintHas, LayerHas}
 use Rattle.rules_picture.proofs.Acted.{act-touch, act-pop}
@@ -24,7 +24,7 @@ use Rattle.rules_picture.proofs.Holds.{single-told, told-ids}
 use Rattle.rules_picture.proofs.Grown.{Grown, close-act, closes-add, acts-append}
 use Rattle.rules_picture.proofs.Comes.{drawn-long, dropped-long}
 use Rattle.rules_picture.proofs.Changes.{lifted, Change, change-both, pop-change, ensure-change}
-use Rattle.rules_picture.proofs.Stacked.{entries, lifted-add, draws-change, closes-change, come, Stacked, come-told, newest-below, all-such}
+use Rattle.rules_picture.proofs.Stacked.{entries, lifted-add, draws-change, closes-change, come, Stacked, come-told}
 
 module _ {B : Type 0} (c : Colours B) (w : ℕ) (attrs : Attrs) (t : ℕ) (v : Box) (row : ℕ) where
   abbrev Tells : Bool → ℕ → ℕ → ℕ → ℕ → Bool → List Cut → List Told

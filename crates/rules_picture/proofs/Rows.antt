@@ -37,6 +37,25 @@ module _ {A : Type 0} where
   nil-cons : {x : A} {xs : List A} → [] ≡ (x ∷ xs) → ⊥
   nil-cons e = never (ap is-empty e)
 
+-- the commands from the jth on: the first of them, and the others
+pub drop_head : (j : ℕ) (xs : List Command) (c : Command) (cs : List Command) → drop j xs ≡ c ∷ cs → (get_or xs j pop-buf ≡ c) × (drop (suc j) xs ≡ cs) × (j < length xs)
+drop_head j xs c cs e = by (ltb j (length xs))
+    (λ y.
+    let h = ltb-true j (length xs) y in
+    let q = sym (drop-cons xs j pop-buf h) ∙ e in
+    (cons_head q, cons_tail q, h))
+    (λ n. absurd (nil-cons (sym (drop_of_length-le xs (ltb-false j (length xs) n)) ∙ e)))
+
+-- past the depth fills, a step paints the next command
+pub command-next : (w : ℕ) (attrs : Attrs) (r : Row) (p : Painter) (j : ℕ) → p.steps ≡ length r.fills + j → j < length r.commands
+    → paint-step w attrs r p ≡ paint-command w attrs (get_or r.commands j pop-buf) p
+unfolding paint-step paint-when
+command-next w attrs r p j e h =
+    let z : p.steps - length r.fills ≡ j = omega arith in
+    let past : ltb p.steps (length r.fills) ≡ false = le-ltb p.steps (length r.fills) (omega arith) in
+    let there : ltb (p.steps - length r.fills) (length r.commands) ≡ true = lt-ltb (p.steps - length r.fills) (length r.commands) (omega arith) in
+    rw (past, there) (ap (λ m. paint-command w attrs (get_or r.commands m pop-buf) p) z)
+
 -- the attribute i has that id and that panel
 pub record PaintHas (attrs : Attrs) (i id panel : ℕ) : Type 0 where
   pub id-is : paint-id attrs i ≡ id
@@ -151,23 +170,6 @@ module _ (w : ℕ) (attrs : Attrs) (t : ℕ) where
         ∙ ap (λ (gs : List DepthFill). map entry-told (hider (told-fills gs))) same
 
     -- the commands in order, from the jth on: those that cover the tile and are no older than the word of its bucket
-    pub drop_head : (j : ℕ) (xs : List Command) (c : Command) (cs : List Command) → drop j xs ≡ c ∷ cs → (get_or xs j pop-buf ≡ c) × (drop (suc j) xs ≡ cs) × (j < length xs)
-    drop_head j xs c cs e = by (ltb j (length xs))
-        (λ y.
-        let h = ltb-true j (length xs) y in
-        let q = sym (drop-cons xs j pop-buf h) ∙ e in
-        (cons_head q, cons_tail q, h))
-        (λ n. absurd (nil-cons (sym (drop_of_length-le xs (ltb-false j (length xs) n)) ∙ e)))
-
-    pub command-next : (p : Painter) (j : ℕ) → p.steps ≡ length r.fills + j → j < length r.commands
-        → paint-step w attrs r p ≡ paint-command w attrs (get_or r.commands j pop-buf) p
-    unfolding paint-step paint-when
-    command-next p j e h =
-        let z : p.steps - length r.fills ≡ j = omega arith in
-        let past : ltb p.steps (length r.fills) ≡ false = le-ltb p.steps (length r.fills) (omega arith) in
-        let there : ltb (p.steps - length r.fills) (length r.commands) ≡ true = lt-ltb (p.steps - length r.fills) (length r.commands) (omega arith) in
-        rw (past, there) (ap (λ m. paint-command w attrs (get_or r.commands m pop-buf) p) z)
-
     -- what the commands cs give from the painter p on, by the word b of the tile's bucket
     abbrev Gives : ℕ → List Command → Painter → Type 0
     Gives b cs p = received t (paint-steps w attrs (length cs) r p) ≡ map entry-told (such (no-older b) (told-commands p.nesting cs))
@@ -202,7 +204,7 @@ module _ (w : ℕ) (attrs : Attrs) (t : ℕ) where
     commands-received [] j p e s len = unfold received in refl
     commands-received (c ∷ cs) j p e s len =
         let (at, rest, h) = drop_head j r.commands c cs e in
-        let q : paint-step w attrs r p ≡ paint-command w attrs c p = command-next p j s h ∙ ap (λ (x : Command). paint-command w attrs x p) at in
+        let q : paint-step w attrs r p ≡ paint-command w attrs c p = command-next w attrs r p j s h ∙ ap (λ (x : Command). paint-command w attrs x p) at in
         ap (λ (o : Painted). received t (o.pieces ++ paint-steps w attrs (length cs) r o.painter)) q
         ∙ command-gives c cs p.buckets p.steps p.nesting len
         (λ m. commands-received cs (suc j) (record { buckets = p.buckets; steps = p.steps + 1; nesting = m }) rest (omega arith) len)

@@ -1,11 +1,13 @@
 -- The other half of the picture, on one tile: of entries with rising ids, two passes show what plain draw order leaves:
 -- first the newest entry that hides, then, in order, each that does not hide and is not older than it.
-use Rattle.std.proofs.Common.{ℕ, ◌≤◌, ◌<◌, ◌≡◌, refl, sym, ap, subst, ◌∙◌, Bool, true, false, ◌&&◌, ◌||◌, not, cond, true≢false, List, [], ◌∷◌, ◌++◌, arith, leb, le-leb, ne_eqb}
+use Rattle.std.proofs.Common.{ℕ, ◌≤◌, ◌<◌, ◌≡◌, refl, sym, ap, subst, ◌∙◌, Bool, true, false, ◌&&◌, ◌||◌, not, cond, true≢false, List, [], ◌∷◌, ◌++◌, arith, leb, le-leb, ne_eqb, eqb}
 use mathlib.Core.Bool.{false≢true}
 use borrow.Author.Tests.{lt-leb}
 use Rattle.rules.specs.Lists.{some_of, such, keep}
 use Rattle.rules.specs.Depth.{write}
 use Rattle.rules.specs.Plain.{Told, shown}
+use Rattle.rules.proofs.All.{All, nil, cons}
+use Rattle.rules_picture.proofs.Cases.{by}
 
 -- ids above n, rising
 pub data Rising : ℕ → List Told → Type 0 where
@@ -95,3 +97,20 @@ two-passes-show {n} (told-next {t = t} {ts = ts} h r) = go (some_of hides-of ts)
     go false q ih =
         let newest : newest-hide (t ∷ ts) ≡ cond t.hides t.id 0 = ap (write (cond t.hides t.id 0)) (no-newest ts q) in
         subst (λ (n : ℕ). keep t.hides t [] ++ such (passes n) (t ∷ ts) ≡ t ∷ ts) (sym newest) (alone q t.hides refl)
+
+-- the newest that hides, of a list with one more that hides
+pub newest-below : (n : ℕ) (ts : List Told) → 0 < n → All (λ (u : Told). u.id < n) ts → newest-hide ts < n
+unfolding newest-hide
+newest-below n [] h a = h
+newest-below n (t ∷ ts) h (cons p a) =
+    let ih = newest-below n ts h a in
+    by (eqb (newest-hide ts) 0) (λ y. rw y (by t.hides (λ z. rw z p) (λ z. rw z h))) (λ m. rw m ih)
+
+pub newest-last : (ts : List Told) (u : Told) → u.hides ≡ true → 0 < u.id → newest-hide (ts ++ (u ∷ [])) ≡ u.id
+unfolding newest-hide
+newest-last [] u y h = rw y
+newest-last (t ∷ ts) u y h = ap (write (cond t.hides t.id 0)) (newest-last ts u y h) ∙ write-past (cond t.hides t.id 0) u.id h
+
+pub all-such : {P : Told → Type 0} (p : Told → Bool) {ts : List Told} → All P ts → All P (such p ts)
+all-such p nil = nil
+all-such p (cons {x = x} h a) = by (p x) (λ y. rw y (cons h (all-such p a))) (λ n. rw n (all-such p a))

@@ -138,7 +138,7 @@ module _ (w : ℕ) (attrs : Attrs) where
         ap (λ (m : ℕ). length (painter-after w attrs r n m).buckets) e ∙ ap (λ (bs : List ℕ). length bs) (after_kept (k - f)).0 ∙ all)
 
 -- a yes is a done call's
-said-yes : (r : ℕ) (s : Span) (id : ℕ) (k : Canvas) → (can-skip-call r s id k).value ≡ true → can_skip (get_or k.screen.rows r fresh-row).depth s id ≡ true
+pub said-yes : (r : ℕ) (s : Span) (id : ℕ) (k : Canvas) → (can-skip-call r s id k).value ≡ true → can_skip (get_or k.screen.rows r fresh-row).depth s id ≡ true
 unfolding can-skip-call can_skip_answer
 said-yes r s id k e = by (no_row k r)
     (λ y. never (sym (rw y at e)))

@@ -1,11 +1,10 @@
 -- The buffers of plain draw order and those of one row, step by step: the same, but for blank ones that the row has not pushed yet.
-use Rattle.std.proofs.Common.{ℕ, zero, suc, ◌+◌, ◌-◌, ◌/◌, ◌≤◌, ◌<◌, le_refl, arith, ◌≡◌, refl, sym, ◌∙◌, ap, Bool, true, false, cond, Option, None, Some, List, [], ◌∷◌, ◌++◌, map, append-nil, length, leb, eqb, le-leb}
+use Rattle.std.proofs.Common.{ℕ, zero, suc, ◌+◌, ◌-◌, ◌/◌, ◌≤◌, ◌<◌, le_refl, arith, ◌≡◌, refl, sym, ◌∙◌, ap, Bool, true, false, cond, Option, None, Some, List, [], ◌∷◌, ◌++◌, map, append-nil, length, leb, le-leb}
 use Rattle.rules.specs.Lists.{such, is-empty, some_of}
 use Rattle.rules.specs.Boxes.{Box}
 use Rattle.rules.specs.Spans.{Span, covers}
 use Rattle.rules.specs.Split.{split}
 use Rattle.rules.specs.Segments.{Cut}
-use Rattle.rules.specs.Depth.{write}
 use Rattle.rules.specs.Attributes.{Attrs}
 use Rattle.rules.specs.Rows.{Row, row-ops, put-command}
 use Rattle.rules.specs.Commands.{layer-fill}
@@ -18,7 +17,7 @@ use Rattle.rules_picture.specs.Colours.{Colours, drawn, Opaque}
 use Rattle.rules_picture.specs.StoredColours.{commands-drawn}
 use Rattle.rules_picture.proofs.Cases.{by}
 use Rattle.rules_picture.proofs.Buckets.{from-bucket, from-bucket-before}
-use Rattle.rules_picture.proofs.Shown.{hides-of, newest-hide, hider, write-past}
+use Rattle.rules_picture.proofs.Shown.{hides-of, newest-hide, hider, newest-below, newest-last, all-such}
 use Rattle.rules_picture.proofs.Held.{stays}
 use Rattle.rules_picture.proofs.Acts.{do-acts}
 use Rattle.rules_picture.proofs.Rows.{entry-told, told-fills, PaintHas, LayerHas}
@@ -39,19 +38,6 @@ entries-append : (ts us : List Told) → entries (ts ++ us) ≡ entries ts ++ en
 entries-append [] us = refl
 entries-append (t ∷ ts) us = ap (λ (es : List Entry). t.entry ∷ es) (entries-append ts us)
 
--- the newest that hides, of a list with one more that hides
-pub newest-below : (n : ℕ) (ts : List Told) → 0 < n → All (λ (u : Told). u.id < n) ts → newest-hide ts < n
-unfolding newest-hide
-newest-below n [] h a = h
-newest-below n (t ∷ ts) h (cons p a) =
-    let ih = newest-below n ts h a in
-    by (eqb (newest-hide ts) 0) (λ y. rw y (by t.hides (λ z. rw z p) (λ z. rw z h))) (λ m. rw m ih)
-
-newest-last : (ts : List Told) (u : Told) → u.hides ≡ true → 0 < u.id → newest-hide (ts ++ (u ∷ [])) ≡ u.id
-unfolding newest-hide
-newest-last [] u y h = rw y
-newest-last (t ∷ ts) u y h = ap (write (cond t.hides t.id 0)) (newest-last ts u y h) ∙ write-past (cond t.hides t.id 0) u.id h
-
 some-last : (ts : List Told) (u : Told) → u.hides ≡ true → some_of hides-of (ts ++ (u ∷ [])) ≡ true
 some-last [] u y = rw y
 some-last (t ∷ ts) u y = by t.hides (λ z. rw z) (λ z. rw z (some-last ts u y))
@@ -60,10 +46,6 @@ hider-last : (ts : List Told) (u : Told) → u.hides ≡ true → hider (ts ++ (
 unfolding hider
 hider-last [] u y = rw y
 hider-last (t ∷ ts) u y = rw (some-last ts u y) (hider-last ts u y)
-
-pub all-such : {P : Told → Type 0} (p : Told → Bool) {ts : List Told} → All P ts → All P (such p ts)
-all-such p nil = nil
-all-such p (cons {x = x} h a) = by (p x) (λ y. rw y (cons h (all-such p a))) (λ n. rw n (all-such p a))
 
 module _ {B : Type 0} (c : Colours B) where
   -- drawn where they are no older than b
@@ -221,7 +203,7 @@ module _ {B : Type 0} (c : Colours B) where
             let start : drawn c (u.entry ∷ []) (c.blank ∷ []) ≡ c.fill u.entry.attribute u.entry.alpha c.blank ∷ [] = rw l in
             let f = c.fill u.entry.attribute u.entry.alpha c.blank in
             let old : commands-drawn c (paint-id attrs) (layer-id attrs) t id r.commands (f ∷ []) ≡ f ∷ [] =
-            all-older c w attrs t id 0 r.commands (rw h.open_told at (all-such stays h.below)) (f ∷ []) ∙ idle f ∙ rw lv in
+            all-older c w attrs t id 0 r.commands h.older (f ∷ []) ∙ idle f ∙ rw lv in
             let right : come q ≡ f ∷ [] =
             ap (λ b. commands-drawn c (paint-id attrs) (layer-id attrs) t b q.commands (drawn c (entries (hider (told-fills w attrs t q.fills))) (c.blank ∷ []))) nw
             ∙ ap (λ (us : List Told). commands-drawn c (paint-id attrs) (layer-id attrs) t id q.commands (drawn c (entries us) (c.blank ∷ []))) hd

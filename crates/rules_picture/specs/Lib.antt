@@ -1,6 +1,7 @@
 pub mod Built
 pub mod Turns
 pub mod Skip
+pub mod Minima
 pub mod Recorded
 pub mod Panels
 pub mod TwoPanels
@@ -12,3 +13,4 @@ pub mod Places
 pub mod Pixels
 pub mod ColourScenes
 pub mod Roomless
+pub mod Compacted

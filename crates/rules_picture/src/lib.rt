@@ -3,8 +3,10 @@
 #![tactic(auto)]
 
 ghost use Rattle.rules_picture.specs.ColourScenes.{AllNeeded, TwoScenes, WrongRows};
+ghost use Rattle.rules_picture.specs.Compacted.{Compacted-balanced, Compacted-gives, Compacted-picture, Compacted-same, Compacted-skip, Less-room, Removals, Room-kept, Twice-called, Twice-once};
 ghost use Rattle.rules_picture.specs.Edited.{Line-edited, Line-listed, Line-painted, Row-unchanged};
 ghost use Rattle.rules_picture.specs.EditedPairs.{EditedPairs};
+ghost use Rattle.rules_picture.specs.Minima.{Summary-long, Hidden-exact, Mended-afresh, Pieces-same};
 ghost use Rattle.rules_picture.specs.Panels.{Answered-alike, Built-alike, Panel-blind, Painted-alike, Told-alike};
 ghost use Rattle.rules_picture.specs.Pixels.{LogGentle, LogHides, PixelsGentle, PixelsHide};
 ghost use Rattle.rules_picture.specs.Places.{AttributesPlaced};
@@ -53,4 +55,26 @@ pub fn colours_tell_scenes_apart()
 /// A recording that is accepted somewhere is walked with room for everything too, by the same steps.
 pub fn accepted_walks_need_no_room()
     ensures { Roomless-done }
+{}
+
+/// The summary above a row's depth words says what they say, and after a write too; painting that asks it first gives the same pieces.
+pub fn summaries_tell_the_truth()
+    ensures long { Summary-long }
+    ensures hidden { Hidden-exact }
+    ensures afresh { Mended-afresh }
+    ensures pieces { Pieces-same }
+{}
+
+/// Taking out of a row what nothing will ever show changes no picture.
+pub fn compacting_changes_no_picture()
+    ensures removals { Removals }
+    ensures twice { Twice-once }
+    ensures again { Twice-called }
+    ensures same { Compacted-same }
+    ensures turns { Compacted-gives }
+    ensures balanced { Compacted-balanced }
+    ensures room { Less-room }
+    ensures kept { Room-kept }
+    ensures picture { Compacted-picture }
+    ensures skip { Compacted-skip }
 {}

@@ -4,3 +4,4 @@ pub mod Resets
 pub mod Passed
 pub mod LayersLaws
 pub mod Zeros
+pub mod Blanks

@@ -1,9 +1,10 @@
 -- What it says that a screen, or a reset, is judged 0.
-use Rattle.std.proofs.Common.{◌≡◌, refl, Bool, true, false, ◌&&◌, not, [], ◌∷◌, ℕ, ◌*◌, arith, eqb, eqb-true}
+use Rattle.std.proofs.Common.{◌≡◌, refl, Bool, true, false, ◌&&◌, not, [], ◌∷◌, ℕ, ◌*◌, ◌≤◌, arith, eqb, eqb-true}
 use borrow.Author.Tests.{not-false}
 use Rattle.rules.specs.Answers.{first_of}
 use Rattle.rules.specs.Boxes.{good_viewport, rows_of}
-use Rattle.rules.specs.Plans.{Frame}
+use Rattle.rules.specs.Minima.{minima-room}
+use Rattle.rules.specs.Plans.{Frame, buckets-across}
 use Rattle.rules.specs.Walk.{good-room, good-arenas}
 use Rattle.rect.specs.Rects.{box_of}
 use Rattle.screen.specs.declared.Screen.{Screen}
@@ -11,7 +12,7 @@ use Rattle.screen.specs.declared.lent.Lengths.{Lengths}
 use Rattle.screen.specs.Screens.{good_screen}
 use Rattle.screen.specs.Judging.{good-rooms, judged, good-tables, arenas, judged_reset}
 use Rattle.rules.proofs.All.{and_left, and_right}
-use Rattle.screen.proofs.ScreenLaws.{Room, room}
+use Rattle.screen.proofs.ScreenLaws.{Room, room, few_rows, few-buckets}
 
 -- no test of a judge said yes
 pub none_said : (x y z : Bool) → first_of ((x, 2) ∷ (y, 1) ∷ (z, 4) ∷ []) ≡ 0 → (x ≡ false) × (y ≡ false) × (z ≡ false)
@@ -59,8 +60,32 @@ module _ (s : Screen) (rows render fills : ℕ) where
 
 module _ (f : Frame) (l : Lengths) where
   -- each test of a reset that is judged 0
-  pub reset-says : judged_reset f l ≡ 0 → (good_viewport f.viewport ≡ true) × (good-arenas f (arenas l) ≡ true) × (good-tables (rows_of f.viewport) l ≡ true)
+  pub reset-says : judged_reset f l ≡ 0
+      → (good_viewport f.viewport ≡ true) × (good-arenas f (arenas l) ≡ true) × (good-tables (rows_of f.viewport) l ≡ true)
   unfolding judged_reset
   reset-says h =
       let all = none_said (not (good_viewport f.viewport)) (not (good-arenas f (arenas l))) (not (good-tables (rows_of f.viewport) l)) h in
       (not-false _ all.0, not-false _ all.1, not-false _ all.2)
+
+  -- how many depth words and minima it is lent
+  pub record DepthLong : Type 0 where
+    pub few : rows_of f.viewport ≤ 512
+    pub narrow : buckets-across f ≤ 64
+    pub words : l.depth ≡ rows_of f.viewport * buckets-across f
+    pub minima : l.minima ≡ rows_of f.viewport * minima-room (buckets-across f)
+
+  pub depth_long : judged_reset f l ≡ 0 → DepthLong
+  depth_long h =
+      let says = reset-says h in
+      let n = rows_of f.viewport in
+      let re = eqb l.render_cmds (n * (4 * f.c)) in
+      let fi = eqb l.depth_cmds (n * (2 * f.d)) in
+      let de = eqb l.depth (n * buckets-across f) in
+      let mi = eqb l.minima (n * minima-room (buckets-across f)) in
+      let s : (re && fi && de && mi) ≡ true = and_right (good-room f.c && good-room f.d) (re && fi && de && mi) says.1 in
+      record {
+        few = few_rows _ says.0;
+        narrow = few-buckets _ says.0 f.width;
+        words = eqb-true _ _ (and_right (re && fi) de (and_left (re && fi && de) mi s));
+        minima = eqb-true _ _ (and_right (re && fi && de) mi s);
+      }

@@ -15,14 +15,14 @@ use Rattle.screen.specs.declared.Setup.{Setup}
 use Rattle.screen.specs.declared.lent.Lengths.{Lengths}
 use Rattle.screen.specs.Screens.{frame, frame-of, fresh-screen}
 use Rattle.screen.specs.Judging.{judged_reset}
-use Rattle.screen.specs.Tables.{Tables, lengths, zeroed, ScreenLent, screen_lent, reset_to}
+use Rattle.screen.specs.Tables.{Tables, lengths, cleared, ScreenLent, screen_lent, reset_to}
 
 module _ (f : Frame) (l : ScreenLent) where
   pub refused : (r : Refusal) → number_of r ≡ judged_reset f (lengths l.tables) → answer (number_of r) l ≡ reset_to f l
   unfolding reset_to
   refused r e = rw (← e, ne_eqb (number_of r) 0 (not_done r))
 
-  pub done : 0 ≡ judged_reset f (lengths l.tables) → (s : Screen) (t : Tables) → s ≡ fresh-screen f → t ≡ zeroed l.tables
+  pub done : 0 ≡ judged_reset f (lengths l.tables) → (s : Screen) (t : Tables) → s ≡ fresh-screen f → t ≡ cleared f l.tables
       → answer 0 (screen_lent s t) ≡ reset_to f l
   unfolding reset_to
   done e s t p q = rw (← e, p, q)
@@ -43,3 +43,6 @@ module _ (q : Setup) (v : Rect) where
 
     pub begun-judged : {n : ℕ} (l : Lengths) → n ≡ judged_reset (frame-of x) l → n ≡ judged_reset (frame q v) l
     begun-judged l j = j ∙ ap (λ (y : Screen). judged_reset (frame-of y) l) begun
+
+    pub begun-cleared : (t u : Tables) → u ≡ cleared (frame-of x) t → u ≡ cleared (frame q v) t
+    begun-cleared t u j = j ∙ ap (λ (y : Screen). cleared (frame-of y) t) begun

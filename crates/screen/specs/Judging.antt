@@ -38,7 +38,7 @@ abbrev pub good-tables : ℕ → Lengths → Bool
 good-tables n l = eqb l.rows (n * row-size) && eqb l.painting (n * 2) && good-fixed l
 
 abbrev pub arenas : Lengths → Arenas
-arenas l = record { render = l.render_cmds; fills = l.depth_cmds; depth = l.depth }
+arenas l = record { render = l.render_cmds; fills = l.depth_cmds; depth = l.depth; minima = l.minima }
 
 -- a reset to a frame
 unfoldable pub judged_reset : Frame → Lengths → ℕ

@@ -1,5 +1,6 @@
 pub mod Screens
 pub mod Judging
+pub mod Depths
 pub mod Tables
 pub mod Attributes
 pub mod Lent

@@ -1,26 +1,32 @@
 //! The words that a host lends with a screen, and how many: judged and cleared by a reset.
-ghost use Rattle.std.specs.Prelude.{true, ◌≡◌};
+ghost use Rattle.std.specs.Prelude.{true, ◌≡◌, ◌≤◌, ◌*◌, ◌++◌, length, replicate, drop};
 ghost use Rattle.sizes.specs.Refusals.{answer_number};
+ghost use Rattle.sizes.specs.Sizes.{most-rows};
 ghost use Rattle.rules.specs.Boxes.{good_viewport};
+ghost use Rattle.rules.specs.Minima.{minima-room};
 ghost use Rattle.rect.specs.Rects.{box_of};
 ghost use Rattle.screen.specs.Screens.{frame-of};
 ghost use Rattle.screen.specs.Judging.{good-fixed, judged_reset};
-ghost use Rattle.screen.specs.Tables.{lengths, zeroed};
+ghost use Rattle.depth.specs.Minima.{SameDepth};
+ghost use Rattle.screen.specs.Depths.{depths_in, blank, blank-minima};
+ghost use Rattle.screen.specs.Tables.{lengths, cleared};
 ghost use Rattle.screen.specs.Lent.{tables_in, SameLent};
 
 use crate::{Screen, is_good_rooms};
+use depth::minima::make;
+use depth::{Depth, minima_room};
 use sizes::answers::Refusal;
 use sizes::{FILTER_TABLE, LAYER_TABLE, OPACITIES, OPEN_TABLE, PAINT_TABLE, ROW};
 
-/// All that a host lends with a screen: the rows' render commands (4 x C words a row), depth fills (2 x D), depth words (one a bucket) and records (ROW), what
-/// painting keeps of each row (two words: steps done, nesting), the open layers and the opacities, and the tables of attributes and filter paints. Laid out as in
-/// C.
+/// All that a host lends with a screen: the rows' render commands (4 x C words a row), depth fills (2 x D), depth words (one a bucket) with the minima above them
+/// (`minima_room` of its buckets), records (ROW), what painting keeps of each row (two words: steps done, nesting), the open layers and the opacities, and the
+/// tables of attributes and filter paints. Laid out as in C.
 #[repr(C)]
 #[derive(Drop)]
 pub struct Lent<'a> {
     pub render_cmds: &'a mut [u32],
     pub depth_cmds: &'a mut [u32],
-    pub depth: &'a mut [u32],
+    pub depth: Depth<'a>,
     pub rows: &'a mut [u32],
     pub painting: &'a mut [u32],
     pub layers: &'a mut [u32],
@@ -44,6 +50,7 @@ pub struct Lengths {
     pub paint_attrs: usize,
     pub layer_attrs: usize,
     pub filter_paints: usize,
+    pub minima: usize,
 }
 
 impl Lengths {
@@ -66,8 +73,10 @@ pub fn judge_reset(screen: Screen, lent: Lengths) -> Result<(), Refusal>
     ensures { answer_number result ≡ judged_reset (frame-of screen) lent }
 {
     let n = screen.rows();
+    let b = screen.buckets();
     if !is_good_rooms(n, screen.c, screen.d, lent.render_cmds, lent.depth_cmds)
-        || lent.depth != n * screen.buckets()
+        || lent.depth != n * b
+        || lent.minima != n * minima_room(b)
     {
         return Err(Refusal::BadArena);
     }
@@ -75,6 +84,36 @@ pub fn judge_reset(screen: Screen, lent: Lengths) -> Result<(), Refusal>
         return Err(Refusal::BadRecord);
     }
     Ok(())
+}
+
+// The words of rows of so many buckets become 0, and each row's minima are made afresh of them.
+fn blank_rows(words: &mut [u32], minima: &mut [u32], rows: usize, buckets: usize)
+    requires few { (rows ≤ most-rows) × (buckets ≤ 64) }
+    requires words { length words.old ≡ rows * buckets }
+    requires minima { length minima.old ≡ rows * minima-room buckets }
+    ensures words { words.new ≡ replicate (length words.old) 0 }
+    ensures minima { minima.new ≡ blank-minima rows buckets }
+{
+    words.fill(0);
+    let room = minima_room(buckets);
+    let mut row: usize = 0;
+    while row < rows {
+        let from = row * buckets;
+        let at = row * room;
+        make(&words[from..from + buckets], &mut minima[at..at + room]);
+        row += 1;
+    }
+}
+
+/// The depth words of rows of so many buckets become 0, and each row's minima are made afresh of them.
+pub fn blank_depth(depth: &mut Depth<'_>, rows: usize, buckets: usize)
+    requires few { (rows ≤ most-rows) × (buckets ≤ 64) }
+    requires words { length depth.old.words.now ≡ rows * buckets }
+    requires minima { length depth.old.minima.now ≡ rows * minima-room buckets }
+    ensures same { SameDepth depth.old depth.new }
+    ensures blank { depths_in depth.new ≡ blank rows buckets (depths_in depth.old) }
+{
+    blank_rows(depth.words, depth.minima, rows, buckets);
 }
 
 impl Lent<'_> {
@@ -85,7 +124,7 @@ impl Lent<'_> {
         Lengths {
             render_cmds: self.render_cmds.len(),
             depth_cmds: self.depth_cmds.len(),
-            depth: self.depth.len(),
+            depth: self.depth.words.len(),
             rows: self.rows.len(),
             painting: self.painting.len(),
             layers: self.layers.len(),
@@ -93,17 +132,19 @@ impl Lent<'_> {
             paint_attrs: self.paint_attrs.len(),
             layer_attrs: self.layer_attrs.len(),
             filter_paints: self.filter_paints.len(),
+            minima: self.depth.minima.len(),
         }
     }
 
-    /// Every lent word becomes 0, as a reset leaves it.
-    pub fn clear(&mut self)
+    /// Every lent word becomes 0 and the minima those of words that are 0, as a reset of the screen leaves them.
+    pub fn clear(&mut self, screen: Screen)
+        requires judged { judged_reset (frame-of screen) (lengths (tables_in self.old)) ≡ 0 }
         ensures same { SameLent self.old self.new }
-        ensures zeroed { tables_in self.new ≡ zeroed (tables_in self.old) }
+        ensures cleared { tables_in self.new ≡ cleared (frame-of screen) (tables_in self.old) }
     {
         self.render_cmds.fill(0);
         self.depth_cmds.fill(0);
-        self.depth.fill(0);
+        blank_depth(&mut self.depth, screen.rows(), screen.buckets());
         self.rows.fill(0);
         self.painting.fill(0);
         self.layers.fill(0);

@@ -235,7 +235,7 @@ pub fn reset(viewport: Rect, setup: Setup, lent: &mut Lent<'_>) -> Result<Screen
     let seen = viewport.viewport_in(setup.mode)?;
     let screen = fresh(seen, setup.c, setup.d, setup.width);
     judge_reset(screen, lent.lengths())?;
-    lent.clear();
+    lent.clear(screen);
     Ok(screen)
 }
 

@@ -1,5 +1,5 @@
 -- Every size, limit, table length and place of a field, once, as definitions and contracts name it. `src/lib.rt` has the same for code.
-use Rattle.std.specs.Prelude.{ℕ, ◌+◌, ◌*◌, ◌/◌}
+use Rattle.std.specs.Prelude.{ℕ, ◌+◌, ◌-◌, ◌*◌, ◌/◌}
 use Rattle.sizes.specs.declared.width.Width.TheVariants.{W64}
 use Rattle.sizes.specs.Widths.{bucket-tiles}
 
@@ -184,6 +184,9 @@ program-fills = program-rows * (2 * program-room)
 
 abbrev pub program-depth : ℕ
 program-depth = program-rows * program-buckets
+
+abbrev pub program-minima : ℕ
+program-minima = program-rows * (2 * program-buckets - 1)
 
 abbrev pub program-records : ℕ
 program-records = program-rows * row-size

@@ -8,7 +8,7 @@ use std::fmt;
 /// Why a call refuses; the discriminant is the rules' number.
 #[derive(Clone, Copy, Debug, PartialEq, Eq)]
 pub enum Refusal {
-    // The length of a lent arena (render commands, depth fills, depth words) is not the screen's, or C or D is not from 1 to 1,024.
+    // The length of a lent arena (render commands, depth fills, depth words, minima) is not the screen's, or C or D is not from 1 to 1,024.
     BadArena = 1,
     // The viewport breaks a bound, or a number of pixels is no width of a bucket.
     BadViewport = 2,

@@ -9,7 +9,7 @@ pub mod width;
 ghost use Rattle.std.specs.Prelude.{◌≡◌, ◌+◌, ◌*◌, ℕ};
 ghost use Rattle.sizes.specs.Sizes.{narrowest, tile-end, bucket-end, tile-width, tile-height, scene-end, tile-alphas, most-width, most-height, most-rows, most-runs, most-room, most-layers, most-attrs, most-filters, thread-end, handle-end, last-id, panel-end, most-records, file-bytes, long-file-bytes};
 ghost use Rattle.sizes.specs.Sizes.{renders-at, depths-at, first-at, end-at, largest-at, levels-at, level-at, row-size, open-layer-size, open-layer-table, paint-attr-size, paint-id-at, paint-panel-at, paint-attr-table, layer-attr-size, layer-id-at, layer-panel-at, layer-attr-table, filter-paint-size, filter-paint-table, opacity-count, piece-size, line-size, line-table, state-size};
-ghost use Rattle.sizes.specs.Sizes.{program-rows, program-buckets, program-room, program-render, program-fills, program-depth, program-records, program-painting};
+ghost use Rattle.sizes.specs.Sizes.{program-rows, program-buckets, program-room, program-render, program-fills, program-depth, program-minima, program-records, program-painting};
 
 /// Tiles in a depth bucket of the narrowest width, 64 pixels.
 pub const NARROWEST: usize = 16;
@@ -192,6 +192,9 @@ pub const PROGRAM_FILLS: usize = PROGRAM_ROWS * PROGRAM_DEPTHS;
 /// .. of their depth buckets, one a bucket.
 pub const PROGRAM_DEPTH: usize = PROGRAM_ROWS * PROGRAM_BUCKETS;
 
+/// .. of the minima above these, of a row at most twice its buckets less one.
+pub const PROGRAM_MINIMA: usize = PROGRAM_ROWS * (2 * PROGRAM_BUCKETS - 1);
+
 /// .. of their records.
 pub const PROGRAM_RECORDS: usize = PROGRAM_ROWS * ROW;
 
@@ -216,5 +219,5 @@ fn constants_hold()
     ensures results { (PIECE ≡ piece-size) × (LINE ≡ line-size) × (LINE_TABLE ≡ line-table) × (STATE ≡ state-size) }
     ensures programs { (PROGRAM_ROWS ≡ program-rows) × (PROGRAM_BUCKETS ≡ program-buckets) × (PROGRAM_ROOM ≡ program-room) }
     ensures tables { (PROGRAM_RENDER ≡ program-render) × (PROGRAM_FILLS ≡ program-fills) × (PROGRAM_DEPTH ≡ program-depth) }
-    ensures records { (PROGRAM_RECORDS ≡ program-records) × (PROGRAM_PAINTING ≡ program-painting) }
+    ensures records { (PROGRAM_MINIMA ≡ program-minima) × (PROGRAM_RECORDS ≡ program-records) × (PROGRAM_PAINTING ≡ program-painting) }
 {}

@@ -80,8 +80,8 @@ impl Answers<'_> {
     }
 
     /// The number, and 1 for yes.
-    pub fn put_skip(&mut self, skip: Result<bool, Refusal>) {
-        match skip {
+    pub fn put_answer(&mut self, asked: Result<bool, Refusal>) {
+        match asked {
             Ok(yes) => self.put_all(&[0, u32::from(yes)]),
             Err(refusal) => self.put_all(&[refusal.number(), 0]),
         }

@@ -13,6 +13,7 @@ use span::{BucketRange, TileSpan};
 pub enum Call<'a> {
     Build(Step<'a>),
     FillList(FillList<'a>),
+    Begin,
     Paint(Painting),
     // A step of a row, lent `room` words of a list.
     PaintStep { row: usize, room: usize },
@@ -55,10 +56,9 @@ pub struct FillList<'a> {
     pub segments: &'a [u32],
 }
 
-/// A painting call that is no step of a row. What lists something is lent `room` words of a list.
+/// A painting call that is neither a beginning nor a step of a row. What lists something is lent `room` words of a list.
 #[derive(Clone, Copy)]
 pub enum Painting {
-    Begin,
     UnsetRuns {
         row: usize,
         tiles: TileSpan,
@@ -79,6 +79,11 @@ pub enum Painting {
     CanSkip {
         row: usize,
         tiles: TileSpan,
+        id: u32,
+    },
+    IsHidden {
+        row: usize,
+        buckets: BucketRange,
         id: u32,
     },
 }

@@ -56,6 +56,7 @@ fn set_word(tables: &mut Tables, table: Option<Table>, at: usize, x: u32) {
         Some(Table::Rows) => put(&mut tables.rows, at, x),
         Some(Table::Painting) => put(&mut tables.painting, at, x),
         Some(Table::Layers) => put(&mut tables.layers, at, x),
+        Some(Table::Minima) => put(&mut tables.minima, at, x),
         Some(Table::PaintAttrs) => put(&mut tables.paint_attrs, at, x),
         Some(Table::LayerAttrs) => put(&mut tables.layer_attrs, at, x),
         Some(Table::Opacities | Table::FilterPaints) | None => {}
@@ -113,6 +114,7 @@ pub fn sum_all(screen: Screen, tables: &Tables) -> u32 {
     all = sum(all, &tables.render_cmds);
     all = sum(all, &tables.depth_cmds);
     all = sum(all, &tables.depth);
+    all = sum(all, &tables.minima);
     all = sum(all, &tables.rows);
     all = sum(all, &tables.painting);
     all = sum(all, &tables.layers);

@@ -2,8 +2,9 @@
 use crate::answers::{Answers, MARK};
 use crate::call::Painting;
 use crate::tables::{Shape, Table, Tables, first};
+use depth::Depth;
 use paint::{
-    Canvas, Stepped, Stored, begin_painting, can_skip, paint_step, unset_runs,
+    Canvas, Stepped, Stored, begin_painting, can_skip, is_hidden, paint_step, unset_runs,
     unset_runs_and_write, visible_runs,
 };
 use screen::{Lent, Screen};
@@ -18,7 +19,7 @@ impl Painting {
             Painting::UnsetRuns { room, .. }
             | Painting::VisibleRuns { room, .. }
             | Painting::UnsetRunsAndWrite { room, .. } => room,
-            Painting::Begin | Painting::CanSkip { .. } => 0,
+            Painting::CanSkip { .. } | Painting::IsHidden { .. } => 0,
         }
     }
 
@@ -27,20 +28,12 @@ impl Painting {
         let mut marks = [MARK; LIST];
         let list = &mut marks[..self.room().min(LIST)];
         match self {
-            Painting::Begin => {
-                let mut canvas = Canvas {
-                    depth: lent.depth,
-                    painting: lent.painting,
-                };
-                let done = begin_painting(screen, &mut canvas);
-                answers.put(answer_number(done));
-            }
             Painting::UnsetRuns { row, tiles, .. } => {
-                let runs = unset_runs(*screen, row, lent.depth, tiles, list);
+                let runs = unset_runs(*screen, row, lent.depth.words, tiles, list);
                 answers.put_runs(runs, list);
             }
             Painting::VisibleRuns { row, id, tiles, .. } => {
-                let runs = visible_runs(*screen, row, lent.depth, tiles, id, list);
+                let runs = visible_runs(*screen, row, lent.depth.words, tiles, id, list);
                 answers.put_runs(runs, list);
             }
             // Done, it ends painting.
@@ -50,17 +43,33 @@ impl Painting {
                 buckets,
                 ..
             } => {
-                let runs = unset_runs_and_write(screen, row, lent.depth, buckets, id, list);
+                let runs = unset_runs_and_write(screen, row, &mut lent.depth, buckets, id, list);
                 answers.put_runs(runs, list);
             }
             Painting::CanSkip { row, tiles, id } => {
-                answers.put_skip(can_skip(*screen, row, lent.rows, tiles, id));
+                answers.put_answer(can_skip(*screen, row, lent.rows, tiles, id));
+            }
+            Painting::IsHidden { row, buckets, id } => {
+                answers.put_answer(is_hidden(*screen, row, lent.depth.minima, buckets, id));
             }
         }
     }
 }
 
 impl Tables {
+    /// Begins painting, with what a screen is lent: the number.
+    pub fn begin(&mut self, screen: &mut Screen, short: Option<Table>) -> u32 {
+        let n = Shape::of_screen(*screen).lengths(short);
+        let mut canvas = Canvas {
+            depth: Depth {
+                words: first(&mut self.depth, n.depth),
+                minima: first(&mut self.minima, n.minima),
+            },
+            painting: first(&mut self.painting, n.painting),
+        };
+        answer_number(begin_painting(screen, &mut canvas))
+    }
+
     // A step of a row, with what a screen is lent. What it only reads and what it changes are parts of one loan, so it is made here.
     fn paint_step(
         &mut self,
@@ -78,7 +87,10 @@ impl Tables {
             layer_attrs: first(&mut self.layer_attrs, n.layer_attrs),
         };
         let mut canvas = Canvas {
-            depth: first(&mut self.depth, n.depth),
+            depth: Depth {
+                words: first(&mut self.depth, n.depth),
+                minima: first(&mut self.minima, n.minima),
+            },
             painting: first(&mut self.painting, n.painting),
         };
         paint_step(screen, row, &stored, &mut canvas, list)

@@ -163,12 +163,11 @@ fn read_fill_list<'a>(words: &mut Words<'a>) -> FillList<'a>
     }
 }
 
-// Kinds 5 and 7 to 10.
+// Kinds 7 to 10 and 17.
 fn read_painting(kind: u32, words: &mut Words<'_>) -> Painting
     ensures { Passes words.old words.new }
 {
     match kind {
-        5 => Painting::Begin,
         7 => Painting::UnsetRuns {
             row: words.index(),
             tiles: words.tiles(),
@@ -186,9 +185,14 @@ fn read_painting(kind: u32, words: &mut Words<'_>) -> Painting
             buckets: words.buckets(),
             room: words.index(),
         },
-        _ => Painting::CanSkip {
+        10 => Painting::CanSkip {
             row: words.index(),
             tiles: words.tiles(),
+            id: words.word(),
+        },
+        _ => Painting::IsHidden {
+            row: words.index(),
+            buckets: words.buckets(),
             id: words.word(),
         },
     }
@@ -201,7 +205,8 @@ impl<'a> Call<'a> {
     {
         match kind {
             0..=4 => Call::Build(read_step(kind, words)),
-            5 | 7..=10 => Call::Paint(read_painting(kind, words)),
+            5 => Call::Begin,
+            7..=10 | 17 => Call::Paint(read_painting(kind, words)),
             6 => Call::PaintStep {
                 row: words.index(),
                 room: words.index(),

@@ -37,6 +37,7 @@ impl Stand {
                 let done = list.run(&mut self.screen, &mut lent);
                 answers.put_fills(done, list.draws.end.saturating_sub(list.draws.start));
             }
+            Call::Begin => answers.put(tables.begin(&mut self.screen, self.short)),
             Call::Paint(painting) => {
                 let mut lent = tables.lend(Shape::of_screen(self.screen), self.short);
                 painting.run(&mut self.screen, &mut lent, answers);

@@ -2,6 +2,7 @@
 ghost use Rattle.std.specs.Prelude.{◌≤◌};
 ghost use Rattle.sizes.specs.Sizes.{most-room};
 
+use depth::{Depth, minima_room};
 use rect::Rect;
 use screen::{Lengths, Lent, Screen};
 use sizes::width::Width;
@@ -23,10 +24,11 @@ pub enum Table {
     LayerAttrs,
     Opacities,
     FilterPaints,
+    Minima,
 }
 
 impl Table {
-    /// The table of a number from 1 to 10.
+    /// The table of a number from 1 to 11.
     pub fn numbered(number: u32) -> Option<Table> {
         match number {
             1 => Some(Table::Render),
@@ -39,6 +41,7 @@ impl Table {
             8 => Some(Table::LayerAttrs),
             9 => Some(Table::Opacities),
             10 => Some(Table::FilterPaints),
+            11 => Some(Table::Minima),
             _ => None,
         }
     }
@@ -51,6 +54,7 @@ pub struct Shape {
     pub render_cmds: u32,
     pub depth_cmds: u32,
     pub depth: u32,
+    pub minima: u32,
 }
 
 // Room for so many commands or depth fills, none if it is out of range.
@@ -63,11 +67,13 @@ fn room(n: u32) -> u32
 impl Shape {
     /// What a screen of this viewport (pixels), C, D and width of a bucket asks for.
     pub fn new(viewport: Rect, c: u32, d: u32, width: Width) -> Shape {
+        let buckets = width.above(viewport.width() / 4);
         Shape {
             rows: viewport.height() / 4,
             render_cmds: 4 * room(c),
             depth_cmds: 2 * room(d),
-            depth: width.above(viewport.width() / 4),
+            depth: buckets,
+            minima: u32::try_from(minima_room(buckets as usize)).unwrap_or(0),
         }
     }
 
@@ -90,6 +96,7 @@ impl Shape {
             paint_attrs: PAINT_TABLE,
             layer_attrs: LAYER_TABLE,
             filter_paints: FILTER_TABLE,
+            minima: rows * self.minima as usize,
         };
         if let Some(table) = short {
             shorten(&mut lengths, table);
@@ -110,6 +117,7 @@ fn shorten(lengths: &mut Lengths, table: Table) {
         Table::LayerAttrs => lengths.layer_attrs = lengths.layer_attrs.saturating_sub(1),
         Table::Opacities => lengths.opacities = lengths.opacities.saturating_sub(1),
         Table::FilterPaints => lengths.filter_paints = lengths.filter_paints.saturating_sub(1),
+        Table::Minima => lengths.minima = lengths.minima.saturating_sub(1),
     }
 }
 
@@ -119,6 +127,7 @@ pub struct Tables {
     pub render_cmds: Vec<u32>,
     pub depth_cmds: Vec<u32>,
     pub depth: Vec<u32>,
+    pub minima: Vec<u32>,
     pub rows: Vec<u32>,
     pub painting: Vec<u32>,
     pub layers: Vec<u32>,
@@ -141,6 +150,7 @@ impl Tables {
             render_cmds: vec![in alloc; 0; 16384]?,
             depth_cmds: vec![in alloc; 0; 8192]?,
             depth: vec![in alloc; 0; PROGRAM_DEPTH]?,
+            minima: vec![in alloc; 0; 4064]?,
             rows: vec![in alloc; 0; 32 * ROW]?,
             painting: vec![in alloc; 0; 64]?,
             layers: vec![in alloc; 0; OPEN_TABLE]?,
@@ -157,7 +167,10 @@ impl Tables {
         Lent {
             render_cmds: first(&mut self.render_cmds, n.render_cmds),
             depth_cmds: first(&mut self.depth_cmds, n.depth_cmds),
-            depth: first(&mut self.depth, n.depth),
+            depth: Depth {
+                words: first(&mut self.depth, n.depth),
+                minima: first(&mut self.minima, n.minima),
+            },
             rows: first(&mut self.rows, n.rows),
             painting: first(&mut self.painting, n.painting),
             layers: first(&mut self.layers, n.layers),

@@ -1,11 +1,17 @@
 //! Whether the leaves answer a case as the original did. A list of runs is lent full of marks, and compared to its end.
 use crate::cases::{Case, MARK};
-use depth::{DepthState, Split, split_opaque_span, unset_runs, unset_runs_and_write, visible_runs};
+use depth::{
+    Depth, DepthState, Split, minima, minima_room, split_opaque_span, unset_runs,
+    unset_runs_and_write, visible_runs,
+};
 use sizes::answers::Refusal;
 use span::{BucketRange, TileSpan};
 
 // Most words of a list of runs, and most depth words.
 const ROOM: usize = 40;
+
+// Most minima of a row.
+const MINIMA_ROOM: usize = 127;
 
 // A split's parts: three words each, 0 for a regular one or 1 for buckets, then from where to where.
 fn is_split(split: Split, parts: &[u32]) -> bool {
@@ -35,6 +41,7 @@ fn is_listed(answer: Result<usize, Refusal>, list: &[u32], runs: &[u32]) -> bool
     }
 }
 
+// The runs and the words are those stored; the minima are those made afresh.
 fn agrees_writing(
     depth: &[u32],
     buckets: BucketRange,
@@ -44,13 +51,28 @@ fn agrees_writing(
 ) -> bool {
     let mut list = [MARK; ROOM];
     let mut room = [0; ROOM];
+    let mut above = [0; MINIMA_ROOM];
+    let mut afresh = [0; MINIMA_ROOM];
     if ROOM < depth.len() {
         return false;
     }
-    let row = &mut room[..depth.len()];
-    row.copy_from_slice(depth);
-    let answer = unset_runs_and_write(row, buckets, id, &mut list);
-    is_listed(answer, &list, runs) && &room[..depth.len()] == after
+    let long = minima_room(depth.len());
+    if MINIMA_ROOM < long {
+        return false;
+    }
+    room[..depth.len()].copy_from_slice(depth);
+    minima::make(depth, &mut above[..long]);
+    let answer = unset_runs_and_write(
+        &mut Depth {
+            words: &mut room[..depth.len()],
+            minima: &mut above[..long],
+        },
+        buckets,
+        id,
+        &mut list,
+    );
+    minima::make(&room[..depth.len()], &mut afresh[..long]);
+    is_listed(answer, &list, runs) && &room[..depth.len()] == after && above == afresh
 }
 
 // The summary of a row with these depth fills.

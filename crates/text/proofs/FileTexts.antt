@@ -22,9 +22,9 @@ use Rattle.screen.specs.declared.lent.Lengths.{Lengths}
 use Rattle.screen.specs.Lent.{tables_in, SameLent}
 use Rattle.screen.specs.Screens.{fresh-screen}
 use Rattle.screen.specs.Judging.{judged_reset}
-use Rattle.screen.specs.Tables.{Tables, lengths, float-0, zeroed, ScreenLent, screen_lent, reset_to}
+use Rattle.screen.specs.Tables.{Tables, lengths, float-0, cleared, ScreenLent, screen_lent, reset_to}
 use Rattle.screen.proofs.ScreenLaws.{few-buckets}
-use Rattle.screen.proofs.Zeros.{same-zeros}
+use Rattle.screen.proofs.Zeros.{same-cleared}
 use Rattle.file.specs.Held.{recording_of}
 use Rattle.file.specs.Words.{words-in}
 use Rattle.walk.specs.Recorded.{played, recorded-in, of-sections, recorded}
@@ -127,7 +127,7 @@ module _ (ws : File) (q : Setup) (t u : Tables) (e : lengths t ≡ lengths u) (b
       go (Some ss) =
           let r = recording ss in
           let f = frame q r.viewport in
-          rw e (same-start (judged_reset f (lengths u)) (screen_lent (fresh-screen f) (zeroed t)) (screen_lent (fresh-screen f) (zeroed u)) (played r) (ap (screen_lent (fresh-screen f)) (same-zeros t u e)))
+          rw e (same-start (judged_reset f (lengths u)) (screen_lent (fresh-screen f) (cleared f t)) (screen_lent (fresh-screen f) (cleared f u)) (played r) (ap (screen_lent (fresh-screen f)) (same-cleared f t u e)))
 
 -- .. as tables of one size are
 pub exact-same : {z : Size} (t u : Tables) → Exact z t → Exact z u → (ws : File) (q : Setup) (bs : List ℕ) → (recording-text ws q t bs).showed ≡ (recording-text ws q u bs).showed
@@ -137,6 +137,7 @@ exact-same t u h g ws q bs =
       h.render,
       h.fills,
       h.depth,
+      h.minima,
       h.rows,
       h.painting,
       h.layers,
@@ -147,6 +148,7 @@ exact-same t u h g ws q bs =
       g.render,
       g.fills,
       g.depth,
+      g.minima,
       g.rows,
       g.painting,
       g.layers,
@@ -164,6 +166,7 @@ blank_exact z =
       render = length-replicate {A = ℕ} _ 0;
       fills = length-replicate {A = ℕ} _ 0;
       depth = length-replicate {A = ℕ} _ 0;
+      minima = length-replicate {A = ℕ} _ 0;
       rows = length-replicate {A = ℕ} _ 0;
       painting = length-replicate {A = ℕ} _ 0;
       layers = length-replicate {A = ℕ} _ 0;
@@ -191,6 +194,7 @@ exact_kept a b s h =
       render = ap (λ (n : Lengths). n.render_cmds) s.long ∙ h.render;
       fills = ap (λ (n : Lengths). n.depth_cmds) s.long ∙ h.fills;
       depth = ap (λ (n : Lengths). n.depth) s.long ∙ h.depth;
+      minima = ap (λ (n : Lengths). n.minima) s.long ∙ h.minima;
       rows = ap (λ (n : Lengths). n.rows) s.long ∙ h.rows;
       painting = ap (λ (n : Lengths). n.painting) s.long ∙ h.painting;
       layers = ap (λ (n : Lengths). n.layers) s.long ∙ h.layers;

@@ -4,6 +4,7 @@ use Rattle.sizes.specs.Sizes.{piece-size}
 use Rattle.rules.specs.Answers.{Done}
 use Rattle.rules.specs.Painting as rules
 use Rattle.screen.specs.declared.Screen.{Screen}
+use Rattle.screen.specs.Depths.{Depths}
 use Rattle.paint.specs.Painting.{RowLent, words_lent, StepOut, out, refused, left, settled, painted-row}
 use Rattle.paint.proofs.Spreading.{length-pieces}
 use Rattle.paint.specs.Stepping.{Attributes, number, row_step, stepped}
@@ -12,12 +13,12 @@ use Rattle.paint.specs.Running.{goes_on, ended, one_more, run, most, standing, c
 abbrev Holds : StepOut → Type 0
 Holds o = piece-size * o.answer.pieces ≤ length o.list
 
-settled-holds : (x : Option rules.Painted) (d p l : List ℕ) → Holds (settled x d p l)
+settled-holds : (x : Option rules.Painted) (ms : List ℕ) (d : Depths) (p l : List ℕ) → Holds (settled x ms d p l)
 unfolding settled
-settled-holds None d p l = omega arith
-settled-holds (Some o) d p l = go (ltb (length l / piece-size) (length o.pieces))
+settled-holds None ms d p l = omega arith
+settled-holds (Some o) ms d p l = go (ltb (length l / piece-size) (length o.pieces))
   where
-    go : (b : Bool) → Holds (cond b (out (refused 14) d p l) (left o l))
+    go : (b : Bool) → Holds (cond b (out (refused 14) d p l) (left o ms l))
     go true = omega arith
     go false = rw (length-append, length-pieces o.pieces) (omega arith)
 
@@ -26,10 +27,10 @@ unfolding stepped row_step painted-row
 step-holds s r a l = go (eqb (number s r a l) Done)
   where
     go : (b : Bool) → Holds (cond b (row_step s r a l) (out (refused (number s r a l)) l.depth l.painting l.list))
-    go true = settled-holds _ _ _ _
+    go true = settled-holds _ _ _ _ _
     go false = omega arith
 
-module _ (step : List ℕ → List ℕ → List ℕ → StepOut) (h : (d p l : List ℕ) → Holds (step d p l)) where
+module _ (step : Depths → List ℕ → List ℕ → StepOut) (h : (d : Depths) (p l : List ℕ) → Holds (step d p l)) where
   one_holds : (g : StepOut) → Holds g → Holds (one_more step g)
   unfolding one_more
   one_holds g i =

@@ -2,6 +2,7 @@
 use Rattle.std.proofs.Common.{◌≡◌, sym, ap, subst, ◌∙◌, Bool, true, false, List, [], ℕ, ◌*◌, ◌≤◌, ◌<◌, length, lt-ltb, le-ltb, eq-eqb, ne_eqb}
 use Rattle.sizes.specs.Sizes.{piece-size}
 use Rattle.screen.specs.declared.Screen.{Screen}
+use Rattle.screen.specs.Depths.{Depths}
 use Rattle.text.specs.declared.Out.{Out}
 use Rattle.text.specs.Texts.{Writes}
 use Rattle.text.proofs.Laws.{then}
@@ -19,13 +20,13 @@ use Rattle.text.specs.Dumped.{row_out, row-dumped, pieces-written, Stopped, stop
 use Rattle.text.proofs.Holds.{row-holds}
 
 -- the number of a step that is tried
-pub stopped-at : (s : Screen) (r : ℕ) (a : Attributes) (l : RowLent) (q : Painted) {d p ws : List ℕ}
+pub stopped-at : (s : Screen) (r : ℕ) (a : Attributes) (l : RowLent) (q : Painted) {d : Depths} {p ws : List ℕ}
     → out q d p ws ≡ stepped s r a l → stopped-out (listing q.number 0) d p ≡ stopped s r a l
 unfolding stopped
 stopped-at s r a l q e = ap (λ (o : painting.StepOut). stopped-out (listing o.answer.number 0) o.depth o.painting) e
 
 -- a row
-module _ (v : Bool) (s : Screen) (r : ℕ) (a : Attributes) (l : RowLent) (q : Painted) {d p ws : List ℕ}
+module _ (v : Bool) (s : Screen) (r : ℕ) (a : Attributes) (l : RowLent) (q : Painted) {d : Depths} {p ws : List ℕ}
     (e : out q d p ws ≡ row-painted s r a l) (bs : List ℕ) where
   pub row-refused : (q.number ≡ 0 → ⊥) → row_out (listing q.number 0) d p ws bs ≡ row-dumped v s r a l bs
   unfolding row-dumped
@@ -35,7 +36,7 @@ module _ (v : Bool) (s : Screen) (r : ℕ) (a : Attributes) (l : RowLent) (q : P
   row-few = subst (λ (o : painting.StepOut). piece-size * o.answer.pieces ≤ length o.list) (sym e) (row-holds s r a l)
 
   module _ (h : q.number ≡ 0) where
-    pub row-ended : {z : Listing} {f g : List ℕ} → q.finished ≡ false → stopped-out z f g ≡ stopped s r a (words_lent l.state l.render l.fills d p [])
+    pub row-ended : {z : Listing} {f : Depths} {g : List ℕ} → q.finished ≡ false → stopped-out z f g ≡ stopped s r a (words_lent l.state l.render l.fills d p [])
         → row_out z f g ws bs ≡ row-dumped v s r a l bs
     unfolding row-dumped
     row-ended k j = ap (λ (o : Stopped). row_out o.answer o.depth o.painting ws bs) j ∙ rw (← e, eq-eqb q.number 0 h, k)

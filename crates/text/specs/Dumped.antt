@@ -3,6 +3,7 @@ use Rattle.std.specs.Prelude.{ℕ, ◌+◌, ◌*◌, Bool, ◌&&◌, cond, List,
 use Rattle.sizes.specs.Sizes.{most-attrs, most-filters, opacity-count, paint-attr-table, layer-attr-table, filter-paint-table}
 use Rattle.rules.specs.Answers.{Done, BadRecord, NoRoom}
 use Rattle.screen.specs.declared.Screen.{Screen}
+use Rattle.screen.specs.Depths.{Depths, depths_in}
 use Rattle.paint.specs.Painting.{RowLent, words_lent, StepOut}
 use Rattle.paint.specs.Stepping.{Attributes, stepped}
 use Rattle.paint.specs.Running.{row-painted}
@@ -17,16 +18,16 @@ use Rattle.text.specs.declared.painted.Tables.{Tables}
 -- what a call on a row leaves: its answer, the lent words, the bytes
 pub record RowOut : Type 0 where
   pub answer : Listing
-  pub depth : List ℕ
+  pub depth : Depths
   pub painting : List ℕ
   pub list : List ℕ
   pub bytes : List ℕ
 
-abbrev pub row_out : Listing → List ℕ → List ℕ → List ℕ → List ℕ → RowOut
+abbrev pub row_out : Listing → Depths → List ℕ → List ℕ → List ℕ → RowOut
 row_out a d p l bs = record { answer = a; depth = d; painting = p; list = l; bytes = bs }
 
 abbrev pub row_in : Listing → Canvas → List ℕ → List ℕ → RowOut
-row_in a c l bs = row_out a c.depth.now c.painting.now l bs
+row_in a c l bs = row_out a (depths_in c.depth) c.painting.now l bs
 
 -- the lines of a painted row; 14 for more than 65,536 pieces (a row has at most 2,048 steps, of at most 32 pieces each)
 unfoldable pub pieces-written : Bool → ℕ → List ℕ → ℕ → List ℕ → list.TextOut
@@ -35,14 +36,14 @@ pieces-written v r ws n bs = cond (ltb 65536 n) (text-out (listing NoRoom 0) bs)
 -- a row that stands at a step that is refused: that step's number, tried with no list
 pub record Stopped : Type 0 where
   pub answer : Listing
-  pub depth : List ℕ
+  pub depth : Depths
   pub painting : List ℕ
 
-abbrev pub stopped-out : Listing → List ℕ → List ℕ → Stopped
+abbrev pub stopped-out : Listing → Depths → List ℕ → Stopped
 stopped-out a d p = record { answer = a; depth = d; painting = p }
 
 abbrev pub stopped_in : Listing → Canvas → Stopped
-stopped_in a c = stopped-out a c.depth.now c.painting.now
+stopped_in a c = stopped-out a (depths_in c.depth) c.painting.now
 
 unfoldable pub stopped : Screen → ℕ → Attributes → RowLent → Stopped
 stopped s r a l = let o = stepped s r a l in stopped-out (listing o.answer.number 0) o.depth o.painting

@@ -9,12 +9,14 @@ use Rattle.rules.specs.Answers.{Answer, Done, BadViewport, BadForm}
 use Rattle.rules.specs.Lists.{is_none}
 use Rattle.rules.specs.Boxes.{good_viewport, rows_of}
 use Rattle.rules.specs.Plans.{Frame, buckets-across}
+use Rattle.rules.specs.Minima.{minima-room}
 use Rattle.rules.specs.Setups.{Setup, frame}
 use Rattle.rules.specs.Recording.{Recording, File, in-edition, parsed}
 use Rattle.rules.specs.Lines as rule
 use Rattle.row.specs.Words.{Words, words}
 use Rattle.screen.specs.declared.Screen.{Screen}
 use Rattle.screen.specs.Screens.{fresh-screen}
+use Rattle.screen.specs.Depths.{depths}
 use Rattle.screen.specs.Tables.{Tables, tables, float-0, ScreenLent, screen_lent}
 use Rattle.file.specs.Held.{recording_of}
 use Rattle.file.specs.Words.{words-in}
@@ -116,7 +118,8 @@ file-size e fs q = cond (good-bytes (length fs)) (size_of (in-edition e (words-i
 pub record Exact (z : Size) (t : Tables) : Type 0 where
   pub render : length t.render ≡ z.rows * (4 * program-room)
   pub fills : length t.fills ≡ z.rows * (2 * program-room)
-  pub depth : length t.depth ≡ z.rows * z.buckets
+  pub depth : length t.depth.words ≡ z.rows * z.buckets
+  pub minima : length t.depth.minima ≡ z.rows * minima-room z.buckets
   pub rows : length t.rows ≡ z.rows * row-size
   pub painting : length t.painting ≡ z.rows * 2
   pub layers : length t.layers ≡ open-layer-table
@@ -128,7 +131,8 @@ pub record Exact (z : Size) (t : Tables) : Type 0 where
 -- .. and with nothing in them
 abbrev pub blank : Size → Tables
 blank z =
-    tables (replicate (z.rows * (4 * program-room)) 0) (replicate (z.rows * (2 * program-room)) 0) (replicate (z.rows * z.buckets) 0)
+    tables (replicate (z.rows * (4 * program-room)) 0) (replicate (z.rows * (2 * program-room)) 0)
+    (depths (replicate (z.rows * z.buckets) 0) (replicate (z.rows * minima-room z.buckets) 0))
     (replicate (z.rows * row-size) 0)
     (replicate (z.rows * 2) 0)
     (replicate open-layer-table 0)

@@ -1,16 +1,19 @@
 //! The programs' tables and text buffer: made once, and lent to each recording. What is printed of one does not depend on what they held.
-ghost use Rattle.std.specs.Prelude.{◌≡◌, ◌≤◌, replicate, IfOk};
-ghost use Rattle.sizes.specs.Sizes.{program-rows, program-buckets};
+ghost use Rattle.std.specs.Prelude.{◌≡◌, ◌≤◌, ◌*◌, replicate, IfOk};
+ghost use Rattle.sizes.specs.Sizes.{program-rows, program-buckets, program-minima};
+ghost use Rattle.rules.specs.Minima.{minima-room};
 ghost use Rattle.screen.specs.Lent.{tables_in};
 ghost use Rattle.text.specs.Files.{size, Exact};
 ghost use Rattle.text_files.specs.Rooms.{text-room};
 ghost use Rattle.text_files.specs.Tables.{Zeros};
 
 use crate::TEXT_ROOM;
+use depth::{Depth, minima_room};
 use screen::Lent;
 use sizes::{
     FILTER_TABLE, LAYER_TABLE, OPACITIES, OPEN_TABLE, PAINT_TABLE, PROGRAM_DEPTH, PROGRAM_DEPTHS,
-    PROGRAM_FILLS, PROGRAM_PAINTING, PROGRAM_RECORDS, PROGRAM_RENDER, PROGRAM_RENDERS, ROW,
+    PROGRAM_FILLS, PROGRAM_MINIMA, PROGRAM_PAINTING, PROGRAM_RECORDS, PROGRAM_RENDER,
+    PROGRAM_RENDERS, ROW,
 };
 use std::alloc::{AllocError, Global};
 
@@ -20,6 +23,7 @@ pub struct Tables {
     render_cmds: Box<[u32; PROGRAM_RENDER]>,
     depth_cmds: Box<[u32; PROGRAM_FILLS]>,
     depth: Box<[u32; PROGRAM_DEPTH]>,
+    minima: Box<[u32; PROGRAM_MINIMA]>,
     rows: Box<[u32; PROGRAM_RECORDS]>,
     painting: Box<[u32; PROGRAM_PAINTING]>,
     layers: Box<[u32; OPEN_TABLE]>,
@@ -27,6 +31,16 @@ pub struct Tables {
     paint_attrs: Box<[u32; PAINT_TABLE]>,
     layer_attrs: Box<[u32; LAYER_TABLE]>,
     filter_paints: Box<[i32; FILTER_TABLE]>,
+}
+
+// How many minima so many rows of so many buckets have.
+fn minima_words(rows: usize, buckets: usize) -> usize
+    requires high { rows ≤ program-rows }
+    requires wide { buckets ≤ program-buckets }
+    ensures value { result ≡ rows * minima-room buckets }
+    ensures few { result ≤ program-minima }
+{
+    rows * minima_room(buckets)
 }
 
 impl Tables {
@@ -38,6 +52,7 @@ impl Tables {
             render_cmds: Box::new(alloc, [0; PROGRAM_RENDER])?,
             depth_cmds: Box::new(alloc, [0; PROGRAM_FILLS])?,
             depth: Box::new(alloc, [0; PROGRAM_DEPTH])?,
+            minima: Box::new(alloc, [0; PROGRAM_MINIMA])?,
             rows: Box::new(alloc, [0; PROGRAM_RECORDS])?,
             painting: Box::new(alloc, [0; PROGRAM_PAINTING])?,
             layers: Box::new(alloc, [0; OPEN_TABLE])?,
@@ -57,7 +72,10 @@ impl Tables {
         Lent {
             render_cmds: &mut self.render_cmds[..rows * PROGRAM_RENDERS],
             depth_cmds: &mut self.depth_cmds[..rows * PROGRAM_DEPTHS],
-            depth: &mut self.depth[..rows * buckets],
+            depth: Depth {
+                words: &mut self.depth[..rows * buckets],
+                minima: &mut self.minima[..minima_words(rows, buckets)],
+            },
             rows: &mut self.rows[..rows * ROW],
             painting: &mut self.painting[..rows * 2],
             layers: &mut self.layers[..],

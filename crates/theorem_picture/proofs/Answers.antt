@@ -57,13 +57,13 @@ module _ {f : Frame} {xs : List Step} {l : ScreenLent} (h : Stands f xs l) where
   paint-answer i list = ap (paint-out i list) h.same ∙ paint-gives k h.whole i list
 
   -- the direct runs of row i over tiles or buckets t, and `can_skip`
-  pub unset-answer : (i : ℕ) (t : Span) (list : List ℕ) → unset-of l.screen i l.tables.depth t list ≡ listing (unset-call i (length list / 2) t k) list
+  pub unset-answer : (i : ℕ) (t : Span) (list : List ℕ) → unset-of l.screen i l.tables.depth.words t list ≡ listing (unset-call i (length list / 2) t k) list
   unfolding lent_of
-  unset-answer i t list = ap (λ (m : ScreenLent). unset-of m.screen i m.tables.depth t list) h.same ∙ unset-by k h.whole i t list
+  unset-answer i t list = ap (λ (m : ScreenLent). unset-of m.screen i m.tables.depth.words t list) h.same ∙ unset-by k h.whole i t list
 
-  pub visible-answer : (i id : ℕ) (t : Span) (list : List ℕ) → visible-of l.screen i l.tables.depth t id list ≡ listing (visible-call id i (length list / 2) t k) list
+  pub visible-answer : (i id : ℕ) (t : Span) (list : List ℕ) → visible-of l.screen i l.tables.depth.words t id list ≡ listing (visible-call id i (length list / 2) t k) list
   unfolding lent_of
-  visible-answer i id t list = ap (λ (m : ScreenLent). visible-of m.screen i m.tables.depth t id list) h.same ∙ visible-by k h.whole i id t list
+  visible-answer i id t list = ap (λ (m : ScreenLent). visible-of m.screen i m.tables.depth.words t id list) h.same ∙ visible-by k h.whole i id t list
 
   pub write-answer : (i id : ℕ) (t : Span) (list : List ℕ) → write-out i id t list l ≡ wrote_of (write-call id i (length list / 2) t k) list
   write-answer i id t list = ap (write-out i id t list) h.same ∙ write-gives k h.whole i id t list

@@ -4,13 +4,14 @@ use Rattle.rules.specs.Answers.{Answer, Done}
 use Rattle.rules.specs.Boxes.{Box, rows_of}
 use Rattle.rules.specs.Rows.{Row, fresh-row, row-ops}
 use Rattle.rules.specs.Plain.{plain}
-use Rattle.rules.specs.Plans.{Frame, bucket, Step}
+use Rattle.rules.specs.Plans.{Frame, bucket, buckets-across, Step}
 use Rattle.rules.specs.Steps.{Screen, reset, call}
 use Rattle.rules.specs.Setups.{Setup, frame}
 use Rattle.rules.specs.Recording.{Recording, File}
 use Rattle.rules.specs.Walk.{walk-all}
 use Rattle.rules.specs.Logged.{Logged, logged-call, walk-logged}
 use Rattle.rules.specs.Calls.{Canvas, begin-call}
+use Rattle.screen.specs.Depths.{Depths, blank}
 use Rattle.screen.specs.Judging.{judged_reset}
 use Rattle.screen.specs.Tables.{zeros, lengths, ScreenLent, reset_to}
 use Rattle.walk.specs.Steps.{call_at}
@@ -49,7 +50,7 @@ use Rattle.theorem_picture.proofs.Rows.{calls-turns}
 
 -- two screens that have row i in common, and all of their states
 same-line : (u v : Screen Row) (i : ℕ) → SameRow i u v → u.state.frame ≡ v.state.frame → u.state.layers ≡ v.state.layers → i < length u.rows → i < length v.rows
-    → (de pa ed ap' : List ℕ) → SameLine u.state.frame i (lent_of u false de pa) (lent_of v false ed ap')
+    → (de : Depths) (pa : List ℕ) (ed : Depths) (ap' : List ℕ) → SameLine u.state.frame i (lent_of u false de pa) (lent_of v false ed ap')
 unfolding lent_of
 same-line u v i same frames layers here there de pa ed ap' =
     record {
@@ -64,7 +65,7 @@ same-line u v i same frames layers here there de pa ed ap' =
 
 -- words that are those of a logged screen, on which painting has not begun
 record Left (s : Logged Row) (l : ScreenLent) : Type 0 where
-  depth : List ℕ
+  depth : Depths
   painting : List ℕ
   sound : Sound s.screen
   same : l ≡ lent_of s.screen false depth painting
@@ -83,7 +84,7 @@ step-left x s l h =
       };
     }
   where
-    never-begun : (b : Bool) (s : Screen Row) (de pa : List ℕ) → lent_of s (cond b false false) de pa ≡ lent_of s false de pa
+    never-begun : (b : Bool) (s : Screen Row) (de : Depths) (pa : List ℕ) → lent_of s (cond b false false) de pa ≡ lent_of s false de pa
     never-begun true s de pa = refl
     never-begun false s de pa = refl
 
@@ -105,7 +106,7 @@ module _ (f : Frame) (r : Recording) where
       let z = sym (settle-number (judged_reset f (lengths l.tables)) l _) ∙ e in
       (walk-follows Left (logged-call Row row-ops) call_at step-left r (record { screen = reset fresh-row f; log = [] }) (reset_to f l).value
       (record {
-        depth = zeros 0 l.tables.depth;
+        depth = blank (rows_of f.viewport) (buckets-across f) l.tables.depth;
         painting = zeros 0 l.tables.painting;
         sound = fresh-sound f l z;
         same = ap (λ (a : Answer ScreenLent). a.value) (fresh-words f l z);

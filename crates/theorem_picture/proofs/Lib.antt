@@ -3,6 +3,7 @@ pub mod Props
 pub mod Pieces
 pub mod Words
 pub mod Reached
+pub mod Summed
 pub mod FillLists
 pub mod Answers
 pub mod Turns

@@ -10,9 +10,11 @@ use Rattle.rules.specs.Plans.{Frame, buckets-across, Step, a-fill, a-push, a-pop
 use Rattle.rules.specs.Steps.{Screen, reset, call}
 use Rattle.rules.specs.Words as words_of
 use Rattle.rules.specs.Walk.{good-room}
+use Rattle.rules.specs.Minima.{minima-room}
 use Rattle.rules.specs.Calls.{Canvas, fresh-canvas, step_call, begin-call, paint-call, write-call, blank}
 use Rattle.rules.proofs.All.{both}
 use Rattle.screen.specs.Judging.{good-fixed, judged_reset}
+use Rattle.screen.specs.Depths as lent
 use Rattle.screen.specs.Tables.{zeros, lengths, ScreenLent, reset_to}
 use Rattle.walk.specs.Reading.{draw_in, props_in}
 use Rattle.walk.specs.Steps.{filter_in, call_at}
@@ -45,11 +47,13 @@ module _ (f : Frame) (l : ScreenLent) (z : judged_reset f (lengths l.tables) ≡
   abbrev fresh : Screen Row
   fresh = reset fresh-row f
 
-  depth-long : length l.tables.depth ≡ rows * buckets
+  depth-long : length l.tables.depth.words ≡ rows * buckets
   depth-long =
       let k = lengths l.tables in
       let a = both (good-room f.c && good-room f.d) _ (judged-facts f l z).1 in
-      eqb-true _ _ (both (eqb k.render_cmds (rows * (4 * f.c)) && eqb k.depth_cmds (rows * (2 * f.d))) (eqb k.depth (rows * buckets)) a.1).1
+      let m = eqb k.minima (rows * minima-room buckets) in
+      let b = both (eqb k.render_cmds (rows * (4 * f.c)) && eqb k.depth_cmds (rows * (2 * f.d)) && eqb k.depth (rows * buckets)) m a.1 in
+      eqb-true _ _ (both (eqb k.render_cmds (rows * (4 * f.c)) && eqb k.depth_cmds (rows * (2 * f.d))) (eqb k.depth (rows * buckets)) b.0).1
 
   painting-long : length l.tables.painting ≡ rows * 2
   painting-long =
@@ -61,9 +65,11 @@ module _ (f : Frame) (l : ScreenLent) (z : judged_reset f (lengths l.tables) ≡
   unfolding reset
   count = (fresh-sound f l z).count
 
-  zero-depth : zeros 0 l.tables.depth ≡ depth-of (blank fresh)
+  zero-depth : lent.blank rows buckets l.tables.depth ≡ depth-of (blank fresh)
   unfolding reset
-  zero-depth = ap (λ (n : ℕ). replicate n 0) (depth-long ∙ ap (λ (m : ℕ). m * buckets) (sym count)) ∙ sym (blank-depth buckets (length fresh.rows))
+  zero-depth =
+      ap (λ (m : ℕ). lent.blank m buckets l.tables.depth) (sym count)
+      ∙ blank-depth buckets (length fresh.rows) l.tables.depth (depth-long ∙ ap (λ (m : ℕ). m * buckets) (sym count))
 
   zero-painting : zeros 0 l.tables.painting ≡ painting-of (blank fresh)
   unfolding reset

@@ -8,6 +8,7 @@ use Rattle.rules.specs.Plans.{Frame, Step}
 use Rattle.rules.specs.Painting as rules
 use Rattle.rules.specs.Painting.{Piece, received}
 use Rattle.screen.specs.declared.Screen.{Screen}
+use Rattle.screen.specs.Depths.{Depths}
 use Rattle.screen.specs.Tables.{ScreenLent}
 use Rattle.paint.specs.Painting as paint
 use Rattle.paint.specs.Painting.{StepOut, out, refused, left, settled, painted-row}
@@ -43,12 +44,12 @@ pieces-split (suc n) m xs ys h =
     ∙ ap (λ (ps : List Piece). ps ++ pieces-in m ys) (sym (pieces-first own later n long) ∙ ap (pieces-in (suc n)) (take-append-drop piece-size xs))
 
 -- a step's list holds its pieces
-settled-holds : (x : Option rules.Painted) (d p l : List ℕ) → piece-size * (settled x d p l).answer.pieces ≤ length (settled x d p l).list
+settled-holds : (x : Option rules.Painted) (ms : List ℕ) (d : Depths) (p l : List ℕ) → piece-size * (settled x ms d p l).answer.pieces ≤ length (settled x ms d p l).list
 unfolding settled
-settled-holds None d p l = omega arith
-settled-holds (Some o) d p l = go (ltb (length l / piece-size) (length o.pieces))
+settled-holds None ms d p l = omega arith
+settled-holds (Some o) ms d p l = go (ltb (length l / piece-size) (length o.pieces))
   where
-    go : (b : Bool) → piece-size * (cond b (out (refused 14) d p l) (left o l)).answer.pieces ≤ length (cond b (out (refused 14) d p l) (left o l)).list
+    go : (b : Bool) → piece-size * (cond b (out (refused 14) d p l) (left o ms l)).answer.pieces ≤ length (cond b (out (refused 14) d p l) (left o ms l)).list
     go true = omega arith
     go false = rw (length-append, length-pieces o.pieces) (omega arith)
 
@@ -59,7 +60,7 @@ step-holds s r a l = go (eqb (number s r a l) Done)
     go : (b : Bool)
         → piece-size * (cond b (row_step s r a l) (out (refused (number s r a l)) l.depth l.painting l.list)).answer.pieces
         ≤ length (cond b (row_step s r a l) (out (refused (number s r a l)) l.depth l.painting l.list)).list
-    go true = settled-holds _ _ _ _
+    go true = settled-holds _ _ _ _ _
     go false = omega arith
 
 not_yes : (b : Bool) → not b ≡ true → b ≡ false
@@ -72,7 +73,7 @@ or_no false = refl
 
 -- the calls of row i at the words l, one after the other
 module _ (i : ℕ) (l : ScreenLent) where
-  abbrev pub step : List ℕ → List ℕ → List ℕ → StepOut
+  abbrev pub step : Depths → List ℕ → List ℕ → StepOut
   step = call_step l.screen i (attributes l.tables.paint-attrs l.tables.layer-attrs) l.tables.rows l.tables.render l.tables.fills
 
   -- the words where the row's painting stands at g

@@ -27,7 +27,7 @@ use Rattle.theorem_picture.proofs.Picture.{finished-rules}
 use Rattle.theorem_picture.proofs.Rows.{calls-turns}
 
 -- the depth words of a row are its painter's
-depth-part : (k : Canvas) → WholeCanvas k → (r : ℕ) → r < length k.screen.rows → part (wide (canvas-words k).screen) r (canvas-words k).tables.depth ≡ (painter-of k r).buckets
+depth-part : (k : Canvas) → WholeCanvas k → (r : ℕ) → r < length k.screen.rows → part (wide (canvas-words k).screen) r (canvas-words k).tables.depth.words ≡ (painter-of k r).buckets
 unfolding lent_of
 depth-part k w r h = part_join buckets-in (buckets-across k.screen.state.frame) w.wide r (begin 0) (rw w.count h)
 
@@ -49,6 +49,6 @@ word-at f xs l s e cs r t there on fin =
     let last = (turns ts b).canvas in
     let same : called cs (begin-at l).value ≡ canvas-words last = ap (called cs) v ∙ sym z.words ∙ turned-words z.turns b w in
     let row-now : r < length last.screen.rows = rw (painted-screen ts k d) rows in
-    ap (λ (m : ScreenLent). get_or (part (wide m.screen) r m.tables.depth) (t / bucket f) 0) same
+    ap (λ (m : ScreenLent). get_or (part (wide m.screen) r m.tables.depth.words) (t / bucket f) 0) same
     ∙ ap (λ (bs : List ℕ). get_or bs (t / bucket f) 0) (depth-part last (turns-whole ts b w) r row-now)
     ∙ word-newest f xs k s.built d ts r t there on fr

@@ -9,6 +9,7 @@ use Rattle.rules.specs.Plans.{Step}
 use Rattle.rules.specs.Steps.{Screen, done, refusal, perform, call}
 use Rattle.rules.specs.Calls.{Canvas, Given, step_call, begin-call, paint-call, write-call, blank}
 use Rattle.rules.proofs.laws.Maps.{planned}
+use Rattle.screen.specs.Depths.{Depths}
 use Rattle.walk.specs.Steps.{call_at}
 use Rattle.refine_steps.specs.Lent.{screen-of, lent_of}
 use Rattle.rules.proofs.laws.Answers.{settle-kept}
@@ -24,7 +25,7 @@ use Rattle.theorem_picture.specs.Reached.{with-canvas, begin-at, paint-out, pain
 use Rattle.theorem_picture.specs.Standing.{canvas-words}
 
 -- other depth and painting words in a screen's words
-with-words : (s : Screen Row) (b c : Bool) (de pa de' pa' : List ℕ) → with-canvas (lent_of s b de pa) (screen-of s.state c) de' pa' ≡ lent_of s c de' pa'
+with-words : (s : Screen Row) (b c : Bool) (de : Depths) (pa : List ℕ) (de' : Depths) (pa' : List ℕ) → with-canvas (lent_of s b de pa) (screen-of s.state c) de' pa' ≡ lent_of s c de' pa'
 unfolding lent_of
 with-words s b c de pa de' pa' = refl
 
@@ -71,11 +72,11 @@ module _ (k : Canvas) (w : WholeCanvas k) where
       ∙ with-words k.screen k.begun j.begun _ _ _ _
       ∙ ap (λ (s : Screen Row). lent_of s j.begun (depth-of j.painters) (painting-of j.painters)) (sym begin-screen))
 
-  with-screen : (de pa : List ℕ) → with-canvas (canvas-words k) (canvas-words k).screen de pa ≡ lent_of k.screen k.begun de pa
+  with-screen : (de : Depths) (pa : List ℕ) → with-canvas (canvas-words k) (canvas-words k).screen de pa ≡ lent_of k.screen k.begun de pa
   unfolding lent_of
   with-screen de pa = refl
 
-  with-painting : (b : Bool) (de : List ℕ)
+  with-painting : (b : Bool) (de : Depths)
       → with-canvas (canvas-words k) (screen-of k.screen.state b) de (canvas-words k).tables.painting ≡ lent_of k.screen b de (painting-of k.painters)
   unfolding lent_of
   with-painting b de = refl

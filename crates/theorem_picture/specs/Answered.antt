@@ -5,7 +5,7 @@ use Rattle.rules.specs.Answers.{answer, Done}
 use Rattle.rules.specs.Spans.{Span}
 use Rattle.rules.specs.Inputs.{Props}
 use Rattle.rules.specs.Plans.{Frame, Step, a-push}
-use Rattle.rules.specs.Calls.{Canvas, step_call, begin-call, paint-call, unset-call, visible-call, write-call, can-skip-call}
+use Rattle.rules.specs.Calls.{Canvas, step_call, begin-call, paint-call, unset-call, visible-call, write-call, hidden-call, can-skip-call}
 use Rattle.screen.specs.Tables.{ScreenLent}
 use Rattle.screen.specs.declared.layers.LayerProps.{LayerProps}
 use Rattle.inputs.specs.declared.Draw.{Draw}
@@ -13,7 +13,7 @@ use Rattle.layers.specs.Filter.{FilterGiven}
 use Rattle.walk.specs.Reading.{props_in}
 use Rattle.walk.specs.Steps.{call_at}
 use Rattle.depth.specs.Listing.{listing}
-use Rattle.paint.specs.DirectRuns.{unset-of, visible-of, skip-of-row}
+use Rattle.paint.specs.DirectRuns.{unset-of, visible-of, hidden-of-row, skip-of-row}
 use Rattle.refine_paint.specs.Canvases.{given_out, wrote_of, WholeCanvas}
 use Rattle.theorem_picture.specs.Calls.{fill-at, push_at, pop-at, filter-at, fill-said, pop-said, filter-said}
 use Rattle.theorem_picture.specs.Reached.{Reached, begin-at, paint-out, write-out}
@@ -38,10 +38,11 @@ pub record Answers (k : Canvas) (l : ScreenLent) : Type 0 where
       → filter-at g l ≡ answer (step_call (filter-said g) k).number (canvas-words (step_call (filter-said g) k).value)
   pub begins : begin-at l ≡ answer (begin-call k).number (canvas-words (begin-call k).value)
   pub paints : (i : ℕ) (list : List ℕ) → paint-out i list l ≡ given_out (paint-call i (length list / piece-size) k) list
-  pub unset : (i : ℕ) (t : Span) (list : List ℕ) → unset-of l.screen i l.tables.depth t list ≡ listing (unset-call i (length list / 2) t k) list
+  pub unset : (i : ℕ) (t : Span) (list : List ℕ) → unset-of l.screen i l.tables.depth.words t list ≡ listing (unset-call i (length list / 2) t k) list
   pub visible : (i id : ℕ) (t : Span) (list : List ℕ)
-      → visible-of l.screen i l.tables.depth t id list ≡ listing (visible-call id i (length list / 2) t k) list
+      → visible-of l.screen i l.tables.depth.words t id list ≡ listing (visible-call id i (length list / 2) t k) list
   pub writes : (i id : ℕ) (t : Span) (list : List ℕ) → write-out i id t list l ≡ wrote_of (write-call id i (length list / 2) t k) list
+  pub hides : (i : ℕ) (t : Span) (id : ℕ) → hidden-of-row l.screen i l.tables.depth.minima t id ≡ hidden-call i t id k
   pub skips : (i : ℕ) (t : Span) (id : ℕ) → skip-of-row l.screen i l.tables.rows t id ≡ can-skip-call i t id k
 
 -- So it is at the words of every whole canvas of the rules, ..

@@ -3,12 +3,12 @@ use Rattle.std.specs.Prelude.{ℕ, ◌≡◌, ◌<◌}
 use Rattle.screen.specs.declared.Screen.{Screen}
 use Rattle.paint.specs.Painting.{RowLent, StepOut}
 use Rattle.paint.specs.Judging.{count, wide}
-use Rattle.paint.specs.Stepping.{part, Attributes, stepped}
+use Rattle.paint.specs.Stepping.{part, depth-part, Attributes, stepped}
 use Rattle.paint.specs.Running.{row-painted}
 
--- the depth words of row q, and where its painting stands, are as they were lent
+-- the depth words of row q and their minima, and where its painting stands, are as they were lent
 abbrev pub Untouched : Screen → ℕ → RowLent → StepOut → Type 0
-Untouched s q l o = (part (wide s) q o.depth ≡ part (wide s) q l.depth) × (part 2 q o.painting ≡ part 2 q l.painting)
+Untouched s q l o = (depth-part (wide s) q o.depth ≡ depth-part (wide s) q l.depth) × (part 2 q o.painting ≡ part 2 q l.painting)
 
 -- `paint_step` of row r
 abbrev pub StepApart : Type 0

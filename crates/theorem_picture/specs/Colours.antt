@@ -86,5 +86,5 @@ WordAt =
     → (cs : List Call) (r t : ℕ) → r < rows_of f.viewport → t < width f.viewport / 4
     → row-finished r cs (begin-at l).value ≡ true
     → (let g = called cs (begin-at l).value in
-    get_or (part (wide g.screen) r g.tables.depth) (t / bucket f) 0
+    get_or (part (wide g.screen) r g.tables.depth.words) (t / bucket f) 0
     ≡ newest-id (paint-id s.canvas.screen.state.attrs) (newest-over (t / bucket f) (stored-row s.canvas r).fills))

@@ -4,6 +4,7 @@ use Rattle.rules.specs.Answers.{Answer, Done}
 use Rattle.rules.specs.Spans.{Span}
 use Rattle.rules.specs.Plans.{Frame}
 use Rattle.screen.specs.declared.Screen.{Screen}
+use Rattle.screen.specs.Depths.{Depths}
 use Rattle.screen.specs.Tables.{ScreenLent, reset_to}
 use Rattle.paint.specs.Painting.{RowLent}
 use Rattle.paint.specs.Beginning.{Canvas, beginning}
@@ -18,11 +19,11 @@ Refused a = a.number ≡ Done → ⊥
 abbrev pub ResetKept : Type 0
 ResetKept = (f : Frame) (l : ScreenLent) → Refused (reset_to f l) → (reset_to f l).value ≡ l
 
--- `begin_painting`: the screen, the depth words and the painting words
+-- `begin_painting`: the screen, the depth words with their minima, and the painting words
 abbrev pub BeginKept : Type 0
 BeginKept = (k : Canvas) → Refused (beginning k) → (beginning k).value ≡ k
 
--- `paint_step`: the depth words, the painting words and the list
+-- `paint_step`: the depth words with their minima, the painting words and the list
 abbrev pub StepKept : Type 0
 StepKept =
     (s : Screen) (r : ℕ) (a : Attributes) (l : RowLent) → ((stepped s r a l).answer.number ≡ Done → ⊥)
@@ -43,8 +44,8 @@ VisibleKept =
     (s : Screen) (r : ℕ) (depth : List ℕ) (t : Span) (id : ℕ) (l : List ℕ) → ((visible-of s r depth t id l).number ≡ Done → ⊥)
     → (visible-of s r depth t id l).list ≡ l
 
--- `unset_runs_and_write`: the list, the screen, which goes on painting if it did, and the depth words
+-- `unset_runs_and_write`: the list, the screen, which goes on painting if it did, and the depth words with their minima
 abbrev pub WriteKept : Type 0
 WriteKept =
-    (s : Screen) (r : ℕ) (depth : List ℕ) (t : Span) (id : ℕ) (l : List ℕ) → ((write-of s r depth id t l).listed.number ≡ Done → ⊥)
+    (s : Screen) (r : ℕ) (depth : Depths) (t : Span) (id : ℕ) (l : List ℕ) → ((write-of s r depth id t l).listed.number ≡ Done → ⊥)
     → ((write-of s r depth id t l).listed.list ≡ l) × ((write-of s r depth id t l).screen ≡ s) × ((write-of s r depth id t l).depth ≡ depth)

@@ -1,6 +1,7 @@
 pub mod Calls
 pub mod Reached
 pub mod Standing
+pub mod Summed
 pub mod Said
 pub mod Answered
 pub mod Stored

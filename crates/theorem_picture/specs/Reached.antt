@@ -5,6 +5,7 @@ use Rattle.rules.specs.Spans.{Span}
 use Rattle.rules.specs.Inputs.{Props}
 use Rattle.rules.specs.Plans.{Frame, Step, a-push}
 use Rattle.screen.specs.declared.Screen.{Screen}
+use Rattle.screen.specs.Depths.{Depths}
 use Rattle.screen.specs.Tables.{tables, ScreenLent, screen_lent, reset_to}
 use Rattle.screen.specs.declared.layers.LayerProps.{LayerProps}
 use Rattle.inputs.specs.declared.Draw.{Draw}
@@ -16,8 +17,8 @@ use Rattle.paint.specs.Stepping.{attributes, stepped}
 use Rattle.paint.specs.DirectRuns.{Wrote, write-of}
 use Rattle.theorem_picture.specs.Calls.{fill-at, push_at, pop-at, filter-at, fill-said, pop-said, filter-said}
 
--- the words with another screen, other depth words and other painting words
-abbrev pub with-canvas : ScreenLent → Screen → List ℕ → List ℕ → ScreenLent
+-- the words with another screen, other depth words with their minima, and other painting words
+abbrev pub with-canvas : ScreenLent → Screen → Depths → List ℕ → ScreenLent
 with-canvas l s depth painting =
     screen_lent s
     (tables l.tables.render l.tables.fills depth l.tables.rows painting l.tables.layers l.tables.opacities l.tables.paint-attrs l.tables.layer-attrs l.tables.filter-paints)

@@ -11,6 +11,7 @@ use Rattle.rules.specs.Setups.{Setup, frame}
 use Rattle.rules.specs.Walk.{good-room, walk-all, play}
 use Rattle.rules.specs.Calls.{Canvas, fresh-canvas, step_call, begin-call, paint-call, write-call}
 use Rattle.row.specs.Words.{Words, word-ops}
+use Rattle.screen.specs.Depths.{Depths}
 use Rattle.screen.specs.Judging.{judged_reset, good-tables}
 use Rattle.screen.specs.Tables.{lengths, ScreenLent, reset_to}
 use Rattle.pop.specs.Closing.{touched-in}
@@ -57,7 +58,7 @@ TouchedOwn =
 -- Every step, refused or done: at the words of a sound screen it has the rules' number, and leaves the words of the rules' screen.
 abbrev pub StepRefined : Type 0
 StepRefined =
-    (x : Step) (s : Screen Row) → Sound s → (b : Bool) (depth painting : List ℕ)
+    (x : Step) (s : Screen Row) → Sound s → (b : Bool) (depth : Depths) (painting : List ℕ)
     → call_at x (lent_of s b depth painting) ≡ answer-of (call Row row-ops x s) b depth painting
 
 -- a sound screen, and words that hold it

@@ -21,7 +21,7 @@ use Rattle.rules_picture.specs.Skip.{FillsPainted}
 abbrev pub Clear : ScreenLent → Type 0
 Clear l =
     l.screen.painting ≡ true → (r : ℕ) (t : Span) (id : ℕ) → skip-of-row l.screen r l.tables.rows t id ≡ answer Done true
-    → (x : ℕ) → t.first ≤ x → x < t.end → get_or (part (wide l.screen) r l.tables.depth) (x / bucket-tiles l.screen.width) 0 ≤ id
+    → (x : ℕ) → t.first ≤ x → x < t.end → get_or (part (wide l.screen) r l.tables.depth.words) (x / bucket-tiles l.screen.width) 0 ≤ id
 
 -- About the rules, in a row whose depth fills are painted, where `can-skip-call` says yes: every bucket that the span meets is visible, ..
 abbrev pub SkippedBuckets : Type 0

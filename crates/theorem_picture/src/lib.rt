@@ -17,6 +17,7 @@ ghost use Rattle.theorem_picture.specs.Skip.{Clear, FinishedFills, SkippedBucket
 ghost use Rattle.theorem_picture.specs.Alone.{AllShown, FinishedAlone, RowPicture, SaidFinished};
 ghost use Rattle.theorem_picture.specs.Answered.{CanvasAnswered, ReachedStands, StandsAnswered};
 ghost use Rattle.theorem_picture.specs.Stored.{CanvasStored, StandsStored};
+ghost use Rattle.theorem_picture.specs.Summed.{ReachedHidden, ReachedSummed};
 ghost use Rattle.theorem_picture.specs.Said.{CallsSaid, FillsReached, PropertiesGood, PushReached, RefusedKept, ShiftsFree, StepReached};
 ghost use Rattle.theorem_picture.specs.Kept.{BeginKept, ResetKept, RowKept, StepKept, UnsetKept, VisibleKept, WriteKept};
 ghost use Rattle.theorem_picture.specs.Apart.{RowApart, StepApart};
@@ -27,7 +28,7 @@ ghost use Rattle.theorem_picture.specs.Edited.{LineListed, LinePieces, LineWords
 ghost use Rattle.theorem_picture.specs.Recorded.{RecordingAccepted, RecordingEarly, RecordingRefused, RecordingRules, RulesPicture, RulesPlayed};
 
 /// Whatever calls were made, the words are those of a screen that the rules have built by the same steps, and every call there answers as the
-/// rules do.
+/// rules do. Each row's minima are the summary of its depth words, so that `is_hidden` tells of the words.
 pub fn reached_words_are_the_rules_screen()
     ensures stands { ReachedStands }
     ensures answered { StandsAnswered }
@@ -39,6 +40,8 @@ pub fn reached_words_are_the_rules_screen()
     ensures fills { FillsReached }
     ensures properties { PropertiesGood }
     ensures shifts { ShiftsFree }
+    ensures summed { ReachedSummed }
+    ensures hidden { ReachedHidden }
 {}
 
 /// What is refused alters nothing that it was lent: a reset and the calls of painting. Of the building calls the theorem above says so.

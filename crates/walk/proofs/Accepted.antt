@@ -9,7 +9,7 @@ use Rattle.rules.specs.Recording.{Recording}
 use Rattle.rules.specs.Walk.{◌then◌, go_on, walk-all}
 use Rattle.screen.specs.Screens.{fresh-screen}
 use Rattle.screen.specs.Judging.{judged_reset}
-use Rattle.screen.specs.Tables.{ScreenLent, screen_lent, lengths, zeroed, reset_to}
+use Rattle.screen.specs.Tables.{ScreenLent, screen_lent, lengths, cleared, reset_to}
 use Rattle.screen.proofs.Passed.{reset-says}
 use Rattle.file.specs.Judging.{judged}
 use Rattle.walk.specs.Steps.{call_at}
@@ -49,7 +49,7 @@ module _ (r : Recording) (q : Setup) (l : ScreenLent) (z : (recorded-in r q l).n
 
   pub reset-judged : judged_reset f (lengths l.tables) ≡ Done
   unfolding reset_to
-  reset-judged = settled (judged_reset f (lengths l.tables)) l (screen_lent (fresh-screen f) (zeroed l.tables)) halves.0
+  reset-judged = settled (judged_reset f (lengths l.tables)) l (screen_lent (fresh-screen f) (cleared f l.tables)) halves.0
 
   pub good-frame : good_viewport f.viewport ≡ true
   good-frame = (reset-says f (lengths l.tables) reset-judged).0

@@ -1,5 +1,5 @@
 -- The recording call, from the form to the last step.
-use Rattle.std.proofs.Common.{ℕ, ◌≤◌, arith, ◌≡◌, refl, sym, ap, ◌∙◌, Bool, true, false, cond, List, Option, None, Some, length, eqb, eq-eqb, ne_eqb}
+use Rattle.std.proofs.Common.{ℕ, ◌≤◌, arith, ◌≡◌, refl, sym, ap, ◌∙◌, Bool, true, false, cond, List, Option, None, Some, length, eqb, eq-eqb, ne_eqb, eqb-true}
 use borrow.Author.Tests.{eqb-false}
 use Rattle.rules.specs.Answers.{Answer, answer}
 use Rattle.rules.specs.Boxes.{Box}
@@ -10,8 +10,9 @@ use Rattle.rules.specs.Walk.{◌then◌, walk-all, walk-nodes, walk-layer}
 use Rattle.rect.specs.declared.Rect.{Rect}
 use Rattle.rect.specs.Rects.{box_of}
 use Rattle.screen.specs.Judging.{judged_reset}
-use Rattle.screen.specs.Tables.{Tables, lengths, zeroed, ScreenLent, screen_lent, reset_to}
-use Rattle.screen.proofs.Zeros.{same-zeros}
+use Rattle.screen.specs.Tables.{Tables, lengths, cleared, ScreenLent, screen_lent, reset_to}
+use Rattle.screen.specs.Screens.{frame-of, fresh-screen}
+use Rattle.screen.proofs.Zeros.{same-cleared}
 use Rattle.file.specs.Held.{recording_of}
 use Rattle.file.specs.Judging.{judged}
 use Rattle.file.proofs.Laws.{sound, root-range}
@@ -49,10 +50,25 @@ by_number : (n k : ℕ) (t : Bool) → eqb k 0 ≡ t → (a b c : ScreenLent) �
 by_number n k true q a b c z e = ap (λ (x : Answer ScreenLent). x.value) e
 by_number n k false q a b c z e = let y : k ≡ 0 = sym (ap (λ (x : Answer ScreenLent). x.number) e) ∙ z in absurd (eqb-false k 0 q y)
 
+by_judge : (n k : ℕ) (t : Bool) → eqb k 0 ≡ t → (a b c : ScreenLent) → n ≡ 0 → answer n a ≡ cond t (answer 0 c) (answer k b) → k ≡ 0
+by_judge n k true q a b c z e = eqb-true k 0 q
+by_judge n k false q a b c z e = sym (ap (λ (x : Answer ScreenLent). x.number) e) ∙ z
+
 module _ (f : Frame) (old : ScreenLent) (n : ℕ) (a : ScreenLent) (e : answer n a ≡ reset_to f old) (z : n ≡ 0) where
-  emptied : a.tables ≡ zeroed old.tables
+  emptied : a.tables ≡ cleared f old.tables
   unfolding reset_to
   emptied = ap (λ (x : ScreenLent). x.tables) (by_number n (judged_reset f (lengths old.tables)) _ refl a old _ z e)
+
+  begun : a.screen ≡ fresh-screen f
+  unfolding reset_to
+  begun = ap (λ (x : ScreenLent). x.screen) (by_number n (judged_reset f (lengths old.tables)) _ refl a old _ z e)
+
+  its-frame : frame-of a.screen ≡ f
+  its-frame = ap frame-of begun
+
+  judged-done : judged_reset f (lengths old.tables) ≡ 0
+  unfolding reset_to
+  judged-done = by_judge n (judged_reset f (lengths old.tables)) _ refl a old _ z e
 
 -- the whole call
 pub bad-file : (ws : File) (q : Setup) (old : ScreenLent) → parsed ws ≡ None → answer 3 old ≡ recorded ws q old
@@ -90,9 +106,14 @@ module _ (r : Recording) (ws : File) (g : recording_of (parsed ws) ≡ Some r) (
     pub all_done : m ≡ 0 → answer m s ≡ recorded ws q old
     all_done y = all-played r a m s f y ∙ sym then-played
 
-    pub left_fresh : (m ≡ 0 → ⊥) → (t : Tables) → lengths s.tables ≡ lengths a.tables → lengths a.tables ≡ lengths old.tables → t ≡ zeroed s.tables
+    -- so the words that the walk leaves are those of the screen, and can be cleared
+    pub can_clear : lengths s.tables ≡ lengths a.tables → lengths a.tables ≡ lengths old.tables → judged_reset (frame-of a.screen) (lengths s.tables) ≡ 0
+    can_clear p o = let f' = frame q (box_of v) in rw (its-frame f' old n a e z, p, o) (judged-done f' old n a e z)
+
+    pub left_fresh : (m ≡ 0 → ⊥) → (t : Tables) → lengths s.tables ≡ lengths a.tables → lengths a.tables ≡ lengths old.tables → t ≡ cleared (frame-of a.screen) s.tables
         → answer m (screen_lent a.screen t) ≡ recorded ws q old
     left_fresh x t p o k =
-        let cleared : t ≡ a.tables =
-        k ∙ same-zeros s.tables a.tables p ∙ same-zeros a.tables old.tables o ∙ sym (emptied (frame q (box_of v)) old n a e z) in
-        rw cleared (not-played r a m s f x ∙ sym then-played)
+        let f' = frame q (box_of v) in
+        let k' : t ≡ cleared f' s.tables = k ∙ ap (λ (g : Frame). cleared g s.tables) (its-frame f' old n a e z) in
+        let again : t ≡ a.tables = k' ∙ same-cleared f' s.tables a.tables p ∙ same-cleared f' a.tables old.tables o ∙ sym (emptied f' old n a e z) in
+        rw again (not-played r a m s f x ∙ sym then-played)

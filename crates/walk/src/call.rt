@@ -26,7 +26,7 @@ fn play(screen: &mut Screen, file: &Recording<'_>, lent: &mut Lent<'_>) -> Resul
 }
 
 /// Rule 2: a recording file, in a setup. 3 for its form, then 2, 1 or 4 as a reset of its viewport, with nothing changed; then 4 and 5 for its
-/// records, or the number of the first refused step of its walk, with the screen freshly reset and every word 0.
+/// records, or the number of the first refused step of its walk, with the screen freshly reset and its words as a reset leaves them.
 pub fn bucket_recording(
     screen: &mut Screen,
     file: File<'_>,
@@ -42,7 +42,7 @@ pub fn bucket_recording(
     *screen = fresh;
     if let Err(refusal) = play(screen, &recording, lent) {
         *screen = fresh;
-        lent.clear();
+        lent.clear(fresh);
         return Err(refusal);
     }
     Ok(())

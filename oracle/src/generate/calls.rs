@@ -192,6 +192,7 @@ fn edges() -> Vec<Vec<Call>> {
     all.extend(viewports.map(|(calls, width)| at(calls, width.pixels())));
     all.extend(width_edges());
     all.extend(list_edges());
+    all.extend(hidden_edges());
     all = all.into_iter().map(panelled).collect();
     all.extend(panel_edges());
     all
@@ -761,6 +762,148 @@ fn skips_at(width: Width) -> Vec<Call> {
     }
     calls.push(Call::Show);
     calls
+}
+
+/// Questions of one sequence on a screen that has been built.
+const QUESTIONS: usize = 36;
+
+/// These questions of a row, so many to a sequence, each sequence after the same calls.
+fn asked(before: &[Call], row: u32, questions: &[([u32; 2], u32)]) -> Vec<Vec<Call>> {
+    let ask = |&([first, end], id): &([u32; 2], u32)| Call::Hidden {
+        row,
+        first,
+        end,
+        id,
+    };
+    let of = |own: &[_]| before.iter().cloned().chain(own.iter().map(ask)).collect();
+    questions.chunks(QUESTIONS).map(of).collect()
+}
+
+/// What is made for the minima: rows of few and of most buckets at each width; empty ranges at every place, reversed ones, ranges at and past the end; ids
+/// stored, beside these, 0 and the last word; after a reset, a begin, steps, writes, and writes that are refused.
+fn hidden_edges() -> Vec<Vec<Call>> {
+    let mut all = Vec::new();
+    for width in Width::ALL {
+        let most = 4_096 / width.pixels();
+        for buckets in [0, 1, 2, 3, 5, most - 1, most] {
+            all.extend(hidden_places(width, buckets));
+            if buckets > 0 {
+                all.extend(hidden_writes(width, buckets));
+                all.extend(hidden_steps(width, buckets));
+            }
+        }
+    }
+    all
+}
+
+/// On a screen that is as a reset left it: the places of a row's buckets; no such row.
+fn hidden_places(width: Width, buckets: u32) -> Vec<Vec<Call>> {
+    let reset = [reset_at(width.pixels(), width.pixels() * buckets, 2)];
+    let last = u32::MAX;
+    let mut questions: Vec<_> = (0..=buckets + 1).map(|place| ([place, place], 0)).collect();
+    questions.extend([
+        ([0, buckets], 0),
+        ([0, buckets], last),
+        ([0, buckets + 1], 0),
+        ([buckets, buckets + 1], 0),
+        ([1, 0], 0),
+        ([buckets + 1, buckets], 0),
+        ([buckets, 0], 0),
+        ([last, last], last),
+        ([0, last], 0),
+        ([last, 0], 0),
+    ]);
+    let mut all = asked(&reset, 1, &questions);
+    let no_row = [2, last].map(|row| Call::Hidden {
+        row,
+        first: 0,
+        end: 0,
+        id: 0,
+    });
+    all.push([&reset[..], &no_row, &[Call::Show]].concat());
+    all
+}
+
+/// The second of two rows written in three parts, the last bucket with the last word as its id; writes that write nothing change nothing.
+fn hidden_writes(width: Width, buckets: u32) -> Vec<Vec<Call>> {
+    let write = |id, first, end, words| Call::Write {
+        row: 1,
+        id,
+        buckets: [first, end],
+        words,
+    };
+    let last = u32::MAX;
+    let (half, end) = (buckets.div_ceil(2), buckets - 1);
+    let mut built = vec![reset_at(width.pixels(), width.pixels() * buckets - 4, 2)];
+    built.extend([
+        write(last, end, buckets, 2),
+        write(7, 0, half, 2),
+        write(3, 0, half, 2),
+        write(3, 0, buckets + 1, 2),
+        write(3, half, half, 2),
+        write(3, half, end.max(half), 0),
+    ]);
+    let gap = [write(4, 0, buckets, 2)];
+    let (above, shown) = (
+        asked(&[], 0, &[([0, buckets], 0), ([end, buckets], 0)]),
+        [Call::Show],
+    );
+    let stages = [
+        &built[..],
+        &shown,
+        &gap,
+        &shown,
+        &above.concat(),
+        &[Call::Begin],
+        &shown,
+    ]
+    .concat();
+    built.extend(gap);
+    let mut questions = Vec::new();
+    for range in [
+        [0, buckets],
+        [0, half],
+        [half, buckets],
+        [end, buckets],
+        [0, end],
+        [end / 2, half],
+        [half.min(end), end],
+        [0, 1],
+    ] {
+        for id in [0, 3, 4, 5, 6, 7, 8, last - 1, last] {
+            questions.push((range, id));
+        }
+    }
+    let mut all = asked(&built, 1, &questions);
+    all.push(stages);
+    all
+}
+
+/// Three depth fills over one another, asked before a begin and after each step, at the ids that they have and at those beside.
+fn hidden_steps(width: Width, buckets: u32) -> Vec<Vec<Call>> {
+    let (w, half) = (width.tiles(), buckets / 2);
+    let tiles = buckets * w;
+    let ask = |first, end, id| Call::Hidden {
+        row: 0,
+        first,
+        end,
+        id,
+    };
+    let mut calls = vec![
+        reset_at(width.pixels(), width.pixels() * buckets, 1),
+        fill(&[solid(0, 0, tiles)]),
+        fill(&[solid(0, half * w, tiles)]),
+        fill(&[solid(0, half * w, (half + 1) * w)]),
+        ask(0, buckets, 0),
+        Call::Begin,
+    ];
+    for _ in 0..4 {
+        calls.extend([0, 1, 2, 3].map(|id| ask(half, half + 1, id)));
+        calls.extend([0, 1].map(|id| ask(0, buckets, id)));
+        calls.push(step(0));
+    }
+    let shown = [&calls[..8], &[step(0), Call::Show]].concat();
+    vec![calls, shown]
 }
 
 /// Numbers that are no panel.
@@ -1683,7 +1826,8 @@ fn paint(sketch: &mut Sketch, random: &mut Random) {
         };
         let id = random.below(12);
         let call = match random.below(100) {
-            0..88 => Call::Step { row, words },
+            0..76 => Call::Step { row, words },
+            76..88 => any_hidden(sketch, row, random),
             88..91 => Call::Unset {
                 row,
                 tiles: range(random, tiles + sketch.width + 8),
@@ -1715,14 +1859,45 @@ fn paint(sketch: &mut Sketch, random: &mut Random) {
     }
 }
 
+/// A question of a row's buckets: any range, often of few, at times one that is empty, reversed, or past the end; of small ids, as the fills have, and of the last.
+fn any_hidden(sketch: &Sketch, row: u32, random: &mut Random) -> Call {
+    let [x0, _, x1, _] = sketch.viewport;
+    let buckets = ((x1 - x0) / 4).div_ceil(sketch.width);
+    let (a, b) = (random.below(buckets + 1), random.below(buckets + 1));
+    let (first, end) = (a.min(b), a.max(b));
+    let (first, end) = match random.below(20) {
+        0 => (end, first),
+        1 => (first, buckets + 1),
+        2 => (first, first),
+        3 => (0, buckets),
+        4..10 => (first, (first + 1).min(buckets)),
+        _ => (first, end),
+    };
+    let id = match random.below(20) {
+        0 => u32::MAX,
+        1 => 0,
+        _ => random.below(12),
+    };
+    Call::Hidden {
+        row,
+        first,
+        end,
+        id,
+    }
+}
+
 #[cfg(test)]
 mod tests {
-    use super::{fill, fits, reset_at, sequence, sized, viewport_edges};
-    use crate::calls::{answers, sequences, Call};
+    use super::{fill, fits, hidden_edges, reset_at, sequence, sized, viewport_edges};
+    use crate::calls::{answers, sequences, stream, Call};
     use crate::generate::draft::solid;
     use crate::random::Random;
     use crate::viewport::Mode;
     use crate::width::{Width, NO_WIDTHS};
+
+    fn words(calls: &[Call]) -> Vec<u32> {
+        calls.iter().flat_map(Call::words).collect()
+    }
 
     #[test]
     fn every_reset_has_its_number() {
@@ -1791,6 +1966,31 @@ mod tests {
         }
         assert!((1..6).contains(&(100 * none / all)), "{none} of {all}");
         assert!(changed > 200 && wide > 200, "{changed} {wide}");
+    }
+
+    /// What the minima are asked: yes, no and refused, each often, on rows of every number of buckets up to five, and of the most at each width.
+    #[test]
+    fn hidden_of_every_sort() {
+        let mut random = Random::new(1);
+        let mut met = [0; 3];
+        let drawn = (0..3_000).map(|_| sequence(&mut random));
+        for calls in hidden_edges().into_iter().chain(drawn) {
+            let said = sequences(&stream(&[words(&calls)]));
+            assert_eq!(words(&said[0]), words(&calls));
+            for (at, call) in calls.iter().enumerate() {
+                if matches!(call, Call::Hidden { .. }) {
+                    let before = answers(&calls[..at]).len();
+                    let own = &answers(&calls[..=at])[before..];
+                    let which = match own {
+                        [0, yes] => *yes as usize,
+                        [12, 0] => 2,
+                        _ => panic!("{own:?}"),
+                    };
+                    met[which] += 1;
+                }
+            }
+        }
+        assert!(met.iter().all(|&times| times > 1_000), "{met:?}");
     }
 
     /// Each step that has a panel is met with every panel and with numbers that are none; layers close in layers of other panels.
@@ -1879,7 +2079,11 @@ mod tests {
                 let size =
                     |rows| answers(&[reset_at(width.pixels(), across, rows), Call::Show]).len();
                 let buckets = across.div_ceil(width.pixels()) as usize;
-                assert_eq!(size(3) - size(2), 8 + buckets);
+                let minima = match buckets {
+                    0 => 0,
+                    _ => 2 * buckets.next_power_of_two() - 1,
+                };
+                assert_eq!(size(3) - size(2), 8 + buckets + minima);
                 let end = u32::try_from(buckets).expect("few");
                 for (end, answer) in [(end, 0), (end + 1, 12)] {
                     let write = Call::Write {

@@ -12,7 +12,7 @@ struct Forging {
     words: Vec<u32>,
 }
 
-const TABLES: [&str; 11] = [
+const TABLES: [&str; 12] = [
     "screen",
     "render",
     "depth fills",
@@ -24,6 +24,7 @@ const TABLES: [&str; 11] = [
     "layer attributes",
     "opacities",
     "filter paints",
+    "minima",
 ];
 const NUMBERS: [&str; 15] = [
     "viewport x0",
@@ -122,6 +123,15 @@ fn forgings() -> Vec<Forging> {
     for (place, word, what) in [(0, 99, "row 0's steps"), (1, 17, "row 0's nesting")] {
         set(5, place, word, what);
     }
+    for (place, word, what) in [
+        (0, 0, "row 0's least"),
+        (0, u32::MAX, "row 0's least"),
+        (1, u32::MAX, "the minimum of row 0's first bucket"),
+        (2, 0, "the minimum of row 0's last bucket"),
+        (3, u32::MAX, "row 1's least"),
+    ] {
+        set(11, place, word, what);
+    }
     for (place, word) in [(4, 0), (4, 1_048_577)] {
         set(7, place, word, "the first paint attribute's id");
     }
@@ -137,7 +147,7 @@ fn forgings() -> Vec<Forging> {
             set(table, place, panel, what);
         }
     }
-    for table in 1..11 {
+    for table in 1..12 {
         all.push(Forging {
             name: format!("{} lent one word short", TABLES[table as usize]),
             words: vec![14, table, 13, 99, 0, 0],
@@ -161,8 +171,8 @@ fn built() -> Vec<Call> {
     ])
 }
 
-/// Four calls on it with the layer open, eight with the layer closed and painting begun: among them a step that takes a depth fill, one that takes a
-/// command, and the last one, which takes the layer's closing fill.
+/// Four calls on it with the layer open, nine with the layer closed and painting begun: among them a step that takes a depth fill, one that takes a
+/// command, one that takes the layer's closing fill, and last the question to the minima, once the row's depth fill is painted.
 fn calls() -> Vec<(Vec<Call>, Call)> {
     let pop = || Call::Pop {
         segments: Vec::new(),
@@ -225,6 +235,15 @@ fn calls() -> Vec<(Vec<Call>, Call)> {
             },
         ),
         ([painting(), vec![step(1), step(1)]].concat(), step(1)),
+        (
+            [painting(), vec![step(0)]].concat(),
+            Call::Hidden {
+                row: 0,
+                first: 0,
+                end: 2,
+                id: 0,
+            },
+        ),
     ]
 }
 

@@ -1,10 +1,11 @@
 //! What a call's screen, its lengths and its row say, before anything of the row is read.
 ghost use Rattle.std.specs.Prelude.{◌≡◌, true, length};
 ghost use Rattle.sizes.specs.Refusals.{answer_number};
-ghost use Rattle.paint.specs.Judging.{depth-long, arenas-long, tables-long, judged, of_row, begin_number, step_number, runs_number, skip_number};
+ghost use Rattle.paint.specs.Judging.{depth-long, minima-long, depths-long, arenas-long, tables-long, judged, of_row, begin_number, step_number, runs_number, write_number, hidden_number, skip_number};
 ghost use Rattle.paint.specs.StoredCmds.{stored_words, stored_number, progress_number};
 
 use crate::canvas::stored::Stored;
+use depth::minima_room;
 use screen::{Screen, is_good_room};
 use sizes::answers::Refusal;
 use sizes::{LAYER_TABLE, PAINT_TABLE, ROW};
@@ -16,14 +17,28 @@ fn is_depth(screen: Screen, depth: usize) -> bool
     depth == screen.rows() * screen.buckets()
 }
 
-// All three arenas are.
-fn is_arenas(screen: Screen, stored: &Stored<'_>, depth: usize) -> bool
-    ensures { result ≡ arenas-long screen (length stored.now.render_cmds.now) (length stored.now.depth_cmds.now) depth }
+// The arena of minima is.
+fn is_minima(screen: Screen, minima: usize) -> bool
+    ensures { result ≡ minima-long screen minima }
+{
+    minima == screen.rows() * minima_room(screen.buckets())
+}
+
+// Both are.
+fn is_depths(screen: Screen, depth: usize, minima: usize) -> bool
+    ensures { result ≡ depths-long screen depth minima }
+{
+    is_depth(screen, depth) && is_minima(screen, minima)
+}
+
+// All four arenas are.
+fn is_arenas(screen: Screen, stored: &Stored<'_>, depth: usize, minima: usize) -> bool
+    ensures { result ≡ arenas-long screen (length stored.now.render_cmds.now) (length stored.now.depth_cmds.now) depth minima }
 {
     let n = screen.rows();
     stored.render_cmds.len() == n * (4 * screen.c as usize)
         && stored.depth_cmds.len() == n * (2 * screen.d as usize)
-        && is_depth(screen, depth)
+        && is_depths(screen, depth, minima)
 }
 
 // The tables that a step reads are.
@@ -69,12 +84,17 @@ fn judge_row(screen: Screen, row: usize, arenas: bool, tables: bool) -> Result<(
 
 /// Before painting is begun: 2, 1, 4, then 13 with a layer open.
 #[tactic(auto, unfolding(crate::specs::Judging::begin_number))]
-pub fn judge_begin(screen: Screen, depth: usize, painting: usize) -> Result<(), Refusal>
-    ensures { answer_number result ≡ begin_number screen depth painting }
+pub fn judge_begin(
+    screen: Screen,
+    depth: usize,
+    minima: usize,
+    painting: usize,
+) -> Result<(), Refusal>
+    ensures { answer_number result ≡ begin_number screen depth minima painting }
 {
     judge(
         screen,
-        is_depth(screen, depth),
+        is_depths(screen, depth, minima),
         painting == screen.rows() * 2,
     )?;
     if screen.layers != 0 {
@@ -91,13 +111,14 @@ pub fn judge_step(
     row: usize,
     stored: &Stored<'_>,
     depth: usize,
+    minima: usize,
     painting: usize,
 ) -> Result<(), Refusal>
     ensures { answer_number result ≡ step_number screen row
-        (arenas-long screen (length stored.now.render_cmds.now) (length stored.now.depth_cmds.now) depth)
+        (arenas-long screen (length stored.now.render_cmds.now) (length stored.now.depth_cmds.now) depth minima)
         (tables-long screen (length stored.now.rows.now) painting (length stored.now.paint_attrs.now) (length stored.now.layer_attrs.now)) }
 {
-    let arenas = is_arenas(screen, stored, depth);
+    let arenas = is_arenas(screen, stored, depth, minima);
     let tables = is_tables(screen, stored, painting);
     judge_row(screen, row, arenas, tables)?;
     if 0 < screen.layers || !screen.painting {
@@ -112,6 +133,22 @@ pub fn judge_runs(screen: Screen, row: usize, depth: usize) -> Result<(), Refusa
     ensures { answer_number result ≡ runs_number screen row depth }
 {
     judge_row(screen, row, is_depth(screen, depth), true)
+}
+
+/// Before one that is lent the depth words and their minima: the same.
+#[tactic(auto, unfolding(crate::specs::Judging::write_number))]
+pub fn judge_write(screen: Screen, row: usize, depth: usize, minima: usize) -> Result<(), Refusal>
+    ensures { answer_number result ≡ write_number screen row depth minima }
+{
+    judge_row(screen, row, is_depths(screen, depth, minima), true)
+}
+
+/// Before one that is lent the minima alone: the same.
+#[tactic(auto, unfolding(crate::specs::Judging::hidden_number))]
+pub fn judge_hidden(screen: Screen, row: usize, minima: usize) -> Result<(), Refusal>
+    ensures { answer_number result ≡ hidden_number screen row minima }
+{
+    judge_row(screen, row, is_minima(screen, minima), true)
 }
 
 /// Before one that is lent the rows' records: the same.

@@ -1,22 +1,23 @@
 //! The doing halves of a step: the runs of a judged fill become pieces at the list's start, and the row's steps go up by one.
 ghost use Rattle.std.specs.Prelude.{◌≡◌, Some, false, ◌-◌, ◌/◌, ◌≤◌, ◌<◌, length};
 ghost use Rattle.rules.specs.Depth.{listed};
+ghost use Rattle.rules.specs.Minima.{minima-room};
 ghost use Rattle.depth.specs.Listing.{out, listing};
 ghost use Rattle.sizes.specs.Sizes.{tile-end};
 ghost use Rattle.span.specs.Spans.{tiles, buckets, Moves};
 ghost use Rattle.sizes.specs.Widths.{bucket-tiles};
 ghost use Rattle.paint.specs.Answers.{painted_of};
 ghost use Rattle.paint.specs.Painting.{settled};
-ghost use Rattle.paint.specs.Named.{CanStep, SameCanvas, shown_in, step_out, depth_painted, fill_painted};
+ghost use Rattle.paint.specs.Named.{CanStep, SameRow, shown_in, row_out, own-depths, depth_painted, depth_minima, fill_painted};
 
-use crate::canvas::stored::Canvas;
+use crate::canvas::rows::write_part;
+use crate::canvas::stored::RowWords;
 use crate::command::marks::Mark;
 use crate::command::reading::StoredRow;
 use crate::pieces::{Brush, Stepped, advance, spread};
 use crate::shown::{shown_runs, summary_of};
 use cmd::command::Fill;
 use cmd::depth_fill::DepthFill;
-use depth::unset_runs_and_write;
 use sizes::PIECE;
 use sizes::answers::Refusal;
 use sizes::width::Width;
@@ -24,7 +25,7 @@ use span::TileSpan;
 
 /// A depth fill gives its unset runs, whole buckets, and writes its id there. NoRoom, 14, where the list has no room for its pieces: nothing changes.
 pub fn paint_depth(
-    canvas: &mut Canvas<'_>,
+    canvas: &mut RowWords<'_>,
     fill: DepthFill,
     mark: Mark,
     list: &mut [u32],
@@ -32,13 +33,21 @@ pub fn paint_depth(
 ) -> Result<Stepped, Refusal>
     requires first_bound { (fill.buckets.first ≤ fill.buckets.«end») × (fill.buckets.«end» ≤ length canvas.old.depth.now)
         × (fill.buckets.«end» ≤ 65535) × (0 < mark.id) }
+    requires minima { length canvas.old.minima.now ≡ minima-room (length canvas.old.depth.now) }
     requires painting { CanStep canvas.old.painting.now }
-    ensures same { SameCanvas canvas.old canvas.new }
-    ensures painted { step_out (painted_of result) canvas.new list.new
-        ≡ settled (Some (depth_painted (bucket-tiles width) fill mark canvas.old)) canvas.old.depth.now canvas.old.painting.now list.old }
+    ensures same { SameRow canvas.old canvas.new }
+    ensures painted { row_out (painted_of result) canvas.new list.new
+        ≡ settled (Some (depth_painted (bucket-tiles width) fill mark canvas.old)) (depth_minima fill mark canvas.old)
+        (own-depths canvas.old) canvas.old.painting.now list.old }
 {
     let room = list.len() / PIECE;
-    let n = unset_runs_and_write(canvas.depth, fill.buckets, mark.id, &mut list[..2 * room])?;
+    let n = write_part(
+        canvas.depth,
+        canvas.minima,
+        fill.buckets,
+        mark.id,
+        &mut list[..2 * room],
+    )?;
     let brush = Brush {
         layer: false,
         attrs_idx: fill.attrs_idx,
@@ -56,7 +65,7 @@ pub fn paint_depth(
 #[inline(always)]
 fn fill_runs(
     row: &StoredRow<'_>,
-    canvas: &Canvas<'_>,
+    canvas: &RowWords<'_>,
     span: TileSpan,
     id: u32,
     list: &mut [u32],
@@ -79,7 +88,7 @@ fn fill_runs(
 #[inline(always)]
 pub fn paint_fill(
     row: &StoredRow<'_>,
-    canvas: &mut Canvas<'_>,
+    canvas: &mut RowWords<'_>,
     layer: bool,
     fill: Fill,
     mark: Mark,
@@ -88,9 +97,10 @@ pub fn paint_fill(
     requires first_bound { (fill.span.first ≤ fill.span.«end») × (fill.span.«end» ≤ tile-end)
         × Moves fill.alpha (fill.span.«end» - fill.span.first) × (length canvas.old.depth.now ≤ 65535) }
     requires painting { CanStep canvas.old.painting.now }
-    ensures same { SameCanvas canvas.old canvas.new }
-    ensures painted { step_out (painted_of result) canvas.new list.new
-        ≡ settled (Some (fill_painted row.now layer fill mark canvas.old)) canvas.old.depth.now canvas.old.painting.now list.old }
+    ensures same { SameRow canvas.old canvas.new }
+    ensures painted { row_out (painted_of result) canvas.new list.new
+        ≡ settled (Some (fill_painted row.now layer fill mark canvas.old)) canvas.old.minima.now
+        (own-depths canvas.old) canvas.old.painting.now list.old }
 {
     let room = list.len() / PIECE;
     let n = fill_runs(row, canvas, fill.span, mark.id, &mut list[..2 * room])?;

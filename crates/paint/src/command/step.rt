@@ -4,10 +4,11 @@ ghost use Rattle.cmd.specs.Commands.{command};
 ghost use Rattle.cmd.specs.Good.{GoodCommand};
 ghost use Rattle.paint.specs.Answers.{painted_of};
 ghost use Rattle.paint.specs.Painting.{words_lent, bad-row};
-ghost use Rattle.paint.specs.Named.{CanStep, SameCanvas, step_out};
+ghost use Rattle.screen.specs.Depths.{depths};
+ghost use Rattle.paint.specs.Named.{CanStep, RowLong, SameRow, row_out, own-depths};
 ghost use Rattle.paint.specs.Rows.{steps_of, depth_step_of, command_step_of};
 
-use crate::canvas::stored::Canvas;
+use crate::canvas::stored::RowWords;
 use crate::command::fills::{paint_depth, paint_fill};
 use crate::command::reading::StoredRow;
 use crate::pieces::{Stepped, advance};
@@ -18,9 +19,9 @@ use sizes::answers::Refusal;
 use sizes::{DEPTHS, MOST_LAYERS, RENDERS};
 
 // Whether the words are no row's: counts above the room, a nesting above 16, more steps than there are, a summary out of bounds (answer 4).
-fn is_forged(row: &StoredRow<'_>, canvas: &Canvas<'_>) -> bool
+fn is_forged(row: &StoredRow<'_>, canvas: &RowWords<'_>) -> bool
     requires { length canvas.now.painting.now ≡ 2 }
-    ensures { result ≡ bad-row (words_lent row.now.state.now row.now.render_cmds.now row.now.depth_cmds.now [] canvas.now.painting.now []) }
+    ensures { result ≡ bad-row (words_lent row.now.state.now row.now.render_cmds.now row.now.depth_cmds.now (depths [] []) canvas.now.painting.now []) }
 {
     let renders = row.state[RENDERS];
     let depths = row.state[DEPTHS];
@@ -35,14 +36,14 @@ fn is_forged(row: &StoredRow<'_>, canvas: &Canvas<'_>) -> bool
 fn step_depth(
     row: &StoredRow<'_>,
     k: usize,
-    canvas: &mut Canvas<'_>,
+    canvas: &mut RowWords<'_>,
     list: &mut [u32],
 ) -> Result<Stepped, Refusal>
     requires k_in_bounds { 2 * k + 2 ≤ length row.now.depth_cmds.now }
-    requires depth_len { length canvas.old.depth.now ≤ 65535 }
+    requires lens { RowLong canvas.old }
     requires painting { CanStep canvas.old.painting.now }
-    ensures same { SameCanvas canvas.old canvas.new }
-    ensures step { step_out (painted_of result) canvas.new list.new ≡ depth_step_of row.now k canvas.old.depth.now canvas.old.painting.now list.old }
+    ensures same { SameRow canvas.old canvas.new }
+    ensures step { row_out (painted_of result) canvas.new list.new ≡ depth_step_of row.now k (own-depths canvas.old) canvas.old.painting.now list.old }
 {
     let words = DepthWords::at(row.depth_cmds, k);
     let fill = words
@@ -57,15 +58,15 @@ fn step_depth(
 fn step_command(
     row: &StoredRow<'_>,
     cmd: RenderCmd,
-    canvas: &mut Canvas<'_>,
+    canvas: &mut RowWords<'_>,
     list: &mut [u32],
 ) -> Result<Stepped, Refusal>
     requires good { GoodCommand (command cmd) }
-    requires depth_len { length canvas.old.depth.now ≤ 65535 }
+    requires lens { RowLong canvas.old }
     requires painting { CanStep canvas.old.painting.now }
-    ensures same { SameCanvas canvas.old canvas.new }
-    ensures step { step_out (painted_of result) canvas.new list.new
-        ≡ command_step_of row.now (command cmd) canvas.old.depth.now canvas.old.painting.now list.old }
+    ensures same { SameRow canvas.old canvas.new }
+    ensures step { row_out (painted_of result) canvas.new list.new
+        ≡ command_step_of row.now (command cmd) (own-depths canvas.old) canvas.old.painting.now list.old }
 {
     match cmd {
         RenderCmd::PaintFill(fill) => {
@@ -97,13 +98,12 @@ fn step_command(
 /// BadRecord, 4, for words that are no row's; NoRoom, 14.
 pub fn step_row(
     row: &StoredRow<'_>,
-    canvas: &mut Canvas<'_>,
+    canvas: &mut RowWords<'_>,
     list: &mut [u32],
 ) -> Result<Stepped, Refusal>
-    requires depth_len { length canvas.old.depth.now ≤ 65535 }
-    requires painting_len { length canvas.old.painting.now ≡ 2 }
-    ensures same { SameCanvas canvas.old canvas.new }
-    ensures step { step_out (painted_of result) canvas.new list.new ≡ steps_of row.now canvas.old.depth.now canvas.old.painting.now list.old }
+    requires lens { RowLong canvas.old }
+    ensures same { SameRow canvas.old canvas.new }
+    ensures step { row_out (painted_of result) canvas.new list.new ≡ steps_of row.now (own-depths canvas.old) canvas.old.painting.now list.old }
 {
     if is_forged(row, canvas) {
         return Err(Refusal::BadRecord);

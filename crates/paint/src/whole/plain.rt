@@ -6,13 +6,14 @@ ghost use Rattle.rules.specs.Spans.{span};
 ghost use Rattle.rules.specs.Depth.{Summary, can_skip};
 ghost use Rattle.sizes.specs.Widths.{bucket-tiles};
 ghost use Rattle.paint.specs.Painting.{word, listed};
-ghost use Rattle.paint.specs.Named.{SameCanvas, step_out};
+ghost use Rattle.screen.specs.Depths.{depths};
+ghost use Rattle.paint.specs.Named.{RowLong, SameRow, row_out, own-depths};
 ghost use Rattle.paint.specs.Reading.{attrs_of};
 ghost use Rattle.paint.specs.Running.{most};
 ghost use Rattle.paint.specs.Rows.{steps_of, CalmRow, Ran, mark_in, FillSays, Says, SaysAt};
 ghost use Rattle.paint.specs.Kinds.{summary-by, good-index, Onward};
 
-use crate::canvas::Canvas;
+use crate::canvas::RowWords;
 use crate::command::StoredRow;
 use crate::pieces::Pieces;
 use crate::whole::looks::look_at;
@@ -43,7 +44,7 @@ fn run_sure(
     requires calm { CalmRow row.now }
     requires start_le_stop { (start ≤ stop) × (stop ≤ word row.now.state.now 0) × (nesting ≤ most-layers) }
     ensures same { pieces.new.list.ghost_name ≡ pieces.old.list.ghost_name }
-    ensures reaches { Ran row.now depth.now start nesting pieces.old result pieces.new }
+    ensures reaches { (ms : List ℕ) → Ran row.now (depths depth.now ms) start nesting pieces.old result pieces.new }
     ensures at_le_stop { result.at ≤ stop }
     ensures at_lt_stop { IfSome result.part (λ q. (result.at < stop) × SaysAt row.now depth.now result.nesting result.at (Look.Partly q)) }
 {
@@ -102,7 +103,7 @@ fn run_sure(
 // its look stopped, if the list has room for any result.
 fn run_commands(
     row: &StoredRow<'_>,
-    canvas: &Canvas<'_>,
+    canvas: &RowWords<'_>,
     pieces: &mut Pieces<'_>,
     start: usize,
     stop: usize,
@@ -111,7 +112,7 @@ fn run_commands(
     requires calm { CalmRow row.now }
     requires start_le_stop { (start ≤ stop) × (stop ≤ word row.now.state.now 0) × (nesting ≤ most-layers) }
     ensures same { pieces.new.list.ghost_name ≡ pieces.old.list.ghost_name }
-    ensures reaches { Ran row.now canvas.now.depth.now start nesting pieces.old result pieces.new }
+    ensures reaches { Ran row.now (own-depths canvas.now) start nesting pieces.old result pieces.new }
     ensures at_le_stop { result.at ≤ stop }
 {
     let mut at = start;
@@ -156,16 +157,16 @@ fn none_done(pieces: usize) -> Gone
 /// are no row's. It refuses nothing: what it leaves is judged step by step.
 pub fn run_plain(
     row: &StoredRow<'_>,
-    canvas: &mut Canvas<'_>,
+    canvas: &mut RowWords<'_>,
     list: &mut [u32],
     pieces: usize,
     limit: usize,
 ) -> Gone
-    requires lens { (length canvas.old.depth.now ≤ 65535) × (length canvas.old.painting.now ≡ 2) }
+    requires lens { RowLong canvas.old }
     requires pieces_in_bounds { (piece-size * pieces ≤ length list.old) × (limit ≤ most) }
-    ensures same { SameCanvas canvas.old canvas.new }
+    ensures same { SameRow canvas.old canvas.new }
     ensures onward { Onward (steps_of row.now) result.steps
-        (step_out (listed pieces) canvas.old list.old) (step_out (listed result.pieces) canvas.new list.new) }
+        (row_out (listed pieces) canvas.old list.old) (row_out (listed result.pieces) canvas.new list.new) }
     ensures still { result.steps ≡ 0 → result.pieces ≡ pieces }
     ensures steps_le_limit { (result.steps ≤ limit) × (piece-size * result.pieces ≤ length list.old) }
 {

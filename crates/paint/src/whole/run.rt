@@ -3,11 +3,13 @@ ghost use Rattle.std.specs.Prelude.{◌≡◌, ◌*◌, ◌≤◌, length};
 ghost use Rattle.sizes.specs.Sizes.{piece-size};
 ghost use Rattle.paint.specs.Answers.{painted_of};
 ghost use Rattle.paint.specs.Painting.{out, listed};
-ghost use Rattle.paint.specs.Named.{SameCanvas, step_out};
+ghost use Rattle.rules.specs.Minima.{minima-room};
+ghost use Rattle.screen.specs.Depths.{depths};
+ghost use Rattle.paint.specs.Named.{RowLong, SameRow, row_out, own-depths};
 ghost use Rattle.paint.specs.Running.{most, onto, one_more};
 ghost use Rattle.paint.specs.Rows.{steps_of, run_of};
 
-use crate::canvas::Canvas;
+use crate::canvas::RowWords;
 use crate::command::{StoredRow, step_row};
 use crate::pieces::Stepped;
 use crate::whole::plain::run_plain;
@@ -17,14 +19,14 @@ use sizes::answers::Refusal;
 // One step more: its pieces go after those so far, whose number is given.
 fn step_on(
     row: &StoredRow<'_>,
-    canvas: &mut Canvas<'_>,
+    canvas: &mut RowWords<'_>,
     list: &mut [u32],
     pieces: usize,
 ) -> Result<Stepped, Refusal>
-    requires lens { (length canvas.old.depth.now ≤ 65535) × (length canvas.old.painting.now ≡ 2) }
+    requires lens { RowLong canvas.old }
     requires pieces_in_bounds { piece-size * pieces ≤ length list.old }
-    ensures same { SameCanvas canvas.old canvas.new }
-    ensures list_after { step_out (onto pieces result) canvas.new list.new ≡ one_more (steps_of row.now) (step_out (listed pieces) canvas.old list.old) }
+    ensures same { SameRow canvas.old canvas.new }
+    ensures list_after { row_out (onto pieces result) canvas.new list.new ≡ one_more (steps_of row.now) (row_out (listed pieces) canvas.old list.old) }
     ensures pieces_in_bounds_2 { piece-size * (onto pieces result).pieces ≤ length list.old }
 {
     let at = PIECE * pieces;
@@ -50,14 +52,14 @@ fn so_far(pieces: usize) -> Result<Stepped, Refusal>
 #[inline(always)]
 pub fn run_row(
     row: &StoredRow<'_>,
-    canvas: &mut Canvas<'_>,
+    canvas: &mut RowWords<'_>,
     list: &mut [u32],
     limit: usize,
 ) -> Result<Stepped, Refusal>
-    requires lens { (length canvas.old.depth.now ≤ 65535) × (length canvas.old.painting.now ≡ 2) }
+    requires lens { RowLong canvas.old }
     requires limit { limit ≤ most }
-    ensures same { SameCanvas canvas.old canvas.new }
-    ensures run { step_out (painted_of result) canvas.new list.new ≡ run_of row.now limit canvas.old.depth.now canvas.old.painting.now list.old }
+    ensures same { SameRow canvas.old canvas.new }
+    ensures run { row_out (painted_of result) canvas.new list.new ≡ run_of row.now limit (own-depths canvas.old) canvas.old.painting.now list.old }
 {
     let mut pieces: usize = 0;
     let mut steps: usize = 0;
@@ -85,19 +87,25 @@ pub fn run_row(
     so_far(pieces)
 }
 
-/// The same, the two parts of the row's canvas lent one by one.
+/// The same, the three parts of the row's canvas lent one by one.
 #[inline(never)]
 pub fn run_parts(
     row: &StoredRow<'_>,
-    depth: &mut [u32],
+    words: &mut [u32],
+    minima: &mut [u32],
     painting: &mut [u32],
     list: &mut [u32],
     limit: usize,
 ) -> Result<Stepped, Refusal>
-    requires lens { (length depth.old ≤ 65535) × (length painting.old ≡ 2) }
+    requires lens { (length words.old ≤ 65535) × (length minima.old ≡ minima-room (length words.old)) × (length painting.old ≡ 2) }
     requires limit { limit ≤ most }
-    ensures { out (painted_of result) depth.new painting.new list.new ≡ run_of row.now limit depth.old painting.old list.old }
+    ensures { out (painted_of result) (depths words.new minima.new) painting.new list.new
+        ≡ run_of row.now limit (depths words.old minima.old) painting.old list.old }
 {
-    let mut canvas = Canvas { depth, painting };
+    let mut canvas = RowWords {
+        depth: words,
+        minima,
+        painting,
+    };
     run_row(row, &mut canvas, list, limit)
 }

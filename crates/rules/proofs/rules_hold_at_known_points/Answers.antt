@@ -34,6 +34,67 @@ pub returns-clause-edges : goal.returns-clause-edges
 unfolding computing
 returns-clause-edges c = refl
 
+pub returns-clause-summaries : goal.returns-clause-summaries
+unfolding computing
+returns-clause-summaries c =
+    record {
+      rooms = refl;
+      lengths = refl;
+      none = refl;
+      one = refl;
+      two = refl;
+      three = refl;
+      five-made = refl;
+      questions = refl;
+      ranges = refl;
+      bucket = refl;
+      once = refl;
+      both = refl;
+      short = refl;
+      no-id = refl;
+      past = refl;
+      found-none = refl;
+      of-none = refl;
+      afresh = refl;
+      largest = refl;
+      shown = refl;
+      hidden = refl;
+      rows = refl;
+      row = refl;
+      next = refl;
+      past-row = refl;
+    }
+
+pub returns-clause-compactions : goal.returns-clause-compactions
+unfolding computing
+returns-clause-compactions c =
+    record {
+      newest = refl;
+      hidden = refl;
+      equal-id = refl;
+      next-bucket = refl;
+      layer = refl;
+      width-0 = refl;
+      past-row = refl;
+      unset = refl;
+      all = refl;
+      nested = refl;
+      neighbours = refl;
+      buffer = refl;
+      closed = refl;
+      in-turn = refl;
+      none = refl;
+      before = refl;
+      after-it = refl;
+      rest = refl;
+      pieces = refl;
+      done = refl;
+      again = refl;
+      no-row = refl;
+      open-layer = refl;
+      no-row-first = refl;
+    }
+
 pub returns-clause-editions : goal.returns-clause-editions
 unfolding computing
 returns-clause-editions c =

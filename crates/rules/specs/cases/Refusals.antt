@@ -52,13 +52,19 @@ abbrev pub reset-in : Mode → Box → ℕ → ℕ → ℕ → ℕ
 reset-in m v c d more =
     let q : Setup = record { c = c; d = d; mode = m; width = W128 } in
     let a = needed (setup.frame q v) in
-    (reset-call q v (record { render = a.render + more; fills = a.fills; depth = a.depth }) start).number
+    (reset-call q v (record { render = a.render + more; fills = a.fills; depth = a.depth; minima = a.minima }) start).number
 
 abbrev pub resets : Box → ℕ → ℕ → ℕ → ℕ
 resets = reset-in exact
 
 abbrev pub snaps : Box → ℕ
 snaps v = reset-in snapping v 1 1 0
+
+-- reset to one row of three buckets, lent so many minima
+abbrev pub resets-with-minima : ℕ → ℕ
+resets-with-minima n =
+    let q : Setup = record { c = 1; d = 1; mode = exact; width = W128 } in
+    (reset-call q (box 0 0 260 4) (record { render = 4; fills = 2; depth = 3; minima = n }) start).number
 
 abbrev pub steps : Step → Canvas → ℕ
 steps x k = (step_call x k).number
@@ -109,7 +115,7 @@ abbrev pub one_each : Setup
 one_each = record { c = 1; d = 1; mode = exact; width = W128 }
 
 abbrev pub recorded : List ℕ → Canvas → Answer Canvas
-recorded ws k = record-call one_each (record { render = 4; fills = 2; depth = 2 }) (in-one ws) k
+recorded ws k = record-call one_each (record { render = 4; fills = 2; depth = 2; minima = 3 }) (in-one ws) k
 
 abbrev pub a-file : List ℕ
 a-file = file One (rec (box 0 0 256 4) (solid 0 0 64 ∷ []) (draw 0 1 ∷ []) [] (node 0 1 0 ∷ []) 0 1)
@@ -129,7 +135,7 @@ answers =
     (recorded a-file start).number is Done
     ∷ (recorded (a-file ++ (0 ∷ [])) start).number is BadForm
     ∷ (recorded [] start).number is BadForm
-    ∷ (record-call one_each (record { render = 2048; fills = 1024; depth = 0 }) (in-one (file One (rec (box 0 0 0 2048) [] [] [] [] 0 0))) start).number is Done
+    ∷ (record-call one_each (record { render = 2048; fills = 1024; depth = 0; minima = 0 }) (in-one (file One (rec (box 0 0 0 2048) [] [] [] [] 0 0))) start).number is Done
     ∷ (recorded (file One (rec (box 2 0 256 4) [] [] [] [] 1 0) ++ (0 ∷ [])) start).number is BadForm
     ∷ (recorded (file One (rec (box 2 0 256 4) [] [] [] [] 1 0)) start).number is BadViewport
     -- 2, then 1
@@ -141,6 +147,9 @@ answers =
     ∷ resets (box 0 0 4 4) 0 1 0 is BadArena
     ∷ resets (box 0 0 4 4) 1 1025 0 is BadArena
     ∷ resets (box 0 0 4 4) 1 1 1 is BadArena
+    ∷ resets-with-minima 6 is BadArena
+    ∷ resets-with-minima 7 is Done
+    ∷ resets-with-minima 8 is BadArena
     ∷ resets (box 2 0 4 4) 0 1 1 is BadViewport
     -- .. in snapping mode judged on the snapped box alone
     ∷ snaps (box 1 1 1366 767) is Done

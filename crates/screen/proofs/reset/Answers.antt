@@ -2,7 +2,8 @@
 use Rattle.std.proofs.Common.{rules}
 use Rattle.std.proofs.lemmas.Result.{err_from_is_err_and}
 use Rattle.screen.specs.Screens.{frame}
-use Rattle.screen.proofs.Resets.{refused, done, bad-box, begun, begun-good, begun-judged}
+use Rattle.screen.specs.Lent.{tables_in}
+use Rattle.screen.proofs.Resets.{refused, done, bad-box, begun, begun-good, begun-judged, begun-cleared}
 use Rattle.screen.proofs.reset.Goals as goal
 
 pub returns-in_err-seen-clause-reset : goal.returns-in_err-seen-clause-reset
@@ -26,4 +27,4 @@ returns-clause-reset c = λ s.
     let q = c.args.setup in
     let v = c.args.viewport in
     let judged = begun-judged q v _ c.in_ok-seen.ensures _ c.fresh-screen.ensures _ (rw c.lengths.ensures at c.in_ok-judge_reset.ensures) in
-    done (frame q v) _ judged _ _ (begun q v _ c.in_ok-seen.ensures _ c.fresh-screen.ensures) c.clear.ensures.zeroed
+    done (frame q v) _ judged _ _ (begun q v _ c.in_ok-seen.ensures _ c.fresh-screen.ensures) (begun-cleared q v _ c.in_ok-seen.ensures _ c.fresh-screen.ensures (tables_in c.args.lent.now) _ c.clear.ensures.cleared)

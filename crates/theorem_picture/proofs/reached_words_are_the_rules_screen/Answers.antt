@@ -5,6 +5,7 @@ use Rattle.theorem_picture.proofs.Reached.{reached, step-reached}
 use Rattle.theorem_picture.proofs.FillLists.{fills-reached}
 use Rattle.theorem_picture.proofs.Answered.{stands-answered, calls-said, refused-kept}
 use Rattle.theorem_picture.proofs.Stored.{stands-stored}
+use Rattle.theorem_picture.proofs.Summed.{reached-summed, reached-hidden}
 use Rattle.theorem_picture.proofs.reached_words_are_the_rules_screen.Goals as goal
 
 pub returns-clause-stands : goal.returns-clause-stands
@@ -36,3 +37,9 @@ returns-clause-properties c = record { said = good-props-said; given = props-goo
 
 pub returns-clause-shifts : goal.returns-clause-shifts
 returns-clause-shifts c = λ ps qs e f h ss d. shifts-free ps qs f h e ss d
+
+pub returns-clause-summed : goal.returns-clause-summed
+returns-clause-summed c = reached-summed
+
+pub returns-clause-hidden : goal.returns-clause-hidden
+returns-clause-hidden c = reached-hidden

@@ -1,20 +1,22 @@
 use Rattle.std.proofs.Common.{true, length}
 use Rattle.screen.specs.Judging.{judged_reset}
 use Rattle.screen.specs.Screens.{fresh-screen}
-use Rattle.screen.specs.Tables.{lengths, zeros, zeroed, screen_lent, reset_to}
-use Rattle.paint.specs.Judging.{begin_number}
+use Rattle.screen.specs.Depths.{blank}
+use Rattle.screen.specs.Tables.{lengths, zeros, cleared, screen_lent, reset_to}
+use Rattle.paint.specs.Judging.{count, wide, begin_number}
 use Rattle.paint.specs.Beginning.{canvas, begun, beginning}
 use Rattle.paint.proofs.Kept.{unsettled, step-kept, row-kept, unset-kept, visible-kept, write-kept}
 use Rattle.theorem_picture.proofs.refused_calls_change_nothing.Goals as goal
 
 pub returns-clause-resets : goal.returns-clause-resets
 unfolding reset_to
-returns-clause-resets c = λ f l. unsettled (judged_reset f (lengths l.tables)) l (screen_lent (fresh-screen f) (zeroed l.tables))
+returns-clause-resets c = λ f l. unsettled (judged_reset f (lengths l.tables)) l (screen_lent (fresh-screen f) (cleared f l.tables))
 
 pub returns-clause-begins : goal.returns-clause-begins
 unfolding beginning
 returns-clause-begins c =
-    λ k. unsettled (begin_number k.screen (length k.depth) (length k.painting)) k (canvas (begun true k.screen) (zeros 0 k.depth) (zeros 0 k.painting))
+    λ k. unsettled (begin_number k.screen (length k.depth.words) (length k.depth.minima) (length k.painting)) k
+    (canvas (begun true k.screen) (blank (count k.screen) (wide k.screen) k.depth) (zeros 0 k.painting))
 
 pub returns-clause-steps : goal.returns-clause-steps
 returns-clause-steps c = step-kept

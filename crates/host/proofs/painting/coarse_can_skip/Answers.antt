@@ -4,4 +4,4 @@ use Rattle.host.proofs.painting.coarse_can_skip.Goals as goal
 
 pub returns : goal.returns
 returns c =
-    skip_roomed _ _ _ _ _ _ c.can_skip-skip.result _ _ _ c.in-Some.ensures c.can_skip-skip.ensures c.put_skip.ensures
+    skip_roomed _ _ _ _ _ _ c.can_skip-skip.result _ _ _ c.in-Some.ensures c.can_skip-skip.ensures c.put_yes.ensures

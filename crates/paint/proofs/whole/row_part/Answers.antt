@@ -17,4 +17,4 @@ pub returns-clause-painted : goal.returns-clause-painted
 returns-clause-painted c =
     let a = c.args in
     let l = row_lent a.stored.now a.canvas.now a.list.now in
-    rw c.requires.wide (run-back _ _ _ _ _ _ _ l _ _ _ _ (rw (c.part.ensures, c.part-2.ensures, c.part-3.ensures, c.requires.wide) at c.run_parts.ensures))
+    run-back _ _ _ _ _ _ _ l _ _ _ _ (rw (c.part.ensures, c.part-2.ensures, c.part-3.ensures, c.requires.wide) at c.run_part.ensures.run)

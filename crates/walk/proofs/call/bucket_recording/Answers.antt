@@ -5,7 +5,7 @@ use Rattle.std.proofs.lemmas.Result.{err_from_is_err_and}
 use Rattle.sizes.proofs.Refusals.{not_done}
 use Rattle.screen.specs.Screens.{setup-of}
 use Rattle.file.specs.Held.{held}
-use Rattle.walk.proofs.Recordings.{bad-file, not-reset, all_done, left_fresh}
+use Rattle.walk.proofs.Recordings.{bad-file, not-reset, all_done, can_clear, left_fresh}
 use Rattle.walk.proofs.call.bucket_recording.Goals as goal
 
 pub returns-in_err-recording-clause-recorded : goal.returns-in_err-recording-clause-recorded
@@ -20,11 +20,18 @@ returns-in_err-fresh-clause-recorded c =
     (not-reset (held c.in_ok-recording.recording) _ c.in_ok-recording.ensures.1 _ c.viewport.ensures (setup-of c.args.setup) _ _ _
     (c.in_err-fresh.ensures.reset c.args.screen.now) (not_done _))
 
+pub clear-requires : goal.clear-requires
+clear-requires c =
+    record {
+      judged = can_clear (held c.in_ok-recording.recording) _ c.in_ok-recording.ensures.1 _ c.viewport.ensures (setup-of c.args.setup) _ _ _
+          (c.in_ok-fresh.ensures.reset c.args.screen.now) refl _ _ c.in-Err.ensures.played c.in-Err.ensures.same.long c.in_ok-fresh.ensures.same.long;
+    }
+
 pub returns-in-Err-clause-recorded : goal.returns-in-Err-clause-recorded
 returns-in-Err-clause-recorded c =
     left_fresh (held c.in_ok-recording.recording) _ c.in_ok-recording.ensures.1 _ c.viewport.ensures (setup-of c.args.setup) _ _ _
     (c.in_ok-fresh.ensures.reset c.args.screen.now) refl _ _ c.in-Err.ensures.played (not_done _) _
-    c.in-Err.ensures.same.long c.in_ok-fresh.ensures.same.long c.clear.ensures.zeroed
+    c.in-Err.ensures.same.long c.in_ok-fresh.ensures.same.long c.clear.ensures.cleared
 
 pub returns-clause-recorded : goal.returns-clause-recorded
 returns-clause-recorded c =

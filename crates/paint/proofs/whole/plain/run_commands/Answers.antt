@@ -34,10 +34,24 @@ loop-part-preserved c =
     let at = (goal.at.loop-part-preserved c).Else-left-most_runs in
     let sure = c.run_sure-reached.ensures in
     let words = c.at-words.ensures in
-    let all = reach-both _ _ _ _ _ _ c.loop-part.invariant.reaches sure.reaches in
+    let all = reach-both _ _ _ _ _ _ c.loop-part.invariant.reaches (sure.reaches c.args.canvas.now.minima.now) in
     record {
-      reaches = rw c.put_fill.ensures.count (rw words (on_given _ _ _ _ _ _ c.requires.calm _ _ _ _ _ all (omega (arith, (ahead at).0)) _ _ _ (ahead at).1.gives
+      reaches = rw c.put_fill.ensures.count (rw words (on_given _ _ _ _ _ _ _ c.requires.calm _ _ _ _ _ all (omega (arith, (ahead at).0)) _ _ _ (ahead at).1.gives
           (length_runs _ _ _ _ _) all.shallow (rw words at (room at)) _ (rw words at c.put_fill.ensures.list)));
       at_le_stop = omega (arith, (ahead at).0);
       same = c.put_fill.ensures.same ∙ sure.same ∙ c.loop-part.invariant.same;
     }
+
+pub loop-part-smaller : goal.loop-part-smaller
+loop-part-smaller c =
+    let at = (goal.at.loop-part-smaller c).Else-left-most_runs in
+    omega (arith, (ahead at).0, (c.run_sure-reached.ensures.reaches c.args.canvas.now.minima.now).after)
+
+-- the looks settle no more
+pub returns-in_default-clause-reaches : goal.returns-in_default-clause-reaches
+returns-in_default-clause-reaches c =
+    reach-both _ _ _ _ _ _ c.loop-part.invariant.reaches (c.run_sure-reached.ensures.reaches c.args.canvas.now.minima.now)
+
+pub returns-then-left-most_runs-clause-reaches : goal.returns-then-left-most_runs-clause-reaches
+returns-then-left-most_runs-clause-reaches c =
+    reach-both _ _ _ _ _ _ c.loop-part.invariant.reaches (c.run_sure-reached.ensures.reaches c.args.canvas.now.minima.now)

@@ -1,4 +1,4 @@
--- What the row's run says of its canvas, of the two slices that it was made of.
+-- What the row's run says of its words, of the three slices that they are made of.
 use Rattle.std.proofs.Common.{rules}
 use Rattle.paint.proofs.whole.run.run_parts.Goals as goal
 

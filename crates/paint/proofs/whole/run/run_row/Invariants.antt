@@ -3,7 +3,7 @@
 use Rattle.std.proofs.Common.{◌≡◌, ◌-◌, ◌≤◌, ◌*◌, length}
 use Rattle.sizes.specs.Sizes.{piece-size}
 use Rattle.paint.specs.Painting.{listed}
-use Rattle.paint.specs.Named.{SameCanvas, step_out}
+use Rattle.paint.specs.Named.{SameRow, row_out, own-depths}
 use Rattle.paint.specs.Running.{standing}
 use Rattle.paint.specs.Rows.{steps_of}
 use Rattle.paint.proofs.WholeRuns.{Rest}
@@ -11,8 +11,8 @@ use Rattle.paint.proofs.whole.run.run_row.Given as goal
 
 abbrev pub invariant-loop-steps : goal.invariant-loop-steps
 invariant-loop-steps l = record {
-  rest : Rest (steps_of l.row) l.limit (standing l.initial.canvas.depth.now l.initial.canvas.painting.now l.initial.list) (step_out (listed l.pieces) l.canvas l.list) l.steps;
-  same : SameCanvas l.initial.canvas l.canvas;
+  rest : Rest (steps_of l.row) l.limit (standing (own-depths l.initial.canvas) l.initial.canvas.painting.now l.initial.list) (row_out (listed l.pieces) l.canvas l.list) l.steps;
+  same : SameRow l.initial.canvas l.canvas;
   few : piece-size * l.pieces ≤ length l.list;
   none : l.steps ≡ 0 → l.pieces ≡ 0;
 }

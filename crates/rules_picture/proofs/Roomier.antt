@@ -14,7 +14,7 @@ use Rattle.rules.specs.Compacted.{compact, compact-screen}
 use Rattle.rules.proofs.All.{neither}
 use Rattle.rules_picture.specs.Compacted.{Room-kept}
 use Rattle.rules_picture.proofs.Stepped.{call-done}
-use Rattle.rules_picture.proofs.Roomless.{settled}
+use Rattle.rules.proofs.laws.Answers.{settle-number}
 use Rattle.rules_picture.proofs.Compacted.{less-room}
 
 -- the row q has no more commands than r, and as many depth fills and open buffers
@@ -169,12 +169,12 @@ call-less : (x : Step) (t u : Screen Row) → t.state ≡ u.state → AllLess t.
 unfolding call perform done
 call-less x t u s h e =
     let p = plan x (touched Row row-ops (length u.state.layers) 0 u.rows) u.state in
-    let q : refusal Row row-ops p (done Row row-ops p u) ≡ Done = sym (settled (refusal Row row-ops p (done Row row-ops p u)) u (done Row row-ops p u)) ∙ e in
+    let q : refusal Row row-ops p (done Row row-ops p u) ≡ Done = sym (settle-number (refusal Row row-ops p (done Row row-ops p u)) u (done Row row-ops p u)) ∙ e in
     let same : plan x (touched Row row-ops (length t.state.layers) 0 t.rows) t.state ≡ p = rw (s, touched-same (length u.state.layers) 0 h) in
     let rows = puts-less (bucket u.state.frame) (length p.layers) p.puts t.rows u.rows h in
     let r : refusal Row row-ops p (done Row row-ops p t) ≡ Done =
     refusal-less p (done Row row-ops p t) (done Row row-ops p u) (rw s) (rw s rows) (call-done x u e).0 q in
-    settled (refusal Row row-ops (plan x (touched Row row-ops (length t.state.layers) 0 t.rows) t.state) (done Row row-ops (plan x (touched Row row-ops (length t.state.layers) 0 t.rows) t.state) t)) t _
+    settle-number (refusal Row row-ops (plan x (touched Row row-ops (length t.state.layers) 0 t.rows) t.state) (done Row row-ops (plan x (touched Row row-ops (length t.state.layers) 0 t.rows) t.state) t)) t _
     ∙ ap (λ (y : Plan). refusal Row row-ops y (done Row row-ops y t)) same
     ∙ r
 

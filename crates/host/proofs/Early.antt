@@ -71,10 +71,11 @@ zero-4 : (n : ℕ) → n ≡ Done → before_4 n ≡ BadRecord
 unfolding before_4
 zero-4 n e = rw e
 
--- the number k, then whatever comes after it
+-- the number k, then whatever comes after it: looked at only where k is 0, ..
 after-done : (k m : ℕ) → (k ≡ Done → Late m) → before_4 k ≡ before_4 (cond (eqb k Done) m k)
 after-done k m h = by (eqb k Done) (λ y. let e = eqb-true k Done y in rw y (zero-4 k e ∙ sym (late-4 m (h e)))) (λ z. rw z)
 
+-- .. or in any case
 pub after : (k m : ℕ) → Late m → before_4 k ≡ before_4 (cond (eqb k Done) m k)
 after k m h = after-done k m (λ e. h)
 
@@ -214,34 +215,34 @@ module _ (s : Screen) (r : ℕ) (d : List ℕ) (t : Span) where
 
 -- The writing run. Judged 0, the row's own minima have their length.
 module _ (s : Screen) (r : ℕ) (d : Depths) (t : Span) (id : ℕ) (l : List ℕ) where
-  abbrev mine-both : Depths
-  mine-both = depth-part (wide s) r d
+  abbrev own-part : Depths
+  own-part = depth-part (wide s) r d
 
-  abbrev judged-so : ℕ
-  judged-so = write_number s r (length d.words) (length d.minima)
+  abbrev judge : ℕ
+  judge = write_number s r (length d.words) (length d.minima)
 
-  fits : judged-so ≡ Done → eqb (length mine-both.minima) (minima-room (length mine-both.words)) ≡ true
+  fits : judge ≡ Done → eqb (length own-part.minima) (minima-room (length own-part.words)) ≡ true
   fits e =
       let w = write_within s r d.words d.minima (sym e) in
       eq-eqb _ _ (part_length (minima-room (wide s)) r d.minima w.1 ∙ ap minima-room (sym (part_length (wide s) r d.words w.0)))
 
-  write-late : judged-so ≡ Done → Late (writing mine-both.words mine-both.minima id t l).listed.number
+  write-late : judge ≡ Done → Late (writing own-part.words own-part.minima id t l).listed.number
   unfolding write_answer listing
   write-late e =
       rw (fits e)
-      (listed-late (bad-range (length mine-both.words) t || eqb id 0) (length l / 2) (write-runs mine-both.words t))
+      (listed-late (bad-range (length own-part.words) t || eqb id 0) (length l / 2) (write-runs own-part.words t))
 
   wrote-number : (b : Bool) (n : ℕ) (x y : Wrote) → y.listed.number ≡ n → cond b x.listed.number n ≡ (cond b x y).listed.number
   wrote-number true n x y e = refl
   wrote-number false n x y e = sym e
 
-  pub write-early : before_4 judged-so ≡ before_4 (write-of s r d id t l).listed.number
+  pub write-early : before_4 judge ≡ before_4 (write-of s r d id t l).listed.number
   unfolding write-of listing
   write-early =
-      after-done judged-so (writing mine-both.words mine-both.minima id t l).listed.number write-late
+      after-done judge (writing own-part.words own-part.minima id t l).listed.number write-late
       ∙ ap before_4
-      (wrote-number (eqb judged-so Done) judged-so (write-in-place s r d (writing mine-both.words mine-both.minima id t l))
-      (record { listed = listing (answer judged-so []) l; screen = s; depth = d }) refl)
+      (wrote-number (eqb judge Done) judge (write-in-place s r d (writing own-part.words own-part.minima id t l))
+      (record { listed = listing (answer judge []) l; screen = s; depth = d }) refl)
 
 hidden-late : (ms : List ℕ) (b : ℕ) (t : Span) (id : ℕ) → Late (hidden_answer ms b t id).number
 unfolding hidden_answer

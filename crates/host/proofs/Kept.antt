@@ -92,7 +92,8 @@ split-refused pixels s parts = go (width_of pixels)
     go (Ok w) q = roomed 9 parts parts (split-left parts (split_answer (bucket-tiles w) s)) (λ q. rw (ne_eqb _ _ q)) q
 
 -- A painting step, and a row's steps.
-left-kept : (o : paint.StepOut) (d : Depths) (p l res : List ℕ) → ((o.answer.number ≡ 0 → ⊥) → AsLent o d p l) → Refused (step_left res o) → (step_left res o).value ≡ (d, p, l, res)
+left-kept : (o : paint.StepOut) (d : Depths) (p l res : List ℕ) → ((o.answer.number ≡ 0 → ⊥) → AsLent o d p l) → Refused (step_left res o)
+    → (step_left res o).value ≡ (d, p, l, res)
 left-kept o d p l res k q = let z = k q in rw (z.0, z.1, z.2, ne_eqb _ _ q)
 
 module _ (r : ℕ) (a : Attributes) (st : List ℕ) (l : paint.RowLent) (res : List ℕ) where

@@ -48,7 +48,8 @@ module _ (w : StateWords) where
       → eqb w.painting 1 ≡ true
       → same-box (corner-box w.clip) (box 0 0 (w.viewport.x1 - w.viewport.x0) (w.viewport.y1 - w.viewport.y0)) ≡ true
       → leb (count s) r ≡ false → rows-long (count s) w rows render fills ≡ true
-      → (eqb depth (count s * wide s) && eqb minima (count s * minima-room (wide s)) && eqb painting (count s * 2)) ≡ true → (eqb ps paint-attr-table && eqb ls layer-attr-table) ≡ true
+      → (eqb depth (count s * wide s) && eqb minima (count s * minima-room (wide s)) && eqb painting (count s * 2)) ≡ true
+      → (eqb ps paint-attr-table && eqb ls layer-attr-table) ≡ true
       → step_number s r (arenas-long s render fills depth minima) (tables-long s rows painting ps ls) ≡ 0
   unfolding step_number judged
   sure r render fills depth minima rows painting ps ls v k z b h below l q t =

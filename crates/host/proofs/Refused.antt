@@ -74,8 +74,11 @@ pub begin-refused : (st : List ℕ) (d : Depths) (p : List ℕ) → Refused (beg
 unfolding begin_call beginning
 begin-refused st d p =
     at-screen true st (st, d, p) (λ (s : Screen). begin-left (beginning (canvas s d p)))
-    (λ s e q. rw (unsettled (begin_number s (length d.words) (length d.minima) (length p)) (canvas s d p)
-    (canvas (begun true s) (blank (count s) (wide s) d) (zeros 0 p)) q, written_back true st s e))
+    (λ s e q. rw (
+      unsettled (begin_number s (length d.words) (length d.minima) (length p)) (canvas s d p)
+          (canvas (begun true s) (blank (count s) (wide s) d) (zeros 0 p)) q,
+      written_back true st s e,
+    ))
 
 pub pop-refused : (ss st : List ℕ) (l : pop.PopLent) → Refused (pop_call ss st l) → (pop_call ss st l).value ≡ (st, l)
 unfolding pop_call popped

@@ -1,12 +1,9 @@
 -- A good viewport has few minima.
 use Rattle.std.proofs.Common.{arith}
-use Rattle.screen.proofs.ScreenLaws.{few_rows, few-buckets}
-use Rattle.screen.proofs.Blanks.{few-all}
+use Rattle.host.proofs.Sized.{few-minima-of}
 use Rattle.host.proofs.lengths.put_lengths_of.Goals as goal
 
 pub overflow_mul-n-4 : goal.overflow_mul-n-4
 overflow_mul-n-4 c =
-    let rows = few_rows _ c.requires in
-    let buckets = few-buckets _ c.requires c.args.screen.width in
-    let few = few-all c.rows-n.result c.buckets-b.result (rw c.rows-n.ensures rows) (rw c.buckets-b.ensures buckets) in
-    rw c.minima_room.ensures (omega (arith, few))
+    let few = few-minima-of c.args.screen c.requires in
+    rw (c.minima_room.ensures, c.rows-n.ensures, c.buckets-b.ensures) (omega (arith, few))

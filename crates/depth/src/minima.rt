@@ -1,13 +1,13 @@
 //! The minima above one row's depth words: the smallest id of the whole row, of each half, of each quarter, down to one bucket. A group of 2 ^ k buckets has its
 //! own minimum first, then the words of its left half, then those of its right half. A place past the row's last bucket counts as 4,294,967,295.
-ghost use Rattle.std.specs.Prelude.{◌≡◌, ◌≤◌, ◌<◌, ◌^◌, ◌*◌, ◌++◌, ℕ, List, length, eqb};
+ghost use Rattle.std.specs.Prelude.{◌≡◌, ◌≤◌, ◌<◌, ◌^◌, ◌+◌, ◌*◌, ◌++◌, ℕ, List, length, get_or, eqb};
 ghost use Rattle.rules.specs.Spans.{Span};
-ghost use Rattle.rules.specs.Minima.{half, minima-room, summary, halvings, hidden-in, mended, mended-runs};
+ghost use Rattle.rules.specs.Minima.{size, half, minima-room, summary, hidden-in, mended, mended-runs};
 ghost use Rattle.rules.specs.Minima as rules;
 ghost use Rattle.span.specs.Spans as spans;
 ghost use Rattle.depth.specs.Answers.{hidden_of};
 ghost use Rattle.depth.specs.Listing.{numbers};
-ghost use Rattle.depth.specs.Minima.{IsGroup, hidden-asked};
+ghost use Rattle.depth.specs.Minima.{IsGroup, Holds, leaf-place, lifted, hidden-asked};
 
 use sizes::answers::Refusal;
 use span::BucketRange;
@@ -30,8 +30,8 @@ pub fn minima_room(buckets: usize) -> usize
     if buckets == 0 {
         return 0;
     }
-    let group = buckets.next_power_of_two();
-    group + (group - 1)
+    // All digits up to the highest that 2 x buckets - 1 has.
+    usize::MAX >> (2 * buckets - 1).leading_zeros()
 }
 
 /// Whether these are as many minima as a row of so many buckets has.
@@ -70,58 +70,72 @@ pub fn make(words: &[u32], minima: &mut [u32])
     }
 }
 
-// A group's words after a write of the buckets from first to end: the groups that have one of these are worked out again.
-fn mend_group(words: &[u32], group: &mut [u32], first: usize, end: usize)
-    requires { IsGroup group.old }
-    ensures { (k : ℕ) → length group.old ≡ half k → group.new ≡ mended k group.old words.now first «end» }
+// Where bucket b's own word stands, in a row of so many minima.
+#[inline(always)]
+fn place_of(room: usize, bucket: usize) -> usize
+    requires group { (k : ℕ) × (room ≡ half k) × (bucket < size k) }
+    ensures { (k : ℕ) → room ≡ half k → result ≡ leaf-place k bucket }
 {
-    if end <= first {
-        return;
-    }
-    let (top, rest) = group.split_at_mut(1);
-    if rest.is_empty() {
-        top[0] = words.first().copied().unwrap_or(u32::MAX);
-        return;
-    }
-    let half = rest.len() / 2;
-    let middle = half / 2 + 1;
-    let (left, right) = rest.split_at_mut(half);
-    let (low, high) = words.split_at(middle.min(words.len()));
-    mend_group(low, left, first, end.min(middle));
-    mend_group(
-        high,
-        right,
-        first.saturating_sub(middle),
-        end.saturating_sub(middle),
-    );
-    top[0] = left[0].min(right[0]);
+    2 * bucket + (room.count_ones() as usize - 1) - bucket.count_ones() as usize
 }
 
-/// A row's minima after a write of the buckets of a range, in one descent.
-pub fn mend(words: &[u32], minima: &mut [u32], range: BucketRange)
-    requires some { 0 < length words.now }
-    requires room { length minima.old ≡ minima-room (length words.now) }
-    ensures { minima.new ≡ mended (halvings (length words.now)) minima.old words.now range.first range.«end» }
+// The groups that have a bucket are worked out again from its own word up, which stands at `place` and holds the id.
+#[inline(always)]
+fn lift(minima: &mut [u32], place: usize, bucket: usize, id: u32)
+    requires group { (k : ℕ) × (length minima.old ≡ half k) × (bucket < size k) × (place ≡ leaf-place k bucket) }
+    requires holds { get_or minima.old place 0 ≡ id }
+    ensures { (k : ℕ) → length minima.old ≡ half k → minima.new ≡ lifted k minima.old bucket }
 {
-    mend_group(words, minima, range.first as usize, range.end as usize);
+    let mut at = place;
+    let mut number = bucket;
+    let mut size: usize = 2;
+    let mut least = id;
+    while 0 < at {
+        let (up, beside) = if number % 2 == 0 {
+            (at - 1, at + (size - 1))
+        } else {
+            (at - size, at - (size - 1))
+        };
+        at = up;
+        least = least.min(minima[beside]);
+        minima[at] = least;
+        number /= 2;
+        size *= 2;
+    }
 }
 
-/// A row's minima after a write of the first runs of a list, two words a run, so many of them.
-pub fn mend_runs(words: &[u32], minima: &mut [u32], list: &[u32], count: usize)
-    requires room { length minima.old ≡ minima-room (length words.now) }
+/// A row's minima after its buckets from `first` to `end`, at least one, got the id: the groups that have one of these are worked out again. The words from
+/// the first bucket's own to the last's are those of groups that begin in the range: all of a group that the range has whole, and the tops of those that pass
+/// its end, which are worked out after it, as all that begin before it.
+pub fn mend(minima: &mut [u32], first: usize, end: usize, id: u32)
+    requires group { IsGroup minima.old }
+    requires range { (first < «end») × (2 * «end» ≤ length minima.old + 1) }
+    ensures { (k : ℕ) (ws : List ℕ) → length minima.old ≡ half k → Holds ws first «end» id → minima.new ≡ mended k minima.old ws first «end» }
+{
+    let room = minima.len();
+    let last = end - 1;
+    let from = place_of(room, first);
+    let to = place_of(room, last);
+    minima[from..=to].fill(id);
+    if first < last {
+        lift(minima, to, last, id);
+    }
+    lift(minima, from, first, id);
+}
+
+/// A row's minima after the first runs of a list, two words a run, so many of them, got the id.
+pub fn mend_runs(minima: &mut [u32], id: u32, list: &[u32], count: usize)
+    requires group { IsGroup minima.old }
     requires listed { count * 2 ≤ length list.now }
-    requires few { count ≤ length words.now }
-    ensures { (rs : List Span) (rest : List ℕ) → list.now ≡ numbers rs ++ rest → count ≡ length rs
-        → minima.new ≡ mended-runs (halvings (length words.now)) minima.old words.now rs }
+    requires runs { (n : ℕ) → n < count → (get_or list.now (2 * n) 0 < get_or list.now (2 * n + 1) 0) × (2 * get_or list.now (2 * n + 1) 0 ≤ length minima.old + 1) }
+    ensures { (k : ℕ) (ws : List ℕ) (rs : List Span) (rest : List ℕ) → length minima.old ≡ half k → list.now ≡ numbers rs ++ rest → count ≡ length rs
+        → ((r : Span) → In r rs → Holds ws r.first r.end id)
+        → minima.new ≡ mended-runs k minima.old ws rs }
 {
     let mut n: usize = 0;
     while n < count {
         let at = n * 2;
-        let run = BucketRange {
-            first: list[at],
-            end: list[at + 1],
-        };
-        mend(words, minima, run);
+        mend(minima, list[at] as usize, list[at + 1] as usize, id);
         n += 1;
     }
 }

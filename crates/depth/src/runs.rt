@@ -177,7 +177,7 @@ fn mark_and_mend(
     ensures minima_after { minima.new ≡ mended-runs (halvings (length words.old)) minima.old words.new (runs-in (is-visible 0) words.old (span lo hi)) }
 {
     let n = mark_runs(words, lo, hi, draw_id, list);
-    mend_runs(words, minima, list, n);
+    mend_runs(minima, draw_id, list, n);
     n
 }
 

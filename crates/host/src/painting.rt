@@ -15,7 +15,7 @@ use crate::results::{PaintedWords, SplitWords, put_runs, put_split, put_step, pu
 use crate::state::{StateWords, leave, put_screen, screen_at, screen_of};
 use crate::sure::sure_buckets;
 use depth::split_opaque_span;
-use paint::whole::{MOST_STEPS, row_part};
+use paint::whole::{MOST_STEPS, row_part, row_step};
 use paint::{
     Canvas, Stored, begin_painting, can_skip, is_hidden, paint_row, paint_step, unset_runs,
     unset_runs_and_write, visible_runs,
@@ -95,8 +95,10 @@ pub extern "C" fn coarse_paint_step(
     if 64 < b {
         return judged_step(state, stored, canvas, row, list, painted);
     }
-    let done = row_part(screen_at(state), b, row, stored, canvas, list, 1);
-    put_step(done, painted)
+    let Some(done) = row_step(screen_at(state), b, row, stored, canvas, list) else {
+        return judged_step(state, stored, canvas, row, list, painted);
+    };
+    put_step(Ok(done), painted)
 }
 
 // Where the one look is not sure.

@@ -141,6 +141,9 @@ pub fn sure_buckets(
     let Some(b) = buckets_of(state.width, w / TILE_WIDTH) else {
         return 65;
     };
+    if b == 0 {
+        return 65;
+    }
     let long = (row < n)
         & is_long(
             n,

@@ -1,32 +1,26 @@
--- A fill that is put in parts.
-use Rattle.std.specs.Prelude.{ℕ, ◌+◌, ◌≤◌, ◌<◌, ◌≡◌, Bool, List, ◌∷◌}
-use Rattle.rules.specs.Spans.{Span, span}
-use Rattle.rules.specs.Depth.{is-visible, runs-in}
-use Rattle.sizes.specs.Widths.{bucket-tiles}
-use Rattle.depth.specs.declared.search.Run.{Run}
+-- A fill that is put in pieces.
+use Rattle.std.specs.Prelude.{ℕ, ◌/◌, ◌%◌, ◌≤◌, ◌<◌, List, length}
+use Rattle.rules.specs.Spans.{Span}
 use Rattle.paint.specs.declared.whole.pieces.Cut.{Cut}
-use Rattle.paint.specs.Kinds.{Fills, high-met, runs-met, run-words, Looked}
+use Rattle.paint.specs.Scales.{tiles_in}
+use Rattle.paint.specs.Kinds.{Fills, high-met, runs-met, run-words}
 
 abbrev pub FillsCut : Cut → Type 0
 FillsCut c = Fills c.words
 
-abbrev pub LookedCut : Cut → List ℕ → Bool → ℕ → Type 0
-LookedCut c D seen stop = Looked (bucket-tiles c.width) D c.mark.id c.words.span.0 seen stop
-
 -- the end of the buckets that it meets
 abbrev pub end_met : Cut → ℕ
-end_met c = high-met (bucket-tiles c.width) c.words.span.0
+end_met c = high-met (tiles_in c.scale) c.words.span.0
+
+-- it has a tile, and its buckets are the row's
+pub record MeetsCut (c : Cut) (D : List ℕ) : Type 0 where
+  pub some : c.words.span.0 / 65536 < c.words.span.0 % 65536
+  pub within : end_met c ≤ length D
 
 -- a run's words
 abbrev pub cut_words : Cut → Span → List ℕ
-cut_words c r = run-words (bucket-tiles c.width) c.words c.nesting c.mark.panel r
+cut_words c r = run-words (tiles_in c.scale) c.words c.nesting c.mark.panel r
 
 -- the runs that are shown
 abbrev pub met : Cut → List ℕ → List Span
-met c D = runs-met (bucket-tiles c.width) D c.mark.id c.words.span.0
-
--- r is the first of them, and the others are those from the bucket past its end on
-pub record FirstRun (c : Cut) (D : List ℕ) (r : Run) : Type 0 where
-  pub some : r.first < r.end
-  pub within : r.end ≤ end_met c
-  pub runs : met c D ≡ span r.first r.end ∷ runs-in (is-visible c.mark.id) D (span (r.end + 1) (end_met c))
+met c D = runs-met (tiles_in c.scale) D c.mark.id c.words.span.0

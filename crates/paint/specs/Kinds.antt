@@ -8,7 +8,6 @@ use Rattle.rules.specs.Depth.{Summary, is-visible, runs-in, tiles-of}
 use Rattle.cmd.specs.Reading.{word-span}
 use Rattle.cmd.specs.Commands.{read-words}
 use Rattle.cmd.specs.declared.command.CmdWords.{CmdWords}
-use Rattle.paint.specs.declared.whole.reading.Partly.{Partly}
 use Rattle.rules.specs.Attributes.{Attrs}
 use Rattle.depth.specs.Listing.{over}
 use Rattle.screen.specs.Depths.{Depths, depths}
@@ -40,29 +39,7 @@ high-met v w = (w % 65536 + (v - 1)) / v
 abbrev pub runs-met : ℕ → List ℕ → ℕ → ℕ → List Span
 runs-met v D id w = runs-in (is-visible id) D (span (low-met v w) (high-met v w))
 
--- the buckets from a to r are shown for the id, and at r that ends, or at e
-pub record SeenTo (D : List ℕ) (id a e r : ℕ) : Type 0 where
-  pub past : a < r
-  pub within : r ≤ e
-  pub found : runs-in (is-visible id) D (span a e) ≡ span a r ∷ runs-in (is-visible id) D (span r e)
-  pub other : r < e → is-visible id (word D r) ≡ false
-
--- .. are hidden
-pub record HiddenTo (D : List ℕ) (id a e r : ℕ) : Type 0 where
-  pub past : a < r
-  pub within : r ≤ e
-  pub found : runs-in (is-visible id) D (span a e) ≡ runs-in (is-visible id) D (span r e)
-  pub other : r < e → is-visible id (word D r) ≡ true
-
--- the buckets that a fill meets, looked at up to `stop`: they are all seen or all hidden, and bucket `stop`, which is there, is not
-pub record Looked (v : ℕ) (D : List ℕ) (id w : ℕ) (seen : Bool) (stop : ℕ) : Type 0 where
-  pub past : low-met v w < stop
-  pub within : stop < high-met v w
-  pub fits : high-met v w ≤ length D
-  pub found : runs-met v D id w ≡ cond seen (span (low-met v w) stop ∷ runs-in (is-visible id) D (span stop (high-met v w))) (runs-in (is-visible id) D (span stop (high-met v w)))
-  pub other : is-visible id (word D stop) ≡ not seen
-
--- .. and those runs, cut to the fill's tiles
+-- those runs, cut to the fill's tiles
 abbrev pub tiles-met : ℕ → List ℕ → ℕ → ℕ → List Span
 tiles-met v D id w = map (λ (r : Span). common (word-span w) (tiles-of v r)) (runs-met v D id w)
 
@@ -94,12 +71,6 @@ module _ (v : ℕ) (attrs : Attrs) (u : Summary) (D : List ℕ) (m : ℕ) (c : C
   -- the step gives n pieces, with these words, and nesting j
   pub record Gives (n : ℕ) (ws : List ℕ) (j : ℕ) : Type 0 where
     pub step : (ms : List ℕ) (q : ℕ) (P l : List ℕ) → piece-size * n ≤ length l → step-to ms q P l ≡ out (listed n) (depths D ms) ((q + 1) ∷ j ∷ []) (over ws l)
-
-  -- a fill that is shown in part: what the look has seen of it, and its pieces
-  pub record GivesPart (q : Partly) : Type 0 where
-    pub looked : Looked v D q.mark.id c.span.0 q.seen q.stop
-    pub good : Fills c
-    pub gives : Gives (length (runs-met v D q.mark.id c.span.0)) (join (run-words v c m q.mark.panel) (runs-met v D q.mark.id c.span.0)) m
 
 -- a row's counts have room, and its summary is in order
 pub record Calm (s re fi : List ℕ) : Type 0 where

@@ -1,5 +1,6 @@
 -- What a host lends for painting, and what a fill gives, by the code's own values: what the contracts of this crate say in one word.
-use Rattle.std.specs.Prelude.{ℕ, ◌+◌, ◌≤◌, ◌<◌, ◌≡◌, Bool, List, length, map}
+use Rattle.std.specs.Prelude.{ℕ, ◌+◌, ◌*◌, ◌≤◌, ◌<◌, ◌≡◌, Bool, List, length, map}
+use Rattle.sizes.specs.Sizes.{row-size, most-room, most-attrs, paint-attr-table, layer-attr-table}
 use Rattle.sizes.specs.Widths.{bucket-tiles}
 use Rattle.rules.specs.Attributes.{Attrs, no-attrs}
 use Rattle.rules.specs.Depth.{write-runs, written}
@@ -21,7 +22,8 @@ use Rattle.paint.specs.declared.command.marks.Mark.{Mark}
 use Rattle.rules.specs.Spans.{Span}
 use Rattle.paint.specs.Summaries.{summary-at, shown_runs}
 use Rattle.paint.specs.Painting.{word, attrs-at, painter-at, fill-shown, RowLent, words_lent, StepOut, out}
-use Rattle.paint.specs.Stepping.{Attributes, attributes, StepReady}
+use Rattle.paint.specs.Reading.{attrs_of}
+use Rattle.paint.specs.Stepping.{Attributes, attributes, part, Within, StepReady}
 use Rattle.paint.specs.Judging.{wide}
 
 -- a row's two painting words, that can count one step more
@@ -79,6 +81,26 @@ used_attrs c s = attrs-at s.paint_attrs.now c.paint_attrs s.layer_attrs.now c.la
 -- the parts of row r lie within the words that are lent, and the tables are whole
 abbrev pub RowReady : Screen → ℕ → Stored → Canvas → List ℕ → Type 0
 RowReady s r t c l = StepReady (wide s) s.c s.d s.paint_attrs s.layer_attrs r (row_attrs t) (row_lent t c l)
+
+-- .. so do those of the stored words
+pub record RowStored (s : Screen) (r : ℕ) (t : Stored) : Type 0 where
+  pub state : Within row-size r t.rows.now
+  pub render : Within (4 * s.c) r t.render_cmds.now
+  pub fills : Within (2 * s.d) r t.depth_cmds.now
+  pub few-commands : s.c ≤ most-room
+  pub few-fills : s.d ≤ most-room
+  pub paint-table : length t.paint_attrs.now ≡ paint-attr-table
+  pub layer-table : length t.layer_attrs.now ≡ layer-attr-table
+  pub paints : s.paint_attrs ≤ most-attrs
+  pub layers : s.layer_attrs ≤ most-attrs
+
+-- a row's parts of them
+pub record IsRowOf (s : Screen) (r : ℕ) (t : Stored) (o : StoredRow) : Type 0 where
+  pub state : o.state.now ≡ part row-size r t.rows.now
+  pub render : o.render_cmds.now ≡ part (4 * s.c) r t.render_cmds.now
+  pub fills : o.depth_cmds.now ≡ part (2 * s.d) r t.depth_cmds.now
+  pub attrs : attrs_of o.attrs ≡ used_attrs s t
+  pub width : o.width ≡ s.width
 
 -- the runs of tiles that a row shows for an id
 abbrev pub shown_in : StoredRow → RowWords → ℕ → Span → List Span

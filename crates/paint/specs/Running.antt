@@ -1,5 +1,5 @@
 -- A row painted from where it stands: painting steps one after the other, each on what is left of the list.
-use Rattle.std.specs.Prelude.{Result, Ok, Err, false, ℕ, zero, suc, ◌+◌, ◌*◌, Bool, ◌&&◌, not, cond, List, ◌++◌, take, drop, eqb}
+use Rattle.std.specs.Prelude.{Result, Ok, Err, true, false, ℕ, zero, suc, ◌+◌, ◌*◌, Bool, ◌&&◌, not, cond, List, ◌++◌, take, drop, eqb}
 use Rattle.sizes.specs.Sizes.{piece-size}
 use Rattle.rules.specs.Answers.{Done}
 use Rattle.rules.specs.Attributes.{Attrs}
@@ -49,6 +49,10 @@ module _ (step : Depths → List ℕ → List ℕ → StepOut) where
 abbrev pub most : ℕ
 most = 2049
 
+-- n pieces, and no step is left
+abbrev pub finished_with : ℕ → Painted
+finished_with n = record { number = Done; finished = true; pieces = n }
+
 -- before the first step
 abbrev pub standing : Depths → List ℕ → List ℕ → StepOut
 standing d p l = out (listed 0) d p l
@@ -64,6 +68,12 @@ own-run v f a w = run (own-step v a w.state w.render w.fills) f 0 (standing w.de
 -- .. of row r of rows of b buckets, with room for c commands and d depth fills, each part in its place
 unfoldable pub row-run : ℕ → ℕ → Attrs → ℕ → ℕ → ℕ → ℕ → RowLent → StepOut
 row-run v f a b c d r l = put-parts b r l (own-run v f a (own-parts b c d r l))
+
+-- .. at most f more of them, after k that gave n pieces
+unfoldable pub row-run-on : ℕ → ℕ → ℕ → ℕ → Attrs → ℕ → ℕ → ℕ → ℕ → RowLent → StepOut
+row-run-on v f k n a b c d r l =
+    let w = own-parts b c d r l in
+    put-parts b r l (run (own-step v a w.state w.render w.fills) f k (out (listed n) w.depth w.painting w.list))
 
 -- calls of a painting step of row r of a screen
 abbrev pub call_step : Screen → ℕ → Attributes → List ℕ → List ℕ → List ℕ → Depths → List ℕ → List ℕ → StepOut

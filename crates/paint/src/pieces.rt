@@ -35,44 +35,6 @@ pub fn advance(painting: &mut [u32], nesting: u32, pieces: usize) -> Stepped
     }
 }
 
-/// A list of pieces that is lent, of which the first `count` are written.
-#[derive(Drop)]
-pub struct Pieces<'a> {
-    pub list: &'a mut [u32],
-    pub count: usize,
-    ghost few: { piece-size * count ≤ length list.now },
-}
-
-impl<'a> Pieces<'a> {
-    /// A list whose first `count` pieces are written before.
-    pub fn new(list: &'a mut [u32], count: usize) -> Pieces<'a>
-        requires { piece-size * count ≤ length list.old }
-        ensures same { result.list.ghost_name ≡ list.entry.ghost_name }
-        ensures list { result.list.now ≡ list.old }
-        ensures count { result.count ≡ count }
-    {
-        Pieces { list, count }
-    }
-
-    /// How many words of the list are left.
-    pub fn left(&self) -> usize
-        ensures { result + piece-size * self.now.count ≡ length self.now.list.now }
-    {
-        self.list.len() - PIECE * self.count
-    }
-
-    /// One piece more.
-    pub fn push(&mut self, piece: PieceWords)
-        requires { piece-size * self.old.count + piece-size ≤ length self.old.list.now }
-        ensures same { self.new.list.ghost_name ≡ self.old.list.ghost_name }
-        ensures list { self.new.list.now ≡ words-at self.old.list.now (piece-size * self.old.count) (words_of piece) }
-        ensures count { self.new.count ≡ self.old.count + 1 }
-    {
-        piece.put(self.list, self.count);
-        self.count += 1;
-    }
-}
-
 /// What the pieces of one step have in common. `first` is the tile that the alpha index belongs to.
 #[derive(Clone, Copy, Debug, PartialEq, Eq)]
 pub struct Brush {

@@ -1,68 +1,87 @@
 //! A row painted from where it stands: one step, or all of them. `paint_step` and `paint_row` are public calls: they have no `requires`. The
 //! others are their parts.
-ghost use Rattle.std.specs.Prelude.{◌≡◌, ◌≤◌, length};
-ghost use Rattle.rules.specs.Minima.{minima-room};
-ghost use Rattle.depth.specs.Minima.{SameDepth};
-ghost use Rattle.screen.specs.Depths.{depths_in};
+ghost use Rattle.std.specs.Prelude.{◌≡◌, ◌≤◌, ◌-◌, ◌*◌, Ok, MatchOption, length};
+ghost use Rattle.sizes.specs.Sizes.{piece-size};
 ghost use Rattle.sizes.specs.Widths.{bucket-tiles};
 ghost use Rattle.paint.specs.Answers.{painted_of};
-ghost use Rattle.paint.specs.Painting.{out};
+ghost use Rattle.paint.specs.Painting.{listed};
 ghost use Rattle.paint.specs.Judging.{wide};
-ghost use Rattle.paint.specs.Stepping.{Within, depth-part, put-depth, stepped};
-ghost use Rattle.paint.specs.Rows.{run_of};
-ghost use Rattle.paint.specs.Named.{SameCanvas, step_out, RowReady, row_lent, row_attrs, used_attrs};
-ghost use Rattle.paint.specs.Running.{most, row-run, row-painted};
+ghost use Rattle.paint.specs.Stepping.{stepped};
+ghost use Rattle.paint.specs.Named.{SameCanvas, step_out, RowReady, RowStored, IsRowOf, row_lent, row_attrs, used_attrs};
+ghost use Rattle.paint.specs.Running.{most, row-run, row-run-on, row-painted};
 
 use crate::canvas::judge::judge_step;
-use crate::canvas::{Canvas, Stepped, Stored};
+use crate::canvas::{Canvas, RowWords, Stepped, Stored};
 use crate::command::{Attributes, StoredRow};
-use crate::whole::run::run_parts;
-use depth::{Depth, minima_room};
+use crate::whole::run::{Went, run_steps, run_sure};
+use depth::minima_room;
 use row::part;
 use screen::Screen;
 use sizes::answers::Refusal;
 use sizes::{MOST_ROOM, ROW};
 
-pub mod ends;
+pub mod commands;
+pub mod depths;
 pub mod looks;
 pub mod pieces;
-pub mod plain;
-pub mod reading;
 pub mod run;
+pub mod scale;
 
 /// No row has more steps: C, D and the one that finds nothing left.
 pub const MOST_STEPS: usize = 2 * MOST_ROOM as usize + 1;
 
-// At most `limit` steps of a row of `b` buckets, its own painting words being lent.
+// What of the stored words is a row's.
 #[inline(always)]
-fn run_part(
-    read: &StoredRow<'_>,
+fn row_of<'a>(screen: Screen, row: usize, stored: &Stored<'a>) -> StoredRow<'a>
+    requires { RowStored screen row stored.now }
+    ensures { IsRowOf screen row stored.now result }
+{
+    StoredRow {
+        state: part(stored.rows, ROW, row),
+        render_cmds: part(stored.render_cmds, 4 * screen.c as usize, row),
+        depth_cmds: part(stored.depth_cmds, 2 * screen.d as usize, row),
+        attrs: Attributes {
+            paint_attrs: stored.paint_attrs,
+            paints: screen.paint_attrs,
+            layer_attrs: stored.layer_attrs,
+            layers: screen.layer_attrs,
+        },
+        width: screen.width,
+    }
+}
+
+// The rest of at most `limit` steps of a row, after those that were sure.
+#[inline(never)]
+fn row_rest(
+    screen: Screen,
     b: usize,
     row: usize,
-    depth: &mut Depth<'_>,
-    painting: &mut [u32],
+    stored: &Stored<'_>,
+    canvas: &mut Canvas<'_>,
     list: &mut [u32],
     limit: usize,
+    went: Went,
 ) -> Result<Stepped, Refusal>
     requires limit { limit ≤ most }
-    requires words { Within b row depth.old.words.now }
-    requires minima { Within (minima-room b) row depth.old.minima.now }
-    requires painting { length painting.old ≡ 2 }
-    ensures same { SameDepth depth.old depth.new }
-    ensures run { out (painted_of result) (depths_in depth.new) painting.new list.new
-        ≡ put-depth b row (depths_in depth.old) (run_of read.now limit (depth-part b row (depths_in depth.old)) painting.old list.old) }
+    requires pieces { piece-size * went.pieces ≤ length list.old }
+    requires wide { b ≡ wide screen }
+    requires ready { RowReady screen row stored.now canvas.old list.old }
+    ensures same { SameCanvas canvas.old canvas.new }
+    ensures painted { step_out (painted_of result) canvas.new list.new
+        ≡ row-run-on (bucket-tiles screen.width) (limit - went.steps) went.steps went.pieces (used_attrs screen stored.now) (wide screen) screen.c screen.d row
+        (row_lent stored.now canvas.old list.old) }
 {
     let over = minima_room(b);
     let u = row * b;
     let m = row * over;
-    run_parts(
-        read,
-        &mut depth.words[u..u + b],
-        &mut depth.minima[m..m + over],
-        painting,
-        list,
-        limit,
-    )
+    let v = row * 2;
+    let read = row_of(screen, row, stored);
+    let mut own = RowWords {
+        depth: &mut canvas.depth.words[u..u + b],
+        minima: &mut canvas.depth.minima[m..m + over],
+        painting: &mut canvas.painting[v..v + 2],
+    };
+    run_steps(&read, &mut own, list, limit, went)
 }
 
 /// At most `limit` steps of a row that is there, of `b` buckets, painting having begun: the row's own parts are handed on. A part of the calls, and of those
@@ -85,28 +104,64 @@ pub fn row_part(
         ≡ row-run (bucket-tiles screen.width) limit (used_attrs screen stored.now) (wide screen) screen.c screen.d row
         (row_lent stored.now canvas.old list.old) }
 {
+    let over = minima_room(b);
+    let u = row * b;
+    let m = row * over;
     let v = row * 2;
-    let read = StoredRow {
-        state: part(stored.rows, ROW, row),
-        render_cmds: part(stored.render_cmds, 4 * screen.c as usize, row),
-        depth_cmds: part(stored.depth_cmds, 2 * screen.d as usize, row),
-        attrs: Attributes {
-            paint_attrs: stored.paint_attrs,
-            paints: screen.paint_attrs,
-            layer_attrs: stored.layer_attrs,
-            layers: screen.layer_attrs,
-        },
-        width: screen.width,
-    };
-    run_part(
-        &read,
-        b,
-        row,
-        &mut canvas.depth,
+    let went = run_sure(
+        &row_of(screen, row, stored),
+        &mut canvas.depth.words[u..u + b],
+        &mut canvas.depth.minima[m..m + over],
         &mut canvas.painting[v..v + 2],
         list,
         limit,
-    )
+    );
+    if went.ended || limit <= went.steps {
+        return Ok(Stepped {
+            finished: went.ended,
+            pieces: went.pieces,
+        });
+    }
+    row_rest(screen, b, row, stored, canvas, list, limit, went)
+}
+
+/// One step of such a row, if one look settles it: else nothing changes. A part of a host's call.
+#[inline(always)]
+pub fn row_step(
+    screen: Screen,
+    b: usize,
+    row: usize,
+    stored: &Stored<'_>,
+    canvas: &mut Canvas<'_>,
+    list: &mut [u32],
+) -> Option<Stepped>
+    requires wide { b ≡ wide screen }
+    requires ready { RowReady screen row stored.now canvas.old list.old }
+    ensures same { SameCanvas canvas.old canvas.new }
+    ensures painted { MatchOption result
+        (step_out (listed 0) canvas.new list.new ≡ step_out (listed 0) canvas.old list.old)
+        (λ s. step_out (painted_of (Ok s)) canvas.new list.new
+            ≡ row-run (bucket-tiles screen.width) 1 (used_attrs screen stored.now) (wide screen) screen.c screen.d row (row_lent stored.now canvas.old list.old)) }
+{
+    let over = minima_room(b);
+    let u = row * b;
+    let m = row * over;
+    let v = row * 2;
+    let went = run_sure(
+        &row_of(screen, row, stored),
+        &mut canvas.depth.words[u..u + b],
+        &mut canvas.depth.minima[m..m + over],
+        &mut canvas.painting[v..v + 2],
+        list,
+        1,
+    );
+    if !went.ended && went.steps == 0 {
+        return None;
+    }
+    Some(Stepped {
+        finished: went.ended,
+        pieces: went.pieces,
+    })
 }
 
 /// One step of one row: its depth fills last to first, then its render commands in order, then finished, as often as asked. The pieces stand at the list's

@@ -86,6 +86,20 @@ pub fn judge_reset(screen: Screen, lent: Lengths) -> Result<(), Refusal>
     Ok(())
 }
 
+// Copies of the first `room` words fill the others: what is there is copied behind itself, until all is there.
+fn repeat(minima: &mut [u32], room: usize)
+    requires { (n : ℕ) × (0 < n) × (0 < room) × (length minima.old ≡ n * room) }
+    ensures { (n : ℕ) → length minima.old ≡ n * room → minima.new ≡ join (take room) (replicate n minima.old) }
+{
+    let mut done = room;
+    while done < minima.len() {
+        let (made, rest) = minima.split_at_mut(done);
+        let more = made.len().min(rest.len());
+        rest[..more].copy_from_slice(&made[..more]);
+        done += more;
+    }
+}
+
 // The words of rows of so many buckets become 0, and each row's minima are made afresh of them.
 fn blank_rows(words: &mut [u32], minima: &mut [u32], rows: usize, buckets: usize)
     requires few { (rows ≤ most-rows) × (buckets ≤ 64) }
@@ -95,14 +109,14 @@ fn blank_rows(words: &mut [u32], minima: &mut [u32], rows: usize, buckets: usize
     ensures minima { minima.new ≡ blank-minima rows buckets }
 {
     words.fill(0);
-    let room = minima_room(buckets);
-    let mut row: usize = 0;
-    while row < rows {
-        let from = row * buckets;
-        let at = row * room;
-        make(&words[from..from + buckets], &mut minima[at..at + room]);
-        row += 1;
+    // Where no group has a place past the row's last bucket, all minima are 0.
+    if rows == 0 || buckets == 0 || buckets.is_power_of_two() {
+        minima.fill(0);
+        return;
     }
+    let room = minima_room(buckets);
+    make(&words[..buckets], &mut minima[..room]);
+    repeat(minima, room);
 }
 
 /// The depth words of rows of so many buckets become 0, and each row's minima are made afresh of them.

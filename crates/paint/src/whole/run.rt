@@ -1,14 +1,13 @@
 //! The steps of one row, over its own words. Parts: where a function asks something, its callers have judged it.
-ghost use Rattle.std.specs.Prelude.{◌≡◌, true, ◌*◌, ◌-◌, ◌≤◌, ◌<◌, length};
+ghost use Rattle.std.specs.Prelude.{◌≡◌, ◌*◌, ◌≤◌, length};
 ghost use Rattle.sizes.specs.Sizes.{piece-size};
 ghost use Rattle.paint.specs.Answers.{painted_of};
 ghost use Rattle.paint.specs.Painting.{out, listed};
 ghost use Rattle.rules.specs.Minima.{minima-room};
 ghost use Rattle.screen.specs.Depths.{depths};
 ghost use Rattle.paint.specs.Named.{RowLong, SameRow, row_out, own-depths};
-ghost use Rattle.paint.specs.Running.{most, onto, one_more, run, finished_with};
-ghost use Rattle.paint.specs.Kinds.{Onward};
-ghost use Rattle.paint.specs.Rows.{steps_of};
+ghost use Rattle.paint.specs.Running.{most, onto, one_more};
+ghost use Rattle.paint.specs.Rows.{steps_of, Sure, run_on};
 
 use crate::canvas::RowWords;
 use crate::command::{StoredRow, step_row};
@@ -73,13 +72,7 @@ pub fn run_sure(
     requires lens { (length depth.old ≤ 65535) × (length minima.old ≡ minima-room (length depth.old)) × (length painting.old ≡ 2) }
     requires limit { limit ≤ most }
     ensures long { (length depth.new ≡ length depth.old) × (length minima.new ≡ length minima.old) × (length painting.new ≡ 2) × (length list.new ≡ length list.old) }
-    ensures few { (result.steps ≤ limit) × (piece-size * result.pieces ≤ length list.old) }
-    ensures onward { Onward (steps_of row.now) result.steps
-        (out (listed 0) (depths depth.old minima.old) painting.old list.old)
-        (out (listed result.pieces) (depths depth.new minima.new) painting.new list.new) }
-    ensures ended { result.ended ≡ true → (result.steps < limit)
-        × (one_more (steps_of row.now) (out (listed result.pieces) (depths depth.new minima.new) painting.new list.new)
-            ≡ out (finished_with result.pieces) (depths depth.new minima.new) painting.new list.new) }
+    ensures sure { Sure row.now limit result (depths depth.old minima.old) painting.old list.old (depths depth.new minima.new) painting.new list.new }
 {
     let depths = row.state[DEPTHS];
     let renders = row.state[RENDERS];
@@ -124,8 +117,8 @@ pub fn run_sure(
     }
 }
 
-/// The rest of a run of at most `limit` steps, each by itself, until one is refused or the row is finished. Refused, 4 or 14, only where the run's first step is.
-pub fn run_steps(
+// The rest of a run of at most `limit` steps, each by itself, until one is refused or the row is finished. Refused, 4 or 14, only where the run's first step is.
+fn run_steps(
     row: &StoredRow<'_>,
     canvas: &mut RowWords<'_>,
     list: &mut [u32],
@@ -135,9 +128,9 @@ pub fn run_steps(
     requires lens { RowLong canvas.old }
     requires limit { limit ≤ most }
     requires pieces { piece-size * went.pieces ≤ length list.old }
+    requires none { went.steps ≡ 0 → went.pieces ≡ 0 }
     ensures same { SameRow canvas.old canvas.new }
-    ensures run { row_out (painted_of result) canvas.new list.new
-        ≡ run (steps_of row.now) (limit - went.steps) went.steps (row_out (listed went.pieces) canvas.old list.old) }
+    ensures run { row_out (painted_of result) canvas.new list.new ≡ run_on row.now limit went.steps went.pieces (own-depths canvas.old) canvas.old.painting.now list.old }
 {
     let mut pieces = went.pieces;
     let mut steps = went.steps;
@@ -158,4 +151,29 @@ pub fn run_steps(
         steps += 1;
     }
     so_far(pieces)
+}
+
+/// The rest of a run of at most `limit` steps, after those that were sure, each by itself, until one is refused or the row is finished. Refused, 4 or 14, only
+/// where the run's first step is. The row's depth words, the minima above them and its painting words are lent one by one.
+pub fn run_parts(
+    row: &StoredRow<'_>,
+    depth: &mut [u32],
+    minima: &mut [u32],
+    painting: &mut [u32],
+    list: &mut [u32],
+    limit: usize,
+    went: Went,
+) -> Result<Stepped, Refusal>
+    requires lens { (length depth.old ≤ 65535) × (length minima.old ≡ minima-room (length depth.old)) × (length painting.old ≡ 2) }
+    requires limit { limit ≤ most }
+    requires pieces { piece-size * went.pieces ≤ length list.old }
+    requires none { went.steps ≡ 0 → went.pieces ≡ 0 }
+    ensures { out (painted_of result) (depths depth.new minima.new) painting.new list.new ≡ run_on row.now limit went.steps went.pieces (depths depth.old minima.old) painting.old list.old }
+{
+    let mut canvas = RowWords {
+        depth,
+        minima,
+        painting,
+    };
+    run_steps(row, &mut canvas, list, limit, went)
 }

@@ -24,7 +24,7 @@ use Rattle.paint.specs.Reading.{paint_mark, layer_mark}
 use Rattle.paint.proofs.Judging.{if_some}
 use Rattle.paint.specs.Rows.{mark_in}
 use Rattle.paint.proofs.Steps.{bare}
-use Rattle.paint.specs.Kinds.{good-index, Fills, Looked, Shows, runs-met, tiles-met, run-words, whole_words, Gives, GivesPart}
+use Rattle.paint.specs.Kinds.{good-index, Fills, Shows, run-words, whole_words, Gives}
 
 -- where the painting of a row stands
 abbrev at-step : List ℕ → ℕ → ℕ → Painter
@@ -85,15 +85,15 @@ module _ (v : ℕ) (attrs : Attrs) (u : Summary) (D : List ℕ) (m : ℕ) where
     gives-pop h e = record { step = λ M q P l k. rw (e, lt-ltb 0 m h) (sym (bare D M P l false (at-step D (q + 1) (m - 1)) refl)) }
 
     module _ (ex : c.alpha ≡ 0) (ei : c.attrs_idx ≡ 0) where
-      pub push-bare : c.tag ≡ 5 → c.span.0 ≡ 0 → m < 16 → (m < 16) × Gives v attrs u D m c 0 [] (m + 1)
-      push-bare et ew h = (h, gives-push None h (sym (tag-5 _ _ _ _ true et (rw (eq-eqb _ _ ew, eq-eqb _ _ ex, eq-eqb _ _ ei)))))
+      pub push-bare : c.tag ≡ 5 → c.span.0 ≡ 0 → m < 16 → Gives v attrs u D m c 0 [] (m + 1)
+      push-bare et ew h = gives-push None h (sym (tag-5 _ _ _ _ true et (rw (eq-eqb _ _ ew, eq-eqb _ _ ex, eq-eqb _ _ ei))))
 
-      pub push-tiles : c.tag ≡ 6 → good-span-word 8192 c.span.0 ≡ true → m < 16 → (m < 16) × Gives v attrs u D m c 0 [] (m + 1)
+      pub push-tiles : c.tag ≡ 6 → good-span-word 8192 c.span.0 ≡ true → m < 16 → Gives v attrs u D m c 0 [] (m + 1)
       push-tiles et g h =
-          (h, gives-push (Some (word-span c.span.0)) h (sym (tag-6 _ _ _ _ true true et (rw (g, eq-eqb _ _ ex)) (eq-eqb _ _ ei))))
+          gives-push (Some (word-span c.span.0)) h (sym (tag-6 _ _ _ _ true true et (rw (g, eq-eqb _ _ ex)) (eq-eqb _ _ ei)))
 
-      pub pop-bare : c.tag ≡ 7 → c.span.0 ≡ 0 → 0 < m → (0 < m) × Gives v attrs u D m c 0 [] (m - 1)
-      pop-bare et ew h = (h, gives-pop h (sym (tag-7 _ _ _ _ true et (rw (eq-eqb _ _ ew, eq-eqb _ _ ex, eq-eqb _ _ ei)))))
+      pub pop-bare : c.tag ≡ 7 → c.span.0 ≡ 0 → 0 < m → Gives v attrs u D m c 0 [] (m - 1)
+      pop-bare et ew h = gives-pop h (sym (tag-7 _ _ _ _ true et (rw (eq-eqb _ _ ew, eq-eqb _ _ ex, eq-eqb _ _ ei))))
 
     -- the words' step is that of a fill, with this id and panel
     pub record FillStep (k : Mark) : Type 0 where
@@ -113,7 +113,7 @@ module _ (v : ℕ) (attrs : Attrs) (u : Summary) (D : List ℕ) (m : ℕ) where
                 ∙ ap (λ (e : CmdWords). out (listed 1) (depths D M) ((q + 1) ∷ m ∷ []) (over (whole_words e m k.panel) l)) f.same;
           }
 
-      gives-runs : (rs : List Span) → Shows v u D k.id c (map (λ (r : Span). common (word-span c.span.0) (tiles-of v r)) rs)
+      pub gives-runs : (rs : List Span) → Shows v u D k.id c (map (λ (r : Span). common (word-span c.span.0) (tiles-of v r)) rs)
           → Gives v attrs u D m c (length rs) (join (run-words v c m k.panel) rs) m
       gives-runs rs s =
           record {
@@ -122,13 +122,6 @@ module _ (v : ℕ) (attrs : Attrs) (u : Summary) (D : List ℕ) (m : ℕ) where
                 ∙ fill-runs f.layer f.index c.span.0 c.attrs_idx k.panel k.id q M P l rs s.runs h
                 ∙ ap (λ (e : CmdWords). out (listed (length rs)) (depths D M) ((q + 1) ∷ m ∷ []) (over (join (run-words v e m k.panel) rs) l)) f.same;
           }
-
-      pub gives-none : Shows v u D k.id c [] → Gives v attrs u D m c 0 [] m
-      gives-none = gives-runs []
-
-      pub gives_part : (seen : Bool) (stop : ℕ) → Looked v D k.id c.span.0 seen stop × Shows v u D k.id c (tiles-met v D k.id c.span.0)
-          → GivesPart v attrs u D m c (record { seen = seen; stop = stop; mark = k })
-      gives_part seen stop (o, s) = record { looked = o; good = s.good; gives = gives-runs (runs-met v D k.id c.span.0) s }
 
 -- the four tags
 four : (t : ℕ) → 0 < t → t ≤ 4 → (t ≡ 1) ⊎ ((t ≡ 2) ⊎ ((t ≡ 3) ⊎ (t ≡ 4)))

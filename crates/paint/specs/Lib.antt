@@ -9,6 +9,7 @@ pub mod Beginning
 pub mod Stepping
 pub mod DirectRuns
 pub mod Running
+pub mod Scales
 pub mod Kinds
 pub mod Rows
 pub mod Cuts

@@ -26,3 +26,5 @@ pub mod Along
 pub mod WholeLaws
 pub mod Putting
 pub mod Kept
+pub mod DepthFills
+pub mod Leading

@@ -14,12 +14,12 @@ use Rattle.sizes.proofs.Refusals.{not_done}
 use Rattle.paint.specs.Answers.{Painted}
 use Rattle.rules.specs.Minima.{minima-room}
 use Rattle.screen.specs.Depths.{Depths, depths}
-use Rattle.paint.specs.Painting.{attrs-at, RowLent, words_lent, StepOut, out, refused, left, settled, painted-row}
+use Rattle.paint.specs.Painting.{attrs-at, RowLent, words_lent, StepOut, out, listed, refused, left, settled, painted-row}
 use Rattle.paint.proofs.CommandLaws.{same-lengths}
 use Rattle.paint.specs.Judging.{wide}
 use Rattle.paint.specs.Stepping.{part, with_part, depth-part, with-depth-part, put-depth, Within, Attributes, own-parts, own, in_place, number, row_step, stepped}
 use Rattle.paint.proofs.ScreenParts.{part-is, put_is, ready}
-use Rattle.paint.specs.Running.{goes_on, ended, one_more, run, most, standing, own-step, own-run, row-run, call_step, row-painted}
+use Rattle.paint.specs.Running.{goes_on, ended, one_more, run, most, standing, own-step, own-run, row-run, row-run-on, call_step, row-painted}
 use Rattle.paint.proofs.WholeRuns.{stops, more}
 
 -- steps over the row's own depth words and minima, which are put back in their places

@@ -71,6 +71,27 @@ module _ (step : Depths → List ℕ → List ℕ → StepOut) where
   more zero k g h e = absurd (omega arith)
   more (suc f) k g h e = rw (e, less_one f)
 
+  -- steps that are done together: none, one more, those and others
+  pub onward-none : (g : StepOut) → Onward step 0 g g
+  onward-none g f k h = let i : f - 0 ≡ f = omega arith in let j : k + 0 ≡ k = omega arith in rw (i, j)
+
+  pub onward-more : (n : ℕ) (g o z : StepOut) → Onward step n g o → one_more step o ≡ z → goes_on z.answer ≡ true → Onward step (n + 1) g z
+  onward-more n g o z w e i f k h =
+      let a : f - n - 1 ≡ f - (n + 1) = omega arith in
+      let b : k + n + 1 ≡ k + (n + 1) = omega arith in
+      w f k (omega arith) ∙ more (f - n) (k + n) o (omega arith) (rw e i) ∙ rw (e, a, b)
+
+  pub onward-both : (n m : ℕ) (g o z : StepOut) → Onward step n g o → Onward step m o z → Onward step (n + m) g z
+  onward-both n m g o z w v f k h =
+      let a : f - n - m ≡ f - (n + m) = omega arith in
+      let b : k + n + m ≡ k + (n + m) = omega arith in
+      w f k (omega arith) ∙ v (f - n) (k + n) (omega arith) ∙ rw (a, b)
+
+  -- .. after none nothing has changed
+  pub onward-same : (g o : StepOut) → Onward step 0 g o → g ≡ o
+  unfolding run
+  onward-same g o w = w 0 0 (omega arith)
+
   -- .. at most so many: after k of them the rest gives `all`
   module _ (limit : ℕ) where
     pub record Rest (all now : StepOut) (k : ℕ) : Type 0 where

@@ -15,3 +15,4 @@ pub mod Rows
 pub mod Cuts
 pub mod Named
 pub mod StoredCmds
+pub mod DepthFills

@@ -1,5 +1,5 @@
 //! A row's depth fills, in one loop, as far as each is good. Parts: where a function asks something, its callers have judged it.
-ghost use Rattle.std.specs.Prelude.{◌≡◌, ◌+◌, ◌-◌, ◌*◌, ◌/◌, ◌≤◌, ◌<◌, ℕ, [], ◌∷◌, length};
+ghost use Rattle.std.specs.Prelude.{◌≡◌, ◌+◌, ◌-◌, ◌*◌, ◌/◌, ◌≤◌, ◌<◌, ℕ, [], ◌∷◌, length, get_or};
 ghost use Rattle.sizes.specs.Sizes.{most-layers, piece-size};
 ghost use Rattle.rules.specs.Lists.{join};
 ghost use Rattle.rules.specs.Depth.{write-runs, written};
@@ -10,7 +10,8 @@ ghost use Rattle.screen.specs.Depths.{depths};
 ghost use Rattle.paint.specs.Painting.{word, out, listed};
 ghost use Rattle.paint.specs.Kinds.{Onward};
 ghost use Rattle.paint.specs.Rows.{CalmRow, steps_of, count_of};
-ghost use Rattle.paint.specs.Scales.{tiles_in, depth-words};
+ghost use Rattle.paint.specs.DepthFills.{MarksRun, depth-words};
+ghost use Rattle.paint.specs.Scales.{tiles_in};
 
 use crate::command::{Mark, StoredRow};
 use crate::whole::pieces::Pieces;
@@ -18,6 +19,21 @@ use crate::whole::scale::Scale;
 use cmd::depth_fill::{DepthFill, DepthWords};
 use cmd::piece::PieceWords;
 use sizes::PIECE;
+
+// The unset buckets from `first` on, before hi, get the id: where they end.
+#[inline(always)]
+fn mark_run(depth: &mut [u32], first: usize, hi: usize, id: u32) -> usize
+    requires range { (first < hi) × (hi ≤ length depth.old) }
+    requires unset { get_or depth.old first 0 ≡ 0 }
+    ensures { MarksRun id hi first depth.old depth.new result }
+{
+    let mut b = first;
+    while b < hi && depth[b] == 0 {
+        depth[b] = id;
+        b += 1;
+    }
+    b
+}
 
 // The unset runs of a fill become pieces, and get its id; the minima above each are mended.
 #[inline(always)]
@@ -35,6 +51,7 @@ fn put_depth(
     ensures same { pieces.new.list.ghost_name ≡ pieces.old.list.ghost_name }
     ensures depth { depth.new ≡ written depth.old mark.id (buckets fill.buckets) }
     ensures minima { minima.new ≡ mended-runs (halvings (length depth.old)) minima.old depth.new (write-runs depth.old (buckets fill.buckets)) }
+    ensures long { length minima.new ≡ length minima.old }
     ensures at { pieces.new.at ≡ pieces.old.at + piece-size * length (write-runs depth.old (buckets fill.buckets)) }
     ensures list { pieces.new.list.now ≡ words-at pieces.old.list.now pieces.old.at
         (join (depth-words (tiles_in scale) fill.attrs_idx mark.panel) (write-runs depth.old (buckets fill.buckets))) }
@@ -44,13 +61,7 @@ fn put_depth(
     while b < hi {
         if depth[b] == 0 {
             let first = b;
-            depth[b] = mark.id;
-            b += 1;
-            while b < hi && depth[b] == 0 {
-                depth[b] = mark.id;
-                b += 1;
-            }
-            let _ = first;
+            b = mark_run(depth, first, hi, mark.id);
             pieces.push(PieceWords {
                 tag: 1,
                 attrs_idx: fill.attrs_idx,

@@ -1,0 +1,87 @@
+-- A row's depth fills come first, one step each. Assumes nothing.
+use Rattle.std.proofs.Common.{◌≡◌, refl, sym, ap, ◌∙◌, List, [], ◌∷◌, ◌++◌, map, Option, None, Some, ℕ, ◌+◌, ◌-◌, ◌*◌, ◌/◌, ◌≤◌, ◌<◌, arith, length, append_assoc, drop, drop-drop, length-drop, option_map, lt-ltb, le-ltb}
+use lib.ListN.{length-map}
+use Rattle.sizes.specs.Sizes.{piece-size}
+use Rattle.rules.specs.Lists.{join}
+use Rattle.rules.specs.Spans.{Span}
+use Rattle.rules.specs.Attributes.{Attrs, no-attrs}
+use Rattle.rules.specs.Depth.{write-runs, written}
+use Rattle.rules.specs.Minima.{halvings, mended-runs}
+use Rattle.rules.specs.Painting.{gives, depth-piece}
+use Rattle.span.specs.Spans.{buckets}
+use Rattle.cmd.specs.Attrs.{words-at}
+use Rattle.cmd.specs.DepthFills.{depth-fill}
+use Rattle.cmd.specs.Pieces.{piece-words, laid}
+use Rattle.cmd.specs.declared.depth_fill.DepthFill.{DepthFill}
+use Rattle.screen.specs.Depths.{Depths, depths}
+use Rattle.paint.specs.declared.command.marks.Mark.{Mark}
+use Rattle.paint.specs.Reading.{paint_mark}
+use Rattle.paint.specs.Painting.{word, StepOut, out, listed, painter-at, depth-step, depth-fill-at, fill-minima, settled, next-step, next-minima, painted-row}
+use Rattle.paint.specs.Running.{one_more, own-step}
+use Rattle.paint.specs.Kinds.{Calm, Onward}
+use Rattle.paint.specs.DepthFills.{depth-words}
+use Rattle.paint.proofs.Filling.{room}
+use Rattle.paint.proofs.Steps.{depth_taken}
+use Rattle.paint.proofs.WholeRuns.{onward-more}
+
+-- a depth fill's pieces as words
+pieces-words : (v i p : ℕ) (rs : List Span) → join piece-words (map (depth-piece v no-attrs i p) rs) ≡ join (depth-words v i p) rs
+pieces-words v i p [] = refl
+pieces-words v i p (r ∷ rs) = rw (pieces-words v i p rs)
+
+depth-words-long : (v i p : ℕ) (rs : List Span) → length (join (depth-words v i p) rs) ≡ piece-size * length rs
+depth-words-long v i p [] = refl
+depth-words-long v i p (r ∷ rs) = let h = depth-words-long v i p rs in omega (arith, h)
+
+module _ (v : ℕ) (a : Attrs) (s re fi : List ℕ) (c : Calm s re fi) where
+  abbrev steps : Depths → List ℕ → List ℕ → StepOut
+  steps = own-step v a s re fi
+
+  module _ (q m : ℕ) (h : q < word s 1) (g : m ≤ 16) (D M : List ℕ) where
+    abbrev k : ℕ
+    k = word s 1 - (q + 1)
+
+    taken : (l : List ℕ) → steps (depths D M) (q ∷ m ∷ []) l
+        ≡ settled (depth-step v a (painter-at D (q ∷ m ∷ [])) (depth-fill-at (length D) fi k)) (fill-minima a (depths D M) (depth-fill-at (length D) fi k)) (depths D M) (q ∷ m ∷ []) l
+    unfolding painted-row next-step next-minima
+    taken l =
+        rw (
+          le-ltb (length re) (4 * word s 0) c.renders,
+          le-ltb (length fi) (2 * word s 1) c.depths,
+          le-ltb 16 m g,
+          le-ltb (word s 1 + word s 0) q (omega arith),
+          c.summary,
+          lt-ltb q (word s 1) h,
+        )
+
+    -- the fill and its attribute are good, and the list has room for its pieces
+    module _ (f : DepthFill) (o : Option DepthFill) (e : o ≡ Some f) (read : option_map depth-fill o ≡ depth-fill-at (length D) fi k) (mk : Mark) (w : paint_mark a f.attrs_idx ≡ Some mk) where
+      abbrev rs : List Span
+      rs = write-runs D (buckets f.buckets)
+
+      abbrev ms : List ℕ
+      ms = mended-runs (halvings (length D)) M (written D mk.id (buckets f.buckets)) rs
+
+      abbrev D' : List ℕ
+      D' = written D mk.id (buckets f.buckets)
+
+      abbrev ws : List ℕ
+      ws = join (depth-words v f.attrs_idx mk.panel) rs
+
+      laid-words : (l : List ℕ) → ws ++ drop (length ws) l ≡ laid (map (depth-piece v no-attrs f.attrs_idx mk.panel) rs) l
+      laid-words l = rw (pieces-words v f.attrs_idx mk.panel rs)
+
+      step : (l : List ℕ) → piece-size * length rs ≤ length l
+          → steps (depths D M) (q ∷ m ∷ []) l ≡ out (listed (length rs)) (depths D' ms) ((q + 1) ∷ m ∷ []) (ws ++ drop (length ws) l)
+      step l i =
+          let roomy = room D M (q ∷ m ∷ []) l (gives (map (depth-piece v no-attrs f.attrs_idx mk.panel) rs) D' (q + 1) m) ms D' ms ((q + 1) ∷ m ∷ []) (ws ++ drop (length ws) l) (length rs)
+              (le-ltb (length l / piece-size) (length (map (depth-piece v no-attrs f.attrs_idx mk.panel) rs)) (rw length-map (omega (arith, i)))) refl (rw length-map) refl refl refl (laid-words l) in
+          taken l ∙ sym (depth_taken v a D M (q ∷ m ∷ []) l (depth-fill-at (length D) fi k) o read f e mk (out (listed (length rs)) (depths D' ms) ((q + 1) ∷ m ∷ []) (ws ++ drop (length ws) l)) w roomy)
+
+      -- its words go behind n pieces of the list
+      pub one-fill : (n : ℕ) (l : List ℕ) → piece-size * (n + length rs) ≤ length l
+          → one_more steps (out (listed n) (depths D M) (q ∷ m ∷ []) l) ≡ out (listed (n + length rs)) (depths D' ms) ((q + 1) ∷ m ∷ []) (words-at l (piece-size * n) ws)
+      unfolding one_more
+      one-fill n l i =
+          let later : List ℕ = drop (piece-size * n) l in
+          rw (step later (rw length-drop (omega (arith, i))), drop-drop (length ws) (piece-size * n) l, append_assoc)

@@ -24,7 +24,8 @@ module _ (v : ℕ) (u : Summary) (D : List ℕ) (id : ℕ) (s : Span) (h : s.fir
   searched e rs q = rw (e, q)
 
 -- .. of a fill's words
-module _ (v : ℕ) (u : Summary) (D : List ℕ) (id : ℕ) (c : CmdWords) (f : Fills c) (h : c.span.0 / 65536 < c.span.0 % 65536) (g : c.span.0 % 65536 ≤ length D * v) where
+module _ (v : ℕ) (u : Summary) (D : List ℕ) (id : ℕ) (c : CmdWords) (f : Fills c) (h : c.span.0 / 65536 < c.span.0 % 65536)
+    (g : c.span.0 % 65536 ≤ length D * v) where
   pub whole_shown : can_skip u (word-span c.span.0) id ≡ true → Shows v u D id c (word-span c.span.0 ∷ [])
   whole_shown e = record { good = f; runs = clear v u D id (word-span c.span.0) h g e }
 

@@ -87,7 +87,7 @@ written_from-long : (s id : ℕ) (r : Span) (bs : List ℕ) → length (written_
 written_from-long s id r [] = refl
 written_from-long s id r (x ∷ bs) = ap suc (written_from-long (suc s) id r bs)
 
-written-long : (id : ℕ) (r : Span) (bs : List ℕ) → length (written bs id r) ≡ length bs
+pub written-long : (id : ℕ) (r : Span) (bs : List ℕ) → length (written bs id r) ≡ length bs
 unfolding written
 written-long id r bs = written_from-long 0 id r bs
 

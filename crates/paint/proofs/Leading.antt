@@ -29,7 +29,7 @@ pieces-words : (v i p : ℕ) (rs : List Span) → join piece-words (map (depth-p
 pieces-words v i p [] = refl
 pieces-words v i p (r ∷ rs) = rw (pieces-words v i p rs)
 
-depth-words-long : (v i p : ℕ) (rs : List Span) → length (join (depth-words v i p) rs) ≡ piece-size * length rs
+pub depth-words-long : (v i p : ℕ) (rs : List Span) → length (join (depth-words v i p) rs) ≡ piece-size * length rs
 depth-words-long v i p [] = refl
 depth-words-long v i p (r ∷ rs) = let h = depth-words-long v i p rs in omega (arith, h)
 

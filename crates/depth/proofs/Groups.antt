@@ -14,7 +14,7 @@ use Rattle.rules.specs.Minima.{size, top, minima, half, left-half, right-half, m
 use Rattle.rules.proofs.All.{never}
 use Rattle.rules.proofs.laws.Minima.{size-some, size-above, half-is, half-next, halvings-are, room-covers}
 
-half-zero : half 0 ≡ 1
+pub half-zero : half 0 ≡ 1
 unfolding half size
 half-zero = refl
 
@@ -241,7 +241,7 @@ summary-of-none ws [] e z = no-words ws e
 summary-of-none ws (b ∷ bs) e z = absurd (omega arith)
 
 -- the next power of two is the row's group
-size-power : (k : ℕ) → size k ≡ 2 ^ k
+pub size-power : (k : ℕ) → size k ≡ 2 ^ k
 unfolding size
 size-power zero = refl
 size-power (suc k) = let p = pow-suc 2 k in let h = size-power k in omega arith

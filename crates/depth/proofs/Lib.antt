@@ -2,6 +2,7 @@ pub mod Answering
 pub mod Filling
 pub mod Marking
 pub mod Groups
+pub mod Places
 pub mod Asking
 pub mod Once
 pub mod Searching

@@ -3,6 +3,7 @@ pub mod Filling
 pub mod Marking
 pub mod Groups
 pub mod Places
+pub mod Lifting
 pub mod Asking
 pub mod Once
 pub mod Searching

@@ -132,17 +132,17 @@ module _ (k j b : ℕ) (s : j ≤ k) where
 
 -- a bucket's own word is the place of its group of one
 pub leaf-is : (k b : ℕ) → leaf-place k b ≡ group-place k 0 b
-unfolding leaf-place group-place
-leaf-is zero b = refl
+unfolding leaf-place
+leaf-is zero b = sym (whole-place 0 0 b (omega arith))
 leaf-is (suc k) b =
     by-half b (size k)
-    (λ l. leaf-low k b l ∙ rw (leaf-is k b, ← (place-low k 0 b (omega arith) l)) (let q = place-low k 0 b (omega arith) l in omega arith))
+    (λ l. let p = leaf-low k b l in let i = leaf-is k b in let q = place-low k 0 b (omega arith) l in omega arith)
     (λ g. let p = leaf-high k b g in let i = leaf-is k (b - size k) in let q = place-high k 0 b (omega arith) g in omega arith)
 
 -- .. and its number that of this group
 pub number-first : (k b : ℕ) → b < size k → group-number k 0 b ≡ b
-unfolding group-number size
-number-first zero b h = omega arith
+unfolding size
+number-first zero b h = whole-number 0 0 b (omega arith) ∙ omega arith
 number-first (suc k) b h =
     by-half b (size k)
     (λ l. number-low k 0 b (omega arith) l ∙ number-first k b l)
@@ -150,92 +150,83 @@ number-first (suc k) b h =
 
 -- the groups' words are all within the group
 pub place-within : (k j b : ℕ) → j ≤ k → b < size k → group-place k j b + half j ≤ half k
-unfolding group-place size
-place-within zero j b s h = let e : j ≡ 0 = omega arith in rw e (omega arith)
-place-within (suc k) j b s h = go (leb (suc k) j) refl
-  where
-    go : (t : Bool) → leb (suc k) j ≡ t → group-place (suc k) j b + half j ≤ half (suc k)
-    go true e = let l = leb-true (suc k) j e in let q : j ≡ suc k = omega arith in let w = whole-place (suc k) j b l in let f = ap half q in omega arith
-    go false e =
-        let l = leb-false (suc k) j e in
-        let n = half-next k in
-        by-half b (size k)
-        (λ l'. let p = place-low k j b (omega arith) l' in let i = place-within k j b (omega arith) l' in omega arith)
-        (λ g. let p = place-high k j b (omega arith) g in let i = place-within k j (b - size k) (omega arith) (omega arith) in omega arith)
+unfolding size
+place-within zero j b s h = let w = whole-place 0 j b (omega arith) in let q : j ≡ 0 = omega arith in let f = ap half q in omega arith
+place-within (suc k) j b s h =
+    by-half k j
+    (λ l. let q : j ≡ suc k = omega arith in let w = whole-place (suc k) j b l in let f = ap half q in omega arith)
+    (λ l.
+    let n = half-next k in
+    by-half b (size k)
+    (λ d. let p = place-low k j b l d in let i = place-within k j b l d in omega arith)
+    (λ g. let p = place-high k j b l g in let i = place-within k j (b - size k) l (omega arith) in omega arith))
 
 -- a larger group's number is half of it
 pub number-half : (k j b : ℕ) → j < k → b < size k → group-number k (suc j) b ≡ group-number k j b / 2
 unfolding size
 number-half zero j b s h = absurd (not-suc-le-zero s)
-number-half (suc k) j b s h = go (leb (suc j) k) refl
-  where
-    go : (t : Bool) → leb (suc j) k ≡ t → group-number (suc k) (suc j) b ≡ group-number (suc k) j b / 2
-    go true e =
-        let l = leb-true (suc j) k e in
-        let q : k - j ≡ suc (k - suc j) = omega arith in
-        let z : size (k - j) ≡ size (k - suc j) + size (k - suc j) = ap size q in
-        by-half b (size k)
-        (λ l'. number-low k (suc j) b l l' ∙ number-half k j b l l' ∙ rw (number-low k j b (omega arith) l') refl)
-        (λ g.
-        let a = number-high k (suc j) b l g in
-        let c = number-high k j b (omega arith) g in
-        let i = number-half k j (b - size k) l (omega arith) in
-        omega arith)
-    go false e =
-        let l = leb-false (suc j) k e in
-        let q : k - j ≡ 0 = omega arith in
-        let z : size (k - j) ≡ 1 = ap size q in
-        let w = whole-number (suc k) (suc j) b (omega arith) in
-        by-half b (size k)
-        (λ l'. let a = number-low k j b (omega arith) l' in let c = whole-number k j b (omega arith) in omega arith)
-        (λ g. let a = number-high k j b (omega arith) g in let c = whole-number k j (b - size k) (omega arith) in omega arith)
+number-half (suc k) j b s h =
+    by-half j k
+    (λ l.
+    let q : k - j ≡ suc (k - suc j) = omega arith in
+    let z : size (k - j) ≡ size (k - suc j) + size (k - suc j) = ap size q in
+    by-half b (size k)
+    (λ d. let a = number-low k (suc j) b l d in let c = number-low k j b (omega arith) d in let i = number-half k j b l d in omega arith)
+    (λ g.
+    let a = number-high k (suc j) b l g in
+    let c = number-high k j b (omega arith) g in
+    let i = number-half k j (b - size k) l (omega arith) in
+    omega arith))
+    (λ l.
+    let q : k - j ≡ 0 = omega arith in
+    let z : size (k - j) ≡ 1 = ap size q in
+    let w = whole-number (suc k) (suc j) b (omega arith) in
+    by-half b (size k)
+    (λ d. let a = number-low k j b (omega arith) d in let c = whole-number k j b l in omega arith)
+    (λ g. let a = number-high k j b (omega arith) g in let c = whole-number k j (b - size k) l in omega arith))
 
 -- a group of even number is a left half, one of odd number a right half
-pub turn : (k j b : ℕ) → j < k → b < size k
-    → (group-number k j b % 2 ≡ 0 → group-place k j b ≡ suc (group-place k (suc j) b))
-    × (0 < group-number k j b % 2 → group-place k j b ≡ suc (half j + group-place k (suc j) b))
+pub record Turned (k j b : ℕ) : Type 0 where
+  pub even : group-number k j b % 2 ≡ 0 → group-place k j b ≡ suc (group-place k (suc j) b)
+  pub odd : 0 < group-number k j b % 2 → group-place k j b ≡ suc (half j + group-place k (suc j) b)
+
+pub turn : (k j b : ℕ) → j < k → b < size k → Turned k j b
 unfolding size
 turn zero j b s h = absurd (not-suc-le-zero s)
-turn (suc k) j b s h = go (leb (suc j) k) refl
-  where
-    go : (t : Bool) → leb (suc j) k ≡ t
-        → (group-number (suc k) j b % 2 ≡ 0 → group-place (suc k) j b ≡ suc (group-place (suc k) (suc j) b))
-        × (0 < group-number (suc k) j b % 2 → group-place (suc k) j b ≡ suc (half j + group-place (suc k) (suc j) b))
-    go true e =
-        let l = leb-true (suc j) k e in
-        let q : k - j ≡ suc (k - suc j) = omega arith in
-        let z : size (k - j) ≡ size (k - suc j) + size (k - suc j) = ap size q in
-        by-half b (size k)
-        (λ l'.
-        let i = turn k j b l l' in
-        let a = place-low k j b (omega arith) l' in
-        let c = place-low k (suc j) b l l' in
-        let n = number-low k j b (omega arith) l' in (
-          λ m. let r = i.0 (omega arith) in omega arith,
-          λ m. let r = i.1 (omega arith) in omega arith,
-        ))
-        (λ g.
-        let i = turn k j (b - size k) l (omega arith) in
-        let a = place-high k j b (omega arith) g in
-        let c = place-high k (suc j) b l g in
-        let n = number-high k j b (omega arith) g in (
-          λ m. let r = i.0 (omega arith) in omega arith,
-          λ m. let r = i.1 (omega arith) in omega arith,
-        ))
-    go false e =
-        let l = leb-false (suc j) k e in
-        let q : j ≡ k = omega arith in
-        let z : size (k - j) ≡ 1 = ap size (omega arith) in
-        let f = ap half q in
-        let w = whole-place (suc k) (suc j) b (omega arith) in
-        by-half b (size k)
-        (λ l'.
-        let a = place-low k j b (omega arith) l' in
-        let c = whole-place k j b (omega arith) in
-        let n = number-low k j b (omega arith) l' in
-        let y = whole-number k j b (omega arith) in (λ m. omega arith, λ m. absurd (omega arith)))
-        (λ g.
-        let a = place-high k j b (omega arith) g in
-        let c = whole-place k j (b - size k) (omega arith) in
-        let n = number-high k j b (omega arith) g in
-        let y = whole-number k j (b - size k) (omega arith) in (λ m. absurd (omega arith), λ m. omega arith))
+turn (suc k) j b s h =
+    by-half j k
+    (λ l.
+    let q : k - j ≡ suc (k - suc j) = omega arith in
+    let z : size (k - j) ≡ size (k - suc j) + size (k - suc j) = ap size q in
+    by-half b (size k)
+    (λ d.
+    let i = turn k j b l d in
+    let a = place-low k j b (omega arith) d in
+    let c = place-low k (suc j) b l d in
+    let n = number-low k j b (omega arith) d in
+    record { even = λ m. let r = i.even (omega arith) in omega arith; odd = λ m. let r = i.odd (omega arith) in omega arith })
+    (λ g.
+    let i = turn k j (b - size k) l (omega arith) in
+    let a = place-high k j b (omega arith) g in
+    let c = place-high k (suc j) b l g in
+    let n = number-high k j b (omega arith) g in
+    record { even = λ m. let r = i.even (omega arith) in omega arith; odd = λ m. let r = i.odd (omega arith) in omega arith }))
+    (λ l.
+    let q : j ≡ k = omega arith in
+    let o : k - j ≡ 0 = omega arith in
+    let z : size (k - j) ≡ 1 = ap size o in
+    let f = ap half q in
+    let w = whole-place (suc k) (suc j) b (omega arith) in
+    by-half b (size k)
+    (λ d.
+    let a = place-low k j b (omega arith) d in
+    let c = whole-place k j b l in
+    let n = number-low k j b (omega arith) d in
+    let y = whole-number k j b l in
+    record { even = λ m. omega arith; odd = λ m. absurd (omega arith) })
+    (λ g.
+    let a = place-high k j b (omega arith) g in
+    let c = whole-place k j (b - size k) l in
+    let n = number-high k j b (omega arith) g in
+    let y = whole-number k j (b - size k) l in
+    record { even = λ m. absurd (omega arith); odd = λ m. omega arith }))

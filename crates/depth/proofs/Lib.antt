@@ -4,6 +4,7 @@ pub mod Marking
 pub mod Groups
 pub mod Places
 pub mod Lifting
+pub mod Mending
 pub mod Asking
 pub mod Once
 pub mod Searching

@@ -1,13 +1,12 @@
 -- The groups above a bucket are worked out again from its own word up. Assumes nothing.
-use Rattle.std.proofs.Common.{◌≡◌, refl, sym, ap, ◌∙◌, Bool, true, false, cond, List, [], ◌∷◌, ◌++◌, ℕ, zero, suc, ◌+◌, ◌-◌, ◌/◌, ◌%◌, min, ◌≤◌, ◌<◌, arith, length, get_or, set, take, drop, length-set, length-append, length-take-le, length-drop, leb, ltb, le-leb, lt-ltb, le-ltb, not-suc-le-zero}
-use Rattle.std.proofs.lemmas.List.{get_or_append_left, get_or-append-add, set-append_left, set-append_right}
-use Rattle.std.proofs.Math.Seq.{take-drop}
+use Rattle.std.proofs.Common.{◌≡◌, refl, sym, ap, ◌∙◌, Bool, true, false, cond, List, [], ◌∷◌, ◌++◌, ℕ, zero, suc, ◌+◌, ◌-◌, ◌*◌, ◌/◌, ◌%◌, min, ◌≤◌, ◌<◌, arith, length, get_or, set, take, drop, length-set, length-append, length-take-le, length-drop, leb, ltb, le-leb, lt-ltb, le-ltb, not-suc-le-zero}
+use Rattle.std.proofs.lemmas.List.{take-append-drop, get_or_append_left, get_or-append-add, get_or-set_same, set-append_left, set-append_right}
 use borrow.Author.Tests.{lt-leb}
 use Rattle.rules.specs.Minima.{size, half, top, left-half, right-half}
 use Rattle.rules.proofs.laws.Minima.{size-some, half-is, half-next, left-of, right-of}
 use Rattle.depth.specs.Minima.{leaf-place, lifted}
 use Rattle.depth.proofs.Groups.{group-some, top-is}
-use Rattle.depth.proofs.Places.{by-half, group-place, group-number, whole-place, place-low, place-high, place-within, leaf-is, number-first, number-half, turn, leaf-within, leaf-low, leaf-high}
+use Rattle.depth.proofs.Places.{by-half, group-place, group-number, whole-place, place-low, place-high, place-within, leaf-is, number-first, number-half, turn, leaf-within}
 
 -- a group's words: its top, and those of its halves
 pub record Halves (k : ℕ) (ws : List ℕ) : Type 0 where
@@ -24,7 +23,7 @@ halves-of k (w ∷ ws) e =
     let n = half-next k in
     let a = length-take-le (half k) ws (omega arith) in
     let b = length-drop (half k) ws in
-    record { first = w; left = take (half k) ws; right = drop (half k) ws; words = ap (λ (r : List ℕ). w ∷ r) (sym (take-drop (half k) ws)); left-long = a; right-long = omega arith }
+    record { first = w; left = take (half k) ws; right = drop (half k) ws; words = ap (λ (r : List ℕ). w ∷ r) (sym (take-append-drop (half k) ws)); left-long = a; right-long = omega arith }
 
 -- a group with its top worked out again
 abbrev pub topped : List ℕ → List ℕ → List ℕ
@@ -73,6 +72,15 @@ above-all (suc k) ws b e h =
     above-high k 0 (omega arith) w.first w.left w.right b w.left-long g
     ∙ rw (above-all k w.right (b - size k) w.right-long (omega arith)) (sym (lifted-high k w.first w.left w.right b w.left-long g))))
 
+-- a word behind the left half
+read-right : (l r : List ℕ) (n i m : ℕ) → length l ≡ n → i ≡ n + m → get_or (l ++ r) i 0 ≡ get_or r m 0
+read-right l r n i m a e = rw (e, ← a) (get_or-append-add l r m 0)
+
+set-right : (l r : List ℕ) (n i m v : ℕ) → length l ≡ n → i ≡ n + m → set (l ++ r) i v ≡ l ++ set r m v
+set-right l r n i m v a e =
+    let d : i - n ≡ m = omega arith in
+    set-append_right l r n i v a (omega arith) ∙ ap (λ (x : ℕ). l ++ set r x v) d
+
 -- one group more is worked out: its word is the smaller of its halves' tops
 pub above-next : (k j : ℕ) (ws : List ℕ) (b v : ℕ) → j < k → b < size k → length ws ≡ half k
     → v ≡ min (get_or ws (suc (group-place k (suc j) b)) 0) (get_or ws (suc (half j + group-place k (suc j) b)) 0)
@@ -93,6 +101,8 @@ above-next (suc k) j ws b v s h e q =
     let p = place-low k (suc j) b d low in
     let u = place-within k (suc j) b d low in
     let n = half-next j in
+    let f = half-is j in
+    let o = size-some j in
     let x = get_or_append_left l r 0 (suc (group-place k (suc j) b)) (omega arith) in
     let y = get_or_append_left l r 0 (suc (half j + group-place k (suc j) b)) (omega arith) in
     let z : suc (half j + suc (group-place k (suc j) b)) ≡ suc (suc (half j + group-place k (suc j) b)) = omega arith in
@@ -100,5 +110,162 @@ above-next (suc k) j ws b v s h e q =
     rw (w.words, p, set-append_left l r (group-place k (suc j) b) v (omega arith))
     (above-low k (suc j) d t (set l (group-place k (suc j) b) v) r b (length-set l (group-place k (suc j) b) v ∙ a) low
     ∙ rw (above-next k j l b v d low a q') (sym (above-low k j (omega arith) t l r b a low))))
-    (λ high. ?))
-    (λ d. ?)
+    (λ high.
+    let u = group-place k (suc j) (b - size k) in
+    let p = place-high k (suc j) b d high in
+    let within = place-within k (suc j) (b - size k) d (omega arith) in
+    let n = half-next j in
+    let x = read-right l r (half k) (suc (half k + u)) (suc u) a (omega arith) in
+    let y = read-right l r (half k) (half j + suc (half k + u)) (suc (half j + u)) a (omega arith) in
+    let q' : v ≡ min (get_or r (suc u) 0) (get_or r (suc (half j + u)) 0) = rw (w.words, p, x, y) at q in
+    rw (w.words, p, set-right l r (half k) (half k + u) u v a refl)
+    (above-high k (suc j) d t l (set r u v) b a high
+    ∙ rw (above-next k j r (b - size k) v d (omega arith) c q') (sym (above-high k j (omega arith) t l r b a high)))))
+    (λ d.
+    let p = whole-place (suc k) (suc j) b (omega arith) in
+    let same : j ≡ k = omega arith in
+    let f = ap half same in
+    let some-l = group-some k (length l) a in
+    let some-r = group-some k (length r) c in
+    let x = get_or_append_left l r 0 0 some-l in
+    let y = read-right l r (half k) (half j + 0) 0 a (omega arith) in
+    let q' : v ≡ min (top l) (top r) = (rw (w.words, p, x, y) at q) ∙ rw (top-is l 0 some-l, top-is r 0 some-r) refl in
+    rw (w.words, p) (above-none (suc k) (suc j) (v ∷ l ++ r) b (omega arith)
+    ∙ by-half b (size k)
+    (λ low. rw q' (sym (above-low k j (omega arith) t l r b a low ∙ rw (above-none k j l b d) refl)))
+    (λ high. rw q' (sym (above-high k j (omega arith) t l r b a high ∙ rw (above-none k j r (b - size k) d) refl)))))
+
+-- the loop: the groups above level `level` are still to be worked out again
+pub record Lifting (k : ℕ) (old : List ℕ) (b at number large least : ℕ) (now : List ℕ) : Type 0 where
+  pub level : ℕ
+  pub within : level ≤ k
+  pub place : at ≡ group-place k level b
+  pub which : number ≡ group-number k level b
+  pub large-is : large ≡ size (suc level)
+  pub holds : least ≡ get_or now at 0
+  pub long : length now ≡ half k
+  pub rest : lifted-above k level now b ≡ lifted k old b
+
+-- it begins at the bucket's own word
+pub lift-first : (k : ℕ) (old : List ℕ) (b at id : ℕ) → length old ≡ half k → b < size k → at ≡ leaf-place k b → get_or old at 0 ≡ id → Lifting k old b at b 2 id old
+unfolding size
+lift-first k old b at id e h p g =
+    record {
+      level = 0;
+      within = omega arith;
+      place = p ∙ leaf-is k b;
+      which = sym (number-first k b h);
+      large-is = refl;
+      holds = sym g;
+      long = e;
+      rest = above-all k old b e h;
+    }
+
+-- a turn: the group above is worked out from the one at `at` and the one beside it
+pub record Step (k : ℕ) (old : List ℕ) (b at number large least : ℕ) (now : List ℕ) (up beside : ℕ) : Type 0 where
+  pub smaller : up < at
+  pub up-within : up < length now
+  pub beside-within : beside < length now
+  pub next : (v : ℕ) → v ≡ min least (get_or now beside 0) → Lifting k old b up (number / 2) (large * 2) v (set now up v)
+
+module _ (k : ℕ) (old : List ℕ) (b at number large least : ℕ) (now : List ℕ) (h : b < size k) (m : Lifting k old b at number large least now) where
+  -- at the whole group it ends
+  pub lift-last : at ≤ 0 → now ≡ lifted k old b
+  unfolding size
+  lift-last z =
+      by-half m.level k
+      (λ d.
+      let t = turn k m.level b d h in
+      let p = m.place in
+      by-half 0 (group-number k m.level b % 2) (λ o. let q = t.odd o in absurd (omega arith)) (λ o. let q = t.even (omega arith) in absurd (omega arith)))
+      (λ d. sym (above-none k m.level now b d) ∙ m.rest)
+
+  module _ (some : 0 < at) where
+    further : m.level < k
+    further = by-half m.level k (λ d. d) (λ d. let w = whole-place k m.level b d in let p = m.place in absurd (omega arith))
+
+    abbrev above : ℕ
+    above = group-place k (suc m.level) b
+
+    -- what stands for the sizes
+    record Sizes : Type 0 where
+      next-within : above + suc (half m.level + half m.level) ≤ half k
+      large-of : large ≡ suc (half m.level)
+      half-some : 0 < half m.level
+
+    sizes : Sizes
+    unfolding size
+    sizes =
+        let w = place-within k (suc m.level) b further h in
+        let n = half-next m.level in
+        let f = half-is m.level in
+        let o = size-some m.level in
+        let l = m.large-is in
+        record { next-within = omega arith; large-of = omega arith; half-some = omega arith }
+
+    -- so that no number is too large or too small
+    pub record Fit : Type 0 where
+      pub some-large : 1 ≤ large
+      pub few : large * 2 ≤ half k + 1
+
+    pub fit : Fit
+    fit = let z = sizes in let a = z.next-within in let c = z.large-of in record { some-large = omega arith; few = omega arith }
+
+    step : (up v : ℕ) → up ≡ above → v ≡ min (get_or now (suc above) 0) (get_or now (suc (half m.level + above)) 0) → Lifting k old b up (number / 2) (large * 2) v (set now up v)
+    unfolding size
+    step up v e q =
+        let z = sizes in
+        let a = z.next-within in
+        let l = m.long in
+        record {
+          level = suc m.level;
+          within = further;
+          place = e;
+          which = rw m.which (sym (number-half k m.level b further h));
+          large-is = let g = m.large-is in omega arith;
+          holds = sym (get_or-set_same now up v 0 (omega arith));
+          long = length-set now up v ∙ m.long;
+          rest = rw e (above-next k m.level now b v further h m.long q ∙ m.rest);
+        }
+
+    pub step-left : number % 2 ≡ 0 → Step k old b at number large least now (at - 1) (at + (large - 1))
+    step-left e =
+        let z = sizes in
+        let a = z.next-within in
+        let c = z.large-of in
+        let o = z.half-some in
+        let l = m.long in
+        let t = (turn k m.level b further h).even (let w = m.which in omega arith) in
+        let p = m.place in
+        let i : at ≡ suc above = omega arith in
+        let j : at + (large - 1) ≡ suc (half m.level + above) = omega arith in
+        record {
+          smaller = omega arith;
+          up-within = omega arith;
+          beside-within = omega arith;
+          next = λ v q. step (at - 1) v (omega arith) (rw (m.holds, j, i) at q);
+        }
+
+    -- a right half stands behind the left one
+    right-place : (number % 2 ≡ 0 → ⊥) → at ≡ suc (half m.level + above)
+    right-place e =
+        m.place ∙ (turn k m.level b further h).odd (let w = m.which in rw w at (by-half 0 (number % 2) (λ d. d) (λ d. absurd (e (omega arith)))))
+
+    pub right-behind : (number % 2 ≡ 0 → ⊥) → large ≤ at
+    right-behind e = let z = sizes in let c = z.large-of in let i = right-place e in omega arith
+
+    pub step-right : (number % 2 ≡ 0 → ⊥) → Step k old b at number large least now (at - large) (at - (large - 1))
+    step-right e =
+        let z = sizes in
+        let a = z.next-within in
+        let c = z.large-of in
+        let o = z.half-some in
+        let l = m.long in
+        let i = right-place e in
+        let j : at - (large - 1) ≡ suc above = omega arith in
+        record {
+          smaller = omega arith;
+          up-within = omega arith;
+          beside-within = omega arith;
+          next = λ v q. step (at - large) v (omega arith) (let r = rw (m.holds, j, i) at q in omega arith);
+        }

@@ -6,7 +6,7 @@ use Rattle.rules.specs.Minima.{size, half, top, left-half, right-half}
 use Rattle.rules.proofs.laws.Minima.{size-some, half-is, half-next, left-of, right-of}
 use Rattle.depth.specs.Minima.{leaf-place, lifted}
 use Rattle.depth.proofs.Groups.{group-some, top-is}
-use Rattle.depth.proofs.Places.{by-half, group-place, group-number, whole-place, place-low, place-high, place-within, leaf-is, number-first, number-half, turn, leaf-within}
+use Rattle.depth.proofs.Places.{by-half, group-place, group-number, whole-place, place-low, place-high, place-within, leaf-is, number-first, number-half, turn, leaf-within, leaf-low, leaf-high}
 
 -- a group's words: its top, and those of its halves
 pub record Halves (k : ℕ) (ws : List ℕ) : Type 0 where
@@ -25,6 +25,15 @@ halves-of k (w ∷ ws) e =
     let b = length-drop (half k) ws in
     record { first = w; left = take (half k) ws; right = drop (half k) ws; words = ap (λ (r : List ℕ). w ∷ r) (sym (take-append-drop (half k) ws)); left-long = a; right-long = omega arith }
 
+-- a word behind the left half
+read-right : (l r : List ℕ) (n i m : ℕ) → length l ≡ n → i ≡ n + m → get_or (l ++ r) i 0 ≡ get_or r m 0
+read-right l r n i m a e = rw (e, ← a) (get_or-append-add l r m 0)
+
+set-right : (l r : List ℕ) (n i m v : ℕ) → length l ≡ n → i ≡ n + m → set (l ++ r) i v ≡ l ++ set r m v
+set-right l r n i m v a e =
+    let d : i - n ≡ m = omega arith in
+    set-append_right l r n i v a (omega arith) ∙ ap (λ (x : ℕ). l ++ set r x v) d
+
 -- a group with its top worked out again
 abbrev pub topped : List ℕ → List ℕ → List ℕ
 topped l r = min (top l) (top r) ∷ l ++ r
@@ -37,6 +46,87 @@ module _ (k : ℕ) (t : ℕ) (l r : List ℕ) (b : ℕ) (a : length l ≡ half k
   pub lifted-high : size k ≤ b → lifted (suc k) (t ∷ l ++ r) b ≡ topped l (lifted k r (b - size k))
   unfolding lifted
   lifted-high h = rw (le-ltb b (size k) h, left-of k l r t a, right-of k l r t a)
+
+-- a bucket's own word has no groups below it
+pub lifted-one : (ws : List ℕ) (b : ℕ) → lifted 0 ws b ≡ ws
+unfolding lifted
+lifted-one ws b = refl
+
+-- as many words stay
+pub lifted-long : (k : ℕ) (ws : List ℕ) (b : ℕ) → length ws ≡ half k → b < size k → length (lifted k ws b) ≡ half k
+unfolding size
+lifted-long zero ws b e h = rw (lifted-one ws b) e
+lifted-long (suc k) ws b e h =
+    let w = halves-of k ws e in
+    let n = half-next k in
+    let a = w.left-long in
+    let c = w.right-long in
+    rw w.words (by-half b (size k)
+    (λ low.
+    let i = lifted-long k w.left b w.left-long low in
+    let l = length-append (lifted k w.left b) w.right in
+    rw (lifted-low k w.first w.left w.right b w.left-long low) (omega arith))
+    (λ high.
+    let i = lifted-long k w.right (b - size k) w.right-long (omega arith) in
+    let l = length-append w.left (lifted k w.right (b - size k)) in
+    rw (lifted-high k w.first w.left w.right b w.left-long high) (omega arith)))
+
+-- once more changes nothing
+pub lifted-again : (k : ℕ) (ws : List ℕ) (b : ℕ) → length ws ≡ half k → b < size k → lifted k (lifted k ws b) b ≡ lifted k ws b
+unfolding size
+lifted-again zero ws b e h = ap (λ (x : List ℕ). lifted 0 x b) (lifted-one ws b)
+lifted-again (suc k) ws b e h =
+    let w = halves-of k ws e in
+    rw w.words (by-half b (size k)
+    (λ low.
+    let l = lifted k w.left b in
+    rw (lifted-low k w.first w.left w.right b w.left-long low)
+    (lifted-low k (min (top l) (top w.right)) l w.right b (lifted-long k w.left b w.left-long low) low ∙ rw (lifted-again k w.left b w.left-long low) refl))
+    (λ high.
+    let r = lifted k w.right (b - size k) in
+    rw (lifted-high k w.first w.left w.right b w.left-long high)
+    (lifted-high k (min (top w.left) (top r)) w.left r b w.left-long high ∙ rw (lifted-again k w.right (b - size k) w.right-long (omega arith)) refl)))
+
+-- a bucket's own word stays
+pub own-stays : (k : ℕ) (ws : List ℕ) (a b : ℕ) → length ws ≡ half k → a < size k → b < size k → get_or (lifted k ws b) (leaf-place k a) 0 ≡ get_or ws (leaf-place k a) 0
+unfolding size
+own-stays zero ws a b e g h = ap (λ (x : List ℕ). get_or x (leaf-place 0 a) 0) (lifted-one ws b)
+own-stays (suc k) ws a b e g h =
+    let w = halves-of k ws e in
+    let l = w.left in
+    let r = w.right in
+    let c = w.left-long in
+    rw w.words (by-half a (size k)
+    (λ d.
+    let p = leaf-low k a d in
+    let q : leaf-place (suc k) a ≡ suc (leaf-place k a) = omega arith in
+    let within = leaf-within k a d in
+    by-half b (size k)
+    (λ low.
+    let m = lifted-long k l b c low in
+    rw (lifted-low k w.first l r b c low, q)
+    (get_or_append_left (lifted k l b) r 0 (leaf-place k a) (omega arith)
+    ∙ own-stays k l a b c d low
+    ∙ sym (get_or_append_left l r 0 (leaf-place k a) (omega arith))))
+    (λ high.
+    rw (lifted-high k w.first l r b c high, q)
+    (get_or_append_left l (lifted k r (b - size k)) 0 (leaf-place k a) (omega arith) ∙ sym (get_or_append_left l r 0 (leaf-place k a) (omega arith)))))
+    (λ u.
+    let p = leaf-high k a u in
+    let q : leaf-place (suc k) a ≡ suc (half k + leaf-place k (a - size k)) = omega arith in
+    let x = read-right l r (half k) (half k + leaf-place k (a - size k)) (leaf-place k (a - size k)) c refl in
+    by-half b (size k)
+    (λ low.
+    rw (lifted-low k w.first l r b c low, q)
+    (read-right (lifted k l b) r (half k) (half k + leaf-place k (a - size k)) (leaf-place k (a - size k)) (lifted-long k l b c low) refl ∙ sym x))
+    (λ high.
+    rw (lifted-high k w.first l r b c high, q)
+    (read-right l (lifted k r (b - size k)) (half k) (half k + leaf-place k (a - size k)) (leaf-place k (a - size k)) c refl
+    ∙ own-stays k r (a - size k) (b - size k) w.right-long (omega arith) (omega arith)
+    ∙ sym x))))
+
+pub own-at : (k : ℕ) (ws : List ℕ) (a b at : ℕ) → length ws ≡ half k → a < size k → b < size k → at ≡ leaf-place k a → get_or (lifted k ws b) at 0 ≡ get_or ws at 0
+own-at k ws a b at e g h q = rw q (own-stays k ws a b e g h)
 
 -- .. those above the group of 2 ^ j alone
 unfoldable pub lifted-above : ℕ → ℕ → List ℕ → ℕ → List ℕ
@@ -62,8 +152,8 @@ module _ (k j : ℕ) (s : j ≤ k) (t : ℕ) (l r : List ℕ) (b : ℕ) (a : len
 
 -- those above its own word are all
 pub above-all : (k : ℕ) (ws : List ℕ) (b : ℕ) → length ws ≡ half k → b < size k → lifted-above k 0 ws b ≡ lifted k ws b
-unfolding size lifted
-above-all zero ws b e h = above-none 0 0 ws b (omega arith)
+unfolding size
+above-all zero ws b e h = above-none 0 0 ws b (omega arith) ∙ sym (lifted-one ws b)
 above-all (suc k) ws b e h =
     let w = halves-of k ws e in
     rw w.words (by-half b (size k)
@@ -71,15 +161,6 @@ above-all (suc k) ws b e h =
     (λ g.
     above-high k 0 (omega arith) w.first w.left w.right b w.left-long g
     ∙ rw (above-all k w.right (b - size k) w.right-long (omega arith)) (sym (lifted-high k w.first w.left w.right b w.left-long g))))
-
--- a word behind the left half
-read-right : (l r : List ℕ) (n i m : ℕ) → length l ≡ n → i ≡ n + m → get_or (l ++ r) i 0 ≡ get_or r m 0
-read-right l r n i m a e = rw (e, ← a) (get_or-append-add l r m 0)
-
-set-right : (l r : List ℕ) (n i m v : ℕ) → length l ≡ n → i ≡ n + m → set (l ++ r) i v ≡ l ++ set r m v
-set-right l r n i m v a e =
-    let d : i - n ≡ m = omega arith in
-    set-append_right l r n i v a (omega arith) ∙ ap (λ (x : ℕ). l ++ set r x v) d
 
 -- one group more is worked out: its word is the smaller of its halves' tops
 pub above-next : (k j : ℕ) (ws : List ℕ) (b v : ℕ) → j < k → b < size k → length ws ≡ half k

@@ -27,12 +27,16 @@ half-same zero (suc m) e = let a = half-zero in let b = half-next m in let c = h
 half-same (suc k) zero e = let a = half-zero in let b = half-next k in let c = half-is k in let d = size-some k in absurd (omega arith)
 half-same (suc k) (suc m) e = let a = half-next k in let b = half-next m in ap suc (half-same k m (omega arith))
 
--- an own word's place, in one of the halves
-leaf-low : (k b : ℕ) → b < size k → leaf-place (suc k) b ≡ 1 + leaf-place k b
+-- an own word's place: a group of one bucket's is the first, the others are in one of the halves
+pub leaf-one : (b : ℕ) → leaf-place 0 b ≡ 0
+unfolding leaf-place
+leaf-one b = refl
+
+pub leaf-low : (k b : ℕ) → b < size k → leaf-place (suc k) b ≡ 1 + leaf-place k b
 unfolding leaf-place
 leaf-low k b h = rw (lt-ltb b (size k) h)
 
-leaf-high : (k b : ℕ) → size k ≤ b → leaf-place (suc k) b ≡ 1 + half k + leaf-place k (b - size k)
+pub leaf-high : (k b : ℕ) → size k ≤ b → leaf-place (suc k) b ≡ 1 + half k + leaf-place k (b - size k)
 unfolding leaf-place
 leaf-high k b h = rw (le-ltb b (size k) h)
 
@@ -68,6 +72,19 @@ leaf-within (suc k) b h =
     by-half b (size k)
     (λ l. let i = leaf-within k b l in let p = leaf-low k b l in omega arith)
     (λ g. let i = leaf-within k (b - size k) (omega arith) in let p = leaf-high k b g in omega arith)
+
+-- later buckets' words stand later
+pub leaf-ordered : (k a b : ℕ) → a ≤ b → b < size k → leaf-place k a ≤ leaf-place k b
+unfolding leaf-place size
+leaf-ordered zero a b h g = omega arith
+leaf-ordered (suc k) a b h g =
+    by-half b (size k)
+    (λ l. let i = leaf-ordered k a b h l in let p = leaf-low k a (omega arith) in let q = leaf-low k b l in omega arith)
+    (λ u.
+    let q = leaf-high k b u in
+    by-half a (size k)
+    (λ l. let p = leaf-low k a l in let w = leaf-within k a l in omega arith)
+    (λ l. let p = leaf-high k a l in let i = leaf-ordered k (a - size k) (b - size k) (omega arith) (omega arith) in omega arith))
 
 -- how many set digits a group's number of words has
 pub ones-half : (k : ℕ) → ones (half k) ≡ suc k

@@ -1,56 +1,87 @@
-use Rattle.std.proofs.Common.{rules, ◌≡◌, ◌≤◌, ◌<◌, ◌^◌, ◌+◌, ◌*◌, ◌++◌, ℕ, List, length, get_or, eqb, ◌-◌, ◌/◌, ◌%◌, Bool, true, false, nat_lt, [], ◌∷◌, slice_set, bit_and, bit_or, Fits, w8, w32, w64, Bor, MutBor}
-use Rattle.rules.specs.Spans.{Span}
-use Rattle.rules.specs.Minima.{size, half, minima-room, summary, hidden-in, mended, mended-runs}
-use Rattle.span.specs.Spans as spans
-use Rattle.depth.specs.Answers.{hidden_of}
-use Rattle.depth.specs.Listing.{numbers}
-use Rattle.depth.specs.Minima.{IsGroup, Holds, leaf-place, lifted, hidden-asked}
+-- A fill over the words from the first bucket's own to the last's, and the groups above both worked out.
+use Rattle.std.proofs.Common.{◌≡◌, refl, sym, ap, ◌∙◌, arith, length, ℕ, List, suc, ◌+◌, ◌-◌, ◌<◌, ◌≤◌, get_or}
+use borrow.Rule.Slice.PartMut.{put_mid}
+use Rattle.rules.specs.Minima.{size, half}
+use Rattle.rules.proofs.laws.Minima.{half-is}
+use Rattle.depth.specs.Minima.{leaf-place, lifted}
+use Rattle.depth.proofs.Places.{half-same}
+use Rattle.depth.proofs.Lifting.{own-at}
+use Rattle.depth.proofs.Mending.{Spots, spots, filled, stored, stored-long, stored-at, mends-range, mends-bucket}
+use Rattle.depth.proofs.minima.mend.Goals.{After-place_of-to, After-fill, then-first-last, else-first-last}
 use Rattle.depth.proofs.minima.mend.Goals as goal
 
--- src/minima.rt:117:9
 pub place_of-from-requires : goal.place_of-from-requires
-place_of-from-requires c = ?
+place_of-from-requires c =
+    let g = c.requires.group in
+    let s = spots g.0 _ _ _ _ _ g.1 c.requires.range.0 c.requires.range.1 refl refl in
+    record { group = (g.0, g.1, s.first-within) }
 
--- src/minima.rt:118:9
 pub place_of-to-requires : goal.place_of-to-requires
-place_of-to-requires c = ?
+place_of-to-requires c =
+    let g = c.requires.group in
+    let s = spots g.0 _ _ _ _ _ g.1 c.requires.range.0 c.requires.range.1 refl refl in
+    record { group = (g.0, g.1, s.last-within) }
 
--- src/minima.rt:119:19
+-- where both words stand
+spots-of : (c : After-place_of-to) → Spots c.requires.group.0 (length c.args.minima.now) c.args.first c.args.end c.place_of-from.result c.place_of-to.result
+spots-of c =
+    let g = c.requires.group in
+    spots g.0 _ _ _ _ _ g.1 c.requires.range.0 c.requires.range.1 (c.place_of-from.ensures g.0 g.1) (c.place_of-to.ensures g.0 g.1)
+
 pub overflow_add-to : goal.overflow_add-to
-overflow_add-to c = ?
+overflow_add-to c = let s = spots-of c in omega (arith, s.within)
 
--- src/minima.rt:119:5
 pub offset_bounds-minima-from : goal.offset_bounds-minima-from
-offset_bounds-minima-from c = ?
+offset_bounds-minima-from c = let s = spots-of c in omega (arith, s.ordered, s.within)
 
--- src/minima.rt:119:5
 pub slice_bounds-fill-count : goal.slice_bounds-fill-count
-slice_bounds-fill-count c = ?
+slice_bounds-fill-count c = let s = spots-of c in omega (arith, s.ordered)
 
--- src/minima.rt:119:5
 pub slice_bounds-fill-start : goal.slice_bounds-fill-start
-slice_bounds-fill-start c = ?
+slice_bounds-fill-start c = let s = spots-of c in omega (arith, s.ordered)
 
--- src/minima.rt:119:5
 pub slice_bounds-fill-end : goal.slice_bounds-fill-end
-slice_bounds-fill-end c = ?
+slice_bounds-fill-end c = let s = spots-of c in omega (arith, s.within)
 
--- src/minima.rt:121:9
 pub lift-requires-clause-group : goal.lift-requires-clause-group
-lift-requires-clause-group c = ?
+lift-requires-clause-group c =
+    let g = c.requires.group in
+    let s = spots g.0 _ _ _ _ _ g.1 c.requires.range.0 c.requires.range.1 (c.place_of-from.ensures g.0 g.1) (c.place_of-to.ensures g.0 g.1) in
+    (g.0, stored-long _ _ _ _ _ s.ordered s.within (c.fill.ensures.after (λ y h. h)) ∙ g.1, s.last-within, s.last-is)
 
--- src/minima.rt:121:9
 pub lift-requires-clause-holds : goal.lift-requires-clause-holds
-lift-requires-clause-holds c = ?
+lift-requires-clause-holds c =
+    let g = c.requires.group in
+    let s = spots g.0 _ _ _ _ _ g.1 c.requires.range.0 c.requires.range.1 (c.place_of-from.ensures g.0 g.1) (c.place_of-to.ensures g.0 g.1) in
+    stored-at _ _ _ _ _ s.ordered s.within (c.fill.ensures.after (λ y h. h)) _ s.ordered (omega arith)
 
--- src/minima.rt:123:5
 pub lift-requires-2-clause-group : goal.lift-requires-2-clause-group
-lift-requires-2-clause-group c = ?
+lift-requires-2-clause-group c =
+    let g = c.requires.group in
+    let s = spots g.0 _ _ _ _ _ g.1 c.requires.range.0 c.requires.range.1 (c.place_of-from.ensures g.0 g.1) (c.place_of-to.ensures g.0 g.1) in
+    (g.0, c.if-first-last.auto.minima ∙ stored-long _ _ _ _ _ s.ordered s.within (c.fill.ensures.after (λ y h. h)) ∙ g.1, s.first-within, s.first-is)
 
--- src/minima.rt:123:5
 pub lift-requires-2-clause-holds : goal.lift-requires-2-clause-holds
-lift-requires-2-clause-holds c = ?
+lift-requires-2-clause-holds c =
+    let g = c.requires.group in
+    let s = spots g.0 _ _ _ _ _ g.1 c.requires.range.0 c.requires.range.1 (c.place_of-from.ensures g.0 g.1) (c.place_of-to.ensures g.0 g.1) in
+    let after = c.fill.ensures.after (λ y h. h) in
+    let long = stored-long _ _ _ _ _ s.ordered s.within after ∙ g.1 in
+    let at = stored-at _ _ _ _ _ s.ordered s.within after c.place_of-from.result (omega arith) s.ordered in
+    elim c.if-first-last.branch [
+      | then-first-last w ↦
+        rw (w.minima-is, w.lift.ensures g.0 long) (own-at g.0 _ c.args.first (c.args.end - 1) _ long s.first-within s.last-within s.first-is ∙ at)
+      | else-first-last w ↦ rw w.minima-is at
+    ]
 
--- src/minima.rt:110:1
 pub returns : goal.returns
-returns c = ?
+returns c = λ k ws e m.
+    let s = spots k _ _ _ _ _ e c.requires.range.0 c.requires.range.1 (c.place_of-from.ensures k e) (c.place_of-to.ensures k e) in
+    let after = c.fill.ensures.after (λ y h. h) in
+    let long = stored-long _ _ _ _ _ s.ordered s.within after ∙ e in
+    let is = stored _ _ _ _ _ s.ordered s.within after ∙ rw (s.first-is, s.last-is) refl in
+    c.lift-2.ensures k (c.if-first-last.auto.minima ∙ long)
+    ∙ elim c.if-first-last.branch [
+      | then-first-last w ↦ rw (w.minima-is, w.lift.ensures k long, is) (mends-range k _ ws _ _ _ e c.requires.range.0 m s.last-within)
+      | else-first-last w ↦ rw (w.minima-is, is) (mends-bucket k _ ws _ _ _ e c.requires.range.0 m s.last-within w.if-first-last.false)
+    ]

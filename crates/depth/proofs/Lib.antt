@@ -5,6 +5,7 @@ pub mod Groups
 pub mod Places
 pub mod Lifting
 pub mod Mending
+pub mod Written
 pub mod Asking
 pub mod Once
 pub mod Searching

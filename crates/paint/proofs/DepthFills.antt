@@ -10,7 +10,7 @@ use Rattle.rules.specs.Depth.{is-unset, is-visible, runs-in, write-runs, written
 use Rattle.rules.specs.Minima.{mended, mended-runs}
 use Rattle.cmd.specs.Attrs.{words-at}
 use Rattle.cmd.proofs.Tables.{length_at}
-use Rattle.depth.proofs.Searching.{runs-few, Reached, Ended, reach-first, reach-more, reach-closed, reach-end, runs_closed, runs-end}
+use Rattle.depth.proofs.Searching.{runs-few, unset-visible, Reached, Ended, reach-first, reach-more, reach-closed, reach-end, runs_closed, runs-end}
 use Rattle.depth.specs.Minima.{Holds}
 use Rattle.depth.proofs.Marking.{Marked, mark-first, mark-done, mark-closed}
 use Rattle.paint.specs.DepthFills.{MarksRun, depth-words}
@@ -95,6 +95,14 @@ written-long id r bs = written_from-long 0 id r bs
 pub fill-few : (D : List ℕ) (r : Span) → length (write-runs D r) * 2 ≤ r.end - r.first + 1
 unfolding write-runs
 fill-few D r = runs-few is-unset D r.first r.end
+
+-- its runs are those of the buckets that are visible at id 0
+pub write-runs-visible : (D : List ℕ) (r : Span) → write-runs D r ≡ runs-in (is-visible 0) D r
+unfolding write-runs
+write-runs-visible D r = rw unset-visible
+
+pub put-room : (D : List ℕ) (r : Span) (a l : ℕ) → a + piece-size * length (write-runs D r) ≤ l → a + piece-size * length (runs-in (is-visible 0) D r) ≤ l
+put-room D r a l h = (rw write-runs-visible at h)
 
 -- past the range nothing is left to write
 nothing-left : (id hi i : ℕ) (bs : List ℕ) → hi ≤ i → written bs id (span i hi) ≡ bs

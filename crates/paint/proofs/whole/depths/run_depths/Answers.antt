@@ -5,6 +5,9 @@ use Rattle.rules.specs.Depth.{write-runs}
 use Rattle.span.specs.Spans.{buckets}
 use Rattle.cmd.proofs.Tables.{length_at}
 use Rattle.paint.specs.Painting.{word}
+use Rattle.rules.specs.Lists.{join}
+use Rattle.paint.specs.DepthFills.{depth-words}
+use Rattle.paint.specs.Scales.{tiles_in}
 use Rattle.paint.specs.Reading.{attrs_of}
 use Rattle.paint.proofs.Judging.{paint_some}
 use Rattle.paint.proofs.Steps.{depth_good}
@@ -48,6 +51,7 @@ loop-k-preserved c =
     let above = c.loop-k-test.true in
     let place : c.loop-k.k - 1 ≡ word row.state.now 1 - (here + 1) = omega (arith, so_far.below, c.requires.left, above) in
     let read = (rw (← so_far.depth, place) at (rw c.at-words.ensures at c.read.ensures)) in
+    let rs = write-runs c.loop-k.depth (buckets fill.buckets) in
     let paint = sym c.paint.ensures ∙ c.in-Some-paint.is in
     record {
       below = omega (arith, so_far.below);
@@ -55,7 +59,7 @@ loop-k-preserved c =
       same = put.same ∙ so_far.same;
       depth = ap length put.depth ∙ written-long c.in-Some-paint.mark.id (buckets fill.buckets) c.loop-k.depth ∙ so_far.depth;
       minima = put.long ∙ so_far.minima;
-      list = ap length put.list ∙ length_at _ _ _ (rw depth-words-long (room at)) ∙ so_far.list;
+      list = ap length put.list ∙ length_at c.loop-k.pieces.list.now c.loop-k.pieces.at (join (depth-words (tiles_in c.of-scale.result) fill.attrs_idx c.in-Some-paint.mark.panel) rs) (rw depth-words-long (room at)) ∙ so_far.list;
       onward = λ m h.
         rw (put.minima, put.depth)
         (on-fill _ _ _ _ _ c.requires.calm here m (omega (arith, so_far.below, c.requires.left, above)) h c.loop-k.depth c.loop-k.minima fill c.read.result c.in-Some.is read

@@ -58,21 +58,24 @@ pub struct Went {
     pub ended: bool,
 }
 
-/// The row's next steps, at most `limit`, as far as one look settles each: its depth fills, then its commands. It refuses nothing: what it leaves is judged step
-/// by step. The row's depth words, the minima above them and its painting words are lent one by one.
+// The row's next steps, at most `limit`, as far as one look settles each, into a list of which nothing is written.
 #[inline(always)]
-pub fn run_sure(
+fn run_into(
     row: &StoredRow<'_>,
     depth: &mut [u32],
     minima: &mut [u32],
     painting: &mut [u32],
-    list: &mut [u32],
+    pieces: &mut Pieces<'_>,
     limit: usize,
 ) -> Went
     requires lens { (length depth.old ≤ 65535) × (length minima.old ≡ minima-room (length depth.old)) × (length painting.old ≡ 2) }
     requires limit { limit ≤ most }
-    ensures long { (length depth.new ≡ length depth.old) × (length minima.new ≡ length minima.old) × (length painting.new ≡ 2) × (length list.new ≡ length list.old) }
-    ensures sure { Sure row.now limit result (depths depth.old minima.old) painting.old list.old (depths depth.new minima.new) painting.new list.new }
+    requires none { pieces.old.at ≡ 0 }
+    ensures same { pieces.new.list.ghost_name ≡ pieces.old.list.ghost_name }
+    ensures long { (length depth.new ≡ length depth.old) × (length minima.new ≡ length minima.old) × (length painting.new ≡ 2)
+        × (length pieces.new.list.now ≡ length pieces.old.list.now) }
+    ensures sure { Sure row.now limit result (depths depth.old minima.old) painting.old pieces.old.list.now
+        (depths depth.new minima.new) painting.new pieces.new.list.now }
 {
     let depths = row.state[DEPTHS];
     let renders = row.state[RENDERS];
@@ -90,31 +93,50 @@ pub fn run_sure(
             ended: false,
         };
     }
-    let mut out = Pieces::new(list);
     let mut steps: usize = 0;
     if done < depths {
         let left = (depths - done) as usize;
-        steps = run_depths(row, depth, minima, left, limit, &mut out);
+        steps = run_depths(row, depth, minima, left, limit, pieces);
         painting[0] = done + steps as u32;
         if limit <= steps || steps < left {
             return Went {
                 steps,
-                pieces: out.count(),
+                pieces: pieces.count(),
                 ended: false,
             };
         }
     }
     let start = (done + steps as u32 - depths) as usize;
     let stop = (renders as usize).min(start + (limit - steps));
-    let reached = run_commands(row, depth, &mut out, start, stop, nesting);
+    let reached = run_commands(row, depth, pieces, start, stop, nesting);
     painting[0] = depths + reached.at as u32;
     painting[1] = reached.nesting;
     let all = steps + (reached.at - start);
     Went {
         steps: all,
-        pieces: out.count(),
+        pieces: pieces.count(),
         ended: reached.at == renders as usize && all < limit,
     }
+}
+
+/// The row's next steps, at most `limit`, as far as one look settles each: its depth fills, then its commands. It refuses nothing: what it leaves is judged step
+/// by step. The row's depth words, the minima above them and its painting words are lent one by one.
+#[inline(always)]
+pub fn run_sure(
+    row: &StoredRow<'_>,
+    depth: &mut [u32],
+    minima: &mut [u32],
+    painting: &mut [u32],
+    list: &mut [u32],
+    limit: usize,
+) -> Went
+    requires lens { (length depth.old ≤ 65535) × (length minima.old ≡ minima-room (length depth.old)) × (length painting.old ≡ 2) }
+    requires limit { limit ≤ most }
+    ensures long { (length depth.new ≡ length depth.old) × (length minima.new ≡ length minima.old) × (length painting.new ≡ 2) × (length list.new ≡ length list.old) }
+    ensures sure { Sure row.now limit result (depths depth.old minima.old) painting.old list.old (depths depth.new minima.new) painting.new list.new }
+{
+    let mut out = Pieces::new(list);
+    run_into(row, depth, minima, painting, &mut out, limit)
 }
 
 // The rest of a run of at most `limit` steps, each by itself, until one is refused or the row is finished. Refused, 4 or 14, only where the run's first step is.

@@ -1,15 +1,15 @@
 -- A write of one id over neighbouring buckets mends the groups that have one of them. Assumes nothing.
-use Rattle.std.proofs.Common.{◌≡◌, refl, sym, ap, ◌∙◌, Bool, true, false, cond, List, [], ◌∷◌, ◌++◌, ℕ, zero, suc, ◌+◌, ◌-◌, ◌*◌, min, ◌≤◌, ◌<◌, arith, length, get_or, get_or-take, get_or-drop, take, drop, replicate, length-append, length-take, length-drop, leb, le-leb, not-suc-le-zero, le_of_suc-le-suc}
+use Rattle.std.proofs.Common.{◌≡◌, refl, sym, ap, ◌∙◌, List, [], ◌∷◌, ◌++◌, ℕ, zero, suc, ◌+◌, ◌-◌, ◌*◌, min, ◌≤◌, ◌<◌, arith, length, get_or, get_or-take, get_or-drop, take, drop, replicate, length-take, length-drop, not-suc-le-zero, le_of_suc-le-suc}
 use borrow.Author.Tests.{lt-leb}
 use lib.ListN.{length-replicate}
-use Rattle.std.proofs.lemmas.List.{get_or_append_left, get_or-append-add, replicate-append-replicate}
+use Rattle.std.proofs.lemmas.List.{replicate-append-replicate}
 use borrow.Rule.Slice.PartMut.{put_mid, mid_of, mid_len, Post-is}
-use Rattle.rules.specs.Minima.{size, half, top, left-half, right-half, mended}
+use Rattle.rules.specs.Minima.{size, half, top, mended}
 use Rattle.rules.proofs.laws.Minima.{size-some, half-is, half-next, left-of, right-of}
 use Rattle.depth.specs.Minima.{leaf-place, lifted, Holds}
 use Rattle.depth.proofs.Groups.{no-words, half-zero, group-some, top-is, mended-none}
 use Rattle.depth.proofs.Places.{by-half, leaf-within, leaf-one, leaf-low, leaf-high, leaf-ordered}
-use Rattle.depth.proofs.Lifting.{Halves, lifted-one, halves-of, topped, lifted-low, lifted-high, lifted-long, lifted-again, own-stays}
+use Rattle.depth.proofs.Lifting.{lifted-one, halves-of, topped, lifted-low, lifted-high, lifted-long, lifted-again}
 
 -- a list with x in the words from place p up to place q
 unfoldable pub filled : ℕ → List ℕ → ℕ → ℕ → List ℕ
@@ -134,7 +134,7 @@ unfolding mended
 mended-halves k t l r ws a b e h = rw (lt-leb b a h, left-of k l r t e, right-of k l r t e) refl
 
 -- all words of a group that holds the id
-topped-same : (k id : ℕ) → topped (replicate (half k) id) (replicate (half k) id) ≡ replicate (half (suc k)) id
+pub topped-same : (k id : ℕ) → topped (replicate (half k) id) (replicate (half k) id) ≡ replicate (half (suc k)) id
 topped-same k id = go (half k) (group-some k (half k) refl) ∙ ap (λ (n : ℕ). replicate n id) (sym (half-next k))
   where
     go : (n : ℕ) → 0 < n → topped (replicate n id) (replicate n id) ≡ replicate (suc (n + n)) id

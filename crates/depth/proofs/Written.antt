@@ -56,6 +56,7 @@ module _ (p : ℕ → Bool) (f : ℕ → ℕ) (hi : ℕ) where
     where
       next : (i j : ℕ) → i + suc j ≡ suc i + j
       next i j = omega arith
+
       go : (t : Bool) → p (f i) ≡ t → All (Shown p f (suc i) hi) (bucket-runs p (suc i) bs)
           → All (Shown p f i hi) (cond t (join-run i (bucket-runs p (suc i) bs)) (bucket-runs p (suc i) bs))
       go true q a = join-shown i (bucket-runs p (suc i) bs) (omega arith) q a

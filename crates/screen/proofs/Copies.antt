@@ -1,10 +1,10 @@
 -- Copies of a row's minima, one behind the other, made by copying what is there. Assumes nothing.
-use Rattle.std.proofs.Common.{◌≡◌, refl, sym, ap, ◌∙◌, Bool, true, false, List, [], ◌∷◌, ◌++◌, append_assoc, ℕ, zero, suc, ◌+◌, ◌-◌, ◌*◌, min, ◌≤◌, ◌<◌, zero-add, suc-add, zero-mul, suc-mul, add-mul, mul-le-mul_right, arith, length, length-append, length-take-le, length-drop, drop-drop, take_at, drop_at, replicate, take, drop}
+use Rattle.std.proofs.Common.{◌≡◌, refl, sym, ap, ◌∙◌, List, [], ◌++◌, append_assoc, ℕ, zero, suc, ◌+◌, ◌-◌, ◌*◌, min, ◌≤◌, ◌<◌, zero-add, suc-add, zero-mul, suc-mul, add-mul, mul-le-mul_right, arith, length, length-append, length-take-le, length-drop, drop-drop, take_at, drop_at, replicate, take, drop}
 use Rattle.std.proofs.lemmas.List.{take-append-drop, append-nil, take-replicate, drop-replicate, replicate-append-replicate}
 use lib.ListN.{length-replicate}
 use Rattle.rules.specs.Lists.{join}
-use Rattle.rules.specs.Minima.{size, half, top, minima, halvings, summary, minima-room}
-use Rattle.rules.proofs.laws.Minima.{size-some, size-above, half-is, half-next, halvings-are, length-summary}
+use Rattle.rules.specs.Minima.{size, half, minima, halvings, summary, minima-room}
+use Rattle.rules.proofs.laws.Minima.{half-is, length-summary}
 use Rattle.depth.proofs.Groups.{no-words, room-of-some, summary-of-some}
 use Rattle.depth.proofs.Mending.{topped-same}
 use Rattle.depth.proofs.Places.{by-half}
@@ -112,7 +112,7 @@ module _ (n room : ℕ) (old : List ℕ) (some : 0 < n) (long : length old ≡ n
           let a = m.all in
           let s = m.some in
           let copied : part ≡ copies e (take room old) =
-              copy ∙ rw (front-is, q) (ap (λ (k : ℕ). take (e * k) (copies m.made (take room old))) (sym one-long) ∙ copies-first (take room old) e m.made h)
+          copy ∙ rw (front-is, q) (ap (λ (k : ℕ). take (e * k) (copies m.made (take room old))) (sym one-long) ∙ copies-first (take room old) e m.made h)
           in
           let rest : drop more back ≡ drop (done + more) old = ap (drop more) back-is ∙ drop-drop more done old in
           record {

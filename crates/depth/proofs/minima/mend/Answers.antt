@@ -65,7 +65,7 @@ lift-requires-2-clause-holds c =
     let at = stored-at _ _ _ _ _ s.ordered s.within after c.place_of-from.result (omega arith) s.ordered in
     elim c.if-first-last.branch [
       | then-first-last w ↦
-        rw (w.minima-is, w.lift.ensures g.0 long) (own-at g.0 _ c.args.first (c.args.end - 1) _ long s.first-within s.last-within s.first-is ∙ at)
+          rw (w.minima-is, w.lift.ensures g.0 long) (own-at g.0 _ c.args.first (c.args.end - 1) _ long s.first-within s.last-within s.first-is ∙ at)
       | else-first-last w ↦ rw w.minima-is at
     ]
 

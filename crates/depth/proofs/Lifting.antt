@@ -1,5 +1,5 @@
 -- The groups above a bucket are worked out again from its own word up. Assumes nothing.
-use Rattle.std.proofs.Common.{◌≡◌, refl, sym, ap, ◌∙◌, Bool, true, false, cond, List, [], ◌∷◌, ◌++◌, ℕ, zero, suc, ◌+◌, ◌-◌, ◌*◌, ◌/◌, ◌%◌, min, ◌≤◌, ◌<◌, arith, length, get_or, set, take, drop, length-set, length-append, length-take-le, length-drop, leb, ltb, le-leb, lt-ltb, le-ltb, not-suc-le-zero}
+use Rattle.std.proofs.Common.{◌≡◌, refl, sym, ap, ◌∙◌, cond, List, [], ◌∷◌, ◌++◌, ℕ, zero, suc, ◌+◌, ◌-◌, ◌*◌, ◌/◌, ◌%◌, min, ◌≤◌, ◌<◌, arith, length, get_or, set, take, drop, length-set, length-append, length-take-le, length-drop, leb, ltb, le-leb, lt-ltb, le-ltb, not-suc-le-zero}
 use Rattle.std.proofs.lemmas.List.{take-append-drop, get_or_append_left, get_or-append-add, get_or-set_same, set-append_left, set-append_right}
 use borrow.Author.Tests.{lt-leb}
 use Rattle.rules.specs.Minima.{size, half, top, left-half, right-half}

@@ -1,15 +1,15 @@
 -- A write of one id over neighbouring buckets mends the groups that have one of them. Assumes nothing.
-use Rattle.std.proofs.Common.{◌≡◌, refl, sym, ap, ◌∙◌, Bool, true, false, cond, List, [], ◌∷◌, ◌++◌, ℕ, zero, suc, ◌+◌, ◌-◌, ◌*◌, min, ◌≤◌, ◌<◌, arith, length, get_or, get_or-take, get_or-drop, take, drop, replicate, length-append, length-take, length-drop, leb, le-leb, not-suc-le-zero, le_of_suc-le-suc}
+use Rattle.std.proofs.Common.{◌≡◌, refl, sym, ap, ◌∙◌, List, [], ◌∷◌, ◌++◌, ℕ, zero, suc, ◌+◌, ◌-◌, ◌*◌, min, ◌≤◌, ◌<◌, arith, length, get_or, get_or-take, get_or-drop, take, drop, replicate, length-take, length-drop, not-suc-le-zero, le_of_suc-le-suc}
 use borrow.Author.Tests.{lt-leb}
 use lib.ListN.{length-replicate}
-use Rattle.std.proofs.lemmas.List.{get_or_append_left, get_or-append-add, replicate-append-replicate}
+use Rattle.std.proofs.lemmas.List.{replicate-append-replicate}
 use borrow.Rule.Slice.PartMut.{put_mid, mid_of, mid_len, Post-is}
-use Rattle.rules.specs.Minima.{size, half, top, left-half, right-half, mended}
+use Rattle.rules.specs.Minima.{size, half, top, mended}
 use Rattle.rules.proofs.laws.Minima.{size-some, half-is, half-next, left-of, right-of}
 use Rattle.depth.specs.Minima.{leaf-place, lifted, Holds}
 use Rattle.depth.proofs.Groups.{no-words, half-zero, group-some, top-is, mended-none}
 use Rattle.depth.proofs.Places.{by-half, leaf-within, leaf-one, leaf-low, leaf-high, leaf-ordered}
-use Rattle.depth.proofs.Lifting.{Halves, lifted-one, halves-of, topped, lifted-low, lifted-high, lifted-long, lifted-again, own-stays}
+use Rattle.depth.proofs.Lifting.{lifted-one, halves-of, topped, lifted-low, lifted-high, lifted-long, lifted-again}
 
 -- a list with x in the words from place p up to place q
 unfoldable pub filled : ℕ → List ℕ → ℕ → ℕ → List ℕ
@@ -134,7 +134,7 @@ unfolding mended
 mended-halves k t l r ws a b e h = rw (lt-leb b a h, left-of k l r t e, right-of k l r t e) refl
 
 -- all words of a group that holds the id
-topped-same : (k id : ℕ) → topped (replicate (half k) id) (replicate (half k) id) ≡ replicate (half (suc k)) id
+pub topped-same : (k id : ℕ) → topped (replicate (half k) id) (replicate (half k) id) ≡ replicate (half (suc k)) id
 topped-same k id = go (half k) (group-some k (half k) refl) ∙ ap (λ (n : ℕ). replicate n id) (sym (half-next k))
   where
     go : (n : ℕ) → 0 < n → topped (replicate n id) (replicate n id) ≡ replicate (suc (n + n)) id
@@ -153,8 +153,13 @@ whole (suc k) g ws id e h =
     let n : size k + size k - size k ≡ size k = omega arith in
     let o : 0 - size k ≡ 0 = omega arith in
     rw w.words (mended-halves k w.first w.left w.right ws 0 (size k + size k) w.left-long (omega arith)
-    ∙ rw (m, n, o, whole k w.left (take (size k) ws) id w.left-long (holds-low (size k) ws 0 (size k + size k) (size k) id h (omega arith) (omega arith)),
-      whole k w.right (drop (size k) ws) id w.right-long (holds-high (size k) ws 0 (size k + size k) 0 (size k) id h (omega arith) (omega arith)))
+    ∙ rw (
+      m,
+      n,
+      o,
+      whole k w.left (take (size k) ws) id w.left-long (holds-low (size k) ws 0 (size k + size k) (size k) id h (omega arith) (omega arith)),
+      whole k w.right (drop (size k) ws) id w.right-long (holds-high (size k) ws 0 (size k + size k) 0 (size k) id h (omega arith) (omega arith)),
+    )
     (topped-same k id))
 
 -- a write from bucket a to the group's end
@@ -179,8 +184,14 @@ mends-behind (suc k) g ws a id e h m =
     let q : leaf-place (suc k) a ≡ suc (leaf-place k a) = omega arith in
     let within = leaf-within k a low in
     let o : a - size k ≡ 0 = omega arith in
-    rw (q, n, filled-word id t (l ++ r) (leaf-place k a) (half k + half k), filled-both id (half k) l r c (leaf-place k a) (half k) (omega arith),
-      filled-all id r (half k) (omega (arith, w.right-long)), w.right-long)
+    rw (
+      q,
+      n,
+      filled-word id t (l ++ r) (leaf-place k a) (half k + half k),
+      filled-both id (half k) l r c (leaf-place k a) (half k) (omega arith),
+      filled-all id r (half k) (omega (arith, w.right-long)),
+      w.right-long,
+    )
     (lifted-low k t (filled id l (leaf-place k a) (half k)) (replicate (half k) id) a (filled-long id l (leaf-place k a) (half k) ∙ c) low
     ∙ rw (mends-behind k l (take (size k) ws) a id c low (holds-low (size k) ws a (size k + size k) (size k) id m (omega arith) (omega arith)))
     (sym (right ∙ rw (x, y, o, whole k r (drop (size k) ws) id w.right-long (holds-high (size k) ws a (size k + size k) 0 (size k) id m (omega arith) (omega arith))) refl))))
@@ -221,8 +232,13 @@ mends-before (suc k) g ws b id e h m =
     let q : suc (leaf-place (suc k) b) ≡ suc (half k + suc (leaf-place k (b - size k))) = omega arith in
     let x : min (suc b) (size k) ≡ size k = omega arith in
     let y : suc b - size k ≡ suc (b - size k) = omega arith in
-    rw (q, filled-first id t (l ++ r) (half k + suc (leaf-place k (b - size k))), filled-both id (half k) l r c 0 (suc (leaf-place k (b - size k))) (omega arith),
-      filled-all id l (half k) (omega (arith, c)), c)
+    rw (
+      q,
+      filled-first id t (l ++ r) (half k + suc (leaf-place k (b - size k))),
+      filled-both id (half k) l r c 0 (suc (leaf-place k (b - size k))) (omega arith),
+      filled-all id l (half k) (omega (arith, c)),
+      c,
+    )
     (lifted-high k id (replicate (half k) id) (filled id r 0 (suc (leaf-place k (b - size k)))) b (length-replicate (half k) id) high
     ∙ rw (mends-before k r (drop (size k) ws) (b - size k) id w.right-long (omega arith) (holds-high (size k) ws 0 (suc b) 0 (suc (b - size k)) id m (omega arith) (omega arith)))
     (sym (right ∙ rw (x, y, o, whole k l (take (size k) ws) id c (holds-low (size k) ws 0 (suc b) (size k) id m (omega arith) (omega arith))) refl)))))
@@ -251,8 +267,13 @@ mends-between (suc k) g ws a b id e f h m =
     let x : min (suc b) (size k) ≡ suc b = omega arith in
     let s = filled id l (leaf-place k a) (suc (leaf-place k b)) in
     let long = filled-long id l (leaf-place k a) (suc (leaf-place k b)) ∙ c in
-    rw (p', q', filled-word id t (l ++ r) (leaf-place k a) (suc (leaf-place k b)), filled-left id (half k) l r c (leaf-place k a) (suc (leaf-place k b)) within,
-      lifted-low k t s r b long low)
+    rw (
+      p',
+      q',
+      filled-word id t (l ++ r) (leaf-place k a) (suc (leaf-place k b)),
+      filled-left id (half k) l r c (leaf-place k a) (suc (leaf-place k b)) within,
+      lifted-low k t s r b long low,
+    )
     (lifted-low k (min (top (lifted k s b)) (top r)) (lifted k s b) r a (lifted-long k s b long low) (omega arith)
     ∙ rw (mends-between k l (take (size k) ws) a b id c f low (holds-low (size k) ws a (suc b) (suc b) id m (omega arith) (omega arith)))
     (sym (right ∙ rw (x, ← (mended-none k r (drop (size k) ws) (a - size k) (suc b - size k) (omega arith))) refl))))
@@ -270,22 +291,34 @@ mends-between (suc k) g ws a b id e f h m =
     let s = filled id l (leaf-place k a) (half k) in
     let u = filled id r 0 (suc (leaf-place k (b - size k))) in
     let long = filled-long id l (leaf-place k a) (half k) ∙ c in
-    rw (p', q', filled-word id t (l ++ r) (leaf-place k a) (half k + suc (leaf-place k (b - size k))),
-      filled-both id (half k) l r c (leaf-place k a) (suc (leaf-place k (b - size k))) (omega arith), lifted-high k t s u b long high)
+    rw (
+      p',
+      q',
+      filled-word id t (l ++ r) (leaf-place k a) (half k + suc (leaf-place k (b - size k))),
+      filled-both id (half k) l r c (leaf-place k a) (suc (leaf-place k (b - size k))) (omega arith),
+      lifted-high k t s u b long high,
+    )
     (lifted-low k (min (top s) (top (lifted k u (b - size k)))) s (lifted k u (b - size k)) a long d
-    ∙ rw (mends-behind k l (take (size k) ws) a id c d (holds-low (size k) ws a (suc b) (size k) id m (omega arith) (omega arith)),
-      mends-before k r (drop (size k) ws) (b - size k) id w.right-long (omega arith) (holds-high (size k) ws a (suc b) 0 (suc (b - size k)) id m (omega arith) (omega arith)))
+    ∙ rw (
+      mends-behind k l (take (size k) ws) a id c d (holds-low (size k) ws a (suc b) (size k) id m (omega arith) (omega arith)),
+      mends-before k r (drop (size k) ws) (b - size k) id w.right-long (omega arith) (holds-high (size k) ws a (suc b) 0 (suc (b - size k)) id m (omega arith) (omega arith)),
+    )
     (sym (right ∙ rw (x, y, o) refl))))
     (λ d.
     let p = leaf-high k a d in
     let p' : leaf-place (suc k) a ≡ suc (half k + leaf-place k (a - size k)) = omega arith in
     let q' : leaf-place (suc k) b ≡ half k + suc (leaf-place k (b - size k)) = omega arith in
     let s = filled id r (leaf-place k (a - size k)) (suc (leaf-place k (b - size k))) in
-    rw (p', q', filled-word id t (l ++ r) (half k + leaf-place k (a - size k)) (half k + suc (leaf-place k (b - size k))),
-      filled-right id (half k) l r c (leaf-place k (a - size k)) (suc (leaf-place k (b - size k))), lifted-high k t l s b c high)
+    rw (
+      p',
+      q',
+      filled-word id t (l ++ r) (half k + leaf-place k (a - size k)) (half k + suc (leaf-place k (b - size k))),
+      filled-right id (half k) l r c (leaf-place k (a - size k)) (suc (leaf-place k (b - size k))),
+      lifted-high k t l s b c high,
+    )
     (lifted-high k (min (top l) (top (lifted k s (b - size k)))) l (lifted k s (b - size k)) a c d
     ∙ rw (mends-between k r (drop (size k) ws) (a - size k) (b - size k) id w.right-long (omega arith) (omega arith)
-      (holds-high (size k) ws a (suc b) (a - size k) (suc (b - size k)) id m (omega arith) (omega arith)))
+    (holds-high (size k) ws a (suc b) (a - size k) (suc (b - size k)) id m (omega arith) (omega arith)))
     (sym (right ∙ rw (x, y, ← (mended-none k l (take (size k) ws) a (size k) d)) refl))))))
 
 -- where a range's first and last bucket have their own words, in n words

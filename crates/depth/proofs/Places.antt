@@ -1,11 +1,11 @@
 -- Where the groups that have a bucket stand, by their sizes. Assumes nothing.
-use Rattle.std.proofs.Common.{◌≡◌, refl, sym, ap, ◌∙◌, Bool, true, false, cond, ℕ, zero, suc, ◌+◌, ◌-◌, ◌*◌, ◌/◌, ◌%◌, ◌^◌, ◌≤◌, ◌<◌, arith, leb, ltb, leb-true, leb-false, le-leb, lt-ltb, le-ltb, ltb-true, ltb-false, not-suc-le-zero}
+use Rattle.std.proofs.Common.{◌≡◌, refl, sym, ap, ◌∙◌, Bool, true, false, cond, ℕ, zero, suc, ◌+◌, ◌-◌, ◌*◌, ◌/◌, ◌%◌, ◌^◌, ◌≤◌, ◌<◌, arith, leb, ltb, le-leb, lt-ltb, le-ltb, ltb-true, ltb-false, not-suc-le-zero}
 use Rattle.std.proofs.Math.Nat.{pow-suc}
 use native.Mathlib.Nat.{sub-zero}
 use borrow.Author.Tests.{lt-leb}
 use lib.Count.{ones, ones_cat, ones-ones}
 use Rattle.std.proofs.lemmas.Nat.Bits.{ones_shr}
-use Rattle.std.proofs.lemmas.Nat.{leading_length, ones_le_self}
+use Rattle.std.proofs.lemmas.Nat.{leading_length}
 use Rattle.std.specs.Int.Count.{count_leading_zeros}
 use Rattle.rules.specs.Minima.{size, half, minima-room}
 use Rattle.rules.proofs.laws.Minima.{size-some, half-is, half-next}

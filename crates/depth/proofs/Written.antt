@@ -1,9 +1,9 @@
 -- What a row's words hold after the writing form: each run that it found holds the id. Assumes nothing.
-use Rattle.std.proofs.Common.{◌≡◌, refl, sym, ap, ◌∙◌, Bool, true, false, cond, List, [], ◌∷◌, ◌++◌, ℕ, zero, suc, ◌+◌, ◌-◌, ◌*◌, ◌≤◌, ◌<◌, zero-add, add-suc, suc-add, add-zero, arith, length, get_or, take, drop, get_or-take, get_or-drop, length-take, length-drop, leb, ltb, eqb, leb-true, le-leb, lt-ltb, eqb-true, eq-eqb, not-suc-le-zero, le_of_suc-le-suc}
+use Rattle.std.proofs.Common.{◌≡◌, refl, sym, ap, ◌∙◌, Bool, true, false, cond, List, [], ◌∷◌, ◌++◌, ℕ, zero, suc, ◌+◌, ◌-◌, ◌*◌, ◌≤◌, ◌<◌, zero-add, add-suc, suc-add, add-zero, arith, length, get_or, drop, get_or-take, get_or-drop, length-take, length-drop, eqb, leb-true, le-leb, lt-ltb, eqb-true, not-suc-le-zero, le_of_suc-le-suc}
 use Rattle.rules.specs.Lists.{slice}
 use Rattle.rules.specs.Spans.{Span, span, covers}
 use Rattle.rules.specs.Depth.{join-run, bucket-runs, runs-in, is-visible, write, written, written_from}
-use Rattle.rules.specs.Minima.{half, halvings, minima-room}
+use Rattle.rules.specs.Minima.{halvings, minima-room}
 use Rattle.rules.proofs.laws.Minima.{half-is, row-fits}
 use Rattle.rules.proofs.All.{All, nil, cons}
 use Rattle.depth.specs.Listing.{numbers}
@@ -56,6 +56,7 @@ module _ (p : ℕ → Bool) (f : ℕ → ℕ) (hi : ℕ) where
     where
       next : (i j : ℕ) → i + suc j ≡ suc i + j
       next i j = omega arith
+
       go : (t : Bool) → p (f i) ≡ t → All (Shown p f (suc i) hi) (bucket-runs p (suc i) bs)
           → All (Shown p f i hi) (cond t (join-run i (bucket-runs p (suc i) bs)) (bucket-runs p (suc i) bs))
       go true q a = join-shown i (bucket-runs p (suc i) bs) (omega arith) q a

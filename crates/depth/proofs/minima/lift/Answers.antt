@@ -1,8 +1,7 @@
 -- Each turn works out the group above from its halves' tops: the one that it comes from, and the one beside.
-use Rattle.std.proofs.Common.{◌≡◌, sym, ◌∙◌, arith, length, ◌<◌, ◌≤◌, ◌+◌, ◌*◌, ◌-◌}
-use Rattle.rules.specs.Minima.{size}
+use Rattle.std.proofs.Common.{sym, ◌∙◌, arith}
 use Rattle.depth.proofs.Places.{half-same}
-use Rattle.depth.proofs.Lifting.{Lifting, Step, lift-first, lift-last, fit, right-behind, step-left, step-right}
+use Rattle.depth.proofs.Lifting.{Step, lift-first, lift-last, fit, right-behind, step-left, step-right}
 use Rattle.depth.proofs.minima.lift.Goals.{Then-number-eq0, Else-number-eq0, Joined-number-eq0, then-number-eq0, else-number-eq0}
 use Rattle.depth.proofs.minima.lift.Goals as goal
 

@@ -1,12 +1,7 @@
 -- A fill over the words from the first bucket's own to the last's, and the groups above both worked out.
-use Rattle.std.proofs.Common.{◌≡◌, refl, sym, ap, ◌∙◌, arith, length, ℕ, List, suc, ◌+◌, ◌-◌, ◌<◌, ◌≤◌, get_or}
-use borrow.Rule.Slice.PartMut.{put_mid}
-use Rattle.rules.specs.Minima.{size, half}
-use Rattle.rules.proofs.laws.Minima.{half-is}
-use Rattle.depth.specs.Minima.{leaf-place, lifted}
-use Rattle.depth.proofs.Places.{half-same}
+use Rattle.std.proofs.Common.{refl, ◌∙◌, arith, length, ◌-◌}
 use Rattle.depth.proofs.Lifting.{own-at}
-use Rattle.depth.proofs.Mending.{Spots, spots, filled, stored, stored-long, stored-at, mends-range, mends-bucket}
+use Rattle.depth.proofs.Mending.{Spots, spots, stored, stored-long, stored-at, mends-range, mends-bucket}
 use Rattle.depth.proofs.minima.mend.Goals.{After-place_of-to, After-fill, then-first-last, else-first-last}
 use Rattle.depth.proofs.minima.mend.Goals as goal
 
@@ -70,7 +65,7 @@ lift-requires-2-clause-holds c =
     let at = stored-at _ _ _ _ _ s.ordered s.within after c.place_of-from.result (omega arith) s.ordered in
     elim c.if-first-last.branch [
       | then-first-last w ↦
-        rw (w.minima-is, w.lift.ensures g.0 long) (own-at g.0 _ c.args.first (c.args.end - 1) _ long s.first-within s.last-within s.first-is ∙ at)
+          rw (w.minima-is, w.lift.ensures g.0 long) (own-at g.0 _ c.args.first (c.args.end - 1) _ long s.first-within s.last-within s.first-is ∙ at)
       | else-first-last w ↦ rw w.minima-is at
     ]
 

@@ -1,5 +1,4 @@
 -- A number's length in digits is that of the largest number of a group as large.
-use Rattle.std.proofs.Common.{arith}
 use Rattle.depth.proofs.Groups.{room-none}
 use Rattle.depth.proofs.Places.{room-of-digits}
 use Rattle.depth.proofs.minima.minima_room.Goals as goal

@@ -1,7 +1,6 @@
 -- The runs that are listed hold the id in the written words. Assumes nothing.
-use Rattle.std.proofs.Common.{◌≡◌, sym, ap, ◌∙◌, ◌≤◌, ◌<◌, arith, length, ℕ}
-use Rattle.rules.specs.Spans.{span}
-use Rattle.rules.specs.Minima.{half, halvings}
+use Rattle.std.proofs.Common.{◌∙◌, arith, length}
+use Rattle.rules.specs.Minima.{halvings}
 use Rattle.depth.proofs.Laws.{listed-fits}
 use Rattle.depth.proofs.Answering.{listed-count, listed-list, listed-few}
 use Rattle.depth.proofs.Groups.{room-of-some}

@@ -143,7 +143,8 @@ pub mended-next : (k : ℕ) (ws ws' bs list rest : List ℕ) (rs : List Span) (n
     → ws' ≡ mended k ws bs (get_or list (n * 2) 0) (get_or list (n * 2 + 1) 0) → mended-runs k ws bs (drop n rs) ≡ mended-runs k ws' bs (drop (n + 1) rs)
 unfolding mended-runs
 mended-next k ws ws' bs list rest rs n h e w =
-    let w' : ws' ≡ mended k ws bs (get_or rs n (span 0 0)).first (get_or rs n (span 0 0)).end = rw (run-first list rest rs n h e, run-end list rest rs n h e) at w in
+    let w' : ws' ≡ mended k ws bs (get_or rs n (span 0 0)).first (get_or rs n (span 0 0)).end =
+    rw (run-first list rest rs n h e, run-end list rest rs n h e) at w in
     rw (add-one, drop-cons rs n (span 0 0) h, w') refl
 
 pub mended-last : (k : ℕ) (ws bs : List ℕ) (rs : List Span) (n : ℕ) → length rs ≤ n → mended-runs k ws bs (drop n rs) ≡ ws

@@ -23,7 +23,14 @@ halves-of k (w ∷ ws) e =
     let n = half-next k in
     let a = length-take-le (half k) ws (omega arith) in
     let b = length-drop (half k) ws in
-    record { first = w; left = take (half k) ws; right = drop (half k) ws; words = ap (λ (r : List ℕ). w ∷ r) (sym (take-append-drop (half k) ws)); left-long = a; right-long = omega arith }
+    record {
+      first = w;
+      left = take (half k) ws;
+      right = drop (half k) ws;
+      words = ap (λ (r : List ℕ). w ∷ r) (sym (take-append-drop (half k) ws));
+      left-long = a;
+      right-long = omega arith;
+    }
 
 -- a word behind the left half
 read-right : (l r : List ℕ) (n i m : ℕ) → length l ≡ n → i ≡ n + m → get_or (l ++ r) i 0 ≡ get_or r m 0
@@ -38,6 +45,7 @@ set-right l r n i m v a e =
 abbrev pub topped : List ℕ → List ℕ → List ℕ
 topped l r = min (top l) (top r) ∷ l ++ r
 
+-- the half that has the bucket is lifted, and the top
 module _ (k : ℕ) (t : ℕ) (l r : List ℕ) (b : ℕ) (a : length l ≡ half k) where
   pub lifted-low : b < size k → lifted (suc k) (t ∷ l ++ r) b ≡ topped (lifted k l b) r
   unfolding lifted
@@ -88,7 +96,8 @@ lifted-again (suc k) ws b e h =
     (lifted-high k (min (top w.left) (top r)) w.left r b w.left-long high ∙ rw (lifted-again k w.right (b - size k) w.right-long (omega arith)) refl)))
 
 -- a bucket's own word stays
-pub own-stays : (k : ℕ) (ws : List ℕ) (a b : ℕ) → length ws ≡ half k → a < size k → b < size k → get_or (lifted k ws b) (leaf-place k a) 0 ≡ get_or ws (leaf-place k a) 0
+pub own-stays : (k : ℕ) (ws : List ℕ) (a b : ℕ) → length ws ≡ half k → a < size k → b < size k
+    → get_or (lifted k ws b) (leaf-place k a) 0 ≡ get_or ws (leaf-place k a) 0
 unfolding size
 own-stays zero ws a b e g h = ap (λ (x : List ℕ). get_or x (leaf-place 0 a) 0) (lifted-one ws b)
 own-stays (suc k) ws a b e g h =
@@ -125,10 +134,12 @@ own-stays (suc k) ws a b e g h =
     ∙ own-stays k r (a - size k) (b - size k) w.right-long (omega arith) (omega arith)
     ∙ sym x))))
 
-pub own-at : (k : ℕ) (ws : List ℕ) (a b at : ℕ) → length ws ≡ half k → a < size k → b < size k → at ≡ leaf-place k a → get_or (lifted k ws b) at 0 ≡ get_or ws at 0
+-- .. at its place
+pub own-at : (k : ℕ) (ws : List ℕ) (a b at : ℕ) → length ws ≡ half k → a < size k → b < size k → at ≡ leaf-place k a
+    → get_or (lifted k ws b) at 0 ≡ get_or ws at 0
 own-at k ws a b at e g h q = rw q (own-stays k ws a b e g h)
 
--- .. those above the group of 2 ^ j alone
+-- .. the groups above the one of 2 ^ j alone are worked out again
 unfoldable pub lifted-above : ℕ → ℕ → List ℕ → ℕ → List ℕ
 lifted-above zero j ws b = ws
 lifted-above (suc k) j ws b =
@@ -136,11 +147,13 @@ lifted-above (suc k) j ws b =
     (topped (lifted-above k j (left-half k ws) b) (right-half k ws))
     (topped (left-half k ws) (lifted-above k j (right-half k ws) (b - size k))))
 
+-- none above the whole group
 pub above-none : (k j : ℕ) (ws : List ℕ) (b : ℕ) → k ≤ j → lifted-above k j ws b ≡ ws
 unfolding lifted-above
 above-none zero j ws b h = refl
 above-none (suc k) j ws b h = rw (le-leb (suc k) j h)
 
+-- in the half that has the bucket, and the top
 module _ (k j : ℕ) (s : j ≤ k) (t : ℕ) (l r : List ℕ) (b : ℕ) (a : length l ≡ half k) where
   above-low : b < size k → lifted-above (suc k) j (t ∷ l ++ r) b ≡ topped (lifted-above k j l b) r
   unfolding lifted-above
@@ -157,7 +170,9 @@ above-all zero ws b e h = above-none 0 0 ws b (omega arith) ∙ sym (lifted-one 
 above-all (suc k) ws b e h =
     let w = halves-of k ws e in
     rw w.words (by-half b (size k)
-    (λ d. above-low k 0 (omega arith) w.first w.left w.right b w.left-long d ∙ rw (above-all k w.left b w.left-long d) (sym (lifted-low k w.first w.left w.right b w.left-long d)))
+    (λ d.
+    above-low k 0 (omega arith) w.first w.left w.right b w.left-long d
+    ∙ rw (above-all k w.left b w.left-long d) (sym (lifted-low k w.first w.left w.right b w.left-long d)))
     (λ g.
     above-high k 0 (omega arith) w.first w.left w.right b w.left-long g
     ∙ rw (above-all k w.right (b - size k) w.right-long (omega arith)) (sym (lifted-high k w.first w.left w.right b w.left-long g))))
@@ -228,7 +243,8 @@ pub record Lifting (k : ℕ) (old : List ℕ) (b at number large least : ℕ) (n
   pub rest : lifted-above k level now b ≡ lifted k old b
 
 -- it begins at the bucket's own word
-pub lift-first : (k : ℕ) (old : List ℕ) (b at id : ℕ) → length old ≡ half k → b < size k → at ≡ leaf-place k b → get_or old at 0 ≡ id → Lifting k old b at b 2 id old
+pub lift-first : (k : ℕ) (old : List ℕ) (b at id : ℕ) → length old ≡ half k → b < size k → at ≡ leaf-place k b → get_or old at 0 ≡ id
+    → Lifting k old b at b 2 id old
 unfolding size
 lift-first k old b at id e h p g =
     record {
@@ -262,13 +278,15 @@ module _ (k : ℕ) (old : List ℕ) (b at number large least : ℕ) (now : List 
       (λ d. sym (above-none k m.level now b d) ∙ m.rest)
 
   module _ (some : 0 < at) where
+    -- there is one
     further : m.level < k
     further = by-half m.level k (λ d. d) (λ d. let w = whole-place k m.level b d in let p = m.place in absurd (omega arith))
 
+    -- where the group above stands
     abbrev above : ℕ
     above = group-place k (suc m.level) b
 
-    -- what stands for the sizes
+    -- the group above is within the words, and how many the other half has
     record Sizes : Type 0 where
       next-within : above + suc (half m.level + half m.level) ≤ half k
       large-of : large ≡ suc (half m.level)
@@ -292,7 +310,9 @@ module _ (k : ℕ) (old : List ℕ) (b at number large least : ℕ) (now : List 
     pub fit : Fit
     fit = let z = sizes in let a = z.next-within in let c = z.large-of in record { some-large = omega arith; few = omega arith }
 
-    step : (up v : ℕ) → up ≡ above → v ≡ min (get_or now (suc above) 0) (get_or now (suc (half m.level + above)) 0) → Lifting k old b up (number / 2) (large * 2) v (set now up v)
+    -- one level more
+    step : (up v : ℕ) → up ≡ above → v ≡ min (get_or now (suc above) 0) (get_or now (suc (half m.level + above)) 0)
+        → Lifting k old b up (number / 2) (large * 2) v (set now up v)
     unfolding size
     step up v e q =
         let z = sizes in
@@ -309,6 +329,7 @@ module _ (k : ℕ) (old : List ℕ) (b at number large least : ℕ) (now : List 
           rest = rw e (above-next k m.level now b v further h m.long q ∙ m.rest);
         }
 
+    -- the turn from a left half, and from a right one
     pub step-left : number % 2 ≡ 0 → Step k old b at number large least now (at - 1) (at + (large - 1))
     step-left e =
         let z = sizes in

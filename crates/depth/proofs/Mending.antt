@@ -18,6 +18,7 @@ filled x (w ∷ ws) p zero = w ∷ ws
 filled x (w ∷ ws) zero (suc q) = x ∷ filled x ws zero q
 filled x (w ∷ ws) (suc p) (suc q) = w ∷ filled x ws p q
 
+-- as many words as before
 pub filled-long : (x : ℕ) (ws : List ℕ) (p q : ℕ) → length (filled x ws p q) ≡ length ws
 unfolding filled
 filled-long x [] p q = refl
@@ -141,6 +142,7 @@ topped-same k id = go (half k) (group-some k (half k) refl) ∙ ap (λ (n : ℕ)
     go zero h = absurd (not-suc-le-zero h)
     go (suc n) h = let m : min id id ≡ id = omega arith in rw (m, replicate-append-replicate (suc n) (suc n) id) refl
 
+-- a group that holds the id everywhere
 whole : (k : ℕ) (g ws : List ℕ) (id : ℕ) → length g ≡ half k → Holds ws 0 (size k) id → mended k g ws 0 (size k) ≡ replicate (half k) id
 unfolding size
 whole zero g ws id e h =
@@ -166,7 +168,8 @@ whole (suc k) g ws id e h =
 mends-behind : (k : ℕ) (g ws : List ℕ) (a id : ℕ) → length g ≡ half k → a < size k → Holds ws a (size k) id
     → lifted k (filled id g (leaf-place k a) (half k)) a ≡ mended k g ws a (size k)
 unfolding size
-mends-behind zero g ws zero id e h m = rw (lifted-one (filled id g (leaf-place 0 0) (half 0)) 0, leaf-one 0, half-zero) (mends-one g ws 0 0 id e (omega arith) (omega arith) m)
+mends-behind zero g ws zero id e h m =
+    rw (lifted-one (filled id g (leaf-place 0 0) (half 0)) 0, leaf-one 0, half-zero) (mends-one g ws 0 0 id e (omega arith) (omega arith) m)
 mends-behind zero g ws (suc a) id e h m = absurd (omega arith)
 mends-behind (suc k) g ws a id e h m =
     let w = halves-of k g e in
@@ -178,6 +181,7 @@ mends-behind (suc k) g ws a id e h m =
     let x : size k + size k - size k ≡ size k = omega arith in
     let y : min (size k + size k) (size k) ≡ size k = omega arith in
     let right = mended-halves k t l r ws a (size k + size k) c h in
+    let high-holds = λ (b : ℕ) (f : a ≤ size k + b). holds-high (size k) ws a (size k + size k) b (size k) id m f (omega arith) in
     rw w.words (by-half a (size k)
     (λ low.
     let p = leaf-low k a low in
@@ -194,13 +198,18 @@ mends-behind (suc k) g ws a id e h m =
     )
     (lifted-low k t (filled id l (leaf-place k a) (half k)) (replicate (half k) id) a (filled-long id l (leaf-place k a) (half k) ∙ c) low
     ∙ rw (mends-behind k l (take (size k) ws) a id c low (holds-low (size k) ws a (size k + size k) (size k) id m (omega arith) (omega arith)))
-    (sym (right ∙ rw (x, y, o, whole k r (drop (size k) ws) id w.right-long (holds-high (size k) ws a (size k + size k) 0 (size k) id m (omega arith) (omega arith))) refl))))
+    (sym (right ∙ rw (x, y, o, whole k r (drop (size k) ws) id w.right-long (high-holds 0 (omega arith))) refl))))
     (λ high.
     let p = leaf-high k a high in
     let q : leaf-place (suc k) a ≡ suc (half k + leaf-place k (a - size k)) = omega arith in
-    rw (q, n, filled-word id t (l ++ r) (half k + leaf-place k (a - size k)) (half k + half k), filled-right id (half k) l r c (leaf-place k (a - size k)) (half k))
+    rw (
+      q,
+      n,
+      filled-word id t (l ++ r) (half k + leaf-place k (a - size k)) (half k + half k),
+      filled-right id (half k) l r c (leaf-place k (a - size k)) (half k),
+    )
     (lifted-high k t l (filled id r (leaf-place k (a - size k)) (half k)) a c high
-    ∙ rw (mends-behind k r (drop (size k) ws) (a - size k) id w.right-long (omega arith) (holds-high (size k) ws a (size k + size k) (a - size k) (size k) id m (omega arith) (omega arith)))
+    ∙ rw (mends-behind k r (drop (size k) ws) (a - size k) id w.right-long (omega arith) (high-holds (a - size k) (omega arith)))
     (sym (right ∙ rw (x, y, ← (mended-none k l (take (size k) ws) a (size k) high)) refl)))))
 
 -- a write from the group's first bucket to bucket b
@@ -232,6 +241,7 @@ mends-before (suc k) g ws b id e h m =
     let q : suc (leaf-place (suc k) b) ≡ suc (half k + suc (leaf-place k (b - size k))) = omega arith in
     let x : min (suc b) (size k) ≡ size k = omega arith in
     let y : suc b - size k ≡ suc (b - size k) = omega arith in
+    let high-holds = holds-high (size k) ws 0 (suc b) 0 (suc (b - size k)) id m (omega arith) (omega arith) in
     rw (
       q,
       filled-first id t (l ++ r) (half k + suc (leaf-place k (b - size k))),
@@ -240,7 +250,7 @@ mends-before (suc k) g ws b id e h m =
       c,
     )
     (lifted-high k id (replicate (half k) id) (filled id r 0 (suc (leaf-place k (b - size k)))) b (length-replicate (half k) id) high
-    ∙ rw (mends-before k r (drop (size k) ws) (b - size k) id w.right-long (omega arith) (holds-high (size k) ws 0 (suc b) 0 (suc (b - size k)) id m (omega arith) (omega arith)))
+    ∙ rw (mends-before k r (drop (size k) ws) (b - size k) id w.right-long (omega arith) high-holds)
     (sym (right ∙ rw (x, y, o, whole k l (take (size k) ws) id c (holds-low (size k) ws 0 (suc b) (size k) id m (omega arith) (omega arith))) refl)))))
 
 -- a write from bucket a to bucket b: the groups above b are worked out, and then those above a
@@ -288,6 +298,7 @@ mends-between (suc k) g ws a b id e f h m =
     let q' : leaf-place (suc k) b ≡ half k + suc (leaf-place k (b - size k)) = omega arith in
     let within = leaf-within k a d in
     let o : a - size k ≡ 0 = omega arith in
+    let high-holds = holds-high (size k) ws a (suc b) 0 (suc (b - size k)) id m (omega arith) (omega arith) in
     let s = filled id l (leaf-place k a) (half k) in
     let u = filled id r 0 (suc (leaf-place k (b - size k))) in
     let long = filled-long id l (leaf-place k a) (half k) ∙ c in
@@ -301,7 +312,7 @@ mends-between (suc k) g ws a b id e f h m =
     (lifted-low k (min (top s) (top (lifted k u (b - size k)))) s (lifted k u (b - size k)) a long d
     ∙ rw (
       mends-behind k l (take (size k) ws) a id c d (holds-low (size k) ws a (suc b) (size k) id m (omega arith) (omega arith)),
-      mends-before k r (drop (size k) ws) (b - size k) id w.right-long (omega arith) (holds-high (size k) ws a (suc b) 0 (suc (b - size k)) id m (omega arith) (omega arith)),
+      mends-before k r (drop (size k) ws) (b - size k) id w.right-long (omega arith) high-holds,
     )
     (sym (right ∙ rw (x, y, o) refl))))
     (λ d.
@@ -330,7 +341,8 @@ pub record Spots (k n first end from to : ℕ) : Type 0 where
   pub first-is : from ≡ leaf-place k first
   pub last-is : to ≡ leaf-place k (end - 1)
 
-pub spots : (k n first end from to : ℕ) → n ≡ half k → first < end → 2 * end ≤ n + 1 → from ≡ leaf-place k first → to ≡ leaf-place k (end - 1) → Spots k n first end from to
+pub spots : (k n first end from to : ℕ) → n ≡ half k → first < end → 2 * end ≤ n + 1 → from ≡ leaf-place k first → to ≡ leaf-place k (end - 1)
+    → Spots k n first end from to
 spots k n first end from to e h g p q =
     let f = half-is k in
     let l : end - 1 < size k = omega arith in
@@ -358,10 +370,12 @@ module _ (k : ℕ) (g ws : List ℕ) (first end id : ℕ) (e : length g ≡ half
   last-next : suc (end - 1) ≡ end
   last-next = omega arith
 
-  pub mends-range : end - 1 < size k → lifted k (lifted k (filled id g (leaf-place k first) (suc (leaf-place k (end - 1)))) (end - 1)) first ≡ mended k g ws first end
+  pub mends-range : end - 1 < size k
+      → lifted k (lifted k (filled id g (leaf-place k first) (suc (leaf-place k (end - 1)))) (end - 1)) first ≡ mended k g ws first end
   mends-range l = rw last-next at (mends-between k g ws first (end - 1) id e (omega arith) l (rw last-next m))
 
-  pub mends-bucket : end - 1 < size k → end - 1 ≤ first → lifted k (filled id g (leaf-place k first) (suc (leaf-place k (end - 1)))) first ≡ mended k g ws first end
+  pub mends-bucket : end - 1 < size k → end - 1 ≤ first
+      → lifted k (filled id g (leaf-place k first) (suc (leaf-place k (end - 1)))) first ≡ mended k g ws first end
   mends-bucket l f =
       let q : end - 1 ≡ first = omega arith in
       let s = filled id g (leaf-place k first) (suc (leaf-place k (end - 1))) in

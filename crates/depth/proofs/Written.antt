@@ -19,16 +19,19 @@ record Shown (p : ℕ → Bool) (f : ℕ → ℕ) (lo hi : ℕ) (r : Span) : Typ
   within : r.end ≤ hi
   shown : (j : ℕ) → r.first ≤ j → j < r.end → p (f j) ≡ true
 
+-- what holds of all runs, of one of them
 at-place : (P : Span → Type 0) (rs : List Span) (n : ℕ) → n < length rs → All P rs → P (get_or rs n (span 0 0))
 at-place P [] n h a = absurd (not-suc-le-zero h)
 at-place P (r ∷ rs) zero h (cons o a) = o
 at-place P (r ∷ rs) (suc n) h (cons o a) = at-place P rs n (le_of_suc-le-suc h) a
 
 module _ (p : ℕ → Bool) (f : ℕ → ℕ) (hi : ℕ) where
+  -- a wider range
   later : (i : ℕ) (rs : List Span) → All (Shown p f (suc i) hi) rs → All (Shown p f i hi) rs
   later i [] nil = nil
   later i (r ∷ rs) (cons o a) = cons (record { some = o.some; after = let q = o.after in omega arith; within = o.within; shown = o.shown }) (later i rs a)
 
+  -- one bucket, alone or before others
   alone : (i : ℕ) → suc i ≤ hi → p (f i) ≡ true → Shown p f i hi (span i (suc i))
   alone i h e = record { some = omega arith; after = omega arith; within = h; shown = λ j a b. let q : j ≡ i = omega arith in rw q e }
 
@@ -48,6 +51,7 @@ module _ (p : ℕ → Bool) (f : ℕ → ℕ) (hi : ℕ) where
           }) (later i rs a)
       go false q = cons (alone i h e) (later i (r ∷ rs) (cons o a))
 
+  -- all runs of the words from place i on
   all-shown : (i : ℕ) (bs : List ℕ) → i + length bs ≡ hi → ((j : ℕ) → j < length bs → get_or bs j 0 ≡ f (i + j)) → All (Shown p f i hi) (bucket-runs p i bs)
   unfolding bucket-runs
   all-shown i [] e h = nil
@@ -63,16 +67,19 @@ module _ (p : ℕ → Bool) (f : ℕ → ℕ) (hi : ℕ) where
       go false q a = later i (bucket-runs p (suc i) bs) a
 
 -- a written bucket
-from_at : (id : ℕ) (r : Span) (i k : ℕ) (bs : List ℕ) → k < length bs → get_or (written_from i id r bs) k 0 ≡ cond (covers r (i + k)) (write id (get_or bs k 0)) (get_or bs k 0)
+from_at : (id : ℕ) (r : Span) (i k : ℕ) (bs : List ℕ) → k < length bs
+    → get_or (written_from i id r bs) k 0 ≡ cond (covers r (i + k)) (write id (get_or bs k 0)) (get_or bs k 0)
 from_at id r i k [] h = absurd (not-suc-le-zero h)
 from_at id r i zero (b ∷ bs) h = rw (add-zero i)
 from_at id r i (suc k) (b ∷ bs) h = rw (add-suc i k, ← suc-add i k) (from_at id r (suc i) k bs (le_of_suc-le-suc h))
 
+-- as many words as before
 written-long : (id : ℕ) (r : Span) (i : ℕ) (bs : List ℕ) → length (written_from i id r bs) ≡ length bs
 written-long id r i [] = refl
 written-long id r i (b ∷ bs) = ap suc (written-long id r (suc i) bs)
 
 module _ (bs : List ℕ) (id lo hi : ℕ) (fits : hi ≤ length bs) where
+  -- an open bucket of the range holds the id
   written-unset : (j : ℕ) → lo ≤ j → j < hi → is-visible 0 (get_or bs j 0) ≡ true → get_or (written bs id (span lo hi)) j 0 ≡ id
   unfolding written
   written-unset j a b e =
@@ -90,6 +97,7 @@ module _ (bs : List ℕ) (id lo hi : ℕ) (fits : hi ≤ length bs) where
 
   module _ (list rest : List ℕ) (n : ℕ) (e : list ≡ numbers (runs-in (is-visible 0) bs (span lo hi)) ++ rest)
       (l : n < length (runs-in (is-visible 0) bs (span lo hi))) where
+    -- the run at place n of their list
     abbrev first : ℕ
     first = get_or list (n * 2) 0
 
@@ -115,7 +123,10 @@ module _ (bs : List ℕ) (id lo hi : ℕ) (fits : hi ≤ length bs) where
         let r = listed-run in
         let w = r.within in
         let a = r.after in
-        record { there = let n = written-long id (span lo hi) 0 bs in omega arith; holds = λ j x y. written-unset j (omega arith) (omega arith) (r.shown j x y) }
+        record {
+          there = let n = written-long id (span lo hi) 0 bs in omega arith;
+          holds = λ j x y. written-unset j (omega arith) (omega arith) (r.shown j x y);
+        }
 
 -- as many minima as the row's buckets have are those of a group with room for them
 pub room-for : (n m e : ℕ) → m ≡ minima-room n → e ≤ n → 2 * e ≤ m + 1

@@ -10,20 +10,25 @@ use Rattle.depth.proofs.Mending.{topped-same}
 use Rattle.depth.proofs.Places.{by-half}
 use Rattle.screen.specs.Depths.{blank-minima}
 
+-- n copies of a list
 unfoldable pub copies : ℕ → List ℕ → List ℕ
 copies zero ws = []
 copies (suc n) ws = ws ++ copies n ws
 
 module _ (ws : List ℕ) where
+  -- how many words they are
   copies-long : (n : ℕ) → length (copies n ws) ≡ n * length ws
   unfolding copies
   copies-long zero = sym (zero-mul (length ws))
   copies-long (suc n) = length-append ws (copies n ws) ∙ (let i = copies-long n in let s = suc-mul n (length ws) in omega arith)
 
+  -- n of them before m
   copies-add : (n m : ℕ) → copies (n + m) ws ≡ copies n ws ++ copies m ws
   unfolding copies
   copies-add zero m = ap (λ (k : ℕ). copies k ws) (zero-add m)
-  copies-add (suc n) m = ap (λ (k : ℕ). copies k ws) (suc-add n m) ∙ ap (λ (r : List ℕ). ws ++ r) (copies-add n m) ∙ sym (append_assoc ws (copies n ws) (copies m ws))
+  copies-add (suc n) m =
+      ap (λ (k : ℕ). copies k ws) (suc-add n m)
+      ∙ ap (λ (r : List ℕ). ws ++ r) (copies-add n m) ∙ sym (append_assoc ws (copies n ws) (copies m ws))
 
   -- the first of them
   copies-first : (n m : ℕ) → n ≤ m → take (n * length ws) (copies m ws) ≡ copies n ws
@@ -39,6 +44,7 @@ unfolding copies
 join-copies f x zero = refl
 join-copies f x (suc n) = ap (λ (r : List ℕ). f x ++ r) (join-copies f x n)
 
+-- one copy is no longer than some
 mul-some : (n k : ℕ) → 0 < n → k ≤ n * k
 mul-some zero k h = absurd (omega arith)
 mul-some (suc n) k h = let s = suc-mul n k in omega arith
@@ -53,6 +59,7 @@ pub record Copied (n room : ℕ) (old : List ℕ) (done : ℕ) (now : List ℕ) 
   pub words : now ≡ copies made (take room old) ++ drop done old
 
 module _ (n room : ℕ) (old : List ℕ) (some : 0 < n) (long : length old ≡ n * room) where
+  -- the first is there
   pub copied-first : Copied n room old room old
   unfolding copies
   copied-first =
@@ -71,6 +78,7 @@ module _ (n room : ℕ) (old : List ℕ) (some : 0 < n) (long : length old ≡ n
   one-long = let m = mul-some n room some in length-take-le room old (omega arith)
 
   module _ (done : ℕ) (now : List ℕ) (m : Copied n room old done now) where
+    -- how many words are made and left
     parts : n * room ≡ m.made * room + m.left * room
     parts = ap (λ (k : ℕ). k * room) (sym m.all) ∙ add-mul m.made m.left room
 
@@ -87,20 +95,24 @@ module _ (n room : ℕ) (old : List ℕ) (some : 0 < n) (long : length old ≡ n
         let e = no-words (drop done old) (let f = length-drop done old in omega arith) in
         m.words ∙ rw (e, q, append-nil (copies n (take room old))) (sym (join-copies (take {A = ℕ} room) old n))
 
-    module _ (front back part : List ℕ) (more : ℕ) (split : now ≡ front ++ back) (front-long : length front ≡ done) (least : more ≡ min (length front) (length back)) (copy : part ≡ take more front) where
+    -- one turn: `part` is what is copied
+    module _ (front back part : List ℕ) (more : ℕ) (split : now ≡ front ++ back) (front-long : length front ≡ done)
+        (least : more ≡ min (length front) (length back)) (copy : part ≡ take more front) where
       front-is : front ≡ copies m.made (take room old)
       front-is =
           let c = copies-long (take room old) m.made in
           let o = ap (λ (k : ℕ). m.made * k) one-long in
           let d = m.done-is in
-          sym (take_at front back done front-long) ∙ ap (take done) (sym split ∙ m.words) ∙ take_at (copies m.made (take room old)) (drop done old) done (omega arith)
+          sym (take_at front back done front-long) ∙ ap (take done) (sym split ∙ m.words)
+          ∙ take_at (copies m.made (take room old)) (drop done old) done (omega arith)
 
       back-is : back ≡ drop done old
       back-is =
           let c = copies-long (take room old) m.made in
           let o = ap (λ (k : ℕ). m.made * k) one-long in
           let d = m.done-is in
-          sym (drop_at front back done front-long) ∙ ap (drop done) (sym split ∙ m.words) ∙ drop_at (copies m.made (take room old)) (drop done old) done (omega arith)
+          sym (drop_at front back done front-long) ∙ ap (drop done) (sym split ∙ m.words)
+          ∙ drop_at (copies m.made (take room old)) (drop done old) done (omega arith)
 
       back-long : length back ≡ m.left * room
       back-long = let p = parts in let d = m.done-is in let f = length-drop done old in ap length back-is ∙ omega arith
@@ -135,8 +147,9 @@ module _ (n room : ℕ) (old : List ℕ) (some : 0 < n) (long : length old ≡ n
           (λ l. let k = mul-le-mul_right room l in more-made m.left l (omega arith) (omega arith))
 
 -- fewer words are left after each turn
-pub fewer-left : (front back part : List ℕ) (done more all : ℕ) → length front ≡ done → length back + done ≡ all → more ≡ min (length front) (length back) → part ≡ take more front
-    → 0 < done → done < all → length (front ++ (part ++ drop more back)) - (done + more) < all - done
+pub fewer-left : (front back part : List ℕ) (done more all : ℕ) → length front ≡ done → length back + done ≡ all
+    → more ≡ min (length front) (length back) → part ≡ take more front → 0 < done → done < all
+    → length (front ++ (part ++ drop more back)) - (done + more) < all - done
 fewer-left front back part done more all f b least copy some h =
     let a = length-append front (part ++ drop more back) in
     let c = length-append part (drop more back) in
@@ -199,7 +212,8 @@ module _ (n b : ℕ) where
     all-zero e = zero ∙ rw long (sym (rows-zero (row-zero b e) n))
 
   -- the first row's minima are made, and copied
-  module _ (words made old new : List ℕ) (many : ℕ) (some : 0 < n) (few : many ≡ n * b) (zero : words ≡ replicate many 0) (first : made ≡ summary (take b words)) where
+  module _ (words made old new : List ℕ) (many : ℕ) (some : 0 < n) (few : many ≡ n * b) (zero : words ≡ replicate many 0)
+      (first : made ≡ summary (take b words)) where
     made-is : made ≡ summary (replicate b 0)
     made-is =
         let z : ℕ = 0 in

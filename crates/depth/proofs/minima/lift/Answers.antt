@@ -37,7 +37,8 @@ overflow_sub-up-else-number-eq0-3 c =
 
 -- the step that the parity says
 step-of : (c : Joined-number-eq0)
-    → Step c.requires.group.0 c.args.minima.now c.args.bucket c.loop-at.at c.loop-at.number c.loop-at.size c.loop-at.least c.loop-at.minima c.if-number-eq0.up.0 c.if-number-eq0.up.1
+    → Step c.requires.group.0 c.args.minima.now c.args.bucket c.loop-at.at c.loop-at.number c.loop-at.size c.loop-at.least c.loop-at.minima
+    c.if-number-eq0.up.0 c.if-number-eq0.up.1
 step-of c =
     let g = c.requires.group in
     let m = c.loop-at.invariant g.0 g.1 g.2 g.3 in
@@ -47,7 +48,9 @@ step-of c =
     ]
 
 pub offset_bounds-minima-beside : goal.offset_bounds-minima-beside
-offset_bounds-minima-beside c = let s = step-of (goal.at.offset_bounds-minima-beside c).Joined-number-eq0 in omega (arith, s.beside-within, c.loop-at.auto.minima)
+offset_bounds-minima-beside c =
+    let s = step-of (goal.at.offset_bounds-minima-beside c).Joined-number-eq0 in
+    omega (arith, s.beside-within, c.loop-at.auto.minima)
 
 pub bounds-minima-beside : goal.bounds-minima-beside
 bounds-minima-beside c = (step-of (goal.at.bounds-minima-beside c).Joined-number-eq0).beside-within

@@ -7,7 +7,8 @@ use Rattle.depth.proofs.minima.lift.Given as goal
 
 abbrev pub invariant-loop-at : goal.invariant-loop-at
 invariant-loop-at l =
-    (k : ℕ) → length l.initial.minima ≡ half k → l.bucket < size k → l.place ≡ leaf-place k l.bucket → Lifting k l.initial.minima l.bucket l.at l.number l.size l.least l.minima
+    (k : ℕ) → length l.initial.minima ≡ half k → l.bucket < size k → l.place ≡ leaf-place k l.bucket
+    → Lifting k l.initial.minima l.bucket l.at l.number l.size l.least l.minima
 
 abbrev pub decreases-loop-at : goal.decreases-loop-at
 decreases-loop-at l = l.at

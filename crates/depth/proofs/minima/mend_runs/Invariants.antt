@@ -8,8 +8,8 @@ use Rattle.depth.proofs.minima.mend_runs.Given as goal
 
 abbrev pub invariant-loop-n : goal.invariant-loop-n
 invariant-loop-n l =
-    (k : ℕ) (ws : List ℕ) (rs : List Span) (rest : List ℕ) → (0 < l.count → length l.initial.minima ≡ half k) → l.list ≡ numbers rs ++ rest → l.count ≡ length rs
-    → ((n : ℕ) → n < l.count → Holds ws (get_or l.list (n * 2) 0) (get_or l.list (n * 2 + 1) 0) l.id)
+    (k : ℕ) (ws : List ℕ) (rs : List Span) (rest : List ℕ) → (0 < l.count → length l.initial.minima ≡ half k) → l.list ≡ numbers rs ++ rest
+    → l.count ≡ length rs → ((n : ℕ) → n < l.count → Holds ws (get_or l.list (n * 2) 0) (get_or l.list (n * 2 + 1) 0) l.id)
     → mended-runs k l.minima ws (drop l.n rs) ≡ mended-runs k l.initial.minima ws rs
 
 abbrev pub decreases-loop-n : goal.decreases-loop-n

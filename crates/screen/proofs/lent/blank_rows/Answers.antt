@@ -19,11 +19,12 @@ pub repeat-requires : goal.repeat-requires
 repeat-requires c =
     let room = c.minima_room-room.ensures in
     let covers = room-covers c.args.buckets in
-    let some : 0 < c.args.rows = omega (arith, c.if-rows-eq0.false) in (
+    let some : 0 < c.args.rows = omega (arith, c.if-rows-eq0.false) in
+    let zero = c.fill.ensures.after (λ y h. h) in (
       c.args.rows,
       some,
       omega (arith, c.if-buckets-eq0.false),
-      rw room (row-first c.args.rows c.args.buckets _ _ _ c.args.minima.now _ some c.requires.words (c.fill.ensures.after (λ y h. h)) c.make.ensures c.requires.minima),
+      rw room (row-first c.args.rows c.args.buckets _ _ _ c.args.minima.now _ some c.requires.words zero c.make.ensures c.requires.minima),
     )
 
 pub returns-clause-minima : goal.returns-clause-minima

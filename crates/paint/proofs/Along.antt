@@ -1,5 +1,5 @@
 -- Commands that one look settles, one after the other. Assumes nothing.
-use Rattle.std.proofs.Common.{◌≡◌, refl, sym, ◌∙◌, List, [], ◌∷◌, append_assoc, ℕ, ◌+◌, ◌-◌, ◌*◌, ◌≤◌, ◌<◌, arith, length, drop, length-drop, drop-drop, lt-ltb, le-ltb}
+use Rattle.std.proofs.Common.{◌≡◌, refl, sym, ◌∙◌, List, [], ◌∷◌, append_assoc, ℕ, ◌+◌, ◌-◌, ◌*◌, ◌/◌, ◌≤◌, ◌<◌, arith, length, drop, length-drop, drop-drop, lt-ltb, le-ltb}
 use Rattle.sizes.specs.Sizes.{piece-size}
 use Rattle.rules.specs.Attributes.{Attrs}
 use Rattle.cmd.specs.Attrs.{words-at}
@@ -97,3 +97,13 @@ module _ (v : ℕ) (a : Attrs) (s re fi D M : List ℕ) (c : Calm s re fi) where
   on_bare start at n m l z h j i g =
       let e : n + 0 ≡ n = omega arith in
       (rw e at (on_given start at n m l z h 0 [] j g refl i (omega (arith, z.few)) l (sym (words-none l (piece-size * n)))))
+
+  -- .. where w words of the list are whole pieces
+  pub on_written : (start : Place) (at w m : ℕ) (l : List ℕ) → Reaches steps (depths D M) d start (place at (w / piece-size) m l)
+      → piece-size * (w / piece-size) ≡ w → at < word s 0
+      → (k : ℕ) (ws : List ℕ) (j : ℕ) → Gives v a (summary-at s) D m (cmd_at re at) k ws j → length ws ≡ piece-size * k → j ≤ 16
+      → w + piece-size * k ≤ length l → (w' : ℕ) → w' ≡ w + piece-size * k → (l' : List ℕ) → l' ≡ words-at l w ws
+      → Reaches steps (depths D M) d start (place (at + 1) (w' / piece-size) j l')
+  on_written start at w m l z whole h k ws j g long i room w' e l' q =
+      let n : w' / piece-size ≡ w / piece-size + k = omega arith in
+      rw n (on_given start at (w / piece-size) m l z h k ws j g long i (omega arith) l' (q ∙ rw whole))

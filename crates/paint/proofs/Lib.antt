@@ -19,9 +19,12 @@ pub mod ScreenLaws
 pub mod ScreenExample
 pub mod WholeRuns
 pub mod WholeParts
+pub mod Scales
 pub mod Looks
 pub mod Saying
 pub mod Along
 pub mod WholeLaws
 pub mod Putting
 pub mod Kept
+pub mod DepthFills
+pub mod Leading

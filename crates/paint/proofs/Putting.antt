@@ -1,6 +1,5 @@
 -- A fill's runs put into the list as the search finds them. Assumes nothing.
-use Rattle.std.proofs.Common.{◌≡◌, refl, sym, ap, ◌∙◌, Bool, true, false, List, [], ◌∷◌, ◌++◌, append_assoc, append-nil, ℕ, ◌+◌, ◌*◌, ◌≤◌, arith, length, take, drop, get_or, length-append}
-use Rattle.std.proofs.Common.{take-append-drop, take_at, drop-drop, length-take-le, ltb, leb-true, ltb-true, ltb-false}
+use Rattle.std.proofs.Common.{◌≡◌, refl, sym, ap, ◌∙◌, List, [], ◌∷◌, ◌++◌, append_assoc, append-nil, ℕ, ◌+◌, ◌*◌, ◌≤◌, arith, length, take, drop, length-append, take-append-drop, take_at, drop-drop, length-take-le}
 use lib.Seq.{drop-append-add}
 use Rattle.sizes.specs.Sizes.{piece-size}
 use Rattle.rules.specs.Lists.{join}
@@ -9,12 +8,10 @@ use Rattle.rules.specs.Depth.{is-visible, runs-in}
 use Rattle.cmd.specs.Attrs.{words-at}
 use Rattle.cmd.specs.declared.command.CmdWords.{CmdWords}
 use Rattle.cmd.proofs.Tables.{length_at}
-use Rattle.depth.proofs.Searching.{runs_closed, runs-end}
-use Rattle.paint.specs.Kinds.{low-met, high-met, run-words, SeenTo}
+use Rattle.paint.specs.Kinds.{low-met, run-words}
 use Rattle.paint.specs.declared.whole.pieces.Cut.{Cut}
-use Rattle.paint.specs.Cuts.{LookedCut, FirstRun, cut_words, met}
-use Rattle.depth.specs.declared.search.Run.{Run}
-use Rattle.sizes.specs.Widths.{bucket-tiles}
+use Rattle.paint.specs.Cuts.{end_met}
+use Rattle.paint.specs.Scales.{tiles_in}
 
 -- words after words
 module _ (xs : List ℕ) (at : ℕ) (vs ws : List ℕ) (h : at + length vs ≤ length xs) where
@@ -47,82 +44,33 @@ module _ (D : List ℕ) (id hi v : ℕ) (c : CmdWords) (m p start k : ℕ) (l₀
   abbrev words : ℕ → List ℕ
   words at = join (run-words v c m p) (runs at)
 
-  -- the runs up to bucket `at` are in the list l, n pieces with those before, and those from there on are still to come
+  -- the pieces of the runs up to bucket `at` end at word n of the list l, and those from there on are still to come
   pub record Put (at n : ℕ) (l : List ℕ) : Type 0 where
     pub kept : length l ≡ length l₀
-    pub count : n + length (runs at) ≡ k + length (runs start)
-    pub rest : words-at l (piece-size * n) (words at) ≡ words-at l₀ (piece-size * k) (words start)
+    pub words-left : n + piece-size * length (runs at) ≡ k + piece-size * length (runs start)
+    pub rest : words-at l n (words at) ≡ words-at l₀ k (words start)
 
   pub put_first : Put start k l₀
-  put_first = record { kept = refl; count = refl; rest = refl }
+  put_first = record { kept = refl; words-left = refl; rest = refl }
 
   module _ (at n : ℕ) (l : List ℕ) (s : Put at n l) where
-    module _ (room : piece-size * (k + length (runs start)) ≤ length l₀) (r : Span) (j : ℕ) (e : runs at ≡ r ∷ runs j) where
-      pub put_room : piece-size * n + piece-size ≤ length l
-      put_room = omega (arith, s.count, s.kept, ap length e)
+    module _ (room : k + piece-size * length (runs start) ≤ length l₀) (r : Span) (j : ℕ) (e : runs at ≡ r ∷ runs j) where
+      pub put_room : n + piece-size ≤ length l
+      put_room = omega (arith, s.words-left, s.kept, ap length e)
 
-      pub put_more : (l' : List ℕ) → l' ≡ words-at l (piece-size * n) (run-words v c m p r) → Put j (n + 1) l'
+      pub put_more : (l' : List ℕ) → l' ≡ words-at l n (run-words v c m p r) → Put j (n + piece-size) l'
       put_more l' q =
-          let next_place : piece-size * (n + 1) ≡ piece-size * n + piece-size = omega arith in
-          let long : length (words-at l (piece-size * n) (run-words v c m p r)) ≡ length l = length_at l (piece-size * n) (run-words v c m p r) put_room in
+          let long : length (words-at l n (run-words v c m p r)) ≡ length l = length_at l n (run-words v c m p r) put_room in
           rw q (record {
             kept = long ∙ s.kept;
-            count = omega (arith, s.count, ap length e);
-            rest = rw next_place (words-on l (piece-size * n) (run-words v c m p r) (words j) put_room ∙ (rw e at s.rest));
+            words-left = omega (arith, s.words-left, ap length e);
+            rest = words-on l n (run-words v c m p r) (words j) put_room ∙ (rw e at s.rest);
           })
 
-    pub put_end : runs at ≡ [] → (n ≡ k + length (runs start)) × (l ≡ words-at l₀ (piece-size * k) (words start))
-    put_end none = (omega (arith, s.count, ap length none), sym (words-none l (piece-size * n)) ∙ (rw none at s.rest))
+    pub put_end : runs at ≡ [] → (n ≡ k + piece-size * length (runs start)) × (l ≡ words-at l₀ k (words start))
+    put_end none = (omega (arith, s.words-left, ap length none), sym (words-none l n) ∙ (rw none at s.rest))
 
--- the first run of a fill that is shown in part
-module _ (c : Cut) (D : List ℕ) (stop : ℕ) where
-  abbrev low : ℕ
-  low = low-met (bucket-tiles c.width) c.words.span.0
-
-  abbrev high : ℕ
-  high = high-met (bucket-tiles c.width) c.words.span.0
-
-  pub first_seen : (seen : Bool) → seen ≡ true → LookedCut c D seen stop → (a : ℕ) → a ≡ low → FirstRun c D (record { first = a; end = stop })
-  first_seen seen h o a e =
-      let past = runs_closed (is-visible c.mark.id) D high o.fits stop o.within (rw h at o.other) in
-      rw e (record { some = o.past; within = omega (arith, o.within); runs = (rw h at o.found) ∙ rw past })
-
-  pub stop_open : (seen : Bool) → seen ≡ false → LookedCut c D seen stop → get_or D stop 0 ≤ c.mark.id
-  stop_open seen h o = leb-true _ _ (rw h at o.other)
-
-  pub first_hidden : (seen : Bool) → seen ≡ false → LookedCut c D seen stop → (e r : ℕ) → e ≡ high → SeenTo D c.mark.id stop e r → FirstRun c D (record { first = stop; end = r })
-  first_hidden seen h o e r q z =
-      let y : SeenTo D c.mark.id stop high r = rw q at z in
-      record { some = y.past; within = y.within; runs = (rw h at o.found) ∙ y.found ∙ ap (λ (rs : List Span). span stop r ∷ rs) (past y) }
-    where
-      past : SeenTo D c.mark.id stop high r → runs-in (is-visible c.mark.id) D (span r high) ≡ runs-in (is-visible c.mark.id) D (span (r + 1) high)
-      past y = go (ltb r high) refl
-        where
-          go : (t : Bool) → ltb r high ≡ t → runs-in (is-visible c.mark.id) D (span r high) ≡ runs-in (is-visible c.mark.id) D (span (r + 1) high)
-          go true p = let l = ltb-true r high p in runs_closed (is-visible c.mark.id) D high o.fits r l (y.other l)
-          go false p =
-              let l = ltb-false r high p in
-              runs-end (is-visible c.mark.id) D high r l ∙ sym (runs-end (is-visible c.mark.id) D high (r + 1) (omega (arith, l)))
-
--- a fill's pieces, from bucket `start` on after k pieces
-abbrev pub PutCut : Cut → List ℕ → ℕ → ℕ → List ℕ → ℕ → ℕ → List ℕ → Type 0
-PutCut c D start k l₀ at n l =
-    Put D c.mark.id (high-met (bucket-tiles c.width) c.words.span.0) (bucket-tiles c.width) c.words c.nesting c.mark.panel start k l₀ at n l
-
--- the runs of a fill from a bucket on
-abbrev pub runs_from : Cut → List ℕ → ℕ → List Span
-runs_from c D at = runs-in (is-visible c.mark.id) D (span at (high-met (bucket-tiles c.width) c.words.span.0))
-
-module _ (c : Cut) (D : List ℕ) (k : ℕ) (l₀ : List ℕ) (room : piece-size * (k + length (met c D)) ≤ length l₀) (r : Run) (f : FirstRun c D r)
-    (k₁ : ℕ) (e : k₁ ≡ k + 1) (l₁ : List ℕ) (q : l₁ ≡ words-at l₀ (piece-size * k) (cut_words c (span r.first r.end))) where
-  first_put : PutCut c D (low c D 0) k l₀ (r.end + 1) k₁ l₁
-  first_put = rw e (put_more _ _ _ _ _ _ _ _ _ _ _ _ _ (put_first _ _ _ _ _ _ _ _ _ _) room (span r.first r.end) (r.end + 1) f.runs l₁ q)
-
-  pub room_left : piece-size * (k₁ + length (runs_from c D (r.end + 1))) ≤ length l₁
-  room_left = omega (arith, first_put.count, first_put.kept, room)
-
-  pub all_put : (from n : ℕ) (l : List ℕ) → PutCut c D (r.end + 1) k₁ l₁ from n l → runs_from c D from ≡ []
-      → (n ≡ k + length (met c D)) × (l ≡ words-at l₀ (piece-size * k) (join (cut_words c) (met c D)))
-  all_put from n l s none =
-      let o = put_end _ _ _ _ _ _ _ _ _ _ _ _ _ s none in
-      (o.0 ∙ first_put.count, o.1 ∙ first_put.rest)
+-- a fill's pieces, from its first bucket on after k words
+abbrev pub PutCut : Cut → List ℕ → ℕ → List ℕ → ℕ → ℕ → List ℕ → Type 0
+PutCut c D k l₀ at n l =
+    Put D c.mark.id (end_met c) (tiles_in c.scale) c.words c.nesting c.mark.panel (low-met (tiles_in c.scale) c.words.span.0) k l₀ at n l

@@ -1,5 +1,5 @@
 -- What is said of a command, and what its step then leaves. Assumes nothing.
-use Rattle.std.proofs.Common.{◌≡◌, refl, sym, ap, ◌∙◌, Bool, true, false, ◌&&◌, eqb, List, [], ◌∷◌, ◌++◌, map, ◌⊎◌, inl, inr, Option, None, Some, ℕ, zero, suc, ◌+◌, ◌-◌, ◌*◌, ◌/◌, ◌%◌, ◌≤◌, ◌<◌, arith, length, lt-ltb, le-ltb, le-leb, eqb-true, eq-eqb}
+use Rattle.std.proofs.Common.{◌≡◌, refl, sym, ap, ◌∙◌, Bool, true, false, ◌&&◌, cond, eqb, List, [], ◌∷◌, ◌++◌, map, ◌⊎◌, inl, inr, Option, None, Some, ℕ, zero, suc, ◌+◌, ◌-◌, ◌*◌, ◌/◌, ◌%◌, ◌≤◌, ◌<◌, arith, length, lt-ltb, le-ltb, le-leb, eqb-true, eq-eqb, ne_eqb}
 use lib.ListN.{length-map}
 use Rattle.sizes.specs.Sizes.{piece-size}
 use Rattle.rules.specs.Lists.{join}
@@ -24,7 +24,7 @@ use Rattle.paint.specs.Reading.{paint_mark, layer_mark}
 use Rattle.paint.proofs.Judging.{if_some}
 use Rattle.paint.specs.Rows.{mark_in}
 use Rattle.paint.proofs.Steps.{bare}
-use Rattle.paint.specs.Kinds.{good-index, Fills, Looked, Shows, runs-met, tiles-met, run-words, whole_words, Gives, GivesPart}
+use Rattle.paint.specs.Kinds.{good-index, Fills, Shows, run-words, whole_words, Gives}
 
 -- where the painting of a row stands
 abbrev at-step : List ℕ → ℕ → ℕ → Painter
@@ -85,15 +85,15 @@ module _ (v : ℕ) (attrs : Attrs) (u : Summary) (D : List ℕ) (m : ℕ) where
     gives-pop h e = record { step = λ M q P l k. rw (e, lt-ltb 0 m h) (sym (bare D M P l false (at-step D (q + 1) (m - 1)) refl)) }
 
     module _ (ex : c.alpha ≡ 0) (ei : c.attrs_idx ≡ 0) where
-      pub push-bare : c.tag ≡ 5 → c.span.0 ≡ 0 → m < 16 → (m < 16) × Gives v attrs u D m c 0 [] (m + 1)
-      push-bare et ew h = (h, gives-push None h (sym (tag-5 _ _ _ _ true et (rw (eq-eqb _ _ ew, eq-eqb _ _ ex, eq-eqb _ _ ei)))))
+      pub push-bare : c.tag ≡ 5 → c.span.0 ≡ 0 → m < 16 → Gives v attrs u D m c 0 [] (m + 1)
+      push-bare et ew h = gives-push None h (sym (tag-5 _ _ _ _ true et (rw (eq-eqb _ _ ew, eq-eqb _ _ ex, eq-eqb _ _ ei))))
 
-      pub push-tiles : c.tag ≡ 6 → good-span-word 8192 c.span.0 ≡ true → m < 16 → (m < 16) × Gives v attrs u D m c 0 [] (m + 1)
+      pub push-tiles : c.tag ≡ 6 → good-span-word 8192 c.span.0 ≡ true → m < 16 → Gives v attrs u D m c 0 [] (m + 1)
       push-tiles et g h =
-          (h, gives-push (Some (word-span c.span.0)) h (sym (tag-6 _ _ _ _ true true et (rw (g, eq-eqb _ _ ex)) (eq-eqb _ _ ei))))
+          gives-push (Some (word-span c.span.0)) h (sym (tag-6 _ _ _ _ true true et (rw (g, eq-eqb _ _ ex)) (eq-eqb _ _ ei)))
 
-      pub pop-bare : c.tag ≡ 7 → c.span.0 ≡ 0 → 0 < m → (0 < m) × Gives v attrs u D m c 0 [] (m - 1)
-      pop-bare et ew h = (h, gives-pop h (sym (tag-7 _ _ _ _ true et (rw (eq-eqb _ _ ew, eq-eqb _ _ ex, eq-eqb _ _ ei)))))
+      pub pop-bare : c.tag ≡ 7 → c.span.0 ≡ 0 → 0 < m → Gives v attrs u D m c 0 [] (m - 1)
+      pop-bare et ew h = gives-pop h (sym (tag-7 _ _ _ _ true et (rw (eq-eqb _ _ ew, eq-eqb _ _ ex, eq-eqb _ _ ei))))
 
     -- the words' step is that of a fill, with this id and panel
     pub record FillStep (k : Mark) : Type 0 where
@@ -113,7 +113,7 @@ module _ (v : ℕ) (attrs : Attrs) (u : Summary) (D : List ℕ) (m : ℕ) where
                 ∙ ap (λ (e : CmdWords). out (listed 1) (depths D M) ((q + 1) ∷ m ∷ []) (over (whole_words e m k.panel) l)) f.same;
           }
 
-      gives-runs : (rs : List Span) → Shows v u D k.id c (map (λ (r : Span). common (word-span c.span.0) (tiles-of v r)) rs)
+      pub gives-runs : (rs : List Span) → Shows v u D k.id c (map (λ (r : Span). common (word-span c.span.0) (tiles-of v r)) rs)
           → Gives v attrs u D m c (length rs) (join (run-words v c m k.panel) rs) m
       gives-runs rs s =
           record {
@@ -122,13 +122,6 @@ module _ (v : ℕ) (attrs : Attrs) (u : Summary) (D : List ℕ) (m : ℕ) where
                 ∙ fill-runs f.layer f.index c.span.0 c.attrs_idx k.panel k.id q M P l rs s.runs h
                 ∙ ap (λ (e : CmdWords). out (listed (length rs)) (depths D M) ((q + 1) ∷ m ∷ []) (over (join (run-words v e m k.panel) rs) l)) f.same;
           }
-
-      pub gives-none : Shows v u D k.id c [] → Gives v attrs u D m c 0 [] m
-      gives-none = gives-runs []
-
-      pub gives_part : (seen : Bool) (stop : ℕ) → Looked v D k.id c.span.0 seen stop × Shows v u D k.id c (tiles-met v D k.id c.span.0)
-          → GivesPart v attrs u D m c (record { seen = seen; stop = stop; mark = k })
-      gives_part seen stop (o, s) = record { looked = o; good = s.good; gives = gives-runs (runs-met v D k.id c.span.0) s }
 
 -- the four tags
 four : (t : ℕ) → 0 < t → t ≤ 4 → (t ≡ 1) ⊎ ((t ≡ 2) ⊎ ((t ≡ 3) ⊎ (t ≡ 4)))
@@ -181,3 +174,8 @@ module _ (v : ℕ) (attrs : Attrs) (u : Summary) (D : List ℕ) (m : ℕ) (c : C
           record { layer = true; index = None; same = rw (← e, ← solid c f (rw e)); step = layer-step (rw e at i) None (sym (tag-3 _ _ _ _ true e (solid-word c f (rw e)))) }
       go (inr (inr (inr e))) =
           record { layer = true; index = Some c.alpha; same = rw (← e); step = layer-step (rw e at i) (Some c.alpha) (sym (tag-4 _ _ _ _ true e (alpha-word c f (rw e)))) }
+
+-- a fill's attribute is only read where there is a fill
+pub marked : (t : ℕ) (o : Option Mark) (k : Mark) → cond (eqb t 0) None o ≡ Some k → (0 < t) × (o ≡ Some k)
+marked zero o k e = let z : ◌≡◌ {A = ℕ} 0 1 = cc in absurd (omega arith)
+marked (suc t) o k e = (omega arith, rw (ne_eqb (suc t) 0 (λ z. omega arith)) at e)

@@ -14,12 +14,12 @@ use Rattle.sizes.proofs.Refusals.{not_done}
 use Rattle.paint.specs.Answers.{Painted}
 use Rattle.rules.specs.Minima.{minima-room}
 use Rattle.screen.specs.Depths.{Depths, depths}
-use Rattle.paint.specs.Painting.{attrs-at, RowLent, words_lent, StepOut, out, refused, left, settled, painted-row}
+use Rattle.paint.specs.Painting.{attrs-at, RowLent, words_lent, StepOut, out, listed, refused, left, settled, painted-row}
 use Rattle.paint.proofs.CommandLaws.{same-lengths}
 use Rattle.paint.specs.Judging.{wide}
 use Rattle.paint.specs.Stepping.{part, with_part, depth-part, with-depth-part, put-depth, Within, Attributes, own-parts, own, in_place, number, row_step, stepped}
 use Rattle.paint.proofs.ScreenParts.{part-is, put_is, ready}
-use Rattle.paint.specs.Running.{goes_on, ended, one_more, run, most, standing, own-step, own-run, row-run, call_step, row-painted}
+use Rattle.paint.specs.Running.{goes_on, ended, one_more, run, most, standing, own-step, own-run, row-run, row-run-on, call_step, row-painted}
 use Rattle.paint.proofs.WholeRuns.{stops, more}
 
 -- steps over the row's own depth words and minima, which are put back in their places
@@ -32,16 +32,15 @@ module _ (b r : ℕ) (d : Depths) (f : Depths → StepOut) (o : Painted) (q ms p
       rw (put_is b r d.words q, put_is k r d.minima ms, j) (ap (put-depth b r d) i)
 
 -- .. and then the painting words
-module _ (v f : ℕ) (a : Attrs) (b c d r : ℕ) (l : RowLent) (o : Painted) (q : Depths) (p t : List ℕ) where
-  pub run-back : out o q p t ≡ put-depth b r l.depth (own-run v f a
-      (words_lent (part 54 r l.state) (part (4 * c) r l.render) (part (2 * d) r l.fills) (depth-part b r l.depth)
-      (take (r * 2 + 2 - r * 2) (drop (r * 2) l.painting))
-      l.list))
+module _ (v f k n : ℕ) (a : Attrs) (b c d r : ℕ) (l : RowLent) (o : Painted) (q : Depths) (p t : List ℕ) where
+  pub run-back : out o q p t ≡ put-depth b r l.depth (run (own-step v a (part 54 r l.state) (part (4 * c) r l.render) (part (2 * d) r l.fills)) f k
+      (out (listed n) (depth-part b r l.depth) (take (r * 2 + 2 - r * 2) (drop (r * 2) l.painting)) l.list))
       → out o q (put_mid (r * 2) (r * 2 + 2 - r * 2) l.painting p) t
-      ≡ row-run v f a b c d r l
-  unfolding row-run
+      ≡ row-run-on v f k n a b c d r l
+  unfolding row-run-on
   run-back h =
-      let i : out o q p t ≡ put-depth b r l.depth (own-run v f a (own-parts b c d r l)) = rw (part-is 2 r l.painting) at h in
+      let w = own-parts b c d r l in
+      let i : out o q p t ≡ put-depth b r l.depth (run (own-step v a w.state w.render w.fills) f k (out (listed n) w.depth w.painting w.list)) = rw (part-is 2 r l.painting) at h in
       rw (put_is 2 r l.painting p)
       (ap (λ (x : StepOut). out x.answer x.depth (with_part 2 r l.painting x.painting) x.list) i)
 

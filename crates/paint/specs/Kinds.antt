@@ -1,8 +1,7 @@
 -- Commands that one look settles, and runs of such commands.
-use Rattle.std.specs.Prelude.{ℕ, ◌+◌, ◌-◌, ◌*◌, ◌/◌, ◌%◌, ◌≤◌, ◌<◌, ◌≡◌, Bool, true, false, not, cond, List, [], ◌∷◌, map, length, ltb, eqb}
+use Rattle.std.specs.Prelude.{ℕ, ◌+◌, ◌-◌, ◌*◌, ◌/◌, ◌%◌, ◌≤◌, ◌≡◌, Bool, true, cond, List, [], ◌∷◌, map, length, ltb, eqb}
 use Rattle.std.specs.Prelude.{None, Some}
 use Rattle.sizes.specs.Sizes.{tile-end, tile-alphas, most-layers, piece-size}
-use Rattle.rules.specs.Lists.{join}
 use Rattle.rules.specs.Spans.{Span, span, common}
 use Rattle.rules.specs.Depth.{Summary, is-visible, runs-in, tiles-of}
 use Rattle.cmd.specs.Reading.{word-span}

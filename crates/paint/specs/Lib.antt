@@ -9,8 +9,10 @@ pub mod Beginning
 pub mod Stepping
 pub mod DirectRuns
 pub mod Running
+pub mod Scales
 pub mod Kinds
 pub mod Rows
 pub mod Cuts
 pub mod Named
 pub mod StoredCmds
+pub mod DepthFills

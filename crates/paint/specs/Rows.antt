@@ -1,5 +1,5 @@
 -- The definitions of Kinds and Running, of a row's value.
-use Rattle.std.specs.Prelude.{Option, Some, length, ℕ, ◌/◌, cond, List, leb}
+use Rattle.std.specs.Prelude.{Option, Some, length, ℕ, ◌-◌, ◌*◌, ◌/◌, ◌≤◌, ◌<◌, ◌≡◌, true, cond, List, leb}
 use Rattle.rules.specs.Attributes.{Attrs}
 use Rattle.sizes.specs.Sizes.{piece-size}
 use Rattle.sizes.specs.Widths.{bucket-tiles}
@@ -7,13 +7,14 @@ use Rattle.screen.specs.Depths.{Depths}
 use Rattle.paint.specs.Summaries.{summary-at}
 use Rattle.paint.specs.declared.command.reading.StoredRow.{StoredRow}
 use Rattle.paint.specs.declared.command.marks.Mark.{Mark}
-use Rattle.paint.specs.Painting.{word, words_lent, StepOut, painter-at, depth-step, command-step, depth-fill-at, fill-minima, settled}
+use Rattle.paint.specs.Painting.{word, words_lent, StepOut, out, listed, painter-at, depth-step, command-step, depth-fill-at, fill-minima, settled}
 use Rattle.paint.specs.Reading.{attrs_of, paint_mark, layer_mark}
-use Rattle.paint.specs.Running.{own-step, own-run}
+use Rattle.paint.specs.Running.{own-step, own-run, one_more, run, finished_with}
 use Rattle.rules.specs.Commands.{Command}
 use Rattle.paint.specs.declared.whole.pieces.Pieces.{Pieces}
 use Rattle.paint.specs.declared.whole.commands.Reached.{Reached}
-use Rattle.paint.specs.Kinds.{Calm, place, Reaches}
+use Rattle.paint.specs.declared.whole.run.Went.{Went}
+use Rattle.paint.specs.Kinds.{Calm, Onward, place, Reaches}
 
 abbrev pub steps_of : StoredRow → Depths → List ℕ → List ℕ → StepOut
 steps_of r = own-step (bucket-tiles r.width) (attrs_of r.attrs) r.state.now r.render_cmds.now r.depth_cmds.now
@@ -47,3 +48,16 @@ Ran r D start m p o p' = Reaches (steps_of r) D (word r.state.now 1) (place star
 -- what a fill's attribute says, a paint's or a layer's by the tag
 abbrev pub mark_in : Attrs → ℕ → ℕ → Option Mark
 mark_in a t i = cond (leb t 2) (paint_mark a i) (layer_mark a i)
+
+-- the steps that a run did for sure, at most f, of the depth words and minima, painting words and list before it and those after it: they are steps of the row,
+-- and the next one finds nothing left if the run says so
+pub record Sure (r : StoredRow) (f : ℕ) (w : Went) (d : Depths) (p l : List ℕ) (d' : Depths) (p' l' : List ℕ) : Type 0 where
+  pub few : w.steps ≤ f
+  pub fits : piece-size * w.pieces ≤ length l'
+  pub onward : Onward (steps_of r) w.steps (out (listed 0) d p l) (out (listed w.pieces) d' p' l')
+  pub unended : w.ended ≡ true → w.steps < f
+  pub ended : w.ended ≡ true → one_more (steps_of r) (out (listed w.pieces) d' p' l') ≡ out (finished_with w.pieces) d' p' l'
+
+-- at most f steps in all, after k that gave n pieces
+abbrev pub run_on : StoredRow → ℕ → ℕ → ℕ → Depths → List ℕ → List ℕ → StepOut
+run_on r f k n d p l = run (steps_of r) (f - k) k (out (listed n) d p l)

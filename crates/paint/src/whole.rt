@@ -3,18 +3,22 @@
 ghost use Rattle.std.specs.Prelude.{◌≡◌, ◌≤◌, ◌-◌, ◌*◌, Ok, MatchOption, length};
 ghost use Rattle.sizes.specs.Sizes.{piece-size};
 ghost use Rattle.sizes.specs.Widths.{bucket-tiles};
+ghost use Rattle.rules.specs.Minima.{minima-room};
+ghost use Rattle.depth.specs.Minima.{SameDepth};
+ghost use Rattle.screen.specs.Depths.{depths_in};
 ghost use Rattle.paint.specs.Answers.{painted_of};
-ghost use Rattle.paint.specs.Painting.{listed};
+ghost use Rattle.paint.specs.Painting.{out, listed};
 ghost use Rattle.paint.specs.Judging.{wide};
-ghost use Rattle.paint.specs.Stepping.{stepped};
+ghost use Rattle.paint.specs.Stepping.{Within, depth-part, with-depth-part, put-depth, stepped};
+ghost use Rattle.paint.specs.Rows.{Sure, run_on};
 ghost use Rattle.paint.specs.Named.{SameCanvas, step_out, RowReady, RowStored, IsRowOf, row_lent, row_attrs, used_attrs};
 ghost use Rattle.paint.specs.Running.{most, row-run, row-run-on, row-painted};
 
 use crate::canvas::judge::judge_step;
-use crate::canvas::{Canvas, RowWords, Stepped, Stored};
+use crate::canvas::{Canvas, Stepped, Stored};
 use crate::command::{Attributes, StoredRow};
-use crate::whole::run::{Went, run_steps, run_sure};
-use depth::minima_room;
+use crate::whole::run::{Went, run_parts, run_sure};
+use depth::{Depth, minima_room};
 use row::part;
 use screen::Screen;
 use sizes::answers::Refusal;
@@ -50,6 +54,75 @@ fn row_of<'a>(screen: Screen, row: usize, stored: &Stored<'a>) -> StoredRow<'a>
     }
 }
 
+// The sure steps of a row of `b` buckets, at most `limit`, its own painting words being lent.
+#[inline(always)]
+fn sure_part(
+    read: &StoredRow<'_>,
+    b: usize,
+    row: usize,
+    depth: &mut Depth<'_>,
+    painting: &mut [u32],
+    list: &mut [u32],
+    limit: usize,
+) -> Went
+    requires limit { limit ≤ most }
+    requires words { Within b row depth.old.words.now }
+    requires minima { Within (minima-room b) row depth.old.minima.now }
+    requires painting { length painting.old ≡ 2 }
+    ensures same { SameDepth depth.old depth.new }
+    ensures long { (length painting.new ≡ 2) × (length list.new ≡ length list.old) }
+    ensures others { depths_in depth.new ≡ with-depth-part b row (depths_in depth.old) (depth-part b row (depths_in depth.new)) }
+    ensures sure { Sure read.now limit result (depth-part b row (depths_in depth.old)) painting.old list.old
+        (depth-part b row (depths_in depth.new)) painting.new list.new }
+{
+    let over = minima_room(b);
+    let u = row * b;
+    let m = row * over;
+    run_sure(
+        read,
+        &mut depth.words[u..u + b],
+        &mut depth.minima[m..m + over],
+        painting,
+        list,
+        limit,
+    )
+}
+
+// The rest of at most `limit` steps of such a row.
+fn rest_part(
+    read: &StoredRow<'_>,
+    b: usize,
+    row: usize,
+    depth: &mut Depth<'_>,
+    painting: &mut [u32],
+    list: &mut [u32],
+    limit: usize,
+    went: Went,
+) -> Result<Stepped, Refusal>
+    requires limit { limit ≤ most }
+    requires words { Within b row depth.old.words.now }
+    requires minima { Within (minima-room b) row depth.old.minima.now }
+    requires painting { length painting.old ≡ 2 }
+    requires pieces { piece-size * went.pieces ≤ length list.old }
+    requires none { went.steps ≡ 0 → went.pieces ≡ 0 }
+    ensures same { SameDepth depth.old depth.new }
+    ensures run { out (painted_of result) (depths_in depth.new) painting.new list.new
+        ≡ put-depth b row (depths_in depth.old) (run_on read.now limit went.steps went.pieces (depth-part b row (depths_in depth.old)) painting.old list.old) }
+{
+    let over = minima_room(b);
+    let u = row * b;
+    let m = row * over;
+    run_parts(
+        read,
+        &mut depth.words[u..u + b],
+        &mut depth.minima[m..m + over],
+        painting,
+        list,
+        limit,
+        went,
+    )
+}
+
 // The rest of at most `limit` steps of a row, after those that were sure.
 #[inline(never)]
 fn row_rest(
@@ -64,6 +137,7 @@ fn row_rest(
 ) -> Result<Stepped, Refusal>
     requires limit { limit ≤ most }
     requires pieces { piece-size * went.pieces ≤ length list.old }
+    requires none { went.steps ≡ 0 → went.pieces ≡ 0 }
     requires wide { b ≡ wide screen }
     requires ready { RowReady screen row stored.now canvas.old list.old }
     ensures same { SameCanvas canvas.old canvas.new }
@@ -71,17 +145,18 @@ fn row_rest(
         ≡ row-run-on (bucket-tiles screen.width) (limit - went.steps) went.steps went.pieces (used_attrs screen stored.now) (wide screen) screen.c screen.d row
         (row_lent stored.now canvas.old list.old) }
 {
-    let over = minima_room(b);
-    let u = row * b;
-    let m = row * over;
     let v = row * 2;
     let read = row_of(screen, row, stored);
-    let mut own = RowWords {
-        depth: &mut canvas.depth.words[u..u + b],
-        minima: &mut canvas.depth.minima[m..m + over],
-        painting: &mut canvas.painting[v..v + 2],
-    };
-    run_steps(&read, &mut own, list, limit, went)
+    rest_part(
+        &read,
+        b,
+        row,
+        &mut canvas.depth,
+        &mut canvas.painting[v..v + 2],
+        list,
+        limit,
+        went,
+    )
 }
 
 /// At most `limit` steps of a row that is there, of `b` buckets, painting having begun: the row's own parts are handed on. A part of the calls, and of those
@@ -104,14 +179,13 @@ pub fn row_part(
         ≡ row-run (bucket-tiles screen.width) limit (used_attrs screen stored.now) (wide screen) screen.c screen.d row
         (row_lent stored.now canvas.old list.old) }
 {
-    let over = minima_room(b);
-    let u = row * b;
-    let m = row * over;
     let v = row * 2;
-    let went = run_sure(
-        &row_of(screen, row, stored),
-        &mut canvas.depth.words[u..u + b],
-        &mut canvas.depth.minima[m..m + over],
+    let read = row_of(screen, row, stored);
+    let went = sure_part(
+        &read,
+        b,
+        row,
+        &mut canvas.depth,
         &mut canvas.painting[v..v + 2],
         list,
         limit,
@@ -143,14 +217,13 @@ pub fn row_step(
         (λ s. step_out (painted_of (Ok s)) canvas.new list.new
             ≡ row-run (bucket-tiles screen.width) 1 (used_attrs screen stored.now) (wide screen) screen.c screen.d row (row_lent stored.now canvas.old list.old)) }
 {
-    let over = minima_room(b);
-    let u = row * b;
-    let m = row * over;
     let v = row * 2;
-    let went = run_sure(
-        &row_of(screen, row, stored),
-        &mut canvas.depth.words[u..u + b],
-        &mut canvas.depth.minima[m..m + over],
+    let read = row_of(screen, row, stored);
+    let went = sure_part(
+        &read,
+        b,
+        row,
+        &mut canvas.depth,
         &mut canvas.painting[v..v + 2],
         list,
         1,

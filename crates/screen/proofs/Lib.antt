@@ -5,3 +5,4 @@ pub mod Passed
 pub mod LayersLaws
 pub mod Zeros
 pub mod Blanks
+pub mod Copies

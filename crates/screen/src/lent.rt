@@ -1,8 +1,9 @@
 //! The words that a host lends with a screen, and how many: judged and cleared by a reset.
-ghost use Rattle.std.specs.Prelude.{true, ◌≡◌, ◌≤◌, ◌*◌, ◌++◌, length, replicate, drop};
+ghost use Rattle.std.specs.Prelude.{ℕ, true, ◌≡◌, ◌≤◌, ◌<◌, ◌*◌, ◌++◌, length, replicate, take, drop};
 ghost use Rattle.sizes.specs.Refusals.{answer_number};
 ghost use Rattle.sizes.specs.Sizes.{most-rows};
 ghost use Rattle.rules.specs.Boxes.{good_viewport};
+ghost use Rattle.rules.specs.Lists.{join};
 ghost use Rattle.rules.specs.Minima.{minima-room};
 ghost use Rattle.rect.specs.Rects.{box_of};
 ghost use Rattle.screen.specs.Screens.{frame-of};
@@ -109,12 +110,12 @@ fn blank_rows(words: &mut [u32], minima: &mut [u32], rows: usize, buckets: usize
     ensures minima { minima.new ≡ blank-minima rows buckets }
 {
     words.fill(0);
+    let room = minima_room(buckets);
     // Where no group has a place past the row's last bucket, all minima are 0.
-    if rows == 0 || buckets == 0 || buckets.is_power_of_two() {
+    if rows == 0 || buckets == 0 || room + 1 == 2 * buckets {
         minima.fill(0);
         return;
     }
-    let room = minima_room(buckets);
     make(&words[..buckets], &mut minima[..room]);
     repeat(minima, room);
 }

@@ -22,7 +22,7 @@ pub struct Reached {
 
 // What a fill's attribute says, a paint's or a layer's by the tag, if it is there and good. No command has tag 0.
 #[inline(always)]
-fn mark_of(attrs: Attributes<'_>, tag: u32, i: u32) -> Option<Mark>
+fn mark_of(attrs: &Attributes<'_>, tag: u32, i: u32) -> Option<Mark>
     ensures { result ≡ cond (eqb tag 0) None (mark_in (attrs_of attrs.now) tag i) }
 {
     if tag == 0 {
@@ -72,7 +72,7 @@ pub fn run_commands(
             at += 1;
             continue;
         }
-        let Some(mark) = mark_of(attrs, words.tag, words.attrs_idx) else {
+        let Some(mark) = mark_of(&attrs, words.tag, words.attrs_idx) else {
             break;
         };
         if !is_fill(words, tiles) {

@@ -1,5 +1,5 @@
 //! A row's depth fills, in one loop, as far as each is good. Parts: where a function asks something, its callers have judged it.
-ghost use Rattle.std.specs.Prelude.{◌≡◌, ◌+◌, ◌-◌, ◌*◌, ◌/◌, ◌≤◌, ◌<◌, ℕ, [], ◌∷◌, length};
+ghost use Rattle.std.specs.Prelude.{◌≡◌, ◌+◌, ◌-◌, ◌*◌, ◌/◌, ◌≤◌, ◌<◌, ℕ, [], ◌∷◌, length, get_or};
 ghost use Rattle.sizes.specs.Sizes.{most-layers, piece-size};
 ghost use Rattle.rules.specs.Lists.{join};
 ghost use Rattle.rules.specs.Depth.{write-runs, written};
@@ -10,7 +10,8 @@ ghost use Rattle.screen.specs.Depths.{depths};
 ghost use Rattle.paint.specs.Painting.{word, out, listed};
 ghost use Rattle.paint.specs.Kinds.{Onward};
 ghost use Rattle.paint.specs.Rows.{CalmRow, steps_of, count_of};
-ghost use Rattle.paint.specs.Scales.{tiles_in, depth-words};
+ghost use Rattle.paint.specs.DepthFills.{MarksRun, depth-words};
+ghost use Rattle.paint.specs.Scales.{tiles_in};
 
 use crate::command::{Mark, StoredRow};
 use crate::whole::pieces::Pieces;
@@ -19,6 +20,21 @@ use cmd::depth_fill::{DepthFill, DepthWords};
 use cmd::piece::PieceWords;
 use depth::minima::mend;
 use sizes::PIECE;
+
+// The unset buckets from `first` on, before hi, get the id: where they end.
+#[inline(always)]
+fn mark_run(depth: &mut [u32], first: usize, hi: usize, id: u32) -> usize
+    requires range { (first < hi) × (hi ≤ length depth.old) }
+    requires unset { get_or depth.old first 0 ≡ 0 }
+    ensures { MarksRun id hi first depth.old depth.new result }
+{
+    let mut b = first;
+    while b < hi && depth[b] == 0 {
+        depth[b] = id;
+        b += 1;
+    }
+    b
+}
 
 // The unset runs of a fill become pieces, and get its id; the minima above each are mended.
 #[inline(always)]
@@ -36,6 +52,7 @@ fn put_depth(
     ensures same { pieces.new.list.ghost_name ≡ pieces.old.list.ghost_name }
     ensures depth { depth.new ≡ written depth.old mark.id (buckets fill.buckets) }
     ensures minima { minima.new ≡ mended-runs (halvings (length depth.old)) minima.old depth.new (write-runs depth.old (buckets fill.buckets)) }
+    ensures long { length minima.new ≡ length minima.old }
     ensures at { pieces.new.at ≡ pieces.old.at + piece-size * length (write-runs depth.old (buckets fill.buckets)) }
     ensures list { pieces.new.list.now ≡ words-at pieces.old.list.now pieces.old.at
         (join (depth-words (tiles_in scale) fill.attrs_idx mark.panel) (write-runs depth.old (buckets fill.buckets))) }
@@ -45,12 +62,7 @@ fn put_depth(
     while b < hi {
         if depth[b] == 0 {
             let first = b;
-            depth[b] = mark.id;
-            b += 1;
-            while b < hi && depth[b] == 0 {
-                depth[b] = mark.id;
-                b += 1;
-            }
+            b = mark_run(depth, first, hi, mark.id);
             mend(minima, first, b, mark.id);
             pieces.push(PieceWords {
                 tag: 1,
@@ -85,7 +97,7 @@ pub fn run_depths(
     ensures few { (result ≤ left) × (result ≤ limit) }
     ensures onward { (m : ℕ) → m ≤ most-layers → let done = word row.now.state.now 1 - left in Onward (steps_of row.now) result
         (out (listed (count_of pieces.old)) (depths depth.old minima.old) (done ∷ m ∷ []) pieces.old.list.now)
-        (out (listed (count_of pieces.new)) (depths depth.new minima.new) (done + result ∷ m ∷ []) pieces.new.list.now) }
+        (out (listed (count_of pieces.new)) (depths depth.new minima.new) ((done + result) ∷ m ∷ []) pieces.new.list.now) }
 {
     let depth_cmds = row.depth_cmds;
     let attrs = row.attrs;

@@ -1,14 +1,13 @@
 //! The steps of one row, over its own words. Parts: where a function asks something, its callers have judged it.
-ghost use Rattle.std.specs.Prelude.{◌≡◌, true, ◌*◌, ◌-◌, ◌≤◌, ◌<◌, length};
+ghost use Rattle.std.specs.Prelude.{◌≡◌, ◌*◌, ◌≤◌, length};
 ghost use Rattle.sizes.specs.Sizes.{piece-size};
 ghost use Rattle.paint.specs.Answers.{painted_of};
 ghost use Rattle.paint.specs.Painting.{out, listed};
 ghost use Rattle.rules.specs.Minima.{minima-room};
 ghost use Rattle.screen.specs.Depths.{depths};
 ghost use Rattle.paint.specs.Named.{RowLong, SameRow, row_out, own-depths};
-ghost use Rattle.paint.specs.Running.{most, onto, one_more, run, finished_with};
-ghost use Rattle.paint.specs.Kinds.{Onward};
-ghost use Rattle.paint.specs.Rows.{steps_of};
+ghost use Rattle.paint.specs.Running.{most, onto, one_more};
+ghost use Rattle.paint.specs.Rows.{steps_of, Sure, run_on};
 
 use crate::canvas::RowWords;
 use crate::command::{StoredRow, step_row};
@@ -59,27 +58,24 @@ pub struct Went {
     pub ended: bool,
 }
 
-/// The row's next steps, at most `limit`, as far as one look settles each: its depth fills, then its commands. It refuses nothing: what it leaves is judged step
-/// by step. The row's depth words, the minima above them and its painting words are lent one by one.
+// The row's next steps, at most `limit`, as far as one look settles each, into a list of which nothing is written.
 #[inline(always)]
-pub fn run_sure(
+fn run_into(
     row: &StoredRow<'_>,
     depth: &mut [u32],
     minima: &mut [u32],
     painting: &mut [u32],
-    list: &mut [u32],
+    pieces: &mut Pieces<'_>,
     limit: usize,
 ) -> Went
     requires lens { (length depth.old ≤ 65535) × (length minima.old ≡ minima-room (length depth.old)) × (length painting.old ≡ 2) }
     requires limit { limit ≤ most }
-    ensures long { (length depth.new ≡ length depth.old) × (length minima.new ≡ length minima.old) × (length painting.new ≡ 2) × (length list.new ≡ length list.old) }
-    ensures few { (result.steps ≤ limit) × (piece-size * result.pieces ≤ length list.old) }
-    ensures onward { Onward (steps_of row.now) result.steps
-        (out (listed 0) (depths depth.old minima.old) painting.old list.old)
-        (out (listed result.pieces) (depths depth.new minima.new) painting.new list.new) }
-    ensures ended { result.ended ≡ true → (result.steps < limit)
-        × (one_more (steps_of row.now) (out (listed result.pieces) (depths depth.new minima.new) painting.new list.new)
-            ≡ out (finished_with result.pieces) (depths depth.new minima.new) painting.new list.new) }
+    requires none { pieces.old.at ≡ 0 }
+    ensures same { pieces.new.list.ghost_name ≡ pieces.old.list.ghost_name }
+    ensures long { (length depth.new ≡ length depth.old) × (length minima.new ≡ length minima.old) × (length painting.new ≡ 2)
+        × (length pieces.new.list.now ≡ length pieces.old.list.now) }
+    ensures sure { Sure row.now limit result (depths depth.old minima.old) painting.old pieces.old.list.now
+        (depths depth.new minima.new) painting.new pieces.new.list.now }
 {
     let depths = row.state[DEPTHS];
     let renders = row.state[RENDERS];
@@ -97,35 +93,54 @@ pub fn run_sure(
             ended: false,
         };
     }
-    let mut out = Pieces::new(list);
     let mut steps: usize = 0;
     if done < depths {
         let left = (depths - done) as usize;
-        steps = run_depths(row, depth, minima, left, limit, &mut out);
+        steps = run_depths(row, depth, minima, left, limit, pieces);
         painting[0] = done + steps as u32;
         if limit <= steps || steps < left {
             return Went {
                 steps,
-                pieces: out.count(),
+                pieces: pieces.count(),
                 ended: false,
             };
         }
     }
     let start = (done + steps as u32 - depths) as usize;
     let stop = (renders as usize).min(start + (limit - steps));
-    let reached = run_commands(row, depth, &mut out, start, stop, nesting);
+    let reached = run_commands(row, depth, pieces, start, stop, nesting);
     painting[0] = depths + reached.at as u32;
     painting[1] = reached.nesting;
     let all = steps + (reached.at - start);
     Went {
         steps: all,
-        pieces: out.count(),
+        pieces: pieces.count(),
         ended: reached.at == renders as usize && all < limit,
     }
 }
 
-/// The rest of a run of at most `limit` steps, each by itself, until one is refused or the row is finished. Refused, 4 or 14, only where the run's first step is.
-pub fn run_steps(
+/// The row's next steps, at most `limit`, as far as one look settles each: its depth fills, then its commands. It refuses nothing: what it leaves is judged step
+/// by step. The row's depth words, the minima above them and its painting words are lent one by one.
+#[inline(always)]
+pub fn run_sure(
+    row: &StoredRow<'_>,
+    depth: &mut [u32],
+    minima: &mut [u32],
+    painting: &mut [u32],
+    list: &mut [u32],
+    limit: usize,
+) -> Went
+    requires lens { (length depth.old ≤ 65535) × (length minima.old ≡ minima-room (length depth.old)) × (length painting.old ≡ 2) }
+    requires limit { limit ≤ most }
+    ensures long { (length depth.new ≡ length depth.old) × (length minima.new ≡ length minima.old) × (length painting.new ≡ 2) × (length list.new ≡ length list.old) }
+    ensures sure { Sure row.now limit result (depths depth.old minima.old) painting.old list.old (depths depth.new minima.new) painting.new list.new }
+{
+    let mut out = Pieces::new(list);
+    run_into(row, depth, minima, painting, &mut out, limit)
+}
+
+// The rest of a run of at most `limit` steps, each by itself, until one is refused or the row is finished. Refused, 4 or 14, only where the run's first step is.
+fn run_steps(
     row: &StoredRow<'_>,
     canvas: &mut RowWords<'_>,
     list: &mut [u32],
@@ -135,9 +150,9 @@ pub fn run_steps(
     requires lens { RowLong canvas.old }
     requires limit { limit ≤ most }
     requires pieces { piece-size * went.pieces ≤ length list.old }
+    requires none { went.steps ≡ 0 → went.pieces ≡ 0 }
     ensures same { SameRow canvas.old canvas.new }
-    ensures run { row_out (painted_of result) canvas.new list.new
-        ≡ run (steps_of row.now) (limit - went.steps) went.steps (row_out (listed went.pieces) canvas.old list.old) }
+    ensures run { row_out (painted_of result) canvas.new list.new ≡ run_on row.now limit went.steps went.pieces (own-depths canvas.old) canvas.old.painting.now list.old }
 {
     let mut pieces = went.pieces;
     let mut steps = went.steps;
@@ -158,4 +173,29 @@ pub fn run_steps(
         steps += 1;
     }
     so_far(pieces)
+}
+
+/// The rest of a run of at most `limit` steps, after those that were sure, each by itself, until one is refused or the row is finished. Refused, 4 or 14, only
+/// where the run's first step is. The row's depth words, the minima above them and its painting words are lent one by one.
+pub fn run_parts(
+    row: &StoredRow<'_>,
+    depth: &mut [u32],
+    minima: &mut [u32],
+    painting: &mut [u32],
+    list: &mut [u32],
+    limit: usize,
+    went: Went,
+) -> Result<Stepped, Refusal>
+    requires lens { (length depth.old ≤ 65535) × (length minima.old ≡ minima-room (length depth.old)) × (length painting.old ≡ 2) }
+    requires limit { limit ≤ most }
+    requires pieces { piece-size * went.pieces ≤ length list.old }
+    requires none { went.steps ≡ 0 → went.pieces ≡ 0 }
+    ensures { out (painted_of result) (depths depth.new minima.new) painting.new list.new ≡ run_on row.now limit went.steps went.pieces (depths depth.old minima.old) painting.old list.old }
+{
+    let mut canvas = RowWords {
+        depth,
+        minima,
+        painting,
+    };
+    run_steps(row, &mut canvas, list, limit, went)
 }

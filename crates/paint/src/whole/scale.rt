@@ -1,7 +1,6 @@
 //! A bucket's width as a shift, so that no tile is divided by it.
-ghost use Rattle.std.specs.Prelude.{◌≡◌, ◌+◌, ◌-◌, ◌*◌, ◌/◌, ◌<◌, ◌≤◌};
+ghost use Rattle.std.specs.Prelude.{◌≡◌, ◌+◌, ◌-◌, ◌*◌, ◌/◌, ◌^◌, ◌<◌, ◌≤◌};
 ghost use Rattle.sizes.specs.Widths.{bucket-tiles};
-ghost use Rattle.paint.specs.Scales.{tiles_in};
 
 use sizes::width::Width;
 
@@ -16,7 +15,7 @@ impl Scale {
     /// That of a width.
     #[inline(always)]
     pub fn of(width: Width) -> Scale
-        ensures { tiles_in result ≡ bucket-tiles width }
+        ensures { 2 ^ result.shift ≡ bucket-tiles width }
     {
         let shift = match width {
             Width::W64 => 4,
@@ -29,7 +28,7 @@ impl Scale {
     /// The bucket of a tile.
     #[inline(always)]
     pub fn below(self, tile: u32) -> u32
-        ensures { result ≡ tile / tiles_in self }
+        ensures { result ≡ tile / 2 ^ self.shift }
     {
         tile >> self.shift
     }
@@ -38,7 +37,7 @@ impl Scale {
     #[inline(always)]
     pub fn above(self, end: u32) -> u32
         requires { 0 < «end» }
-        ensures { result ≡ («end» + (tiles_in self - 1)) / tiles_in self }
+        ensures { result ≡ («end» + (2 ^ self.shift - 1)) / 2 ^ self.shift }
     {
         ((end - 1) >> self.shift) + 1
     }
@@ -46,8 +45,8 @@ impl Scale {
     /// The first tile of a bucket.
     #[inline(always)]
     pub fn times(self, bucket: u32) -> u32
-        requires { bucket * tiles_in self < 4294967296 }
-        ensures { result ≡ bucket * tiles_in self }
+        requires { bucket * 2 ^ self.shift < 4294967296 }
+        ensures { result ≡ bucket * 2 ^ self.shift }
     {
         bucket << self.shift
     }

@@ -84,6 +84,10 @@ impl Port {
         self.bucketer.depth_words()
     }
 
+    pub(crate) fn minima(&self) -> &[u32] {
+        self.bucketer.minima()
+    }
+
     /// Every row painted to its end by a call for each, its pieces handed to `give`.
     pub(crate) fn paint(&mut self, mut give: impl FnMut(&[Piece])) {
         self.bucketer.begin_painting().expect("closed layers");

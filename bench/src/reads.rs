@@ -1,4 +1,4 @@
-//! Paints each scene once, telling an emulator's plugin (`bench/reads.c`) where the depth words lie. Without it nothing is counted.
+//! Paints each scene once, telling an emulator's plugin (`bench/reads.c`) where the depth words and the minima above them lie. Without it nothing is counted.
 
 use crate::port::Port;
 use crate::scenes::Scene;
@@ -9,8 +9,9 @@ extern "C" {
     fn madvise(at: *const u8, bytes: usize, advice: i32) -> i32;
 }
 
-/// Advice that no system knows: the plugin takes the first as "watch these words", the second as "say how many were read".
+/// Advice that no system knows: the plugin takes the first two as "watch these words", depth words or minima, and the third as "say how many were read".
 const WATCH: i32 = 7001;
+const WATCH_MINIMA: i32 = 7003;
 const SAY: i32 = 7002;
 
 pub(crate) fn count(it: &Scene) {
@@ -21,19 +22,25 @@ pub(crate) fn count(it: &Scene) {
     let mut port = Port::new(&it.draft, it.setup());
     port.reset();
     port.build(&steps);
-    watch(original.depth_words());
+    watch(original.depth_words(), WATCH);
+    watch(&[], WATCH_MINIMA);
     original.paint(crate::read);
     say(it.name, "original");
-    watch(port.depth_words());
+    watch_port(&port);
     port.paint(crate::read);
     say(it.name, "port");
-    watch(port.depth_words());
+    watch_port(&port);
     port.paint_by_steps(crate::read);
     say(it.name, "by steps");
 }
 
-fn watch(words: &[u32]) {
-    unsafe { madvise(words.as_ptr().cast(), size_of_val(words), WATCH) };
+fn watch_port(port: &Port) {
+    watch(port.depth_words(), WATCH);
+    watch(port.minima(), WATCH_MINIMA);
+}
+
+fn watch(words: &[u32], advice: i32) {
+    unsafe { madvise(words.as_ptr().cast(), size_of_val(words), advice) };
 }
 
 fn say(scene: &str, what: &str) {

@@ -630,6 +630,13 @@ impl CommandBucketer {
         &self.tables.depth
     }
 
+    /// The minima above the depth words, row after row: the smallest id of the row's buckets, then those of its left half, then those of its right half, down to
+    /// one bucket; a place past the row's last bucket counts as `u32::MAX`.
+    #[must_use]
+    pub fn minima(&self) -> &[u32] {
+        &self.tables.minima
+    }
+
     /// The depth words of a row of the screen; `None` where there is no such row.
     #[must_use]
     pub fn depth_words_of(&self, row: usize) -> Option<&[u32]> {
@@ -800,11 +807,6 @@ impl CommandBucketer {
 impl CommandBucketer {
     pub(crate) fn state(&self) -> &sys::StateWords {
         &self.state
-    }
-
-    /// How many minima the screen has.
-    pub(crate) fn minima_len(&self) -> usize {
-        self.tables.minima.len()
     }
 
     pub(crate) fn stored(&self) -> &sys::StoredWords {

@@ -444,7 +444,7 @@ impl Canvas {
         }
         let rows = screen.rows().len();
         self.depth.resize(rows * screen.buckets(), 0);
-        self.minima.resize(screen.minima_len(), 0);
+        self.minima.resize(screen.minima().len(), 0);
         self.painting.resize(rows * PAINTING, 0);
         self.brush.words = sys::CanvasWords {
             depth: sys::Lent::of(&mut self.depth),

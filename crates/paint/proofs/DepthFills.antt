@@ -1,5 +1,5 @@
 -- A row's depth fills in one loop: what each writes and lists. Assumes nothing.
-use Rattle.std.proofs.Common.{◌≡◌, refl, sym, ap, ◌∙◌, Bool, true, false, List, [], ◌∷◌, ℕ, zero, suc, ◌+◌, ◌-◌, ◌*◌, ◌/◌, ◌≤◌, ◌<◌, ◌&&◌, add-zero, zero-add, add-one, not-suc-le-zero, le_of_suc-le-suc, arith, le_refl, length, get_or, ltb, ltb-true, ltb-false, le-leb, lt-ltb}
+use Rattle.std.proofs.Common.{◌≡◌, refl, sym, ap, ◌∙◌, Bool, true, false, List, [], ◌∷◌, ℕ, zero, suc, ◌+◌, ◌-◌, ◌*◌, ◌/◌, ◌≤◌, ◌<◌, ◌&&◌, add-zero, zero-add, add-one, not-suc-le-zero, le_of_suc-le-suc, arith, le_refl, length, get_or, set, ltb, ltb-true, ltb-false, le-leb, lt-ltb}
 use Rattle.std.proofs.lemmas.Bool.{eqb-true, eqb-false}
 use Rattle.std.proofs.Common.{eqb}
 use borrow.Author.Tests.{lt-leb}
@@ -12,7 +12,7 @@ use Rattle.cmd.specs.Attrs.{words-at}
 use Rattle.cmd.proofs.Tables.{length_at}
 use Rattle.depth.proofs.Searching.{runs-few, unset-visible, Reached, Ended, reach-first, reach-more, reach-closed, reach-end, runs_closed, runs-end}
 use Rattle.depth.specs.Minima.{Holds}
-use Rattle.depth.proofs.Marking.{Marked, mark-first, mark-done, mark-closed}
+use Rattle.depth.proofs.Marking.{Marked, mark-first, mark-done, mark-open, mark-closed}
 use Rattle.paint.specs.DepthFills.{MarksRun, depth-words}
 use Rattle.paint.proofs.Putting.{words-on, words-none}
 
@@ -28,17 +28,24 @@ one-more-unset D a b h e n i j = go (eqb n b) refl
         below : (n ≡ b → ⊥) → n < b
         below d = omega (arith, d)
 
--- a run has a bucket, if its first is unset and the one where it ends is not
-pub begun : (D : List ℕ) (a b : ℕ) → a ≤ b → get_or D a 0 ≡ 0 → (get_or D b 0 ≡ 0 → ⊥) → a < b
-begun D a b h e k = go (eqb a b) refl
-  where
-    go : (t : Bool) → eqb a b ≡ t → a < b
-    go true g = absurd (k (rw (← eqb-true a b g) e))
-    go false g = let d = eqb-false a b g in omega (arith, h, d)
-
 pub above_zero : (n : ℕ) → (n ≡ 0 → ⊥) → 0 < n
 above_zero zero h = absurd (h refl)
 above_zero (suc n) h = omega arith
+
+-- a run from `first` has come to b: its buckets are unset in D, and written
+pub record Begun (D : List ℕ) (id hi first b : ℕ) (bs : List ℕ) : Type 0 where
+  pub past : first < b
+  pub within : b ≤ hi
+  pub unset : (n : ℕ) → first ≤ n → n < b → get_or D n 0 ≡ 0
+  pub marked : Marked id hi D first b bs
+
+pub begun-first : (D : List ℕ) (id hi first : ℕ) → hi ≤ length D → first < hi → get_or D first 0 ≡ 0 → Begun D id hi first (first + 1) (set D first id)
+begun-first D id hi first fits h e = record {
+  past = omega arith;
+  within = omega arith;
+  unset = one-more-unset D first first (λ n i j. absurd (omega arith)) e;
+  marked = mark-open id hi D first first D (mark-first id hi D first) fits h e;
+}
 
 unset-open : (n : ℕ) → n ≡ 0 → is-visible 0 n ≡ true
 unset-open n e = le-leb n 0 (omega arith)

@@ -21,14 +21,15 @@ use cmd::piece::PieceWords;
 use depth::minima::mend;
 use sizes::PIECE;
 
-// The unset buckets from `first` on, before hi, get the id: where they end.
+// The unset buckets from `first` on, before hi, get the id: where they end. The first has been read.
 #[inline(always)]
 fn mark_run(depth: &mut [u32], first: usize, hi: usize, id: u32) -> usize
     requires range { (first < hi) × (hi ≤ length depth.old) }
     requires unset { get_or depth.old first 0 ≡ 0 }
     ensures { MarksRun id hi first depth.old depth.new result }
 {
-    let mut b = first;
+    depth[first] = id;
+    let mut b = first + 1;
     while b < hi && depth[b] == 0 {
         depth[b] = id;
         b += 1;

@@ -5,9 +5,9 @@
 #define COARSE_VERSION_H
 
 #define COARSE_VERSION_MAJOR 0
-#define COARSE_VERSION_MINOR 2
-#define COARSE_VERSION_PATCH 1
-#define COARSE_VERSION "0.2.1"
+#define COARSE_VERSION_MINOR 3
+#define COARSE_VERSION_PATCH 0
+#define COARSE_VERSION "0.3.0"
 
 /* The three as one number, as coarse_version() gives the library's. */
 #define COARSE_VERSION_NUMBER (65536u * COARSE_VERSION_MAJOR + 256u * COARSE_VERSION_MINOR + COARSE_VERSION_PATCH)

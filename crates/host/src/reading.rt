@@ -225,8 +225,8 @@ pub extern "C" fn coarse_progress(
     put_progress(row_progress(screen, row, canvas.painting), progress)
 }
 
-/// 0.2.1, as the file `VERSION` says it.
-const VERSION: u32 = 513;
+/// 0.3.0, as the file `VERSION` says it.
+const VERSION: u32 = 768;
 
 /// The version of the library: 65,536 x the first number + 256 x the second + the third.
 #[unsafe(no_mangle)]

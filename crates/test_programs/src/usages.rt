@@ -213,16 +213,16 @@ fn version_prints_one_line_and_reads_nothing(rt: HostRuntime) -> Result<(), Fail
     let programs: [(Program, &[u8]); 4] = [
         (
             Program::Rowlist,
-            b"rowlist 0.2.1 rattle-kit-13f dac8208d650f15bf\n",
+            b"rowlist 0.3.0 rattle-kit-13f dac8208d650f15bf\n",
         ),
         (
             Program::Rowdump,
-            b"rowdump 0.2.1 rattle-kit-13f dac8208d650f15bf\n",
+            b"rowdump 0.3.0 rattle-kit-13f dac8208d650f15bf\n",
         ),
-        (Program::Why, b"why 0.2.1 rattle-kit-13f dac8208d650f15bf\n"),
+        (Program::Why, b"why 0.3.0 rattle-kit-13f dac8208d650f15bf\n"),
         (
             Program::Tilelist,
-            b"tilelist 0.2.1 rattle-kit-13f dac8208d650f15bf\n",
+            b"tilelist 0.3.0 rattle-kit-13f dac8208d650f15bf\n",
         ),
     ];
     let reads = [Fails(ErrorKind::Other)];

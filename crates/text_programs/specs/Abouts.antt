@@ -6,7 +6,7 @@ use Rattle.text_programs.specs.Usages.{usage_text}
 
 -- the repository's version
 abbrev pub version : List ℕ
-version = codes "0.2.1"
+version = codes "0.3.0"
 
 -- the kit that it is proved with: its name and the sum of its logic
 abbrev pub kit : List ℕ

@@ -13,7 +13,7 @@ use std::fmt;
 use std::io::Write;
 
 /// The repository's version.
-pub const VERSION: &str = "0.2.1";
+pub const VERSION: &str = "0.3.0";
 
 /// The kit that it is proved with: its name and the sum of its logic.
 pub const KIT: &str = "rattle-kit-13f dac8208d650f15bf";

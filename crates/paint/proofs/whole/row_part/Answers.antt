@@ -8,9 +8,9 @@ pub returns-then-went-clause-painted : goal.returns-then-went-clause-painted
 returns-then-went-clause-painted c =
     let sure = c.sure_part-went.ensures in
     elim c.then-went.branch [
-      then-went-via-then-went w ↦ ended-there c.row_of-read.ensures _ _ c.requires.wide _ _ _ _ sure.others sure.sure w.if-went.true
-    | then-went-via-else-went+then-limit-went w ↦
-        full-there c.row_of-read.ensures _ _ c.requires.wide _ _ _ _ sure.others sure.sure w.if-went.false w.if-limit-went.true
+      | then-went-via-then-went w ↦ ended-there c.row_of-read.ensures _ _ c.requires.wide _ _ _ _ sure.others sure.sure w.if-went.true
+      | then-went-via-else-went+then-limit-went w ↦
+          full-there c.row_of-read.ensures _ _ c.requires.wide _ _ _ _ sure.others sure.sure w.if-went.false w.if-limit-went.true
     ]
 
 pub row_rest-requires-clause-none : goal.row_rest-requires-clause-none

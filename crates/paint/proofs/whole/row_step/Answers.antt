@@ -14,7 +14,7 @@ pub returns-clause-painted : goal.returns-clause-painted
 returns-clause-painted c =
     let sure = c.sure_part-went.ensures in
     elim c.else-not-went.branch [
-      else-not-went-via-then-not-went+else-went-eq0 w ↦
-        full-there c.row_of-read.ensures _ _ c.requires.wide _ _ _ _ sure.others sure.sure (not-true _ w.if-not-went.true) (omega (arith, w.if-went-eq0.false))
-    | else-not-went-via-else-not-went w ↦ ended-there c.row_of-read.ensures _ _ c.requires.wide _ _ _ _ sure.others sure.sure (not-false _ w.if-not-went.false)
+      | else-not-went-via-then-not-went+else-went-eq0 w ↦
+          full-there c.row_of-read.ensures _ _ c.requires.wide _ _ _ _ sure.others sure.sure (not-true _ w.if-not-went.true) (omega (arith, w.if-went-eq0.false))
+      | else-not-went-via-else-not-went w ↦ ended-there c.row_of-read.ensures _ _ c.requires.wide _ _ _ _ sure.others sure.sure (not-false _ w.if-not-went.false)
     ]

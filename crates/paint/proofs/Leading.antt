@@ -75,7 +75,7 @@ module _ (v : ℕ) (a : Attrs) (s re fi : List ℕ) (c : Calm s re fi) where
           → steps (depths D M) (q ∷ m ∷ []) l ≡ out (listed (length rs)) (depths D' ms) ((q + 1) ∷ m ∷ []) (ws ++ drop (length ws) l)
       step l i =
           let roomy = room D M (q ∷ m ∷ []) l (gives (map (depth-piece v no-attrs f.attrs_idx mk.panel) rs) D' (q + 1) m) ms D' ms ((q + 1) ∷ m ∷ []) (ws ++ drop (length ws) l) (length rs)
-          (le-ltb (length l / piece-size) (length (map (depth-piece v no-attrs f.attrs_idx mk.panel) rs)) (rw length-map (omega (arith, i)))) refl (rw length-map) refl refl refl (laid-words l) in
+              (le-ltb (length l / piece-size) (length (map (depth-piece v no-attrs f.attrs_idx mk.panel) rs)) (rw length-map (omega (arith, i)))) refl (rw length-map) refl refl refl (laid-words l) in
           taken l ∙ sym (depth_taken v a D M (q ∷ m ∷ []) l (depth-fill-at (length D) fi k) o read f e mk (out (listed (length rs)) (depths D' ms) ((q + 1) ∷ m ∷ []) (ws ++ drop (length ws) l)) w roomy)
 
       -- its words go behind n pieces of the list

@@ -14,7 +14,7 @@ use Rattle.rules.specs.Minima.{size, top, minima, half, left-half, right-half, m
 use Rattle.rules.proofs.All.{never}
 use Rattle.rules.proofs.laws.Minima.{size-some, size-above, half-is, half-next, halvings-are, room-covers}
 
-half-zero : half 0 ≡ 1
+pub half-zero : half 0 ≡ 1
 unfolding half size
 half-zero = refl
 
@@ -144,15 +144,20 @@ pub mended-one : (k : ℕ) (g t r bs : List ℕ) (a b v : ℕ) → a < b → v �
 unfolding mended
 mended-one k g t r bs a b v h q f e z = rw (smallest k (length r) e z, no-words r z, top-set t v f, lt-leb b a h, q) refl
 
--- the run at place n of a list is mended
+-- the run at place n of a list
+module _ (list rest : List ℕ) (rs : List Span) (n : ℕ) (h : n < length rs) (e : list ≡ numbers rs ++ rest) where
+  pub run-first : get_or list (n * 2) 0 ≡ (get_or rs n (span 0 0)).first
+  run-first = rw e (ap (λ (s : TileSpan). s.first) (span-back rs rest n h))
+
+  pub run-end : get_or list (n * 2 + 1) 0 ≡ (get_or rs n (span 0 0)).end
+  run-end = rw e (ap (λ (s : TileSpan). s.end) (span-back rs rest n h))
+
+-- .. is mended
 pub mended-next : (k : ℕ) (ws ws' bs list rest : List ℕ) (rs : List Span) (n : ℕ) → n < length rs → list ≡ numbers rs ++ rest
     → ws' ≡ mended k ws bs (get_or list (n * 2) 0) (get_or list (n * 2 + 1) 0) → mended-runs k ws bs (drop n rs) ≡ mended-runs k ws' bs (drop (n + 1) rs)
 unfolding mended-runs
 mended-next k ws ws' bs list rest rs n h e w =
-    let b = span-back rs rest n h in
-    let f : get_or list (n * 2) 0 ≡ (get_or rs n (span 0 0)).first = rw e (ap (λ (s : TileSpan). s.first) b) in
-    let g : get_or list (n * 2 + 1) 0 ≡ (get_or rs n (span 0 0)).end = rw e (ap (λ (s : TileSpan). s.end) b) in
-    let w' : ws' ≡ mended k ws bs (get_or rs n (span 0 0)).first (get_or rs n (span 0 0)).end = rw (f, g) at w in
+    let w' : ws' ≡ mended k ws bs (get_or rs n (span 0 0)).first (get_or rs n (span 0 0)).end = rw (run-first list rest rs n h e, run-end list rest rs n h e) at w in
     rw (add-one, drop-cons rs n (span 0 0) h, w') refl
 
 pub mended-last : (k : ℕ) (ws bs : List ℕ) (rs : List Span) (n : ℕ) → length rs ≤ n → mended-runs k ws bs (drop n rs) ≡ ws
@@ -241,7 +246,7 @@ summary-of-none ws [] e z = no-words ws e
 summary-of-none ws (b ∷ bs) e z = absurd (omega arith)
 
 -- the next power of two is the row's group
-size-power : (k : ℕ) → size k ≡ 2 ^ k
+pub size-power : (k : ℕ) → size k ≡ 2 ^ k
 unfolding size
 size-power zero = refl
 size-power (suc k) = let p = pow-suc 2 k in let h = size-power k in omega arith

@@ -2,6 +2,10 @@ pub mod Answering
 pub mod Filling
 pub mod Marking
 pub mod Groups
+pub mod Places
+pub mod Lifting
+pub mod Mending
+pub mod Written
 pub mod Asking
 pub mod Once
 pub mod Searching

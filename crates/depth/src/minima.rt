@@ -76,7 +76,7 @@ fn place_of(room: usize, bucket: usize) -> usize
     requires group { (k : ℕ) × (room ≡ half k) × (bucket < size k) }
     ensures { (k : ℕ) → room ≡ half k → result ≡ leaf-place k bucket }
 {
-    2 * bucket + (room.count_ones() as usize - 1) - bucket.count_ones() as usize
+    2 * bucket - bucket.count_ones() as usize + (room.count_ones() as usize - 1)
 }
 
 // The groups that have a bucket are worked out again from its own word up, which stands at `place` and holds the id.
@@ -125,11 +125,12 @@ pub fn mend(minima: &mut [u32], first: usize, end: usize, id: u32)
 
 /// A row's minima after the first runs of a list, two words a run, so many of them, got the id.
 pub fn mend_runs(minima: &mut [u32], id: u32, list: &[u32], count: usize)
-    requires group { IsGroup minima.old }
+    requires group { 0 < count → IsGroup minima.old }
     requires listed { count * 2 ≤ length list.now }
-    requires runs { (n : ℕ) → n < count → (get_or list.now (2 * n) 0 < get_or list.now (2 * n + 1) 0) × (2 * get_or list.now (2 * n + 1) 0 ≤ length minima.old + 1) }
-    ensures { (k : ℕ) (ws : List ℕ) (rs : List Span) (rest : List ℕ) → length minima.old ≡ half k → list.now ≡ numbers rs ++ rest → count ≡ length rs
-        → ((r : Span) → In r rs → Holds ws r.first r.end id)
+    requires runs { (n : ℕ) → n < count
+        → (get_or list.now (n * 2) 0 < get_or list.now (n * 2 + 1) 0) × (2 * get_or list.now (n * 2 + 1) 0 ≤ length minima.old + 1) }
+    ensures { (k : ℕ) (ws : List ℕ) (rs : List Span) (rest : List ℕ) → (0 < count → length minima.old ≡ half k) → list.now ≡ numbers rs ++ rest
+        → count ≡ length rs → ((n : ℕ) → n < count → Holds ws (get_or list.now (n * 2) 0) (get_or list.now (n * 2 + 1) 0) id)
         → minima.new ≡ mended-runs k minima.old ws rs }
 {
     let mut n: usize = 0;

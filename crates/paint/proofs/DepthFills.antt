@@ -1,16 +1,16 @@
 -- A row's depth fills in one loop: what each writes and lists. Assumes nothing.
-use Rattle.std.proofs.Common.{◌≡◌, refl, sym, ap, ◌∙◌, Bool, true, false, List, [], ◌∷◌, ℕ, zero, suc, ◌+◌, ◌-◌, ◌*◌, ◌≤◌, ◌<◌, ◌&&◌, add-zero, zero-add, add-one, not-suc-le-zero, le_of_suc-le-suc, arith, le_refl, length, get_or, ltb, ltb-true, ltb-false, le-leb, lt-ltb}
+use Rattle.std.proofs.Common.{◌≡◌, refl, sym, ap, ◌∙◌, Bool, true, false, List, [], ◌∷◌, ℕ, zero, suc, ◌+◌, ◌-◌, ◌*◌, ◌/◌, ◌≤◌, ◌<◌, ◌&&◌, add-zero, zero-add, add-one, not-suc-le-zero, le_of_suc-le-suc, arith, le_refl, length, get_or, ltb, ltb-true, ltb-false, le-leb, lt-ltb}
 use Rattle.std.proofs.lemmas.Bool.{eqb-true, eqb-false}
 use Rattle.std.proofs.Common.{eqb}
 use borrow.Author.Tests.{lt-leb}
 use Rattle.sizes.specs.Sizes.{piece-size}
 use Rattle.rules.specs.Lists.{join}
 use Rattle.rules.specs.Spans.{Span, span}
-use Rattle.rules.specs.Depth.{is-visible, runs-in, written_from, written}
+use Rattle.rules.specs.Depth.{is-unset, is-visible, runs-in, write-runs, written_from, written}
 use Rattle.rules.specs.Minima.{mended, mended-runs}
 use Rattle.cmd.specs.Attrs.{words-at}
 use Rattle.cmd.proofs.Tables.{length_at}
-use Rattle.depth.proofs.Searching.{Reached, Ended, reach-first, reach-more, reach-closed, reach-end, runs_closed, runs-end}
+use Rattle.depth.proofs.Searching.{runs-few, unset-visible, Reached, Ended, reach-first, reach-more, reach-closed, reach-end, runs_closed, runs-end}
 use Rattle.depth.specs.Minima.{Holds}
 use Rattle.depth.proofs.Marking.{Marked, mark-first, mark-done, mark-closed}
 use Rattle.paint.specs.DepthFills.{MarksRun, depth-words}
@@ -90,6 +90,19 @@ written_from-long s id r (x ∷ bs) = ap suc (written_from-long (suc s) id r bs)
 pub written-long : (id : ℕ) (r : Span) (bs : List ℕ) → length (written bs id r) ≡ length bs
 unfolding written
 written-long id r bs = written_from-long 0 id r bs
+
+-- how many runs a fill has at most
+pub fill-few : (D : List ℕ) (r : Span) → length (write-runs D r) * 2 ≤ r.end - r.first + 1
+unfolding write-runs
+fill-few D r = runs-few is-unset D r.first r.end
+
+-- its runs are those of the buckets that are visible at id 0
+pub write-runs-visible : (D : List ℕ) (r : Span) → write-runs D r ≡ runs-in (is-visible 0) D r
+unfolding write-runs
+write-runs-visible D r = rw unset-visible
+
+pub put-room : (D : List ℕ) (r : Span) (a l : ℕ) → a + piece-size * length (write-runs D r) ≤ l → a + piece-size * length (runs-in (is-visible 0) D r) ≤ l
+put-room D r a l h = (rw write-runs-visible at h)
 
 -- past the range nothing is left to write
 nothing-left : (id hi i : ℕ) (bs : List ℕ) → hi ≤ i → written bs id (span i hi) ≡ bs

@@ -85,3 +85,12 @@ module _ (v : ℕ) (a : Attrs) (s re fi : List ℕ) (c : Calm s re fi) where
       one-fill n l i =
           let later : List ℕ = drop (piece-size * n) l in
           rw (step later (rw length-drop (omega (arith, i))), drop-drop (length ws) (piece-size * n) l, append_assoc)
+
+      -- .. behind the words of those before, `at` of them
+      pub on-fill : (start : StepOut) (j : ℕ) (at at' : ℕ) (l l' : List ℕ) → piece-size * (at / piece-size) ≡ at → at + piece-size * length rs ≤ length l
+          → at' ≡ at + piece-size * length rs → l' ≡ words-at l at ws → (q' : ℕ) → q' ≡ q + 1 → (j' : ℕ) → j' ≡ j + 1
+          → Onward steps j start (out (listed (at / piece-size)) (depths D M) (q ∷ m ∷ []) l)
+          → Onward steps j' start (out (listed (at' / piece-size)) (depths D' ms) (q' ∷ m ∷ []) l')
+      on-fill start j at at' l l' whole i e y q' u j' z w =
+          let n : at' / piece-size ≡ at / piece-size + length rs = omega (arith, whole, e) in
+          rw (y, u, z, n) (onward-more steps j start _ _ w (one-fill (at / piece-size) l (omega (arith, whole, i)) ∙ rw whole) refl)

@@ -18,6 +18,7 @@ use crate::whole::pieces::Pieces;
 use crate::whole::scale::Scale;
 use cmd::depth_fill::{DepthFill, DepthWords};
 use cmd::piece::PieceWords;
+use depth::minima::mend;
 use sizes::PIECE;
 
 // The unset buckets from `first` on, before hi, get the id: where they end.
@@ -62,6 +63,7 @@ fn put_depth(
         if depth[b] == 0 {
             let first = b;
             b = mark_run(depth, first, hi, mark.id);
+            mend(minima, first, b, mark.id);
             pieces.push(PieceWords {
                 tag: 1,
                 attrs_idx: fill.attrs_idx,

@@ -19,6 +19,7 @@ pub mod ScreenLaws
 pub mod ScreenExample
 pub mod WholeRuns
 pub mod WholeParts
+pub mod WholeSure
 pub mod Scales
 pub mod Looks
 pub mod Saying

@@ -19,7 +19,7 @@ use Rattle.paint.proofs.CommandLaws.{same-lengths}
 use Rattle.paint.specs.Judging.{wide}
 use Rattle.paint.specs.Stepping.{part, with_part, depth-part, with-depth-part, put-depth, Within, Attributes, own-parts, own, in_place, number, row_step, stepped}
 use Rattle.paint.proofs.ScreenParts.{part-is, put_is, ready}
-use Rattle.paint.specs.Running.{goes_on, ended, one_more, run, most, standing, own-step, own-run, row-run, row-run-on, call_step, row-painted}
+use Rattle.paint.specs.Running.{goes_on, ended, one_more, run, most, standing, own-step, row-run, row-run-on, call_step, row-painted}
 use Rattle.paint.proofs.WholeRuns.{stops, more}
 
 -- steps over the row's own depth words and minima, which are put back in their places
@@ -128,7 +128,7 @@ module _ (s : Screen) (r : ℕ) (a : Attributes) (l : RowLent) (z : number s r a
       go false = refl
 
   pub calls-are-run : row-painted s r a l ≡ screen-run most s r a l
-  unfolding row-painted row-run own-run
+  unfolding row-painted row-run-on
   calls-are-run =
       let g = ready s r a l z in
       let e = run-mine most 0 (standing (own s r l).depth (own s r l).painting l.list) (part-of-length (wide s) r l.depth.words g.depth, part-of-length (minima-room (wide s)) r l.depth.minima g.minima, part-of-length 2 r l.painting g.painting) in
@@ -182,7 +182,7 @@ one-run step d p l = go (goes_on (one_more step (standing d p l)).answer) refl
     go false e = stops step 1 0 (standing d p l) (omega arith) e ∙ rw (first_one step d p l)
 
 pub step-is-run : (s : Screen) (r : ℕ) (a : Attributes) (l : RowLent) → screen-run 1 s r a l ≡ row_step s r a l
-unfolding row-run own-run row_step
+unfolding row-run-on row_step
 step-is-run s r a l =
     let b = attrs-at a.paints s.paint_attrs a.layers s.layer_attrs in
     let w = own s r l in

@@ -7,9 +7,9 @@ use Rattle.screen.specs.Depths.{Depths}
 use Rattle.paint.specs.Summaries.{summary-at}
 use Rattle.paint.specs.declared.command.reading.StoredRow.{StoredRow}
 use Rattle.paint.specs.declared.command.marks.Mark.{Mark}
-use Rattle.paint.specs.Painting.{word, words_lent, StepOut, out, listed, painter-at, depth-step, command-step, depth-fill-at, fill-minima, settled}
+use Rattle.paint.specs.Painting.{word, StepOut, out, listed, painter-at, depth-step, command-step, depth-fill-at, fill-minima, settled}
 use Rattle.paint.specs.Reading.{attrs_of, paint_mark, layer_mark}
-use Rattle.paint.specs.Running.{own-step, own-run, one_more, run, finished_with}
+use Rattle.paint.specs.Running.{own-step, one_more, run, finished_with}
 use Rattle.rules.specs.Commands.{Command}
 use Rattle.paint.specs.declared.whole.pieces.Pieces.{Pieces}
 use Rattle.paint.specs.declared.whole.commands.Reached.{Reached}
@@ -28,10 +28,6 @@ depth_step_of r k d p l =
 abbrev pub command_step_of : StoredRow → Command → Depths → List ℕ → List ℕ → StepOut
 command_step_of r c d p l =
     settled (command-step (bucket-tiles r.width) (attrs_of r.attrs) (summary-at r.state.now) (painter-at d.words p) (Some c)) d.minima d p l
-
--- at most f steps
-abbrev pub run_of : StoredRow → ℕ → Depths → List ℕ → List ℕ → StepOut
-run_of r f d p l = own-run (bucket-tiles r.width) f (attrs_of r.attrs) (words_lent r.state.now r.render_cmds.now r.depth_cmds.now d p l)
 
 -- the counts of its record have room, and its summary is in order
 abbrev pub CalmRow : StoredRow → Type 0

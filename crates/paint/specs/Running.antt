@@ -61,19 +61,15 @@ standing d p l = out (listed 0) d p l
 abbrev pub own-step : ℕ → Attrs → List ℕ → List ℕ → List ℕ → Depths → List ℕ → List ℕ → StepOut
 own-step v a s re fi d p l = painted-row v a (words_lent s re fi d p l)
 
--- at most f of them
-unfoldable pub own-run : ℕ → ℕ → Attrs → RowLent → StepOut
-own-run v f a w = run (own-step v a w.state w.render w.fills) f 0 (standing w.depth w.painting w.list)
-
--- .. of row r of rows of b buckets, with room for c commands and d depth fills, each part in its place
-unfoldable pub row-run : ℕ → ℕ → Attrs → ℕ → ℕ → ℕ → ℕ → RowLent → StepOut
-row-run v f a b c d r l = put-parts b r l (own-run v f a (own-parts b c d r l))
-
--- .. at most f more of them, after k that gave n pieces
+-- at most f more of them, after k that gave n pieces, of row r of rows of b buckets, with room for c commands and d depth fills, each part in its place
 unfoldable pub row-run-on : ℕ → ℕ → ℕ → ℕ → Attrs → ℕ → ℕ → ℕ → ℕ → RowLent → StepOut
 row-run-on v f k n a b c d r l =
     let w = own-parts b c d r l in
     put-parts b r l (run (own-step v a w.state w.render w.fills) f k (out (listed n) w.depth w.painting w.list))
+
+-- .. from the first
+abbrev pub row-run : ℕ → ℕ → Attrs → ℕ → ℕ → ℕ → ℕ → RowLent → StepOut
+row-run v f a b c d r l = row-run-on v f 0 0 a b c d r l
 
 -- calls of a painting step of row r of a screen
 abbrev pub call_step : Screen → ℕ → Attributes → List ℕ → List ℕ → List ℕ → Depths → List ℕ → List ℕ → StepOut

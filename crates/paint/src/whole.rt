@@ -215,7 +215,7 @@ pub fn row_step(
     ensures painted { MatchOption result
         (step_out (listed 0) canvas.new list.new ≡ step_out (listed 0) canvas.old list.old)
         (λ s. step_out (painted_of (Ok s)) canvas.new list.new
-            ≡ row-run (bucket-tiles screen.width) 1 (used_attrs screen stored.now) (wide screen) screen.c screen.d row (row_lent stored.now canvas.old list.old)) }
+        ≡ row-run (bucket-tiles screen.width) 1 (used_attrs screen stored.now) (wide screen) screen.c screen.d row (row_lent stored.now canvas.old list.old)) }
 {
     let v = row * 2;
     let read = row_of(screen, row, stored);

@@ -1,2 +1,3 @@
+pub mod Froms
 pub mod Hiding
 pub mod Newer

@@ -1,1 +1,2 @@
-pub mod Newest
+pub mod Reading
+pub mod Passing

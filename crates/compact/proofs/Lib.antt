@@ -1,3 +1,5 @@
 pub mod Froms
 pub mod Hiding
+pub mod Judged
 pub mod Newer
+pub mod Passing

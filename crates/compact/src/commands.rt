@@ -1,5 +1,5 @@
 //! A row's render commands: judged, and closed up over those that nothing will ever show.
-ghost use Rattle.std.specs.Prelude.{◌≡◌, Some, ℕ, ◌+◌, ◌*◌, ◌≤◌, ◌<◌, List, length, option_map, is_some};
+ghost use Rattle.std.specs.Prelude.{◌≡◌, Some, ℕ, ◌+◌, ◌-◌, ◌*◌, ◌≤◌, List, ◌++◌, length, take, replicate, option_map, is_some};
 ghost use Rattle.sizes.specs.Widths.{bucket-tiles};
 ghost use Rattle.rules.specs.Commands.{Command};
 ghost use Rattle.cmd.specs.Commands.{read-words};
@@ -109,6 +109,14 @@ fn take(
     }
 }
 
+// All words behind the first `left` commands become 0.
+fn clear_behind(render_cmds: &mut [u32], left: usize)
+    requires { 4 * left ≤ length render_cmds.old }
+    ensures { render_cmds.new ≡ take (4 * left) render_cmds.old ++ replicate (length render_cmds.old - 4 * left) 0 }
+{
+    render_cmds[4 * left..].fill(0);
+}
+
 /// The first `count` commands without those that nothing will ever show, `ids` being the row's newest ids: what is left closes up in its order, and what stands
 /// behind it becomes 0. How many are left.
 pub fn close_up(
@@ -133,6 +141,6 @@ pub fn close_up(
         left = take(render_cmds, left, words, kind, ids, width);
         k += 1;
     }
-    render_cmds[4 * left..].fill(0);
+    clear_behind(render_cmds, left);
     left
 }

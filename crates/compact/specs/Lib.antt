@@ -1,2 +1,3 @@
 pub mod Reading
 pub mod Passing
+pub mod Row

@@ -128,7 +128,8 @@ pub fn close_up(
 ) -> usize
     requires room { 4 * count ≤ length render_cmds.old }
     requires good { (cs : List Command) × (commands-from (attrs_of attrs.now) render_cmds.old 0 count ≡ Some cs) }
-    ensures { (cs : List Command) → commands-from (attrs_of attrs.now) render_cmds.old 0 count ≡ Some cs
+    ensures few { result ≤ count }
+    ensures closed { (cs : List Command) → commands-from (attrs_of attrs.now) render_cmds.old 0 count ≡ Some cs
         → Closed (bucket-tiles width) (attrs_of attrs.now) ids.now cs render_cmds.old render_cmds.new result }
 {
     let mut left: usize = 0;

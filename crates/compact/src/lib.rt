@@ -4,3 +4,4 @@
 pub mod commands;
 pub mod hidden;
 pub mod newest;
+pub mod one_row;

@@ -33,7 +33,13 @@ clear_behind-requires c =
     let p = c.loop-k.invariant cs good in
     omega (arith, p.behind, p.within, c.requires.room, c.loop-k.auto.render_cmds, c.loop-k-test.false)
 
-pub returns : goal.returns
-returns c = λ cs e.
+pub returns-clause-few : goal.returns-clause-few
+returns-clause-few c =
+    let (cs, good) = c.requires.good in
+    let p = c.loop-k.invariant cs good in
+    omega (arith, p.behind, p.within)
+
+pub returns-clause-closed : goal.returns-clause-closed
+returns-clause-closed c = λ cs e.
     at-last _ (attrs_of c.args.attrs.now) _ cs _ _ _ _ _ _ (c.loop-k.invariant cs e) c.loop-k-test.false c.loop-k.auto.render_cmds
     (omega (arith, c.requires.room, c.loop-k.auto.render_cmds)) c.clear_behind.ensures

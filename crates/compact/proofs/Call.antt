@@ -1,5 +1,5 @@
 -- The call is judged, then done.
-use Rattle.std.proofs.Common.{◌≡◌, refl, sym, ap, ◌∙◌, ℕ, ◌*◌, ◌≤◌, arith, Bool, true, false, ◌&&◌, List, length, eqb, eqb-true, ne_eqb}
+use Rattle.std.proofs.Common.{◌≡◌, refl, sym, ℕ, ◌*◌, ◌≤◌, arith, true, false, ◌&&◌, length, eqb, eqb-true, ne_eqb}
 use Rattle.sizes.specs.Sizes.{paint-attr-table, layer-attr-table}
 use Rattle.sizes.specs.declared.answers.Refusal.{Refusal}
 use Rattle.sizes.specs.Refusals.{number_of}
@@ -9,7 +9,7 @@ use Rattle.rules.proofs.All.{and_left, and_right}
 use Rattle.row.specs.Words.{Words}
 use Rattle.screen.specs.declared.Screen.{Screen}
 use Rattle.paint.specs.Beginning.{begun}
-use Rattle.paint.specs.Judging.{count, rows_long}
+use Rattle.paint.specs.Judging.{count}
 use Rattle.paint.specs.Painting.{attrs-at}
 use Rattle.paint.specs.Stepping.{Attributes}
 use Rattle.paint.specs.StoredCmds.{stored-long}

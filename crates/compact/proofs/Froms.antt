@@ -1,5 +1,5 @@
 -- Places read one after the other.
-use Rattle.std.proofs.Common.{◌≡◌, refl, sym, ap, ◌∙◌, ℕ, zero, suc, ◌+◌, ◌-◌, ◌≤◌, ◌<◌, le_refl, arith, Bool, true, false, List, [], ◌∷◌, Option, None, Some, is_some, is_none, option_map, option_and_then}
+use Rattle.std.proofs.Common.{◌≡◌, refl, sym, ◌∙◌, ℕ, zero, suc, ◌+◌, ◌-◌, ◌≤◌, ◌<◌, le_refl, arith, true, false, List, [], ◌∷◌, Option, None, Some, is_some, is_none, option_map, option_and_then}
 use Rattle.compact.specs.Reading.{all-from}
 
 -- one place, then others

@@ -1,11 +1,11 @@
 -- A row compacted in its place among the words of all rows.
-use Rattle.std.proofs.Common.{◌≡◌, refl, sym, ap, ◌∙◌, ℕ, ◌+◌, ◌-◌, ◌*◌, ◌≤◌, arith, List, take, drop, eqb, ne_eqb, Option, None, Some, Result, Ok, Err, option_map}
+use Rattle.std.proofs.Common.{◌≡◌, refl, ap, ℕ, ◌-◌, ◌*◌, arith, List, take, drop, ne_eqb, Option, None, Some, Result, Ok, Err}
 use borrow.Rule.Slice.PartMut.{put_mid, put_same}
 use Rattle.sizes.specs.declared.answers.Refusal.{Refusal}
 use Rattle.sizes.specs.Refusals.{answer_number, number_of}
 use Rattle.sizes.specs.Widths.{bucket-tiles}
 use Rattle.sizes.proofs.Refusals.{not_done}
-use Rattle.rules.specs.Answers.{Answer, answer, Done}
+use Rattle.rules.specs.Answers.{Answer, answer}
 use Rattle.rules.specs.Attributes.{Attrs}
 use Rattle.row.specs.Words.{Words, words}
 use Rattle.row.specs.Arena.{sizes, row_at, Stands}

@@ -1,6 +1,5 @@
 -- Commands judged one after the other.
 use Rattle.std.proofs.Common.{◌≡◌, refl, sym, ap, ◌∙◌, ℕ, ◌+◌, ◌-◌, ◌≤◌, ◌<◌, Bool, true, false, List, Option, None, Some, is_some, is_none, option_map}
-use Rattle.rules.specs.Commands.{Command}
 use Rattle.rules.specs.Attributes.{Attrs}
 use Rattle.paint.specs.Painting.{command-at}
 use Rattle.compact.specs.declared.commands.Kind.{Kind}

@@ -1,5 +1,5 @@
 -- Depth fills written from the last to the first.
-use Rattle.std.proofs.Common.{◌≡◌, refl, sym, ap, ◌∙◌, ℕ, zero, suc, ◌+◌, ◌-◌, ◌≤◌, ◌<◌, arith, Bool, true, false, List, [], ◌∷◌, Option, None, Some, replicate, option_map, option_and_then}
+use Rattle.std.proofs.Common.{◌≡◌, refl, sym, ap, ℕ, zero, suc, ◌-◌, ◌≤◌, ◌<◌, arith, Bool, true, false, List, ◌∷◌, Option, None, Some, replicate, option_map, option_and_then}
 use Rattle.rules.specs.Attributes.{Attrs}
 use Rattle.rules.specs.Commands.{DepthFill}
 use Rattle.rules.specs.Compacted.{newest-ids}

@@ -1,5 +1,5 @@
 -- What of a row's words is found decides what compacting makes of them.
-use Rattle.std.proofs.Common.{◌≡◌, refl, sym, ap, ◌∙◌, ℕ, arith, Bool, true, false, List, Option, None, Some, is_some, option_map, option_and_then, set}
+use Rattle.std.proofs.Common.{◌≡◌, refl, ℕ, arith, true, false, List, Option, None, Some, is_some, option_map, option_and_then, set}
 use Rattle.sizes.specs.Sizes.{renders-at, depths-at}
 use Rattle.rules.specs.Answers.{answer, Done, BadRecord}
 use Rattle.rules.specs.Attributes.{Attrs}

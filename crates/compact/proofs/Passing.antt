@@ -1,9 +1,7 @@
 -- The pass over a row's words follows the rules' pass over its commands.
-use Rattle.std.proofs.Common.{◌≡◌, refl, sym, ap, ◌∙◌, ℕ, zero, suc, ◌+◌, ◌-◌, ◌*◌, ◌≤◌, ◌<◌, ◌≢◌, ◌⊎◌, inl, inr, arith, Bool, true, false, cond, ◌&&◌, ltb, lt-ltb, List, [], ◌∷◌, ◌++◌, append_assoc, append-nil, Option, None, Some, option_map, length, length-set, length-append, length-take, get_or, set, take, replicate, add-one}
-use native.Mathlib.Numerals.{add-two, add-three}
+use Rattle.std.proofs.Common.{◌≡◌, refl, sym, ap, ◌∙◌, ℕ, suc, ◌+◌, ◌-◌, ◌*◌, ◌≤◌, ◌<◌, ◌≢◌, arith, Bool, true, false, cond, ◌&&◌, ltb, lt-ltb, List, [], ◌∷◌, ◌++◌, append_assoc, append-nil, Option, None, Some, option_map, length, length-set, get_or, set, take, replicate}
 use lib.Seq.{get_or-set_other, get_or-set_same, take-suc}
 use Rattle.rules.specs.Lists.{join, is-empty}
-use Rattle.rules.specs.Spans.{Span}
 use Rattle.rules.specs.Commands.{Command, paint-fill, layer-fill, push-buf, pop-buf, command_words}
 use Rattle.rules.specs.Attributes.{Attrs}
 use Rattle.rules.specs.Painting.{paint-id, layer-id}
@@ -19,7 +17,7 @@ use Rattle.paint.specs.Painting.{command-at}
 use Rattle.compact.specs.declared.commands.Kind.{Kind}
 use Rattle.compact.specs.declared.commands.Kind.TheVariants.{Fill, Push, Pop}
 use Rattle.compact.specs.Reading.{names-good, good-command, commands-from}
-use Rattle.compact.specs.Passing.{kind-of, GoodKind, Packed, packed, is-push, kept-at, popped, taken, closed-up, left-of, Closed}
+use Rattle.compact.specs.Passing.{kind-of, GoodKind, Packed, packed, is-push, kept-at, popped, taken, left-of, Closed}
 use Rattle.compact.proofs.Froms.{First, first-read, all-read, read-same}
 
 -- four words stored at place n
@@ -287,5 +285,5 @@ at-last v a bs cs vs ws us left k count p h long room e =
     let few : left ≡ length (left-of v a bs cs) = rw (sym st) (omega (arith, turned-long p.stack [], p.stands.count)) in
     let kept-few : 4 * length p.stack ≤ length ws = omega (arith, p.stands.count, p.behind, p.within) in
     let f : take (4 * left) ws ≡ join command_words (left-of v a bs cs) =
-        rw (← p.stands.count, ← st) (sym (append-nil (take (4 * length p.stack) ws)) ∙ front ws p.stack [] p.stands.words kept-few) in
+    rw (← p.stands.count, ← st) (sym (append-nil (take (4 * length p.stack) ws)) ∙ front ws p.stack [] p.stands.words kept-few) in
     record { count = few; words = e ∙ rw (← few, f, long) refl }

@@ -1,5 +1,5 @@
 -- The call: what is judged before anything of the row is read, and what it leaves.
-use Rattle.std.specs.Prelude.{ℕ, ◌+◌, ◌*◌, ◌≤◌, ◌<◌, Bool, false, ◌&&◌, cond, List, length, eqb}
+use Rattle.std.specs.Prelude.{ℕ, ◌+◌, ◌*◌, ◌≤◌, ◌<◌, Bool, false, ◌&&◌, cond, length, eqb}
 use borrow.Rule.Slice.PartMut.{put_mid}
 use Rattle.sizes.specs.Sizes.{most-room, most-rows, row-size, paint-attr-table, layer-attr-table}
 use Rattle.sizes.specs.Widths.{bucket-tiles}
@@ -25,10 +25,10 @@ tables-long s rows paint-attrs layer-attrs = rows_long s rows && eqb paint-attrs
 unfoldable pub compact_number : Screen → ℕ → Words → Attributes → ℕ
 compact_number s r w a =
     let n =
-        of_row
-        (judged s (stored-long s (length w.render) (length w.fills)) (tables-long s (length w.state) (length a.paints) (length a.layers)))
-        s
-        r
+    of_row
+    (judged s (stored-long s (length w.render) (length w.fills)) (tables-long s (length w.state) (length a.paints) (length a.layers)))
+    s
+    r
     in
     cond (eqb n Done) (cond (eqb s.layers 0) Done Open) n
 

@@ -35,12 +35,7 @@ fn is_arenas(screen: Screen, rows: &Rows<'_>) -> bool
 }
 
 // The tables are.
-fn is_tables(
-    screen: Screen,
-    rows: &Rows<'_>,
-    paint_attrs: &[u32],
-    layer_attrs: &[u32],
-) -> bool
+fn is_tables(screen: Screen, rows: &Rows<'_>, paint_attrs: &[u32], layer_attrs: &[u32]) -> bool
     ensures { result ≡ tables-long screen (length rows.now.state.now) (length paint_attrs.now) (length layer_attrs.now) }
 {
     rows.state.len() == screen.rows() * ROW

@@ -46,12 +46,7 @@ fn write_fill(words: DepthWords, attrs: &Attributes<'_>, ids: &mut [u32]) -> boo
 
 /// The newest id of each bucket into `ids`, which has a word a bucket; 0 where no depth fill covers it. The first `count` depth fills are written from the last
 /// to the first. Not for words that are no depth fill of the row, or an attribute that is not there or not good: what `ids` holds then is worth nothing.
-pub fn newest_ids(
-    depth_cmds: &[u32],
-    count: usize,
-    attrs: &Attributes<'_>,
-    ids: &mut [u32],
-) -> bool
+pub fn newest_ids(depth_cmds: &[u32], count: usize, attrs: &Attributes<'_>, ids: &mut [u32]) -> bool
     requires fills { 2 * count ≤ length depth_cmds.now }
     requires narrow { length ids.old ≤ 65535 }
     ensures kept { length ids.new ≡ length ids.old }

@@ -23,7 +23,8 @@ fn is_good_counts(state: &[u32], render_cmds: &[u32], depth_cmds: &[u32]) -> boo
     requires { length state.now ≡ row-size }
     ensures { result ≡ has-counts (words state.now render_cmds.now depth_cmds.now) }
 {
-    4 * state[RENDERS] as usize <= render_cmds.len() && 2 * state[DEPTHS] as usize <= depth_cmds.len()
+    4 * state[RENDERS] as usize <= render_cmds.len()
+        && 2 * state[DEPTHS] as usize <= depth_cmds.len()
 }
 
 // The row, its newest ids being worked out into `ids`, which has a word a bucket.

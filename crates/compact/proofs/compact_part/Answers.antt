@@ -1,4 +1,3 @@
-use Rattle.std.proofs.Common.{◌∙◌}
 use Rattle.paint.specs.Reading.{attrs_of}
 use Rattle.row.specs.Words.{words}
 use Rattle.compact.proofs.InPlace.{in-place}

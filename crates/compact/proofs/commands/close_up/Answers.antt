@@ -1,4 +1,4 @@
-use Rattle.std.proofs.Common.{◌∙◌, arith}
+use Rattle.std.proofs.Common.{arith}
 use Rattle.paint.specs.Reading.{attrs_of}
 use Rattle.compact.proofs.Passing.{at-first, not-none, kind-is-good, at-next, at-last}
 use Rattle.compact.proofs.commands.close_up.Goals as goal

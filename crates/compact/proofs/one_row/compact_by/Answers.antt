@@ -1,4 +1,4 @@
-use Rattle.std.proofs.Common.{sym, ◌∙◌, arith, rules}
+use Rattle.std.proofs.Common.{sym, ◌∙◌, rules}
 use Rattle.paint.specs.Reading.{attrs_of}
 use Rattle.compact.proofs.Newer.{was-done, not-done}
 use Rattle.compact.proofs.OneRow.{made, not-made, there, bad-counts, bad-fills, bad-commands, all-done}

@@ -229,13 +229,19 @@ module _ (v : ℕ) (a : Attrs) (bs : List ℕ) (cs : List Command) where
       pub at-next : (d : Kind) → o ≡ Some d → 4 * count ≤ length ws → (us : List ℕ) (n : ℕ) → packed us n ≡ taken v bs (cmd_at ws k) d (packed ws left)
           → Passing v a bs cs us n (k + 1) count
       at-next d q room us n t =
+          let good-at : List ℕ → ℕ → Option Command = λ xs i. good-command a (command-at xs i) in
+          let same : (i : ℕ) → k + 1 ≤ i → good-at us i ≡ good-at ws i =
+              λ i l.
+              let m = above-taken v bs (cmd_at ws k) (packed ws left) d i (omega arith) in
+              ap (λ (x : CmdWords). good-command a (read-words x)) (ap (λ (x : Packed). cmd_at x.words i) t ∙ m)
+          in
           let y : packed us n ≡ taken v bs (cmd_at ws k) (kind-of a next.first) (packed ws left) = rw (is-kind d q) t in
           let behind = p.behind in
           record {
             stack = kept v a bs next.first p.stack;
             rest = next.rest;
             stands = rw y (took v a bs (cmd_at ws k) next.first (packed ws left) p.stack its-words (omega arith) p.stands);
-            ahead = read-same (λ i. good-command a (command-at us i)) (λ i. good-command a (command-at ws i)) (k + 1) (count - (k + 1)) (λ i l. ap (λ (x : CmdWords). good-command a (read-words x)) (ap (λ (x : Packed). cmd_at x.words i) t ∙ above-taken v bs (cmd_at ws k) (packed ws left) d i (omega arith))) ∙ next.more;
+            ahead = read-same (good-at us) (good-at ws) (k + 1) (count - (k + 1)) same ∙ next.more;
             whole = ap (passed v a bs p.stack) (sym next.whole) ∙ p.whole;
             behind = let m : n ≡ (taken v bs (cmd_at ws k) d (packed ws left)).left = ap (λ (x : Packed). x.left) t in omega (arith, m, one-more v bs (cmd_at ws k) (packed ws left) d);
             within = omega arith;

@@ -88,9 +88,9 @@ fn compact_part(
     )
 }
 
-/// The row without the commands that nothing will ever show: fills of which no tile is visible, and PushBufs directly followed by a PopBuf, again and again until
-/// there is neither. What is left closes up in its order, the slots behind it are 0, and the record has the new count. Painting is ended. BadViewport, BadArena,
-/// BadRecord, BadRun for no such row, Open with a layer open, BadRecord for what is read of the row: refused, the screen and every word stay.
+/// The row without the commands that nothing will ever show: fills of which no tile is visible, and PushBufs directly followed by a PopBuf, again and again
+/// until there is neither. What is left closes up in its order, the slots behind it are 0, and the record has the new count; painting is ended. BadViewport,
+/// BadArena, BadRecord, BadRun for no such row, Open with a layer open, BadRecord for what is read of the row: refused, the screen and every word stay.
 pub fn compact_row<'a>(
     screen: &mut Screen,
     rows: &mut Rows<'_>,

@@ -17,6 +17,8 @@ use Rattle.rules.specs.Plain.{Told, Story, OpenLayer, untold, tell-step, tell-st
 use Rattle.rules.specs.Compacted.{newest-ids, is-hidden, a-fill, a-buffer, Removes, nothing, one-more, kept, passed, turned-round, compacted, compact, compact-screen}
 use Rattle.rules.proofs.All.{All, nil, cons, head, tail, all_append, all_first, all_rest, all-at, never}
 use Rattle.rules.proofs.laws.Widths.{bucket-some}
+use Rattle.rules_picture.specs.Built.{Built}
+use Rattle.rules_picture.specs.Built as built
 use Rattle.rules_picture.specs.Compacted.{Kept-up, no_step, then, tidied, Compacted-picture, Compacted-skip}
 use Rattle.rules_picture.proofs.Cases.{by}
 use Rattle.rules_picture.proofs.Buckets.{touched-end}
@@ -77,11 +79,11 @@ module _ (w : ℕ) (a : Attrs) (bs : List ℕ) where
 
 -- What the tile is told of a row's commands, and sees.
 module _ (w : ℕ) (a : Attrs) (t n : ℕ) (pos : 0 < w) (on : t / w < n) (fs : List DepthFill) where
-  abbrev words : List ℕ
+  abbrev pub words : List ℕ
   words = newest-ids a n fs
 
   -- the word of the tile's bucket
-  abbrev word : ℕ
+  abbrev pub word : ℕ
   word = newest-hide (told-fills w a t fs)
 
   words-long : length words ≡ n
@@ -94,7 +96,7 @@ module _ (w : ℕ) (a : Attrs) (t n : ℕ) (pos : 0 < w) (on : t / w < n) (fs : 
   Sees m cs = such (no-older word) (told-commands w a t m cs)
 
   -- a fill of which nothing is visible shows the tile nothing
-  hides-tile : (l : Bool) (id i q : ℕ) (s : Span) (x : Option ℕ) (m : ℕ) → is-empty (visible-runs w words id s) ≡ true → (covers s t && leb word id) ≡ false
+  pub hides-tile : (l : Bool) (id i q : ℕ) (s : Span) (x : Option ℕ) (m : ℕ) → is-empty (visible-runs w words id s) ≡ true → (covers s t && leb word id) ≡ false
   unfolding received
   hides-tile l id i q s x m e =
       let len : t / w < length words = rw words-long on in
@@ -200,7 +202,7 @@ module _ (w n : ℕ) (a c : Attrs) (t : ℕ) (v : Box) (row : ℕ) (l : Leads w 
 compact-ranged : (w n : ℕ) (a : Attrs) (p l : ℕ) (r : Row) → Ranged p l r → Ranged p l (compact w n a r)
 compact-ranged w n a p l r g = record { commands = removes-all w a (newest-ids a n r.fills) (removed-one-by-one w n a r) g.commands; fills = g.fills }
 
-screen-ranged : (i : ℕ) (s : Screen Row) → AllRanged s → AllRanged (compact-screen i s)
+pub screen-ranged : (i : ℕ) (s : Screen Row) → AllRanged s → AllRanged (compact-screen i s)
 screen-ranged i s g =
     let p = length s.state.attrs.paints in
     let l = length s.state.attrs.layers in
@@ -215,7 +217,7 @@ screen-ranged i s g =
     past (x ∷ xs) (suc i) h = past xs i (omega arith)
 
 module _ (w : ℕ) (c : Attrs) (t n : ℕ) (v : Box) (row : ℕ) (pos : 0 < w) (on : t / w < n) where
-  no-levels : {ls : List OpenLayer} {m : ℕ} → ls ≡ [] → Shape ls m → m ≡ 0
+  pub no-levels : {ls : List OpenLayer} {m : ℕ} → ls ≡ [] → Shape ls m → m ≡ 0
   no-levels e s = let h = shape-most (rw e at s) in omega arith
 
   none-of : {A : Type 0} (xs : List A) → length xs ≡ 0 → xs ≡ []
@@ -244,29 +246,38 @@ module _ (w : ℕ) (c : Attrs) (t n : ℕ) (v : Box) (row : ℕ) (pos : 0 < w) (
         shape = g.shape;
       }
 
-  compact-follows : (i : ℕ) (o : Story) (s : Screen Row) → buckets-across s.state.frame ≡ n → s.state.layers ≡ [] → Leads w c t v row s.state.attrs → AllRanged s
-      → Follows w c t v row o s → Follows w c t v row o (compact-screen i s)
-  compact-follows i o s e z l g f =
+  -- what holds of a row, and of it compacted, holds of it on the compacted screen
+  pub row-compacted : (P : Row → Type 0) (i : ℕ) (s : Screen Row) → bucket s.state.frame ≡ w → buckets-across s.state.frame ≡ n → Leads w c t v row s.state.attrs → AllRanged s
+      → row < length s.rows → P (get_or s.rows row fresh-row) → P (compact w n c (get_or s.rows row fresh-row)) → P (get_or (compact-screen i s).rows row fresh-row)
+  row-compacted P i s d e l g h old new =
       let a = s.state.attrs in
-      let old = get_or s.rows i fresh-row in
-      let q = compact (bucket s.state.frame) (buckets-across s.state.frame) a old in
-      let none : o.open-layers ≡ [] = map-none o.open-layers (sym f.opened ∙ z) in
-      let grown : Grown w c t v row o.told o.next o.open-layers (get_or (set s.rows i q) row fresh-row) =
+      let q = compact (bucket s.state.frame) (buckets-across s.state.frame) a (get_or s.rows i fresh-row) in
       by (eqb row i)
       (λ y.
       let k = eqb-true row i y in
-      let there : i < length s.rows = rw (← k) f.there in
-      let own : Grown w c t v row o.told o.next o.open-layers old =
-      subst (λ (j : ℕ). Grown w c t v row o.told o.next o.open-layers (get_or s.rows j fresh-row)) k f.grown in
-      let same : q ≡ compact w n c old =
-      ap (λ (m : ℕ). compact m (buckets-across s.state.frame) a old) f.wide
-      ∙ ap (λ (m : ℕ). compact w m a old) e
-      ∙ ap (λ (cs : List Command). record { commands = cs; fills = old.fills; levels = old.levels; depth = old.depth })
-      (compacted-alike w n a c t v row l old (all-at g i fresh-row there)) in
-      let at : get_or (set s.rows i q) row fresh-row ≡ compact w n c old =
-      ap (λ (j : ℕ). get_or (set s.rows i q) j fresh-row) k ∙ get_or-set_same s.rows i q fresh-row there ∙ same in
-      subst (λ (x : Row). Grown w c t v row o.told o.next o.open-layers x) (sym at) (compact-grows none own))
-      (λ m. rw (get_or-set_other s.rows i row q fresh-row (eqb-false row i m)) f.grown) in
+      let r = get_or s.rows row fresh-row in
+      let same : compact (bucket s.state.frame) (buckets-across s.state.frame) a r ≡ compact w n c r =
+      ap (λ (m : ℕ). compact m (buckets-across s.state.frame) a r) d
+      ∙ ap (λ (m : ℕ). compact w m a r) e
+      ∙ ap (λ (cs : List Command). record { commands = cs; fills = r.fills; levels = r.levels; depth = r.depth })
+      (compacted-alike w n a c t v row l r (all-at g row fresh-row h)) in
+      let at : get_or (set s.rows i q) row fresh-row ≡ compact w n c r =
+      rw (← k) (get_or-set_same s.rows row (compact (bucket s.state.frame) (buckets-across s.state.frame) a r) fresh-row h ∙ same) in
+      subst P (sym at) new)
+      (λ m. rw (get_or-set_other s.rows i row q fresh-row (eqb-false row i m)) old)
+
+  -- a screen on which no layer is open follows a story that has none open
+  pub none-open : {o : Story} {s : Screen Row} → s.state.layers ≡ [] → Follows w c t v row o s → o.open-layers ≡ []
+  none-open {o = o} z f = map-none o.open-layers (sym f.opened ∙ z)
+    where
+      map-none : (ls : List OpenLayer) → map layer-in ls ≡ [] → ls ≡ []
+      map-none [] y = refl
+      map-none (x ∷ xs) y = never (sym (ap is-empty y))
+
+  pub compact-follows : (i : ℕ) (o : Story) (s : Screen Row) → buckets-across s.state.frame ≡ n → s.state.layers ≡ [] → Leads w c t v row s.state.attrs → AllRanged s
+      → Follows w c t v row o s → Follows w c t v row o (compact-screen i s)
+  compact-follows i o s e z l g f =
+      let q = compact (bucket s.state.frame) (buckets-across s.state.frame) s.state.attrs (get_or s.rows i fresh-row) in
       record {
         view = f.view;
         wide = f.wide;
@@ -276,14 +287,14 @@ module _ (w : ℕ) (c : Attrs) (t n : ℕ) (v : Box) (row : ℕ) (pos : 0 < w) (
         layers = f.layers;
         opened = f.opened;
         there = rw (length-set s.rows i q) f.there;
-        grown = grown;
+        grown = row-compacted (λ (r : Row). Grown w c t v row o.told o.next o.open-layers r) i s f.wide e l g f.there f.grown (compact-grows (none-open z f) f.grown);
       }
-    where
-      map-none : (ls : List OpenLayer) → map layer-in ls ≡ [] → ls ≡ []
-      map-none [] y = refl
-      map-none (x ∷ xs) y = never (sym (ap is-empty y))
 
--- Histories with rows compacted between their steps: frames, attributes and stories go on as without.
+-- Histories with rows compacted between their steps: one with none is such, and frames, attributes and stories go on as without.
+pub built-kept : {xs : List Step} {s u : Screen Row} → Built xs s u → Kept-up xs s u
+built-kept built.no_step = no_step
+built-kept (built.then e b) = then e (built-kept b)
+
 pub kept-frame : {xs : List Step} {s u : Screen Row} → Kept-up xs s u → u.state.frame ≡ s.state.frame
 kept-frame no_step = refl
 kept-frame (then {x = x} {s = s} e b) = kept-frame b ∙ call-frame row-ops x s

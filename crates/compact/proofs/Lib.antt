@@ -1,3 +1,4 @@
+pub mod ByRules
 pub mod Call
 pub mod Froms
 pub mod Hiding

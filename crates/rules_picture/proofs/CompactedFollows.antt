@@ -46,7 +46,7 @@ none-in (x ∷ xs) e = never (sym e)
 
 -- What removals leave, of facts of each command and of the nesting.
 module _ {P : Command → Type 0} (w : ℕ) (a : Attrs) (bs : List ℕ) where
-  removes-all : {cs ds : List Command} → Removes w a bs cs ds → All P cs → All P ds
+  pub removes-all : {cs ds : List Command} → Removes w a bs cs ds → All P cs → All P ds
   removes-all nothing h = h
   removes-all (one-more (a-fill front back c e) xs) h = removes-all xs (all_append (all_first front (c ∷ back) h) (tail (all_rest front (c ∷ back) h)))
   removes-all (one-more (a-buffer front back s) xs) h =

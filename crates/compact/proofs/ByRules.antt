@@ -1,22 +1,19 @@
 -- On a row in which nothing is forged the words are compacted as the rules compact the row. Assumes nothing.
-use Rattle.std.proofs.Common.{◌≡◌, refl, sym, ap, ◌∙◌, ℕ, zero, suc, ◌+◌, ◌<◌, arith, true, ◌&&◌, List, [], ◌∷◌, Option, None, Some, option_map, length, get_or, le-leb}
+use Rattle.std.proofs.Common.{◌≡◌, refl, sym, ap, ◌∙◌, ℕ, suc, ◌+◌, ◌<◌, arith, true, List, [], ◌∷◌, Option, None, Some, length, get_or, le-leb}
 use Rattle.rules.specs.Attributes.{Attrs}
 use Rattle.rules.specs.Commands.{Command, paint-fill, layer-fill, push-buf, pop-buf, DepthFill}
-use Rattle.rules.specs.Depth.{written}
 use Rattle.rules.specs.Painting.{no-fill}
 use Rattle.rules.specs.Rows.{Row}
 use Rattle.rules.specs.Answers.{answer, Done}
 use Rattle.rules.specs.Compacted.{newest-ids, kept, passed, turned-round, compacted}
 use Rattle.rules.proofs.All.{and_both}
-use Rattle.cmd.specs.Reading.{only_if}
 use Rattle.sizes.specs.Sizes.{renders-at, depths-at}
 use Rattle.row.specs.Words.{Words, word}
 use Rattle.paint.specs.Painting.{depth-fill-at, command-at}
 use Rattle.paint.specs.Standing.{Stands}
 use Rattle.paint.proofs.ByRules.{Same}
 use Rattle.compact.specs.Reading.{all-from, good-fill, names-good, good-command, fills-from, commands-from}
-use Rattle.compact.specs.Row.{has-counts, row-with, row-read, with-commands, compact-words}
-use Rattle.compact.proofs.Froms.{and-then}
+use Rattle.compact.specs.Row.{has-counts, row-read, with-commands, compact-words}
 
 -- Attributes that a step cannot tell apart: compacting cannot either.
 module _ (v n : ℕ) (a b : Attrs) (s : Same a b) where
@@ -63,7 +60,7 @@ list-read f d k (x ∷ xs) h =
     let z : k + 0 ≡ k = omega arith in
     let first : f k ≡ Some x = ap f (sym z) ∙ h 0 (omega arith) in
     let rest : all-from f (suc k) (length xs) ≡ Some xs =
-        list-read f d (suc k) xs (λ i l. let y : suc k + i ≡ k + suc i = omega arith in ap f y ∙ h (suc i) (omega arith))
+    list-read f d (suc k) xs (λ i l. let y : suc k + i ≡ k + suc i = omega arith in ap f y ∙ h (suc i) (omega arith))
     in
     rw (first, rest) refl
 

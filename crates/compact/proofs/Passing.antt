@@ -231,9 +231,9 @@ module _ (v : ℕ) (a : Attrs) (bs : List ℕ) (cs : List Command) where
       at-next d q room us n t =
           let good-at : List ℕ → ℕ → Option Command = λ xs i. good-command a (command-at xs i) in
           let same : (i : ℕ) → k + 1 ≤ i → good-at us i ≡ good-at ws i =
-              λ i l.
-              let m = above-taken v bs (cmd_at ws k) (packed ws left) d i (omega arith) in
-              ap (λ (x : CmdWords). good-command a (read-words x)) (ap (λ (x : Packed). cmd_at x.words i) t ∙ m)
+          λ i l.
+          let m = above-taken v bs (cmd_at ws k) (packed ws left) d i (omega arith) in
+          ap (λ (x : CmdWords). good-command a (read-words x)) (ap (λ (x : Packed). cmd_at x.words i) t ∙ m)
           in
           let y : packed us n ≡ taken v bs (cmd_at ws k) (kind-of a next.first) (packed ws left) = rw (is-kind d q) t in
           let behind = p.behind in

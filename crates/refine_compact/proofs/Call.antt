@@ -1,14 +1,13 @@
 -- The call at the words of a canvas is the rules' call. Assumes nothing.
-use Rattle.std.proofs.Common.{◌≡◌, refl, sym, ap, ◌∙◌, Bool, true, false, ◌&&◌, not, cond, List, [], ◌∷◌, ℕ, ◌<◌, arith, leb, eqb, length, get_or, set, eq-eqb, leb-false}
-use borrow.Author.Tests.{lt-leb}
+use Rattle.std.proofs.Common.{◌≡◌, refl, ap, ◌∙◌, Bool, true, false, cond, [], ℕ, ◌<◌, arith, leb, length, get_or, eq-eqb, leb-false}
 use Rattle.rules.specs.Lists.{is-empty}
-use Rattle.rules.specs.Answers.{Answer, answer, settle, first_of, Done, BadRun, Open}
+use Rattle.rules.specs.Answers.{answer, Done, BadRun, Open}
 use Rattle.rules.specs.Attributes.{Attrs}
 use Rattle.rules.specs.Rows.{Row, fresh-row}
 use Rattle.rules.specs.Plans.{bucket, buckets-across}
 use Rattle.rules.specs.Steps as rule
 use Rattle.rules.specs.Calls.{Canvas}
-use Rattle.rules.specs.Compacted.{compacted, compact, compact-screen, compact-call}
+use Rattle.rules.specs.Compacted.{compact, compact-screen, compact-call}
 use Rattle.row.specs.Words.{Words}
 use Rattle.row.specs.Arena.{sizes, row_at}
 use Rattle.screen.proofs.ScreenLaws.{few-buckets}
@@ -22,7 +21,7 @@ use Rattle.paint.specs.Painting.{attrs-at}
 use Rattle.paint.specs.StoredCmds.{stored-long}
 use Rattle.paint.proofs.ByRules.{held}
 use Rattle.compact.specs.Row.{compact-words}
-use Rattle.compact.specs.Call.{tables-long, compact_number, Stored, stored, with-closed, closed-in, row-compacted, ended, compacting}
+use Rattle.compact.specs.Call.{tables-long, compact_number, Stored, stored, closed-in, row-compacted, ended, compacting}
 use Rattle.refine_compact.proofs.Rows.{words-compacted, put-back}
 
 -- a canvas of the rules as its screen and the words of its rows

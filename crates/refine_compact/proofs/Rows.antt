@@ -1,5 +1,5 @@
 -- A compacted row's words are the words of the row that the rules compact. Assumes nothing.
-use Rattle.std.proofs.Common.{◌≡◌, refl, sym, ap, ◌∙◌, true, List, [], ◌∷◌, ◌++◌, map, ℕ, ◌+◌, ◌-◌, ◌*◌, ◌≤◌, ◌<◌, arith, length, get_or, set, replicate, take, drop}
+use Rattle.std.proofs.Common.{◌≡◌, refl, sym, ap, ◌∙◌, true, List, map, ℕ, ◌*◌, ◌≤◌, ◌<◌, arith, length, get_or, set, take, drop}
 use lib.Seq.{map-set}
 use borrow.Rule.Slice.PartMut.{put_mid, put_same}
 use Rattle.rules.specs.Lists.{join}
@@ -12,9 +12,9 @@ use Rattle.rules.proofs.All.{all-at}
 use Rattle.rules_picture.proofs.Compacted.{less-room}
 use Rattle.row.specs.Words.{Words, words}
 use Rattle.rules.specs.Steps.{Screen}
-use Rattle.row.specs.Arena.{Sizes, sizes, cut, lay, row_at, with_row, Long}
+use Rattle.row.specs.Arena.{Sizes, sizes, lay, with_row, Long}
 use Rattle.row.proofs.RowsLaws.{within, put-length, lay-cut, cut-with}
-use Rattle.refine_row.specs.Encode.{padded, state-of, encode}
+use Rattle.refine_row.specs.Encode.{encode}
 use Rattle.refine_row.proofs.Pads.{padded-fits, padded-length}
 use Rattle.refine_row.proofs.Screens.{encode-sized, cut-screen, screen-long}
 use Rattle.refine_steps.specs.Sound.{Fitting}

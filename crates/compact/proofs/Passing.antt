@@ -255,7 +255,6 @@ turned-long (c ∷ st) ds = turned-long st (c ∷ ds) ∙ omega arith
 -- the words at place n, one command further
 four-more : (ws : List ℕ) (n : ℕ) → 4 * n + 4 ≤ length ws → take (4 * suc n) ws ≡ take (4 * n) ws ++ words_of (cmd_at ws n)
 four-more ws n h =
-    let m = 4 * n in
     let e : 4 * suc n ≡ suc (suc (suc (suc (4 * n)))) = omega arith in
     let e1 : 4 * n + 1 ≡ suc (4 * n) = omega arith in
     let e2 : 4 * n + 2 ≡ suc (suc (4 * n)) = omega arith in
@@ -269,11 +268,8 @@ four-more ws n h =
       take-suc ws (suc (suc (4 * n))) 0 (omega arith),
       take-suc ws (suc (4 * n)) 0 (omega arith),
       take-suc ws (4 * n) 0 (omega arith),
-      append_assoc,
-      append_assoc,
-      append_assoc,
     )
-    refl
+    (simp append_assoc refl)
 
 -- what stands at the front of the words, in its order
 front : (ws : List ℕ) (st ds : List Command) → Stacked ws st → 4 * length st ≤ length ws

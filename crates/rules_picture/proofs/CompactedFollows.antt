@@ -9,13 +9,14 @@ use Rattle.rules.specs.Spans.{Span, covers}
 use Rattle.rules.specs.Commands.{Command, paint-fill, layer-fill, push-buf, pop-buf, DepthFill}
 use Rattle.rules.specs.Attributes.{PaintAttr, LayerAttr, Attrs, no-paint, no-layer}
 use Rattle.rules.specs.Rows.{Row, row-ops, fresh-row}
-use Rattle.rules.specs.Plans.{Frame, bucket, buckets-across, Step}
+use Rattle.rules.specs.Plans.{Frame, bucket, buckets-across, Step, plan}
 use Rattle.rules.specs.Steps.{Screen, reset, done, touched, call}
 use Rattle.rules.specs.Depth.{visible-runs, is-visible, can_skip}
 use Rattle.rules.specs.Painting.{paint-id, layer-id, paint-panel, layer-panel, received, paint-row}
 use Rattle.rules.specs.Plain.{Told, Story, OpenLayer, untold, tell-step, tell-steps, plain}
 use Rattle.rules.specs.Compacted.{newest-ids, is-hidden, a-fill, a-buffer, Removes, nothing, one-more, kept, passed, turned-round, compacted, compact, compact-screen}
 use Rattle.rules.proofs.All.{All, nil, cons, head, tail, all_append, all_first, all_rest, all-at, never}
+use Rattle.rules.proofs.laws.Changes.{puts-length}
 use Rattle.rules.proofs.laws.Widths.{bucket-some}
 use Rattle.rules_picture.specs.Built.{Built}
 use Rattle.rules_picture.specs.Built as built
@@ -300,6 +301,21 @@ kept-frame no_step = refl
 kept-frame (then {x = x} {s = s} e b) = kept-frame b ∙ call-frame row-ops x s
 kept-frame (tidied i z b) = kept-frame b
 
+pub kept-rows : {xs : List Step} {s u : Screen Row} → Kept-up xs s u → length u.rows ≡ length s.rows
+unfolding done
+kept-rows no_step = refl
+kept-rows (then {x = x} {s = s} e b) =
+    let js = touched Row row-ops (length s.state.layers) 0 s.rows in
+    let p = plan x js s.state in
+    kept-rows b ∙ ap (λ (k : Screen Row). length k.rows) (call-done x s e).1 ∙ puts-length Row row-ops (bucket s.state.frame) (length p.layers) p.puts s.rows
+kept-rows (tidied {s = s} i z b) =
+    kept-rows b ∙ length-set s.rows i (compact (bucket s.state.frame) (buckets-across s.state.frame) s.state.attrs (get_or s.rows i fresh-row))
+
+pub kept-append : {xs ys : List Step} {s u v : Screen Row} → Kept-up xs s u → Kept-up ys u v → Kept-up (xs ++ ys) s v
+kept-append no_step b = b
+kept-append (then e a) b = then e (kept-append a b)
+kept-append (tidied i z a) b = tidied i z (kept-append a b)
+
 module _ (w t : ℕ) (v : Box) (row : ℕ) where
   pub kept-leads : {xs : List Step} {s u : Screen Row} → Kept-up xs s u → Leads w u.state.attrs t v row s.state.attrs
   unfolding done
@@ -331,6 +347,11 @@ pub follows-kept : (f : Frame) (xs : List Step) (u : Screen Row) → Kept-up xs 
 unfolding reset
 follows-kept f xs u b row t h on =
     kept-follows (bucket f) t f.viewport row (bucket-some f.width) b on (reset-ranged f) untold (reset-follows u.state.attrs t row f h)
+
+-- .. has the frame of its reset, and the rows of that, ..
+pub kept-on : (f : Frame) (xs : List Step) (u : Screen Row) → Kept-up xs (reset fresh-row f) u → (row : ℕ) → row < rows_of f.viewport → (u.state.frame ≡ f) × (row < length u.rows)
+unfolding reset
+kept-on f xs u b row h = let k = kept-rows b in (kept-frame b, rw (k, length-replicate {A = Row} (rows_of f.viewport) fresh-row) h)
 
 -- .. so the picture holds of it.
 pub compacted-picture : Compacted-picture

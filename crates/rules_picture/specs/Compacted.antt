@@ -15,7 +15,7 @@ use Rattle.rules.specs.Calls.{Canvas, begin-call, painter-of, can-skip-call}
 use Rattle.rules.specs.Compacted.{newest-ids, Removed, Removes, compacted, compact, compact-screen, compact-call}
 use Rattle.rules_picture.specs.Colours.{Colours, turns-drawn, plain-drawn, if-touched, if-inside, Opaque, Gentle}
 use Rattle.rules_picture.specs.Skip.{FillsPainted}
-use Rattle.rules_picture.specs.StoredColours.{stored-drawn}
+use Rattle.rules_picture.specs.StoredColours.{newest-over, newest-id, stored-drawn}
 use Rattle.rules_picture.specs.Turns.{Turn, from, has-finished, painted}
 
 -- with n buffers open: none is closed that is not open, and in the end none is open
@@ -90,6 +90,14 @@ Compacted-skip =
     → (s : Span) (id : ℕ) → (can-skip-call r s id (painted ts k).canvas).value ≡ true
     → (t : ℕ) → covers s t ≡ true → t < width f.viewport / 4
     → is-visible id (get_or (painter-of (painted ts k).canvas r).buckets (t / bucket f) 0) ≡ true
+
+-- Once a row has finished, the depth word of each tile's bucket is the id of the newest depth fill over it.
+abbrev pub Compacted-newest : Type 0
+Compacted-newest =
+    (f : Frame) (xs : List Step) (k : Canvas) → Kept-up xs (reset fresh-row f) k.screen → (begin-call k).number ≡ Done
+    → (ts : List Turn) (r t : ℕ) → r < rows_of f.viewport → t < width f.viewport / 4
+    → has-finished (painted ts k).canvas r ≡ true
+    → get_or (painter-of (painted ts k).canvas r).buckets (t / bucket f) 0 ≡ newest-id (paint-id k.screen.state.attrs) (newest-over (t / bucket f) (get_or k.screen.rows r fresh-row).fills)
 
 -- What a tile comes to over such histories, whatever the colours are, is what drawing everything in plain order comes to: of colours that keep law 1, where
 -- layers close over the rows that they touch, ..

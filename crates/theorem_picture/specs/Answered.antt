@@ -1,5 +1,5 @@
 -- Every call at reached words is the rules' call.
-use Rattle.std.specs.Prelude.{ℕ, ◌/◌, ◌%◌, ◌≡◌, List, length}
+use Rattle.std.specs.Prelude.{ℕ, ◌/◌, ◌%◌, ◌≡◌, Bool, List, length}
 use Rattle.sizes.specs.Sizes.{piece-size}
 use Rattle.rules.specs.Answers.{answer, Done}
 use Rattle.rules.specs.Spans.{Span}
@@ -16,12 +16,13 @@ use Rattle.depth.specs.Listing.{listing}
 use Rattle.paint.specs.DirectRuns.{unset-of, visible-of, hidden-of-row, skip-of-row}
 use Rattle.refine_paint.specs.Canvases.{given_out, wrote_of, WholeCanvas}
 use Rattle.theorem_picture.specs.Calls.{fill-at, push_at, pop-at, filter-at, fill-said, pop-said, filter-said}
-use Rattle.theorem_picture.specs.Reached.{Reached, begin-at, paint-out, write-out}
-use Rattle.theorem_picture.specs.Standing.{canvas-words, Stands}
+use Rattle.theorem_picture.specs.Reached.{ReachedBy, begin-at, paint-out, write-out}
+use Rattle.theorem_picture.specs.Standing.{canvas-words, StandsBy, Stands}
 
--- Whatever calls were made, the words are those of a whole canvas of the rules, and its screen is built from the reset by the same done steps.
+-- Whatever calls were made, the words are those of a whole canvas of the rules, and its screen is built from the reset by the same done steps: by these
+-- alone, where no row was compacted.
 abbrev pub ReachedStands : Type 0
-ReachedStands = (f : Frame) (xs : List Step) (l : ScreenLent) → Reached f xs l → Stands f xs l
+ReachedStands = (c : Bool) (f : Frame) (xs : List Step) (l : ScreenLent) → ReachedBy c f xs l → StandsBy c f xs l
 
 -- What each call answers at the words l is what the rules answer at the canvas k, and what it leaves are the words of the rules' canvas afterwards.
 -- The building calls are lent whole records; a refused step alters no word.

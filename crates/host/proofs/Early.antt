@@ -1,5 +1,5 @@
 -- A call's own 3, 2 and 1 are those of the judge that it asks first: whatever comes after that judge is past 3.
-use Rattle.std.proofs.Common.{◌≡◌, refl, sym, ap, ◌∙◌, Bool, true, false, ◌&&◌, ◌||◌, not, cond, List, [], ◌∷◌, Option, None, Some, ℕ, suc, ◌/◌, arith, length, ltb, eqb, eqb-true, le-ltb}
+use Rattle.std.proofs.Common.{◌≡◌, refl, sym, ap, ◌∙◌, Bool, true, false, ◌&&◌, ◌||◌, not, cond, List, [], ◌∷◌, Option, None, Some, ℕ, suc, ◌/◌, arith, length, ltb, eqb, eqb-true, eq-eqb, le-ltb}
 use Rattle.sizes.specs.Sizes.{piece-size, open-layer-table, opacity-count, paint-attr-table, filter-paint-table}
 use Rattle.sizes.specs.Widths.{bucket-tiles}
 use Rattle.rules.specs.Answers.{Answer, answer, first_of, Done, BadRecord, BadOrder, BadRun, NoRoom}
@@ -27,6 +27,7 @@ use Rattle.screen.specs.declared.lent.Lengths.{Lengths}
 use Rattle.screen.specs.Judging as judging
 use Rattle.screen.specs.Judging.{judged, good-tables, judged_reset}
 use Rattle.screen.specs.Tables.{lengths, ScreenLent, reset_to}
+use Rattle.screen.specs.Depths.{Depths}
 use Rattle.inputs.specs.declared.Draw.{Draw}
 use Rattle.fill.specs.Fills as fills
 use Rattle.fill.specs.Fills.{filled}
@@ -47,7 +48,7 @@ use Rattle.paint.specs.Painting as paint
 use Rattle.paint.specs.Judging.{wide, begin_number, runs_number, write_number, hidden_number, skip_number}
 use Rattle.rules.specs.Minima.{minima-room, hidden_answer}
 use Rattle.paint.specs.Beginning.{Canvas, beginning}
-use Rattle.paint.specs.Stepping.{Attributes, part, own, number, row_step, stepped}
+use Rattle.paint.specs.Stepping.{Attributes, part, depth-part, own, number, row_step, stepped}
 use Rattle.paint.specs.DirectRuns.{Wrote, or-runs, write-in-place, record-skip, unset-of, visible-of, write-of, hidden-of-row, skip-of-row}
 use Rattle.paint.specs.Running.{goes_on, one_more, run, standing, call_step, row-painted}
 use Rattle.depth.specs.Listing.{listing, writing}
@@ -55,6 +56,7 @@ use Rattle.paint.specs.Summaries.{good-summary}
 use Rattle.host.specs.State.{before_4}
 use Rattle.host.specs.Border.{arenas_number, in-sections, file_number}
 use Rattle.paint.proofs.Kept.{on-done, gone-on}
+use Rattle.paint.proofs.ScreenParts.{part_length, write_within}
 
 -- a number that is 0 or past 3 gives way to the border's 4
 late-4 : (n : ℕ) → Late n → before_4 n ≡ BadRecord
@@ -69,9 +71,13 @@ zero-4 : (n : ℕ) → n ≡ Done → before_4 n ≡ BadRecord
 unfolding before_4
 zero-4 n e = rw e
 
--- the number k, then whatever comes after it
+-- the number k, then whatever comes after it: looked at only where k is 0, ..
+after-done : (k m : ℕ) → (k ≡ Done → Late m) → before_4 k ≡ before_4 (cond (eqb k Done) m k)
+after-done k m h = by (eqb k Done) (λ y. let e = eqb-true k Done y in rw y (zero-4 k e ∙ sym (late-4 m (h e)))) (λ z. rw z)
+
+-- .. or in any case
 pub after : (k m : ℕ) → Late m → before_4 k ≡ before_4 (cond (eqb k Done) m k)
-after k m h = by (eqb k Done) (λ y. rw y (zero-4 k (eqb-true k Done y) ∙ sym (late-4 m h))) (λ z. rw z)
+after k m h = after-done k m (λ e. h)
 
 late-or : (b : Bool) (m : ℕ) → Late m → Late (cond b m BadRecord)
 late-or true m h = h
@@ -140,10 +146,10 @@ pub begin-early : (k : Canvas) → before_4 (begin_number k.screen (length k.dep
 unfolding beginning
 begin-early k = ap before_4 (sym (settle-number (begin_number k.screen (length k.depth.words) (length k.depth.minima) (length k.painting)) _ _))
 
-row-late : (o : Option rules.Painted) (d p l : List ℕ) → Late (paint.settled o d p l).answer.number
+row-late : (o : Option rules.Painted) (ms : List ℕ) (d : Depths) (p l : List ℕ) → Late (paint.settled o ms d p l).answer.number
 unfolding paint.settled
-row-late None d p l = λ e. omega arith
-row-late (Some o) d p l = by (ltb (length l / piece-size) (length o.pieces)) (λ y. rw y (λ e. omega arith)) (λ z. rw z late-done)
+row-late None ms d p l = λ e. omega arith
+row-late (Some o) ms d p l = by (ltb (length l / piece-size) (length o.pieces)) (λ y. rw y (λ e. omega arith)) (λ z. rw z late-done)
 
 out-number : (b : Bool) (n : ℕ) (o p : paint.StepOut) → p.answer.number ≡ n → cond b o.answer.number n ≡ (cond b o p).answer.number
 out-number true n o p e = refl
@@ -152,11 +158,13 @@ out-number false n o p e = sym e
 pub step-is-early : (s : Screen) (r : ℕ) (a : Attributes) (l : paint.RowLent) → before_4 (number s r a l) ≡ before_4 (stepped s r a l).answer.number
 unfolding stepped row_step paint.painted-row
 step-is-early s r a l =
-    after (number s r a l) (row_step s r a l).answer.number (row-late (paint.next-step (bucket-tiles s.width) (paint.attrs-at a.paints s.paint_attrs a.layers s.layer_attrs) (own s r l)) _ _ l.list)
+    let attrs = paint.attrs-at a.paints s.paint_attrs a.layers s.layer_attrs in
+    after (number s r a l) (row_step s r a l).answer.number
+    (row-late (paint.next-step (bucket-tiles s.width) attrs (own s r l)) (paint.next-minima attrs (own s r l)) _ _ l.list)
     ∙ ap before_4 (out-number (eqb (number s r a l) Done) (number s r a l) (row_step s r a l) (paint.out (paint.refused (number s r a l)) l.depth l.painting l.list) refl)
 
 -- a row's call has its first step's number
-module _ (step : List ℕ → List ℕ → List ℕ → paint.StepOut) (d p l : List ℕ) where
+module _ (step : Depths → List ℕ → List ℕ → paint.StepOut) (d : Depths) (p l : List ℕ) where
   abbrev first : paint.StepOut
   first = one_more step (standing d p l)
 
@@ -205,17 +213,36 @@ module _ (s : Screen) (r : ℕ) (d : List ℕ) (t : Span) where
   visible-early id l =
       runs-early (runs_number s r (length d)) (visible_answer (bucket-tiles s.width) mine id t (length l / 2)) (listed-late (bad-range 8192 t) (length l / 2) (visible-runs (bucket-tiles s.width) mine id t))
 
+-- The writing run. Judged 0, the row's own minima have their length.
+module _ (s : Screen) (r : ℕ) (d : Depths) (t : Span) (id : ℕ) (l : List ℕ) where
+  abbrev own-part : Depths
+  own-part = depth-part (wide s) r d
+
+  abbrev judge : ℕ
+  judge = write_number s r (length d.words) (length d.minima)
+
+  fits : judge ≡ Done → eqb (length own-part.minima) (minima-room (length own-part.words)) ≡ true
+  fits e =
+      let w = write_within s r d.words d.minima (sym e) in
+      eq-eqb _ _ (part_length (minima-room (wide s)) r d.minima w.1 ∙ ap minima-room (sym (part_length (wide s) r d.words w.0)))
+
+  write-late : judge ≡ Done → Late (writing own-part.words own-part.minima id t l).listed.number
+  unfolding write_answer listing
+  write-late e =
+      rw (fits e)
+      (listed-late (bad-range (length own-part.words) t || eqb id 0) (length l / 2) (write-runs own-part.words t))
+
   wrote-number : (b : Bool) (n : ℕ) (x y : Wrote) → y.listed.number ≡ n → cond b x.listed.number n ≡ (cond b x y).listed.number
   wrote-number true n x y e = refl
   wrote-number false n x y e = sym e
 
-  pub write-early : (id : ℕ) (l : List ℕ) → before_4 (runs_number s r (length d)) ≡ before_4 (write-of s r d id t l).listed.number
-  unfolding write-of write_answer listing
-  write-early id l =
-      let n = runs_number s r (length d) in
-      after n (write_answer mine id t (length l / 2)).number (listed-late (bad-range (length mine) t || eqb id 0) (length l / 2) (write-runs mine t))
+  pub write-early : before_4 judge ≡ before_4 (write-of s r d id t l).listed.number
+  unfolding write-of listing
+  write-early =
+      after-done judge (writing own-part.words own-part.minima id t l).listed.number write-late
       ∙ ap before_4
-      (wrote-number (eqb n Done) n (write-in-place s r d (writing mine id t l)) (record { listed = listing (answer n []) l; screen = s; depth = d }) refl)
+      (wrote-number (eqb judge Done) judge (write-in-place s r d (writing own-part.words own-part.minima id t l))
+      (record { listed = listing (answer judge []) l; screen = s; depth = d }) refl)
 
 hidden-late : (ms : List ℕ) (b : ℕ) (t : Span) (id : ℕ) → Late (hidden_answer ms b t id).number
 unfolding hidden_answer

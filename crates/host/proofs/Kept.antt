@@ -10,15 +10,16 @@ use Rattle.span.specs.declared.TileSpan.{TileSpan}
 use Rattle.depth.specs.Listing.{RunsOut}
 use Rattle.depth.specs.SpanLists as spans
 use Rattle.screen.specs.declared.Screen.{Screen}
+use Rattle.screen.specs.Depths.{Depths}
 use Rattle.paint.specs.Painting as paint
 use Rattle.paint.specs.Stepping.{Attributes, stepped}
 use Rattle.paint.specs.Running.{row-painted}
-use Rattle.paint.specs.DirectRuns.{unset-of, visible-of, write-of, skip-of-row}
+use Rattle.paint.specs.DirectRuns.{unset-of, visible-of, write-of, hidden-of-row, skip-of-row}
 use Rattle.paint.proofs.Kept.{Refused, Bare, bare-visible, AsLent, unset-kept, visible-kept, write-kept, step-kept, row-kept}
 use Rattle.host.specs.State.{screen_of, at_held, on}
 use Rattle.host.proofs.Words.{written_back}
 use Rattle.host.specs.Results.{skip-left, split-left}
-use Rattle.host.specs.Painting.{with-room, step_left, step_call, row_call, runs-left, unset_call, visible_call, write-left, write_call, skip_call, split_at, split_call}
+use Rattle.host.specs.Painting.{with-room, step_left, step_call, row_call, runs-left, unset_call, visible_call, write-left, write_call, hidden_call, skip_call, split_at, split_call}
 use Rattle.host.specs.Spans.{runs_of, spans-left, spans_call}
 
 -- result words of another length, or a call that keeps t where it is refused
@@ -54,11 +55,12 @@ module _ (r : ℕ) (t : Span) (st d l n : List ℕ) where
       at-screen (eqb (length n) 1) st (l, n) (λ (s : Screen). runs-left n (visible-of s r d t id l))
       (λ s e. runs-kept (visible-of s r d t id l) l n (visible-kept s r d t id l))
 
-  pub write-refused : (id : ℕ) → Refused (write_call r t id st d l n) → (write_call r t id st d l n).value ≡ (st, d, l, n)
-  unfolding write_call
-  write-refused id =
-      at-screen (eqb (length n) 1) st (st, d, l, n) (λ (s : Screen). write-left n (write-of s r d id t l))
-      (λ s e q. let k = write-kept s r d t id l q in rw (k.0, k.1, k.2, ne_eqb _ _ q, written_back (eqb (length n) 1) st s e))
+pub write-refused : (r : ℕ) (t : Span) (st : List ℕ) (d : Depths) (l n : List ℕ) (id : ℕ) → Refused (write_call r t id st d l n)
+    → (write_call r t id st d l n).value ≡ (st, d, l, n)
+unfolding write_call
+write-refused r t st d l n id =
+    at-screen (eqb (length n) 1) st (st, d, l, n) (λ (s : Screen). write-left n (write-of s r d id t l))
+    (λ s e q. let k = write-kept s r d t id l q in rw (k.0, k.1, k.2, ne_eqb _ _ q, written_back (eqb (length n) 1) st s e))
 
 spans-kept : (a : Answer (List Span)) (l : List TileSpan) (n : List ℕ) → Bare a → Refused (spans-left n (spans.listing a l)) → (spans-left n (spans.listing a l)).value ≡ (l, n)
 unfolding spans.listing
@@ -76,6 +78,11 @@ unfolding skip_call
 skip-refused r t id st rows old =
     at-screen (eqb (length old) 1) st old (λ (s : Screen). skip-left old (skip-of-row s r rows t id)) (λ s e q. rw (ne_eqb _ _ q))
 
+pub hidden-refused : (r : ℕ) (t : Span) (id : ℕ) (st ms old : List ℕ) → Refused (hidden_call r t id st ms old) → (hidden_call r t id st ms old).value ≡ old
+unfolding hidden_call
+hidden-refused r t id st ms old =
+    at-screen (eqb (length old) 1) st old (λ (s : Screen). skip-left old (hidden-of-row s r ms t id)) (λ s e q. rw (ne_eqb _ _ q))
+
 pub split-refused : (pixels : ℕ) (s : Span) (parts : List ℕ) → Refused (split_call pixels s parts) → (split_call pixels s parts).value ≡ parts
 unfolding split_call
 split-refused pixels s parts = go (width_of pixels)
@@ -85,11 +92,12 @@ split-refused pixels s parts = go (width_of pixels)
     go (Ok w) q = roomed 9 parts parts (split-left parts (split_answer (bucket-tiles w) s)) (λ q. rw (ne_eqb _ _ q)) q
 
 -- A painting step, and a row's steps.
-left-kept : (o : paint.StepOut) (d p l res : List ℕ) → ((o.answer.number ≡ 0 → ⊥) → AsLent o d p l) → Refused (step_left res o) → (step_left res o).value ≡ (d, p, l, res)
+left-kept : (o : paint.StepOut) (d : Depths) (p l res : List ℕ) → ((o.answer.number ≡ 0 → ⊥) → AsLent o d p l) → Refused (step_left res o)
+    → (step_left res o).value ≡ (d, p, l, res)
 left-kept o d p l res k q = let z = k q in rw (z.0, z.1, z.2, ne_eqb _ _ q)
 
 module _ (r : ℕ) (a : Attributes) (st : List ℕ) (l : paint.RowLent) (res : List ℕ) where
-  abbrev same : List ℕ × List ℕ × List ℕ × List ℕ
+  abbrev same : Depths × List ℕ × List ℕ × List ℕ
   same = (l.depth, l.painting, l.list, res)
 
   pub step-refused : Refused (step_call r a st l res) → (step_call r a st l res).value ≡ same

@@ -8,6 +8,7 @@ use Rattle.std.specs.Prelude.{Some}
 use Rattle.sizes.specs.Sizes.{paint-attr-table, layer-attr-table}
 use Rattle.rules.proofs.All.{and_left, and_right}
 use Rattle.rules.specs.Boxes.{box, good_viewport, rows_of}
+use Rattle.rules.specs.Minima.{minima-room}
 use Rattle.rect.specs.Rects.{box_of, same-box}
 use Rattle.screen.specs.declared.Screen.{Screen}
 use Rattle.screen.specs.Screens.{good_screen, good_clip}
@@ -43,22 +44,25 @@ module _ (w : StateWords) where
       (and_left a b g, and_right a b g, and_right (a && b) c h)
 
   -- a painting step on a row below their number, which is not at most it
-  pub sure : (r render fills depth rows painting ps ls : ℕ) → good_viewport (corner-box w.viewport) ≡ true → Counted w → eqb w.layers 0 ≡ true
+  pub sure : (r render fills depth minima rows painting ps ls : ℕ) → good_viewport (corner-box w.viewport) ≡ true → Counted w → eqb w.layers 0 ≡ true
       → eqb w.painting 1 ≡ true
       → same-box (corner-box w.clip) (box 0 0 (w.viewport.x1 - w.viewport.x0) (w.viewport.y1 - w.viewport.y0)) ≡ true
       → leb (count s) r ≡ false → rows-long (count s) w rows render fills ≡ true
-      → (eqb depth (count s * wide s) && eqb painting (count s * 2)) ≡ true → (eqb ps paint-attr-table && eqb ls layer-attr-table) ≡ true
-      → step_number s r (arenas-long s render fills depth) (tables-long s rows painting ps ls) ≡ 0
+      → (eqb depth (count s * wide s) && eqb minima (count s * minima-room (wide s)) && eqb painting (count s * 2)) ≡ true
+      → (eqb ps paint-attr-table && eqb ls layer-attr-table) ≡ true
+      → step_number s r (arenas-long s render fills depth minima) (tables-long s rows painting ps ls) ≡ 0
   unfolding step_number judged
-  sure r render fills depth rows painting ps ls v k z b h below l q t =
+  sure r render fills depth minima rows painting ps ls v k z b h below l q t =
       let o = whole z h in
       let g = good k o.0 o.1 in
       let e = long (count s) rows render fills l in
       let de = eqb depth (count s * wide s) in
+      let mi = eqb minima (count s * minima-room (wide s)) in
       let pa = eqb painting (count s * 2) in
       let i = eqb ps paint-attr-table in
       let j = eqb ls layer-attr-table in
-      rw (v, k.c, k.d, e.0, e.1, and_left de pa q, e.2, and_right de pa q, and_left i j t, and_right i j t, g, below, z, b)
+      let dm : (de && mi) ≡ true = and_left (de && mi) pa q in
+      rw (v, k.c, k.d, e.0, e.1, and_left de mi dm, and_right de mi dm, e.2, and_right (de && mi) pa q, and_left i j t, and_right i j t, g, below, z, b)
 
   -- a building step
   pub passes : (rows render fills : ℕ) → good_viewport (corner-box w.viewport) ≡ true → Counted w → leb w.layers 16 ≡ true

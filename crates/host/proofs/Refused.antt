@@ -10,7 +10,8 @@ use Rattle.row.specs.Words.{Words}
 use Rattle.screen.specs.declared.Screen.{Screen}
 use Rattle.screen.specs.Screens.{fresh-screen}
 use Rattle.screen.specs.Judging.{judged_reset}
-use Rattle.screen.specs.Tables.{Tables, screen_lent, lengths, zeros, zeroed, reset_to}
+use Rattle.screen.specs.Tables.{Tables, screen_lent, lengths, zeros, cleared, reset_to}
+use Rattle.screen.specs.Depths.{Depths, blank}
 use Rattle.inputs.specs.declared.Draw.{Draw}
 use Rattle.fill.specs.Fills as fills
 use Rattle.fill.specs.Fills.{filled}
@@ -22,7 +23,7 @@ use Rattle.pop.specs.Pop.{popped}
 use Rattle.layers.specs.Filter as filter
 use Rattle.layers.specs.Filter.{FilterGiven, filtered}
 use Rattle.paint.proofs.Kept.{Refused, unsettled}
-use Rattle.paint.specs.Judging.{begin_number}
+use Rattle.paint.specs.Judging.{count, wide, begin_number}
 use Rattle.paint.specs.Beginning.{canvas, begun, beginning}
 use Rattle.host.specs.declared.state.SetupWords.{SetupWords}
 use Rattle.host.specs.State.{screen_of}
@@ -43,7 +44,7 @@ unfolding reset_in reset_to
 reset-in-refused v q st t =
     let f = frame q (box_of v) in
     at-screen true st (st, t) (λ (s : Screen). tables-left (reset_to f (screen_lent s t)))
-    (λ s e r. rw (unsettled (judged_reset f (lengths t)) (screen_lent s t) (screen_lent (fresh-screen f) (zeroed t)) r, written_back true st s e))
+    (λ s e r. rw (unsettled (judged_reset f (lengths t)) (screen_lent s t) (screen_lent (fresh-screen f) (cleared f t)) r, written_back true st s e))
 
 pub reset-refused : (v : Rect) (w : SetupWords) (st : List ℕ) (t : Tables) → Refused (reset_call v w st t) → (reset_call v w st t).value ≡ (st, t)
 unfolding reset_call
@@ -69,11 +70,15 @@ filter-refused flag g st w pas fps =
     at-screen (leb flag 1) st (st, w, pas, fps) (λ (s : Screen). filter-left (filtered g (filter.filter_lent s w pas fps)))
     (λ s e q. let l = filter.filter_lent s w pas fps in rw (unsettled (filter.filter-number g l) l (filter.after g l) q, written_back (leb flag 1) st s e))
 
-pub begin-refused : (st d p : List ℕ) → Refused (begin_call st d p) → (begin_call st d p).value ≡ (st, d, p)
+pub begin-refused : (st : List ℕ) (d : Depths) (p : List ℕ) → Refused (begin_call st d p) → (begin_call st d p).value ≡ (st, d, p)
 unfolding begin_call beginning
 begin-refused st d p =
     at-screen true st (st, d, p) (λ (s : Screen). begin-left (beginning (canvas s d p)))
-    (λ s e q. rw (unsettled (begin_number s (length d) (length p)) (canvas s d p) (canvas (begun true s) (zeros 0 d) (zeros 0 p)) q, written_back true st s e))
+    (λ s e q. rw (
+      unsettled (begin_number s (length d.words) (length d.minima) (length p)) (canvas s d p)
+          (canvas (begun true s) (blank (count s) (wide s) d) (zeros 0 p)) q,
+      written_back true st s e,
+    ))
 
 pub pop-refused : (ss st : List ℕ) (l : pop.PopLent) → Refused (pop_call ss st l) → (pop_call ss st l).value ≡ (st, l)
 unfolding pop_call popped

@@ -69,7 +69,7 @@ returns c below64 =
     let below = rw view.down at (lt-leb n c.args.row (ltb-true _ _ (and_left r l rl))) in
     let long = rw view.down at (sym c.is_long.ensures ∙ and_right r l rl) in
     let canvas = rw (view.down, wide.1, view.across) at (sym c.is_canvas_long.ensures ∙ and_right (r && l) q rlq) in (
-      sure s c.args.row _ _ _ _ _ _ _ view.good (c.is_counts.ensures (and_right v k vk)) (and_left z p zp) (and_right z p zp) whole below long canvas
+      sure s c.args.row _ _ _ _ _ _ _ _ view.good (c.is_counts.ensures (and_right v k vk)) (and_left z p zp) (and_right z p zp) whole below long canvas
           (and_right (r && l && q) t c.if-not-long.false),
       stands s (rw (eqb-true _ _ (and_right z p zp))) (le-leb _ _ wide.0),
       rw (wide.1, view.across),

@@ -6,8 +6,10 @@ use Rattle.rules.specs.Boxes.{rows_of}
 use Rattle.rules.specs.Attributes.{no-layer}
 use Rattle.rules.specs.Rows.{Row, fresh-row}
 use Rattle.rules.specs.Plans.{Frame, bucket, buckets-across}
+use Rattle.rules.specs.Minima.{minima-room}
 use Rattle.rules.specs.Steps.{Screen}
 use Rattle.rules.proofs.All.{neither, all-at}
+use Rattle.screen.specs.Depths.{Depths}
 use Rattle.screen.specs.Tables.{ScreenLent}
 use Rattle.screen.proofs.ScreenLaws.{few-buckets}
 use Rattle.paint.specs.Stepping.{attributes}
@@ -66,7 +68,7 @@ module _ (v : Bool) (s : Screen Row) (fit : (i : ℕ) → Fitting 64 64 (get_or 
       (rows_are k (suc r) (omega arith) (row_at r list m) (λ j a b. row-waits (h j (omega arith) b) r list (λ q. omega arith)) (row_out r list m).list long-on (drop (length t) (first t bs)) (room-left t (rest (suc r)) bs fits)))
 
 -- a screen of an accepted file, at its words
-module _ (v : Bool) (f : Frame) (s : Screen Row) (kept : Kept f s) (c : f.c ≡ 64) (d : f.d ≡ 64) (few-rows : rows_of f.viewport ≤ 32) (over : Ended s) (b : Bool) (de pa : List ℕ) where
+module _ (v : Bool) (f : Frame) (s : Screen Row) (kept : Kept f s) (c : f.c ≡ 64) (d : f.d ≡ 64) (few-rows : rows_of f.viewport ≤ 32) (over : Ended s) (b : Bool) (de : Depths) (pa : List ℕ) where
   abbrev m : ScreenLent
   m = lent_of s b de pa
 
@@ -107,11 +109,12 @@ module _ (v : Bool) (f : Frame) (s : Screen Row) (kept : Kept f s) (c : f.c ≡ 
         rw (good, attrs-printed v s kept.sound (λ i g. all-at over.small.attrs i no-layer g) b de pa, le-ltb (length bs) (length own-text) h)
 
     -- The attributes and the rows: the rules' details.
-    pub details-are : length de ≡ rows_of s.state.frame.viewport * buckets-across s.state.frame → length pa ≡ rows_of s.state.frame.viewport * 2
+    pub details-are : length de.words ≡ rows_of s.state.frame.viewport * buckets-across s.state.frame
+        → length de.minima ≡ rows_of s.state.frame.viewport * minima-room (buckets-across s.state.frame) → length pa ≡ rows_of s.state.frame.viewport * 2
         → (list : List ℕ) → piece-list ≤ length list → (bs : List ℕ) → details-room ≤ length bs
         → Says (details-text v (detail-lines s)) bs (details-dumped v m.screen (length s.rows) (heads m.tables) (given m.tables list) bs)
     unfolding details-dumped begin-at
-    details-are hd hp list long bs room =
+    details-are hd hm hp list long bs room =
         let x = attrs-text-few v s.state.attrs kept.sound.attrs in
         let y = rows-text-few v (bucket s.state.frame) s.state.attrs (buckets-across s.state.frame) 0 s.rows narrow fit
         (λ j. all-taken s.state.attrs (buckets-across s.state.frame) (get_or s.rows j fresh-row) (kept.fair j)) in
@@ -120,5 +123,5 @@ module _ (v : Bool) (f : Frame) (s : Screen Row) (kept : Kept f s) (c : f.c ≡ 
         let fits : length (own-text ++ rest v s fit narrow 0) ≤ length bs = rw (length-append own-text (rest v s fit narrow 0)) (omega (arith, x, y, n, room)) in
         rw (details-parts v s, attrs-are bs own)
         (after-says own-text (rest v s fit narrow 0) bs _
-        (rows_are v s fit narrow (length s.rows) 0 (omega arith) (begin-at m).value (λ j a h. all-wait s kept.sound kept.fair over.closed b de pa hd hp j h) list long
+        (rows_are v s fit narrow (length s.rows) 0 (omega arith) (begin-at m).value (λ j a h. all-wait s kept.sound kept.fair over.closed b de pa hd hm hp j h) list long
         (drop (length own-text) (first own-text bs)) (room-left own-text (rest v s fit narrow 0) bs fits)))

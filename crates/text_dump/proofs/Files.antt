@@ -7,6 +7,7 @@ use Rattle.rules.specs.Answers.{Answer, Done}
 use Rattle.rules.specs.Boxes.{Box, rows_of}
 use Rattle.rules.specs.Rows.{Row, fresh-row}
 use Rattle.rules.specs.Plans.{Frame, buckets-across}
+use Rattle.rules.specs.Minima.{minima-room}
 use Rattle.rules.specs.Setups.{Setup}
 use Rattle.rules.specs.Steps.{Screen, reset}
 use Rattle.rules.specs.Lines.{rowlist-screen, rowlist-place, digits}
@@ -14,6 +15,7 @@ use Rattle.rules.specs.Lines as rules
 use Rattle.rect.specs.Rects.{box_of}
 use Rattle.screen.specs.declared.Screen as declared
 use Rattle.screen.specs.Screens.{frame-of}
+use Rattle.screen.specs.Depths.{Depths}
 use Rattle.screen.specs.Tables.{Tables, ScreenLent}
 use Rattle.file.specs.Words.{words-in}
 use Rattle.text.proofs.Bytes.{by-file}
@@ -74,12 +76,19 @@ module _ (d : Bool) (s : Screen Row) (z : Size) (u : Tables) (h : Exact z u) (x 
   unfolding lent_of
   painting-there = refl
 
-  depth-long : length held.depth ≡ rows_of s.state.frame.viewport * buckets-across s.state.frame
+  depth-long : length held.depth.words ≡ rows_of s.state.frame.viewport * buckets-across s.state.frame
   depth-long =
-      sym (ap (λ (t : Tables). length t.depth) tables-there ∙ ap (λ (q : List ℕ). length q) depth-there)
+      sym (ap (λ (t : Tables). length t.depth.words) tables-there ∙ ap (λ (q : Depths). length q.words) depth-there)
       ∙ h.depth
       ∙ ap (λ (y : Size). y.rows * y.buckets) l.size
       ∙ sym (ap (λ (f : Frame). rows_of f.viewport * buckets-across f) l.kept.frame)
+
+  minima-long : length held.depth.minima ≡ rows_of s.state.frame.viewport * minima-room (buckets-across s.state.frame)
+  minima-long =
+      sym (ap (λ (t : Tables). length t.depth.minima) tables-there ∙ ap (λ (q : Depths). length q.minima) depth-there)
+      ∙ h.minima
+      ∙ ap (λ (y : Size). y.rows * minima-room y.buckets) l.size
+      ∙ sym (ap (λ (f : Frame). rows_of f.viewport * minima-room (buckets-across f)) l.kept.frame)
 
   painting-long : length held.painting ≡ rows_of s.state.frame.viewport * 2
   painting-long =
@@ -99,7 +108,7 @@ module _ (d : Bool) (s : Screen Row) (z : Size) (u : Tables) (h : Exact z u) (x 
       (sym (ap (λ (q : Tables). length q.layer-attrs) t) ∙ h.layer-attrs)
       (sym (ap (λ (q : Tables). length q.opacities) t) ∙ h.opacities)
       (sym (ap (λ (q : Tables). length q.filter-paints) t) ∙ h.filter-paints)
-      depth-long painting-long list long bs room)
+      depth-long minima-long painting-long list long bs room)
 
 done-lines : (a : Answer (Screen Row)) → a.number ≡ 0 → cond (eqb a.number Done) (detail-lines a.value) [] ≡ detail-lines a.value
 done-lines a z = rw (eq-eqb a.number 0 z)

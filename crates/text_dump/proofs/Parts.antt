@@ -4,6 +4,7 @@ use lib.Seq.{drop-length}
 use borrow.Rule.Slice.PartMut.{put_mid}
 use Rattle.rules.specs.Answers.{answer, Done}
 use Rattle.screen.specs.declared.Screen.{Screen}
+use Rattle.screen.specs.Depths.{Depths}
 use Rattle.paint.specs.Painting.{RowLent, words_lent, StepOut}
 use Rattle.paint.specs.Beginning.{canvas, beginning}
 use Rattle.paint.specs.Stepping.{Attributes, attributes}
@@ -63,8 +64,8 @@ module _ (v : Bool) (s : Screen) (n r : ℕ) (a : Attributes) (l : RowLent) (bs 
   unfolding rows-dumped
   rows_none h = let e : n - r ≡ 0 = omega arith in rw e
 
-  module _ {q : Listing} {d p ls cs : List ℕ} (e : row_out q d p ls cs ≡ row-dumped v s r a l bs) where
-    pub rows_more : r < n → {k m : ℕ} {d' p' ls' ds : List ℕ}
+  module _ {q : Listing} {d : Depths} {p ls cs : List ℕ} (e : row_out q d p ls cs ≡ row-dumped v s r a l bs) where
+    pub rows_more : r < n → {k m : ℕ} {d' : Depths} {p' ls' ds : List ℕ}
         → part k d' p' ls' ds ≡ rows-dumped v (n - (r + 1)) (r + 1) s a (words_lent l.state l.render l.fills d p ls) (take (m - q.bytes) (drop q.bytes cs)) → m ≡ length cs
         → part (q.bytes + k) d' p' ls' (put_mid q.bytes (m - q.bytes) cs ds) ≡ rows-dumped v (n - r) r s a l bs
     unfolding rows-dumped
@@ -74,15 +75,16 @@ module _ (v : Bool) (s : Screen) (n r : ℕ) (a : Attributes) (l : RowLent) (bs 
         rw (z, put_all q.bytes cs ds) (ap (after q.bytes cs) i ∙ rw (j, ← e))
 
 -- the rows once painting has begun
-pub begun-more : (v : Bool) (s : Screen) (a : Attributes) (l : RowLent) (bs : List ℕ) {n m k : ℕ} {x : Screen} {d p : List ℕ} → n ≡ m → answer k (canvas x d p) ≡ beginning (canvas s l.depth l.painting)
-    → {j : ℕ} {d' p' ls' ds : List ℕ} → part j d' p' ls' ds ≡ rows-dumped v (n - 0) 0 x a (words_lent l.state l.render l.fills d p l.list) bs → part j d' p' ls' ds ≡ begun-dumped v s m a l bs
+pub begun-more : (v : Bool) (s : Screen) (a : Attributes) (l : RowLent) (bs : List ℕ) {n m k : ℕ} {x : Screen} {d : Depths} {p : List ℕ} → n ≡ m → answer k (canvas x d p) ≡ beginning (canvas s l.depth l.painting)
+    → {j : ℕ} {d' : Depths} {p' ls' ds : List ℕ} → part j d' p' ls' ds ≡ rows-dumped v (n - 0) 0 x a (words_lent l.state l.render l.fills d p l.list) bs → part j d' p' ls' ds ≡ begun-dumped v s m a l bs
 begun-more v s a l bs {n} {m} h b g = let e : n - 0 ≡ m = omega (arith, h) in rw (← b) (rw e at g)
 
 -- the attributes, then the rows
 module _ (v : Bool) (s : Screen) (t : AttrTables) (l : RowLent) (bs : List ℕ) {q : Listing} {cs : List ℕ} (e : list.text-out q cs ≡ attrs-dumped v s t bs) where
-  pub screen-more : (n : ℕ) {j m : ℕ} {d p ls ds : List ℕ} → part j d p ls ds ≡ begun-dumped v s n (attributes t.paints t.layers) l (take (m - q.bytes) (drop q.bytes cs)) → m ≡ length cs
+  pub screen-more : (n : ℕ) {j m : ℕ} {ds : List ℕ} → PartWritten j ds (begun-dumped v s n (attributes t.paints t.layers) l (take (m - q.bytes) (drop q.bytes cs))) → m ≡ length cs
       → PartWritten (q.bytes + j) (put_mid q.bytes (m - q.bytes) cs ds) (details-dumped v s n t l bs)
   unfolding details-dumped
-  screen-more n {j} {m} {d} {p} {ls} {ds} g z =
-      let i : part j d p ls ds ≡ begun-dumped v s n (attributes t.paints t.layers) l (drop q.bytes cs) = rw (z, mid-all q.bytes cs) at g in
-      rw (z, put_all q.bytes cs ds, ← e, ← i) (record { count = refl; bytes = refl })
+  screen-more n {j} {m} {ds} g z =
+      let i : PartWritten j ds (begun-dumped v s n (attributes t.paints t.layers) l (drop q.bytes cs)) = rw (z, mid-all q.bytes cs) at g in
+      rw (z, put_all q.bytes cs ds, ← e)
+      (record { count = ap (λ (k : ℕ). q.bytes + k) i.count; bytes = ap (λ (bs : List ℕ). take q.bytes cs ++ bs) i.bytes })

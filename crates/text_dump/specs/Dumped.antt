@@ -2,6 +2,7 @@
 use Rattle.std.specs.Prelude.{ℕ, zero, suc, ◌+◌, ◌*◌, ◌≤◌, ◌≡◌, Bool, List, ◌++◌, length, take, drop}
 use Rattle.sizes.specs.Sizes.{program-rows, program-room}
 use Rattle.screen.specs.declared.Screen.{Screen}
+use Rattle.screen.specs.Depths.{Depths, depths_in}
 use Rattle.screen.specs.Tables as screen
 use Rattle.paint.specs.Painting.{RowLent, words_lent}
 use Rattle.paint.specs.Beginning.{canvas, beginning}
@@ -28,16 +29,16 @@ dump-room = 32 + lines-room
 -- how many bytes a part has written, the words that painting changes, the bytes
 pub record Part : Type 0 where
   pub count : ℕ
-  pub depth : List ℕ
+  pub depth : Depths
   pub painting : List ℕ
   pub list : List ℕ
   pub bytes : List ℕ
 
-abbrev pub part : ℕ → List ℕ → List ℕ → List ℕ → List ℕ → Part
+abbrev pub part : ℕ → Depths → List ℕ → List ℕ → List ℕ → Part
 part n d p l bs = record { count = n; depth = d; painting = p; list = l; bytes = bs }
 
 abbrev pub part_in : ℕ → Canvas → List ℕ → List ℕ → Part
-part_in n c l bs = part n c.depth.now c.painting.now l bs
+part_in n c l bs = part n (depths_in c.depth) c.painting.now l bs
 
 -- its text: n bytes are written, and bs are the bytes
 pub record PartWritten (n : ℕ) (bs : List ℕ) (q : Part) : Type 0 where

@@ -6,6 +6,7 @@ ghost use Rattle.std.specs.Prelude.{◌≡◌, [], ◌∷◌, ◌-◌, ◌≤◌
 ghost use Rattle.rules.specs.Boxes.{rows_of};
 ghost use Rattle.rect.specs.Rects.{box_of};
 ghost use Rattle.screen.specs.Screens.{setup-of};
+ghost use Rattle.screen.specs.Depths.{depths_in};
 ghost use Rattle.screen.specs.Lent.{tables_in};
 ghost use Rattle.paint.specs.Painting.{words_lent};
 ghost use Rattle.paint.specs.Stepping.{attributes};
@@ -18,6 +19,7 @@ ghost use Rattle.text_dump.specs.Rowdump.{recording-line, file-lines-text, rowdu
 ghost use Rattle.text_dump.specs.Dumped.{lines-room, dump-room, part_in, PartWritten, rows-dumped, begun-dumped, details-dumped, heads, given, Ready};
 ghost use Rattle.paint.specs.Named.{row_attrs, row_lent};
 
+use depth::Depth;
 use file::File;
 use paint::{Canvas, Stored, begin_painting};
 use screen::{Lent, Screen, Setup};
@@ -179,38 +181,83 @@ fn heads_text(
     attrs_text(screen, panels, &tables, out)
 }
 
-// The attributes and the painted rows of the screen in the tables.
-fn screen_text(
+// What is stored of a screen, as the tables lend it.
+#[derive(Drop)]
+struct StoredWords<'a> {
+    rows: &'a mut [u32],
+    render_cmds: &'a mut [u32],
+    depth_cmds: &'a mut [u32],
+    paint_attrs: &'a mut [u32],
+    layer_attrs: &'a mut [u32],
+}
+
+// The canvas of lent words. The check covers a struct of slices made inside another only where it is given back.
+fn canvas_of<'a>(words: &'a mut [u32], minima: &'a mut [u32], painting: &'a mut [u32]) -> Canvas<'a>
+    ensures words { result.depth.words.now ≡ words.old }
+    ensures minima { result.depth.minima.now ≡ minima.old }
+    ensures painting { result.painting.now ≡ painting.old }
+{
+    Canvas {
+        depth: Depth { words, minima },
+        painting,
+    }
+}
+
+// The rows of a screen, painted on a canvas of lent words.
+fn painted_text(
     screen: Screen,
     panels: bool,
-    lent: Lent<'_>,
+    own: &StoredWords<'_>,
+    depth: &mut Depth<'_>,
+    painting: &mut [u32],
     list: &mut [u32],
     out: &mut [u8],
 ) -> usize
     ensures out_after { PartWritten result out.new
-        (details-dumped panels screen (rows_of (box_of screen.viewport)) (heads (tables_in lent.entry)) (given (tables_in lent.entry) list.old) out.old) }
+        (begun-dumped panels screen (rows_of (box_of screen.viewport)) (attributes own.now.paint_attrs.now own.now.layer_attrs.now)
+        (words_lent own.now.rows.now own.now.render_cmds.now own.now.depth_cmds.now (depths_in depth.old) painting.old list.old) out.old) }
     ensures upper_bound { result ≤ length out.old }
 {
-    let k = heads_text(screen, panels, &lent, out).unwrap_or(0);
-    let Lent {
-        rows,
-        render_cmds,
-        depth_cmds,
-        depth,
-        painting,
-        paint_attrs,
-        layer_attrs,
-        ..
-    } = lent;
     let stored = Stored {
-        rows,
-        render_cmds,
-        depth_cmds,
-        paint_attrs,
-        layer_attrs,
+        rows: own.rows,
+        render_cmds: own.render_cmds,
+        depth_cmds: own.depth_cmds,
+        paint_attrs: own.paint_attrs,
+        layer_attrs: own.layer_attrs,
     };
-    let mut canvas = Canvas { depth, painting };
-    let more = begun_text(screen, panels, &stored, &mut canvas, list, &mut out[k..]);
+    let mut canvas = canvas_of(depth.words, depth.minima, painting);
+    begun_text(screen, panels, &stored, &mut canvas, list, out)
+}
+
+// The attributes and the painted rows of the screen in the tables.
+fn screen_text(
+    screen: Screen,
+    panels: bool,
+    lent: &mut Lent<'_>,
+    list: &mut [u32],
+    out: &mut [u8],
+) -> usize
+    ensures out_after { PartWritten result out.new
+        (details-dumped panels screen (rows_of (box_of screen.viewport)) (heads (tables_in lent.old)) (given (tables_in lent.old) list.old) out.old) }
+    ensures upper_bound { result ≤ length out.old }
+{
+    let k = heads_text(screen, panels, lent, out).unwrap_or(0);
+    let own = StoredWords {
+        rows: lent.rows,
+        render_cmds: lent.render_cmds,
+        depth_cmds: lent.depth_cmds,
+        paint_attrs: lent.paint_attrs,
+        layer_attrs: lent.layer_attrs,
+    };
+    let more = painted_text(
+        screen,
+        panels,
+        &own,
+        &mut lent.depth,
+        lent.painting,
+        list,
+        &mut out[k..],
+    );
     k + more
 }
 
@@ -244,7 +291,7 @@ fn lines_text(
     if text.answer.is_err() {
         return k;
     }
-    let more = screen_text(text.screen, panels, lent, list, &mut out[k..]);
+    let more = screen_text(text.screen, panels, &mut lent, list, &mut out[k..]);
     k + more
 }
 

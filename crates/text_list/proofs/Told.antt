@@ -7,7 +7,7 @@ use Rattle.sizes.specs.declared.width.Width.{Width}
 use Rattle.sizes.specs.Refusals.{number_of}
 use Rattle.sizes.proofs.Refusals.{not_done}
 use Rattle.rules.specs.Lists.{join, is_none}
-use Rattle.rules.specs.Answers.{Answer, answer, BadForm}
+use Rattle.rules.specs.Answers.{Answer, BadForm}
 use Rattle.rules.specs.Setups.{Mode}
 use Rattle.rules.specs.Recording.{in-edition, parsed}
 use Rattle.rules.specs.Lines.{words_of, digits}

@@ -16,6 +16,7 @@ use Rattle.screen.specs.Attributes.{paint-attr-words}
 use Rattle.rules.specs.Plans.{bucket, buckets-across, Layer}
 use Rattle.rules.specs.Steps.{Screen}
 use Rattle.text.specs.Details.{Detail, paint-attributes, layer-attributes, filter-paints, paint-attr-line, layer-attr-line, filter-paint-line, attr-lines, painted-row, painted-lines, detail-lines}
+use Rattle.screen.specs.Depths.{Depths}
 use Rattle.screen.specs.Tables.{float-0}
 use Rattle.layers.specs.Filter.{filter-paint-words}
 use Rattle.walk.specs.Reading.{pattern_of}
@@ -140,7 +141,7 @@ open-many (l ∷ ls) = length-append (layers-opacities ls) (of_bits binary32 l.p
 
 -- The text of the attributes at the words of a sound screen is that of the rules' lines.
 pub attrs-printed : (v : Bool) (s : Screen Row) → Sound s → ((i : ℕ) → i < length s.state.attrs.layers → (get_or s.state.attrs.layers i no-layer).opacity < 4294967296)
-    → (b : Bool) (de pa : List ℕ) → let l = lent_of s b de pa in
+    → (b : Bool) (de : Depths) (pa : List ℕ) → let l = lent_of s b de pa in
     attrs-text v l.screen (tables l.tables.paint-attrs l.tables.layer-attrs l.tables.opacities l.tables.filter-paints) ≡ details-text v (attr-lines s.state.attrs)
 unfolding attrs-text lent_of
 attrs-printed v s o small b de pa =

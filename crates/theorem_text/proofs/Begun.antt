@@ -5,15 +5,18 @@ use Rattle.rules.specs.Answers.{Answer, answer, Done}
 use Rattle.rules.specs.Boxes.{Box, rows_of}
 use Rattle.rules.specs.Rows.{Row}
 use Rattle.rules.specs.Plans.{buckets-across}
+use Rattle.rules.specs.Minima.{minima-room}
 use Rattle.rules.specs.Steps.{Screen}
 use Rattle.rules.specs.Painting.{begin}
 use Rattle.rules.specs.Calls.{Canvas, blank, begin-call}
 use Rattle.rules.proofs.All.{all_replicate, never}
+use Rattle.screen.specs.Depths as lent
+use Rattle.screen.specs.Depths.{Depths}
 use Rattle.screen.specs.Tables.{ScreenLent}
-use Rattle.paint.specs.Judging.{begin_number}
+use Rattle.paint.specs.Judging.{depths-long, begin_number}
 use Rattle.paint.specs.Beginning.{beginning}
 use Rattle.refine_steps.specs.Sound.{Sound}
-use Rattle.refine_steps.specs.Lent.{lent_of}
+use Rattle.refine_steps.specs.Lent.{screen-of, lent_of}
 use Rattle.refine_paint.specs.Fair.{FairRows}
 use Rattle.refine_paint.specs.Canvases.{WholeCanvas}
 use Rattle.refine_paint.proofs.Begin.{judged-0, blank-depth, blank-painting}
@@ -52,15 +55,20 @@ module _ (s : Screen Row) (sound : Sound s) (fair : FairRows s) (closed : s.stat
   unfolding begin-call
   done = rw closed
 
-  module _ (b : Bool) (de pa : List ℕ) (hd : length de ≡ rows_of v * n) (hp : length pa ≡ rows_of v * 2) where
-    begun-words : begin-at (lent_of s b de pa) ≡ answer Done (lent_of s true (replicate (rows_of v * n) 0) (replicate (rows_of v * 2) 0))
+  module _ (b : Bool) (de : Depths) (pa : List ℕ) (hd : length de.words ≡ rows_of v * n) (hm : length de.minima ≡ rows_of v * minima-room n)
+      (hp : length pa ≡ rows_of v * 2) where
+    -- the depth words and their minima are as long as the screen asks for
+    depths-judged : depths-long (screen-of s.state b) (length de.words) (length de.minima) ≡ true
+    depths-judged = let e = eq-eqb _ _ hd in let f = eq-eqb _ _ hm in rw (e, f)
+
+    begun-words : begin-at (lent_of s b de pa) ≡ answer Done (lent_of s true (lent.blank (rows_of v) n de) (replicate (rows_of v * 2) 0))
     unfolding begin-at beginning begin_number lent_of
     begun-words =
-        let j = judged-0 s sound b (eqb (length de) (rows_of v * n)) (eqb (length pa) (rows_of v * 2)) (eq-eqb _ _ hd) (eq-eqb _ _ hp) in
-        rw (j, closed, hd, hp)
+        let j = judged-0 s sound b _ (eqb (length pa) (rows_of v * 2)) depths-judged (eq-eqb _ _ hp) in
+        rw (j, closed, hp)
 
-    on-words : lent_of s true (replicate (rows_of v * n) 0) (replicate (rows_of v * 2) 0) ≡ canvas-words on
-    on-words = rw (blank-depth n (length s.rows), blank-painting n (length s.rows), sound.count)
+    on-words : lent_of s true (lent.blank (rows_of v) n de) (replicate (rows_of v * 2) 0) ≡ canvas-words on
+    on-words = rw (← sound.count, blank-depth n (length s.rows) de (rw sound.count hd), blank-painting n (length s.rows))
 
     -- begin is accepted, ..
     pub begin-accepted : (begin-at (lent_of s b de pa)).number ≡ Done

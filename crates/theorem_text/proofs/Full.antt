@@ -14,6 +14,7 @@ use Rattle.rules.specs.Painting.{Piece, Painter, begin, paint-id, paint-row}
 use Rattle.rules.specs.Calls.{Canvas, bucket-on, painter-of}
 use Rattle.rules.proofs.All.{All}
 use Rattle.screen.specs.declared.Screen as declared
+use Rattle.screen.specs.Depths.{Depths}
 use Rattle.screen.specs.Tables.{ScreenLent}
 use Rattle.paint.specs.Painting as paint
 use Rattle.paint.specs.Painting.{StepOut, out, refused, left, settled, painted-row}
@@ -40,12 +41,12 @@ pub use Rattle.theorem_text.specs.Waits.{Waits, Whole}
 use Rattle.theorem_text.proofs.Rows.{many, row-gave, waiting-printed}
 
 -- a list keeps its length, step by step
-settled-long : (x : Option rules.Painted) (d p l : List ℕ) → length (settled x d p l).list ≡ length l
+settled-long : (x : Option rules.Painted) (ms : List ℕ) (d : Depths) (p l : List ℕ) → length (settled x ms d p l).list ≡ length l
 unfolding settled
-settled-long None d p l = refl
-settled-long (Some o) d p l = go (ltb (length l / piece-size) (length o.pieces)) refl
+settled-long None ms d p l = refl
+settled-long (Some o) ms d p l = go (ltb (length l / piece-size) (length o.pieces)) refl
   where
-    go : (b : Bool) → ltb (length l / piece-size) (length o.pieces) ≡ b → length (cond b (out (refused 14) d p l) (left o l)).list ≡ length l
+    go : (b : Bool) → ltb (length l / piece-size) (length o.pieces) ≡ b → length (cond b (out (refused 14) d p l) (left o ms l)).list ≡ length l
     go true e = refl
     go false e = rw (length-append, length-drop, length-pieces o.pieces) (omega (arith, ltb-false (length l / piece-size) (length o.pieces) e))
 
@@ -54,7 +55,7 @@ unfolding stepped row_step painted-row
 step-long s r a l = go (eqb (number s r a l) Done)
   where
     go : (b : Bool) → length (cond b (row_step s r a l) (out (refused (number s r a l)) l.depth l.painting l.list)).list ≡ length l.list
-    go true = settled-long _ _ _ _
+    go true = settled-long _ _ _ _ _
     go false = refl
 
 module _ (i : ℕ) (l : ScreenLent) where

@@ -1,14 +1,12 @@
 -- How long the lines of attributes and of pieces are at most. Assumes nothing.
-use Rattle.std.proofs.Common.{◌≡◌, Bool, true, false, ◌||◌, List, [], ◌∷◌, ◌++◌, map, Option, ℕ, suc, ◌+◌, ◌*◌, ◌≤◌, arith, ltb, length, length-append, ℤ, pos, negsuc, ltb-false}
+use Rattle.std.proofs.Common.{◌≡◌, Bool, false, ◌||◌, List, [], ◌∷◌, ◌++◌, map, ℕ, ◌+◌, ◌*◌, ◌≤◌, arith, ltb, length, length-append, ltb-false}
 use Rattle.sizes.specs.Sizes.{most-attrs, most-filters}
-use Rattle.rules.specs.Attributes.{PaintAttr, LayerAttr, FilterPaint, Attrs, attrs-full}
+use Rattle.rules.specs.Attributes.{Attrs, attrs-full}
 use Rattle.rules.specs.Painting.{Piece}
-use Rattle.rules.specs.Lines.{number, alpha-bytes}
 use Rattle.rules.proofs.All.{neither}
 use Rattle.rules_picture.proofs.Cases.{by}
-use Rattle.text.specs.Texts.{signed}
-use Rattle.text.specs.Details.{Detail, paint-attributes, layer-attributes, filter-paints, painted, p, l, paint-attr-line, layer-attr-line, filter-paint-line, piece-line, attr-lines, painted-row}
-use Rattle.text.specs.Bytes.{pieces-text, detail-room, piece-room, panel-bytes, piece_bytes, detail-line, detail-bytes, details-text}
+use Rattle.text.specs.Details.{Detail, paint-attributes, layer-attributes, filter-paints, painted, paint-attr-line, layer-attr-line, filter-paint-line, piece-line, attr-lines, painted-row}
+use Rattle.text.specs.Bytes.{detail-room, piece-room, detail-bytes, details-text}
 use Rattle.text.specs.Dumped.{attrs-most}
 use Rattle.text.proofs.DetailsLengths.{p-few, l-few, painted-few, detail-few}
 

@@ -93,8 +93,8 @@ played-ended p old ws small e =
     }
 
 pub held-begun : HeldBegun
-held-begun s sound fair closed b de pa hd hp =
-    record { accepted = begin-accepted s sound fair closed b de pa hd hp; waits = all-wait s sound fair closed b de pa hd hp }
+held-begun s sound fair closed b de pa hd hm hp =
+    record { accepted = begin-accepted s sound fair closed b de pa hd hm hp; waits = all-wait s sound fair closed b de pa hd hm hp }
 
 pub rows-whole : RowWhole
 rows-whole s r m h few narrow list long =

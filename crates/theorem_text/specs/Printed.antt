@@ -9,6 +9,7 @@ use Rattle.rules.specs.Boxes.{Box, rows_of, buckets-of}
 use Rattle.rules.specs.Attributes.{Attrs, no-layer}
 use Rattle.rules.specs.Rows.{Row, row-ops, fresh-row}
 use Rattle.rules.specs.Plans.{Frame, bucket, buckets-across, Step}
+use Rattle.rules.specs.Minima.{minima-room}
 use Rattle.rules.specs.Steps.{Screen, reset, call}
 use Rattle.rules.specs.Setups.{Setup}
 use Rattle.rules.specs.Walk.{Place, play}
@@ -16,6 +17,7 @@ use Rattle.rules.specs.Painting.{paint-row}
 use Rattle.rules.specs.Lines as rules
 use Rattle.rules.specs.Lines.{rowlist-screen, rowlist-words, rowlist}
 use Rattle.row.specs.Words.{words}
+use Rattle.screen.specs.Depths.{Depths}
 use Rattle.screen.specs.Tables.{Tables, ScreenLent}
 use Rattle.file.specs.Words.{words-in}
 use Rattle.paint.specs.Painting as paint
@@ -115,7 +117,7 @@ PlayEnded =
 abbrev pub AttrsPrinted : Type 0
 AttrsPrinted =
     (v : Bool) (s : Screen Row) → Sound s → ((i : ℕ) → i < length s.state.attrs.layers → (get_or s.state.attrs.layers i no-layer).opacity < 4294967296)
-    → (b : Bool) (depth painting : List ℕ) → let l = lent_of s b depth painting in
+    → (b : Bool) (depth : Depths) (painting : List ℕ) → let l = lent_of s b depth painting in
     attrs-text v l.screen (tables l.tables.paint-attrs l.tables.layer-attrs l.tables.opacities l.tables.filter-paints) ≡ details-text v (attr-lines s.state.attrs)
 
 -- The rules' text of the details is that of the attributes, then that of each row, in their order.
@@ -143,8 +145,10 @@ pub record Begun (s : Screen Row) (l : ScreenLent) : Type 0 where
 
 abbrev pub HeldBegun : Type 0
 HeldBegun =
-    (s : Screen Row) → Sound s → FairRows s → s.state.layers ≡ [] → (b : Bool) (depth painting : List ℕ)
-    → length depth ≡ rows_of s.state.frame.viewport * buckets-across s.state.frame → length painting ≡ rows_of s.state.frame.viewport * 2
+    (s : Screen Row) → Sound s → FairRows s → s.state.layers ≡ [] → (b : Bool) (depth : Depths) (painting : List ℕ)
+    → length depth.words ≡ rows_of s.state.frame.viewport * buckets-across s.state.frame
+    → length depth.minima ≡ rows_of s.state.frame.viewport * minima-room (buckets-across s.state.frame)
+    → length painting ≡ rows_of s.state.frame.viewport * 2
     → Begun s (lent_of s b depth painting)
 
 -- .. and a row still waits after another one was painted.

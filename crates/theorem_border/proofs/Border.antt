@@ -8,6 +8,7 @@ use Rattle.rules.specs.Answers.{Answer, answer, Done}
 use Rattle.rules.specs.Plans.{Frame, Step}
 use Rattle.rules.specs.Painting.{received}
 use Rattle.rules.proofs.All.{both}
+use Rattle.screen.specs.Depths.{Depths}
 use Rattle.screen.specs.Tables.{ScreenLent}
 use Rattle.paint.specs.Painting as paint
 use Rattle.rules_picture.specs.Turns.{Gave, from, said-finished}
@@ -46,7 +47,7 @@ gave-done c l e =
     let q = paint-on c l e in
     let o = rows.call-out (call-of c) l in
     ap (gave-words (turn_in c).row) q
-    ∙ left-read (turn_in c).row (turn_in c).result o (sym (ap (λ (a : Answer (List ℕ × List ℕ × List ℕ × List ℕ)). a.number) q) ∙ e)
+    ∙ left-read (turn_in c).row (turn_in c).result o (sym (ap (λ (a : Answer (Depths × List ℕ × List ℕ × List ℕ)). a.number) q) ∙ e)
     ∙ ap (λ (i : ℕ). turns.gave-out i o) (same_row c)
 
 -- one call before others

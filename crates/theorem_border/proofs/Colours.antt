@@ -248,10 +248,10 @@ word-read f xs h z e cs r t there on fin =
     let one : k.screen ≡ st.canvas.screen = built_once s.stands.built st.built in
     let row : r < length k.screen.rows = (built-on f xs k.screen s.stands.built r there).1 in
     let b = t / bucket f in
-    let at-words : get_or (part (wide (screen-at (host-of m).state)) r m.tables.depth) b 0 ≡ newest-id (paint-id a) (newest-over b (stored-row st.canvas r).fills) =
+    let at-words : get_or (part (wide (screen-at (host-of m).state)) r m.tables.depth.words) b 0 ≡ newest-id (paint-id a) (newest-over b (stored-row st.canvas r).fills) =
     rw (width_read m.screen.width) (word-at f xs l st d fc.calls r t there on fc.finished) in
     let fills : fills-read r x ≡ (stored-row st.canvas r).fills = fills-back f xs x s r row ∙ ap (λ (u : Screen Row). (get_or u.rows r fresh-row).fills) one in
     let ids : (i : ℕ) → paint-id-read x i ≡ paint-id a i = λ i. paint-ids f xs x s r row i ∙ ap (λ (u : Screen Row). paint-id u.state.attrs i) one in
-    ap (λ (u : Host). get_or (part (wide (screen-at u.state)) r u.tables.depth) b 0) w
+    ap (λ (u : Host). get_or (part (wide (screen-at u.state)) r u.tables.depth.words) b 0) w
     ∙ at-words
     ∙ sym (ap (λ (fs : List DepthFill). newest-id (paint-id-read x) (newest-over b fs)) fills ∙ newest-alike-read (paint-id-read x) (paint-id a) ids (newest-over b (stored-row st.canvas r).fills))

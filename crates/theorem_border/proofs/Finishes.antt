@@ -7,6 +7,7 @@ use Rattle.rules.specs.Answers.{Answer, Done, NoRoom}
 use Rattle.rules.specs.Painting as rules
 use Rattle.rules.proofs.All.{never}
 use Rattle.screen.specs.declared.Screen.{Screen}
+use Rattle.screen.specs.Depths.{Depths}
 use Rattle.screen.specs.Tables.{ScreenLent}
 use Rattle.paint.specs.Painting as paint
 use Rattle.paint.specs.Stepping.{Attributes, own, number, row_step, stepped}
@@ -23,13 +24,14 @@ use Rattle.theorem_border.proofs.Holds.{holds}
 use Rattle.theorem_border.proofs.Border.{left-read}
 
 -- what says finished is done
-row_done : (o : Option rules.Painted) (d p l : List ℕ) → (paint.settled o d p l).answer.finished ≡ true → (paint.settled o d p l).answer.number ≡ Done
+row_done : (o : Option rules.Painted) (ms : List ℕ) (d : Depths) (p l : List ℕ) → (paint.settled o ms d p l).answer.finished ≡ true
+    → (paint.settled o ms d p l).answer.number ≡ Done
 unfolding paint.settled
-row_done None d p l e = never (sym e)
-row_done (Some o) d p l e = go (ltb (length l / piece-size) (length o.pieces)) e
+row_done None ms d p l e = never (sym e)
+row_done (Some o) ms d p l e = go (ltb (length l / piece-size) (length o.pieces)) e
   where
-    go : (b : Bool) → (cond b (paint.out (paint.refused NoRoom) d p l) (paint.left o l)).answer.finished ≡ true
-        → (cond b (paint.out (paint.refused NoRoom) d p l) (paint.left o l)).answer.number ≡ Done
+    go : (b : Bool) → (cond b (paint.out (paint.refused NoRoom) d p l) (paint.left o ms l)).answer.finished ≡ true
+        → (cond b (paint.out (paint.refused NoRoom) d p l) (paint.left o ms l)).answer.number ≡ Done
     go true z = never (sym z)
     go false z = refl
 
@@ -39,7 +41,7 @@ stepped-done s r a w e = go (eqb (number s r a w) Done) e
   where
     go : (b : Bool) → (cond b (row_step s r a w) (paint.out (paint.refused (number s r a w)) w.depth w.painting w.list)).answer.finished ≡ true
         → (cond b (row_step s r a w) (paint.out (paint.refused (number s r a w)) w.depth w.painting w.list)).answer.number ≡ Done
-    go true z = row_done (paint.next-step (bucket-tiles s.width) (paint.attrs-at a.paints s.paint_attrs a.layers s.layer_attrs) (own s r w)) _ _ _ z
+    go true z = row_done (paint.next-step (bucket-tiles s.width) (paint.attrs-at a.paints s.paint_attrs a.layers s.layer_attrs) (own s r w)) _ _ _ _ z
     go false z = never (sym z)
 
 -- a turn of picture's as a call
@@ -52,7 +54,7 @@ module _ (t : turns.Turn) (l : ScreenLent) where
 
   turn-words : paint-at (lend t) (host-of l) ≡ host-of (reached.paint-at t.row t.list l)
   turn-words =
-      ap (λ (a : Answer (List ℕ × List ℕ × List ℕ × List ℕ)). host (screen-words l.screen) (with-painting l.tables a.value.0 a.value.1))
+      ap (λ (a : Answer (Depths × List ℕ × List ℕ × List ℕ)). host (screen-words l.screen) (with-painting l.tables a.value.0 a.value.1))
       (paint-lent (record { row = t.row; list = t.list; result = 0 ∷ 0 ∷ [] }) l refl)
 
   turn-said : o.answer.finished ≡ true → (gave-words t.row (paint-out (lend t) (host-of l))).finished ≡ true

@@ -1,6 +1,7 @@
 pub mod Words
 pub mod Holds
 pub mod Border
+pub mod Summed
 pub mod Finishes
 pub mod Recorded
 pub mod Edited

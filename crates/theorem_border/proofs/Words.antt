@@ -16,6 +16,7 @@ use Rattle.rect.specs.declared.Rect.{Rect}
 use Rattle.rect.specs.Rects.{box_of}
 use Rattle.row.specs.Words.{Words}
 use Rattle.screen.specs.declared.Screen.{Screen}
+use Rattle.screen.specs.Depths.{Depths}
 use Rattle.screen.specs.Tables.{Tables, ScreenLent, screen_lent, reset_to}
 use Rattle.inputs.specs.declared.Draw.{Draw}
 use Rattle.fill.specs.Fills as fills
@@ -27,7 +28,7 @@ use Rattle.pop.specs.Pop.{popped}
 use Rattle.layers.specs.Filter as filter
 use Rattle.layers.specs.Filter.{given, filtered}
 use Rattle.paint.specs.Beginning.{canvas, beginning}
-use Rattle.paint.specs.DirectRuns.{skip-of-row}
+use Rattle.paint.specs.DirectRuns.{hidden-of-row, skip-of-row}
 use Rattle.walk.specs.Recorded.{recorded}
 use Rattle.walk.specs.Steps.{rows_words, pop-part}
 use Rattle.host.specs.State.{screen-words, screen-at, screen_of, before_4, refused_at, at_held, on}
@@ -37,7 +38,7 @@ use Rattle.host.proofs.Words.{read_back, written_back}
 use Rattle.host.specs.Border.{unasked, unasked_number}
 use Rattle.host.specs.Building.{tables-left, reset_in, recording_in, fill-left, fill_call, props, push-left, push_call, pop-left, pop_call, filter-in, picture, filter-left, filter_call}
 use Rattle.host.specs.Results.{skip-left}
-use Rattle.host.specs.Painting.{begin-left, begin_call, step_left, step_call, row_call, write_call, skip_call}
+use Rattle.host.specs.Painting.{begin-left, begin_call, step_left, step_call, row_call, write_call, hidden_call, skip_call}
 use Rattle.host.proofs.HostAsked.{reset_unasked, recording_unasked, recording_untold, reset_asked, recording-asked, recording_told}
 use Rattle.host.proofs.Kept.{step-refused, row-refused, write-refused}
 use Rattle.theorem_picture.specs.Calls as calls
@@ -82,6 +83,12 @@ pub skip-on : (l : ScreenLent) (r : ℕ) (t : Span) (id : ℕ) (old : List ℕ) 
     → skip_call r t id (screen-words l.screen) l.tables.rows old ≡ skip-left old (skip-of-row l.screen r l.tables.rows t id)
 unfolding skip_call
 skip-on l r t id old e = on-done {T = List ℕ} _ _ (eqb (length old) 1) l.screen e
+
+-- `coarse_is_hidden`
+pub hidden-on : (l : ScreenLent) (r : ℕ) (t : Span) (id : ℕ) (old : List ℕ) → (hidden_call r t id (screen-words l.screen) l.tables.depth.minima old).number ≡ Done
+    → hidden_call r t id (screen-words l.screen) l.tables.depth.minima old ≡ skip-left old (hidden-of-row l.screen r l.tables.depth.minima t id)
+unfolding hidden_call
+hidden-on l r t id old e = on-done {T = List ℕ} _ _ (eqb (length old) 1) l.screen e
 
 -- what a host's words ask for
 pub data Asking (w : SetupWords) : Type 0 where
@@ -231,7 +238,7 @@ module _ (l : ScreenLent) where
   pub begin-on : begin-at (host-of l) ≡ hosted (reached.begin-at l)
   unfolding begin-at begin_call reached.begin-at
   begin-on =
-      ap (λ (a : Answer (List ℕ × List ℕ × List ℕ)). answer a.number (host a.value.0 (with-painting t a.value.1 a.value.2)))
+      ap (λ (a : Answer (List ℕ × Depths × List ℕ)). answer a.number (host a.value.0 (with-painting t a.value.1 a.value.2)))
       (on-screen (screen-words l.screen, t.depth, t.painting) (λ (s : Screen). begin-left (beginning (canvas s t.depth t.painting))) l.screen)
 
 -- a painting call among picture's
@@ -240,7 +247,7 @@ call-of (one-step t) = rows.one-step (record { row = t.row; list = t.list })
 call-of (whole_row t) = rows.whole_row (record { row = t.row; list = t.list })
 
 abbrev Painted : Type 0
-Painted = List ℕ × List ℕ × List ℕ × List ℕ
+Painted = Depths × List ℕ × List ℕ × List ℕ
 
 pub paint-on : (c : Call) (l : ScreenLent) → (paint-out c (host-of l)).number ≡ Done → paint-out c (host-of l) ≡ step_left (turn_in c).result (rows.call-out (call-of c) l)
 unfolding paint-out step_call row_call reached.paint-out rows.row_out
@@ -265,16 +272,19 @@ paint-kept (whole_row t) h q =
 
 -- a writing run, done or refused
 module _ (i id : ℕ) (b : Span) (list count : List ℕ) (l : ScreenLent) where
-  abbrev a : Answer Painted
+  abbrev Written : Type 0
+  Written = List ℕ × Depths × List ℕ × List ℕ
+
+  abbrev a : Answer Written
   a = write_call i b id (screen-words l.screen) l.tables.depth list count
 
-  abbrev put : Answer Painted → Host
+  abbrev put : Answer Written → Host
   put x = host x.value.0 (with-painting l.tables x.value.1 l.tables.painting)
 
   pub write_done : a.number ≡ Done → write-at i id b list count (host-of l) ≡ host-of (reached.write-at i id b list l)
   unfolding write-at write_call reached.write-out
-  write_done e = ap put (on-done {T = Painted} _ _ (eqb (length count) 1) l.screen e)
+  write_done e = ap put (on-done {T = Written} _ _ (eqb (length count) 1) l.screen e)
 
   pub write_kept : (a.number ≡ Done → ⊥) → write-at i id b list count (host-of l) ≡ host-of l
   unfolding write-at
-  write_kept q = ap (λ (o : Painted). put (answer 0 o)) (write-refused i b (screen-words l.screen) l.tables.depth list count id q)
+  write_kept q = ap (λ (o : Written). put (answer 0 o)) (write-refused i b (screen-words l.screen) l.tables.depth list count id q)

@@ -12,6 +12,7 @@ use Rattle.rules.specs.Plain.{plain}
 use Rattle.rules.specs.Walk.{frame-of}
 use Rattle.rect.specs.declared.Rect.{Rect}
 use Rattle.rect.specs.Rects.{rect-of}
+use Rattle.screen.specs.Depths.{Depths}
 use Rattle.paint.specs.Judging.{wide}
 use Rattle.paint.specs.Stepping.{part}
 use Rattle.rules_picture.specs.Turns.{Gave, from, said-finished}
@@ -25,7 +26,7 @@ use Rattle.theorem_border.specs.Hosted.{Host, Hosted, Asks, Says, Call, one-step
 
 -- What a host reads after a painting call of row r. Done: the first result word is 1 where the row has finished, the second says how many
 -- pieces stand in the list. Refused: nothing.
-abbrev pub gave-words : ℕ → Answer (List ℕ × List ℕ × List ℕ × List ℕ) → Gave
+abbrev pub gave-words : ℕ → Answer (Depths × List ℕ × List ℕ × List ℕ) → Gave
 gave-words r a =
     record {
       row = r;
@@ -71,7 +72,7 @@ Clear h =
     get_or h.state 15 0 ≡ 1 → (r : ℕ) (t : Span) (id : ℕ) (old : List ℕ)
     → skip_call r t id h.state h.tables.rows old ≡ answer Done (1 ∷ [])
     → (x : ℕ) → t.first ≤ x → x < t.end
-    → get_or (part (wide (screen-at h.state)) r h.tables.depth) (x / bucket-tiles (screen-at h.state).width) 0 ≤ id
+    → get_or (part (wide (screen-at h.state)) r h.tables.depth.words) (x / bucket-tiles (screen-at h.state).width) 0 ≤ id
 
 -- What a recording leaves. Accepted: its number said an edition, its words asked for a setup; words that are `Hosted` by the steps of its walk, and painting can
 -- begin there.

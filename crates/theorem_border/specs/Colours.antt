@@ -104,4 +104,4 @@ WordRead =
     → (cs : List Call) (r t : ℕ) → r < rows_of f.viewport → t < width f.viewport / 4
     → finished r cs (begin-at h).value ≡ true
     → (let g = painted cs (begin-at h).value in
-    get_or (part (wide (screen-at g.state)) r g.tables.depth) (t / bucket f) 0 ≡ newest-id (paint-id-read g) (newest-over (t / bucket f) (fills-read r g)))
+    get_or (part (wide (screen-at g.state)) r g.tables.depth.words) (t / bucket f) 0 ≡ newest-id (paint-id-read g) (newest-over (t / bucket f) (fills-read r g)))

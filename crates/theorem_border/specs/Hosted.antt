@@ -13,6 +13,7 @@ use Rattle.rect.specs.declared.Rect.{Rect}
 use Rattle.rect.specs.Rects.{box_of}
 use Rattle.row.specs.Words.{Words}
 use Rattle.screen.specs.Judging.{arenas}
+use Rattle.screen.specs.Depths.{Depths}
 use Rattle.screen.specs.Tables.{Tables, tables, lengths}
 use Rattle.inputs.specs.declared.Draw.{Draw}
 use Rattle.pop.specs.Pop as pop
@@ -39,8 +40,8 @@ host st t = record { state = st; tables = t }
 abbrev pub with_rows : Tables → Words → List ℕ → List Float → List ℕ → List ℕ → List ℤ → Tables
 with_rows t w ls os pas las fps = tables w.render w.fills t.depth w.state t.painting ls os pas las fps
 
--- .. with other depth and painting words
-abbrev pub with-painting : Tables → List ℕ → List ℕ → Tables
+-- .. with other depth words and minima, and other painting words
+abbrev pub with-painting : Tables → Depths → List ℕ → Tables
 with-painting t depth painting =
     tables t.render t.fills depth t.rows painting t.layers t.opacities t.paint-attrs t.layer-attrs t.filter-paints
 
@@ -119,8 +120,8 @@ own-attributes h = attributes h.tables.paint-attrs h.tables.layer-attrs
 abbrev pub own-words : List ℕ → Host → paint.RowLent
 own-words list h = let t = h.tables in paint.words_lent t.rows t.render t.fills t.depth t.painting list
 
--- its number; the depth and painting words, the list and the result afterwards
-unfoldable pub paint-out : Call → Host → Answer (List ℕ × List ℕ × List ℕ × List ℕ)
+-- its number; the depth words with their minima, the painting words, the list and the result afterwards
+unfoldable pub paint-out : Call → Host → Answer (Depths × List ℕ × List ℕ × List ℕ)
 paint-out (one-step t) h = step_call t.row (own-attributes h) h.state (own-words t.list h) t.result
 paint-out (whole_row t) h = row_call t.row (own-attributes h) h.state (own-words t.list h) t.result
 

@@ -1,5 +1,6 @@
 pub mod Hosted
 pub mod Border
+pub mod Summed
 pub mod Refused
 pub mod Numbers
 pub mod Words

@@ -10,6 +10,7 @@ use Rattle.span.specs.declared.TileSpan.{TileSpan}
 use Rattle.rect.specs.declared.Rect.{Rect}
 use Rattle.rect.specs.Rects.{box_of}
 use Rattle.row.specs.Words.{Words}
+use Rattle.screen.specs.Depths.{Depths}
 use Rattle.screen.specs.Tables.{Tables, screen_lent, reset_to}
 use Rattle.screen.specs.declared.layers.LayerProps.{LayerProps}
 use Rattle.inputs.specs.declared.Draw.{Draw}
@@ -27,14 +28,14 @@ use Rattle.paint.specs.Painting as paint
 use Rattle.paint.specs.Beginning.{canvas, beginning}
 use Rattle.paint.specs.Stepping.{Attributes, stepped}
 use Rattle.paint.specs.Running.{row-painted}
-use Rattle.paint.specs.DirectRuns.{unset-of, visible-of, write-of, skip-of-row}
+use Rattle.paint.specs.DirectRuns.{unset-of, visible-of, write-of, hidden-of-row, skip-of-row}
 use Rattle.paint.specs.StoredCmds.{lengths-of-row, command-of-row, depth-of-row, progress-of-row}
 use Rattle.host.specs.declared.state.SetupWords.{SetupWords}
 use Rattle.host.specs.Asked.{FileWords}
 use Rattle.host.specs.State.{screen-at, before_4}
 use Rattle.host.specs.Reasons.{asked, why_call}
 use Rattle.host.specs.Building.{reset_call, recording_call, fill_call, push_call, pop_call, filter_call}
-use Rattle.host.specs.Painting.{begin_call, step_call, row_call, unset_call, visible_call, write_call, skip_call}
+use Rattle.host.specs.Painting.{begin_call, step_call, row_call, unset_call, visible_call, write_call, hidden_call, skip_call}
 use Rattle.host.specs.Spans.{runs_of, spans_call}
 use Rattle.host.specs.Reading.{lengths_call, cmd_call, depth_call, progress_call}
 use Rattle.theorem_border.specs.Hosted.{Asks, Says}
@@ -79,7 +80,7 @@ FilterKeeps =
     → Keeps st (filtered g (filter.filter_lent (screen-at st) w pas fps)).number (filter_call flag g st w pas fps).number
 
 abbrev pub BeginKeeps : Type 0
-BeginKeeps = (st d p : List ℕ) → Keeps st (beginning (canvas (screen-at st) d p)).number (begin_call st d p).number
+BeginKeeps = (st : List ℕ) (d : Depths) (p : List ℕ) → Keeps st (beginning (canvas (screen-at st) d p)).number (begin_call st d p).number
 
 abbrev pub StepKeeps : Type 0
 StepKeeps =
@@ -106,8 +107,12 @@ SpansKeeps =
 
 abbrev pub WriteKeeps : Type 0
 WriteKeeps =
-    (r : ℕ) (t : Span) (id : ℕ) (st d l n : List ℕ)
+    (r : ℕ) (t : Span) (id : ℕ) (st : List ℕ) (d : Depths) (l n : List ℕ)
     → Keeps st (write-of (screen-at st) r d id t l).listed.number (write_call r t id st d l n).number
+
+abbrev pub HiddenKeeps : Type 0
+HiddenKeeps =
+    (r : ℕ) (t : Span) (id : ℕ) (st ms old : List ℕ) → Keeps st (hidden-of-row (screen-at st) r ms t id).number (hidden_call r t id st ms old).number
 
 abbrev pub SkipKeeps : Type 0
 SkipKeeps =

@@ -9,6 +9,7 @@ use Rattle.rules.specs.Painting.{Entry, received}
 use Rattle.rules.specs.Plain.{plain}
 use Rattle.rect.specs.declared.Rect.{Rect}
 use Rattle.rect.specs.Rects.{box_of}
+use Rattle.screen.specs.Depths.{depths}
 use Rattle.screen.specs.Tables.{tables, float-0}
 use Rattle.inputs.specs.declared.Draw.{Draw}
 use Rattle.rules_picture.specs.Turns.{from}
@@ -19,7 +20,7 @@ use Rattle.host.specs.Building.{draw}
 use Rattle.theorem_border.specs.Hosted.{Host, host, reset-at, fill-at, begin-at, Call, one-step, whole_row}
 use Rattle.theorem_border.specs.Border.{log, finished}
 
--- 512 x 4 pixels, one row of 128 tiles in 4 buckets, with room for 64 commands and 64 depth fills
+-- 512 x 4 pixels, one row of 128 tiles in 4 buckets, which have 7 minima, with room for 64 commands and 64 depth fills
 abbrev pub screen : Rect
 screen = rect 0 0 most-rows 4
 
@@ -36,8 +37,8 @@ own-frame = frame setup (box_of screen)
 abbrev pub blank : Host
 blank =
     host (replicate state-size 0)
-    (tables (replicate 256 0) (replicate 128 0) (replicate 4 0) (replicate row-size 0) (replicate 2 0) (replicate open-layer-table 0) (replicate opacity-count float-0)
-    (replicate paint-attr-table 0) (replicate layer-attr-table 0) (replicate filter-paint-table (pos 0)))
+    (tables (replicate 256 0) (replicate 128 0) (depths (replicate 4 0) (replicate 7 0)) (replicate row-size 0) (replicate 2 0)
+    (replicate open-layer-table 0) (replicate opacity-count float-0) (replicate paint-attr-table 0) (replicate layer-attr-table 0) (replicate filter-paint-table (pos 0)))
 
 -- both opaque; the banner has the whole row, the panel tiles 20 to 70: all of bucket 1, and a part of 0 and of 2
 abbrev pub paints : List ℕ

@@ -5,6 +5,7 @@ use Rattle.rules.specs.Spans.{Span}
 use Rattle.span.specs.declared.TileSpan.{TileSpan}
 use Rattle.rect.specs.declared.Rect.{Rect}
 use Rattle.row.specs.Words.{Words}
+use Rattle.screen.specs.Depths.{Depths}
 use Rattle.screen.specs.Tables.{Tables}
 use Rattle.screen.specs.declared.layers.LayerProps.{LayerProps}
 use Rattle.inputs.specs.declared.Draw.{Draw}
@@ -20,7 +21,7 @@ use Rattle.host.specs.Sizes.{size_call}
 use Rattle.host.specs.Reasons.{why_call}
 use Rattle.host.specs.TileList.{tile_list_call}
 use Rattle.host.specs.Building.{reset_call, fill_call, push_call, pop_call, filter_call}
-use Rattle.host.specs.Painting.{begin_call, step_call, row_call, unset_call, visible_call, write_call, skip_call, split_call}
+use Rattle.host.specs.Painting.{begin_call, step_call, row_call, unset_call, visible_call, write_call, hidden_call, skip_call, split_call}
 use Rattle.host.specs.Spans.{spans_call}
 use Rattle.host.specs.Reading.{lengths_call, cmd_call, depth_call, progress_call}
 
@@ -47,11 +48,11 @@ FilterRefused =
     (flag : ℕ) (g : FilterGiven) (st : List ℕ) (w : Words) (pas : List ℕ) (fps : List ℤ) → Refused (filter_call flag g st w pas fps)
     → (filter_call flag g st w pas fps).value ≡ (st, w, pas, fps)
 
--- state, depth words, painting words
+-- state, depth words with their minima, painting words
 abbrev pub BeginRefused : Type 0
-BeginRefused = (st d p : List ℕ) → Refused (begin_call st d p) → (begin_call st d p).value ≡ (st, d, p)
+BeginRefused = (st : List ℕ) (d : Depths) (p : List ℕ) → Refused (begin_call st d p) → (begin_call st d p).value ≡ (st, d, p)
 
--- depth words, painting words, the list, the result words
+-- depth words with their minima, painting words, the list, the result words
 abbrev pub StepRefused : Type 0
 StepRefused =
     (r : ℕ) (a : Attributes) (st : List ℕ) (l : paint.RowLent) (res : List ℕ) → Refused (step_call r a st l res)
@@ -76,10 +77,16 @@ SpansRefused =
     (r : ℕ) (t : Span) (id : ℕ) (st d : List ℕ) (l : List TileSpan) (n : List ℕ) → Refused (spans_call r t id st d l n)
     → (spans_call r t id st d l n).value ≡ (l, n)
 
--- state, depth words, the list and the count
+-- state, depth words with their minima, the list and the count
 abbrev pub WriteRefused : Type 0
 WriteRefused =
-    (r : ℕ) (t : Span) (id : ℕ) (st d l n : List ℕ) → Refused (write_call r t id st d l n) → (write_call r t id st d l n).value ≡ (st, d, l, n)
+    (r : ℕ) (t : Span) (id : ℕ) (st : List ℕ) (d : Depths) (l n : List ℕ) → Refused (write_call r t id st d l n)
+    → (write_call r t id st d l n).value ≡ (st, d, l, n)
+
+-- the result word
+abbrev pub HiddenRefused : Type 0
+HiddenRefused =
+    (r : ℕ) (t : Span) (id : ℕ) (st ms old : List ℕ) → Refused (hidden_call r t id st ms old) → (hidden_call r t id st ms old).value ≡ old
 
 -- the result words
 abbrev pub SkipRefused : Type 0

@@ -6,8 +6,9 @@ ghost use Rattle.std.specs.Prelude.{List};
 ghost use Rattle.rules.specs.Plans.{Frame, Step};
 ghost use Rattle.theorem_border.specs.Hosted.{Host, Hosted};
 ghost use Rattle.theorem_border.specs.Border.{Picture, Clear, Finishes, RecordingAccepted, RecordingRefused, RecordingEarly, ResetAsks};
-ghost use Rattle.theorem_border.specs.Refused.{BeginRefused, FillRefused, FilterRefused, PopRefused, PushRefused, ResetRefused, RowRefused, LengthsRefused, CmdRefused, DepthRefused, ProgressRefused, SizesRefused, SkipRefused, SpansRefused, SplitRefused, StepRefused, UnsetRefused, VisibleRefused, WhyRefused, WriteRefused, ListTileRefused, ToTwoRefused, ToOneRefused};
-ghost use Rattle.theorem_border.specs.Numbers.{BeginKeeps, FillKeeps, FilterKeeps, PopKeeps, PushKeeps, RecordingKeeps, ResetKeeps, RowKeeps, SkipKeeps, SpansKeeps, StepKeeps, UnsetKeeps, VisibleKeeps, WhyKeeps, WriteKeeps, LengthsKeeps, CmdKeeps, DepthKeeps, ProgressKeeps};
+ghost use Rattle.theorem_border.specs.Refused.{BeginRefused, FillRefused, FilterRefused, PopRefused, PushRefused, ResetRefused, RowRefused, LengthsRefused, CmdRefused, DepthRefused, ProgressRefused, SizesRefused, SkipRefused, SpansRefused, SplitRefused, StepRefused, UnsetRefused, VisibleRefused, WhyRefused, WriteRefused, HiddenRefused, ListTileRefused, ToTwoRefused, ToOneRefused};
+ghost use Rattle.theorem_border.specs.Numbers.{BeginKeeps, FillKeeps, FilterKeeps, PopKeeps, PushKeeps, RecordingKeeps, ResetKeeps, RowKeeps, SkipKeeps, SpansKeeps, StepKeeps, UnsetKeeps, VisibleKeeps, WhyKeeps, WriteKeeps, HiddenKeeps, LengthsKeeps, CmdKeeps, DepthKeeps, ProgressKeeps};
+ghost use Rattle.theorem_border.specs.Summed.{HostedSummed, HostedHidden};
 ghost use Rattle.theorem_border.specs.Words.{ScreenReadBack, SizesFit, WordsWrittenBack};
 ghost use Rattle.theorem_border.specs.FillLists.{FillsHosted};
 ghost use Rattle.theorem_border.specs.TileLists.{ListReceived, ListRoom, ListNumbers};
@@ -32,6 +33,12 @@ pub fn same_picture_at_border<B>()
 /// Where `coarse_can_skip` says yes, nothing of the span is hidden.
 pub fn skip_at_border()
     ensures { (f : Frame) (xs : List Step) (h : Host) → Hosted f xs h → Clear h }
+{}
+
+/// Whatever a host calls, each row's minima are the summary of its depth words, so that `coarse_is_hidden` tells of the words.
+pub fn minima_at_border()
+    ensures summed { HostedSummed }
+    ensures hidden { HostedHidden }
 {}
 
 /// Painting ends.
@@ -74,6 +81,7 @@ pub fn refusals_at_border()
     ensures visible_runs { VisibleRefused }
     ensures visible_spans { SpansRefused }
     ensures unset_runs_and_write { WriteRefused }
+    ensures is_hidden { HiddenRefused }
     ensures can_skip { SkipRefused }
     ensures row_lengths { LengthsRefused }
     ensures render_cmd { CmdRefused }
@@ -103,6 +111,7 @@ pub fn numbers_at_border()
     ensures visible_runs { VisibleKeeps }
     ensures visible_spans { SpansKeeps }
     ensures unset_runs_and_write { WriteKeeps }
+    ensures is_hidden { HiddenKeeps }
     ensures can_skip { SkipKeeps }
     ensures row_lengths { LengthsKeeps }
     ensures render_cmd { CmdKeeps }

@@ -4,6 +4,7 @@ use Rattle.row.specs.Words.{Words}
 use Rattle.span.specs.declared.TileSpan.{TileSpan}
 use Rattle.screen.specs.declared.lent.Lent.{Lent}
 use Rattle.screen.specs.Tables.{Tables}
+use Rattle.screen.specs.Depths.{Depths, depths_in}
 use Rattle.screen.specs.Lent.{tables_in}
 use Rattle.pop.specs.Pop.{PopLent}
 use Rattle.fill.specs.declared.list.Draws.{Draws}
@@ -20,6 +21,7 @@ use Rattle.theorem_once.specs.declared.border.building.FillHost.{FillHost}
 use Rattle.theorem_once.specs.declared.border.painting.PaintHost.{PaintHost}
 use Rattle.theorem_once.specs.declared.border.painting.RunsHost.{RunsHost}
 use Rattle.theorem_once.specs.declared.border.painting.SpansHost.{SpansHost}
+use Rattle.theorem_once.specs.declared.border.painting.HiddenHost.{HiddenHost}
 use Rattle.theorem_once.specs.declared.border.painting.SkipHost.{SkipHost}
 
 abbrev pub screen-words : StateWords → Lent → List ℕ × Tables
@@ -41,8 +43,8 @@ pop-words segments w t = (segments, words_in w, pop_in t)
 abbrev pub pop-left : StateWords → Lent → List ℕ × PopLent
 pop-left w t = (words_in w, pop_in t)
 
-abbrev pub begin-words : StateWords → Canvas → List ℕ × List ℕ × List ℕ
-begin-words w c = (words_in w, c.depth.now, c.painting.now)
+abbrev pub begin-words : StateWords → Canvas → List ℕ × Depths × List ℕ
+begin-words w c = (words_in w, depths_in c.depth, c.painting.now)
 
 abbrev pub why-words : WhyHost → List ℕ × Tables × FileWords × List ℕ
 why-words h = (words_in h.state, tables_in h.tables, told h.edition h.file.now, reason_in h.reason)
@@ -62,7 +64,7 @@ abbrev pub list-words : FillHost → Draws → (List ℕ × Words × List ℕ ×
 list-words h d = (fill-words h, d.words.now, d.start, d.end)
 
 -- the state, what is stored, the canvas, the list and the result
-abbrev pub paint-words : PaintHost → List ℕ × List ℕ × List ℕ × List ℕ × List ℕ × List ℕ × List ℕ × List ℕ × List ℕ × List ℕ
+abbrev pub paint-words : PaintHost → List ℕ × List ℕ × List ℕ × List ℕ × List ℕ × List ℕ × Depths × List ℕ × List ℕ × List ℕ
 paint-words h =
     let s = h.stored in (
       words_in h.state,
@@ -71,29 +73,34 @@ paint-words h =
       s.depth_cmds.now,
       s.paint_attrs.now,
       s.layer_attrs.now,
-      h.canvas.depth.now,
+      depths_in h.canvas.depth,
       h.canvas.painting.now,
       h.list.now,
       painted_in h.painted,
     )
 
-abbrev pub paint-left : PaintHost → List ℕ × List ℕ × List ℕ × List ℕ
+abbrev pub paint-left : PaintHost → Depths × List ℕ × List ℕ × List ℕ
 paint-left h = canvas_out h.canvas h.list.now h.painted
 
+-- of the canvas, the depth words
 abbrev pub runs-words : RunsHost → List ℕ × List ℕ × List ℕ × List ℕ
-runs-words h = (words_in h.state, h.canvas.depth.now, h.list.now, one h.count)
+runs-words h = (words_in h.state, h.canvas.depth.words.now, h.list.now, one h.count)
 
 abbrev pub runs-left : RunsHost → List ℕ × List ℕ
 runs-left h = (h.list.now, one h.count)
 
-abbrev pub write-left : RunsHost → List ℕ × List ℕ × List ℕ × List ℕ
-write-left h = write_out h.state h.canvas h.list.now h.count
+-- .. and their minima
+abbrev pub write-words : RunsHost → List ℕ × Depths × List ℕ × List ℕ
+write-words h = write_out h.state h.canvas h.list.now h.count
 
 abbrev pub spans-words : SpansHost → List ℕ × List ℕ × List TileSpan × List ℕ
-spans-words h = (words_in h.state, h.canvas.depth.now, h.list.now, one h.count)
+spans-words h = (words_in h.state, h.canvas.depth.words.now, h.list.now, one h.count)
 
 abbrev pub spans-left : SpansHost → List TileSpan × List ℕ
 spans-left h = (h.list.now, one h.count)
+
+abbrev pub hidden-words : HiddenHost → List ℕ × List ℕ × List ℕ
+hidden-words h = (words_in h.state, h.minima.now, one h.yes)
 
 -- of what is stored, the rows' records
 abbrev pub skip-words : SkipHost → List ℕ × List ℕ × List ℕ

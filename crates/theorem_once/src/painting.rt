@@ -3,9 +3,10 @@ ghost use Rattle.std.specs.Prelude.{◌≡◌};
 ghost use Rattle.theorem_once.specs.Painting.{begin-words, paint-words, write-words};
 
 use crate::Twice;
+use depth::Depth;
 use paint::{
-    Canvas, Stepped, Stored, begin_painting, can_skip, paint_row, paint_step, unset_runs,
-    unset_runs_and_write, visible_runs,
+    Canvas, Stepped, Stored, begin_painting, can_skip, is_hidden, paint_row, paint_step,
+    unset_runs, unset_runs_and_write, visible_runs,
 };
 use screen::Screen;
 use sizes::answers::Refusal;
@@ -116,7 +117,7 @@ pub fn visible_twice(
 #[derive(Drop)]
 pub struct WriteLent<'a> {
     pub screen: Screen,
-    pub depth: &'a mut [u32],
+    pub depth: Depth<'a>,
     pub list: &'a mut [u32],
 }
 
@@ -132,8 +133,25 @@ pub fn write_twice(
         → (result.0 ≡ result.1) × (write-words a.new ≡ write-words b.new) }
 {
     (
-        unset_runs_and_write(&mut a.screen, row, a.depth, range, draw_id, a.list),
-        unset_runs_and_write(&mut b.screen, row, b.depth, range, draw_id, b.list),
+        unset_runs_and_write(&mut a.screen, row, &mut a.depth, range, draw_id, a.list),
+        unset_runs_and_write(&mut b.screen, row, &mut b.depth, range, draw_id, b.list),
+    )
+}
+
+/// Two calls of `is_hidden`.
+pub fn hidden_twice(
+    a: &[u32],
+    b: &[u32],
+    screen: Screen,
+    row: usize,
+    range: BucketRange,
+    draw_id: u32,
+) -> Twice<Result<bool, Refusal>>
+    ensures { a.now ≡ b.now → result.0 ≡ result.1 }
+{
+    (
+        is_hidden(screen, row, a, range, draw_id),
+        is_hidden(screen, row, b, range, draw_id),
     )
 }
 

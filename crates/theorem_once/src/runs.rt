@@ -1,9 +1,13 @@
 //! Each call of `depth`, its `forms` among them.
 ghost use Rattle.std.specs.Prelude.{◌≡◌};
+ghost use Rattle.screen.specs.Depths.{depths_in};
 
 use crate::Twice;
 use depth::forms::{Visible, include_span, included_span, list_visible_spans, visible_spans};
-use depth::{DepthState, Split, split_opaque_span, unset_runs, unset_runs_and_write, visible_runs};
+use depth::{
+    Depth, DepthState, Split, is_hidden, split_opaque_span, unset_runs, unset_runs_and_write,
+    visible_runs,
+};
 use sizes::answers::Refusal;
 use sizes::width::Width;
 use span::{BucketRange, TileSpan};
@@ -81,19 +85,35 @@ pub fn unset_twice(
 
 /// Two calls of `unset_runs_and_write`.
 pub fn write_twice(
-    a: &mut [u32],
+    a: &mut Depth<'_>,
     a_list: &mut [u32],
-    b: &mut [u32],
+    b: &mut Depth<'_>,
     b_list: &mut [u32],
     range: BucketRange,
     draw_id: u32,
 ) -> Twice<Result<usize, Refusal>>
-    ensures { (a.old ≡ b.old) × (a_list.old ≡ b_list.old)
-        → (result.0 ≡ result.1) × (a.new ≡ b.new) × (a_list.new ≡ b_list.new) }
+    ensures { (depths_in a.old ≡ depths_in b.old) × (a_list.old ≡ b_list.old)
+        → (result.0 ≡ result.1) × (depths_in a.new ≡ depths_in b.new) × (a_list.new ≡ b_list.new) }
 {
     (
         unset_runs_and_write(a, range, draw_id, a_list),
         unset_runs_and_write(b, range, draw_id, b_list),
+    )
+}
+
+/// Two calls of `is_hidden`.
+pub fn hidden_twice(
+    a: &[u32],
+    b: &[u32],
+    buckets: usize,
+    range: BucketRange,
+    draw_id: u32,
+) -> Twice<Result<bool, Refusal>>
+    ensures { a.now ≡ b.now → result.0 ≡ result.1 }
+{
+    (
+        is_hidden(a, buckets, range, draw_id),
+        is_hidden(b, buckets, range, draw_id),
     )
 }
 

@@ -19,14 +19,14 @@ use Rattle.depth.specs.SpanLists as spans
 use Rattle.paint.specs.Beginning.{canvas, beginning}
 use Rattle.paint.specs.Stepping.{stepped}
 use Rattle.paint.specs.Running.{row-painted}
-use Rattle.paint.specs.DirectRuns.{unset-of, visible-of, write-of, skip-of-row}
+use Rattle.paint.specs.DirectRuns.{unset-of, visible-of, write-of, hidden-of-row, skip-of-row}
 use Rattle.host.specs.State.{screen-at, before_4}
 use Rattle.host.specs.Asked.{asked_setup, told_file}
 use Rattle.host.specs.Border.{unasked_number}
 use Rattle.host.specs.Reasons.{reason-words, reason-size, asked, why-left, why_in, why_asked, why_call}
 use Rattle.host.specs.Results.{skip-left}
 use Rattle.host.specs.Building.{tables-left, reset_in, reset_call, recording_in, recording_asked, recording_call, fill-left, fill_call, push-left, push_call, pop-left, pop_call, filter-left, filter_call}
-use Rattle.host.specs.Painting.{begin-left, begin_call, step_left, step_call, row_call, runs-left, unset_call, visible_call, write-left, write_call, skip_call}
+use Rattle.host.specs.Painting.{begin-left, begin_call, step_left, step_call, row_call, runs-left, unset_call, visible_call, write-left, write_call, hidden_call, skip_call}
 use Rattle.host.specs.Spans.{runs_of, spans-left, spans_call}
 use Rattle.theorem_border.proofs.Numbers.{kept-on, kept_in}
 use Rattle.theorem_border.proofs.Reading.{lengths-keeps, cmd-keeps, depth-keeps, progress-keeps}
@@ -96,6 +96,10 @@ returns-clause-visible_spans c = λ r t id st d l n long. kept-on (eqb (length n
 pub returns-clause-unset_runs_and_write : goal.returns-clause-unset_runs_and_write
 unfolding write_call
 returns-clause-unset_runs_and_write c = λ r t id st d l n long. kept-on (eqb (length n) 1) st (st, d, l, n) (λ (s : Screen). write-left n (write-of s r d id t l)) long
+
+pub returns-clause-is_hidden : goal.returns-clause-is_hidden
+unfolding hidden_call
+returns-clause-is_hidden c = λ r t id st ms old long. kept-on (eqb (length old) 1) st old (λ (s : Screen). skip-left old (hidden-of-row s r ms t id)) long
 
 pub returns-clause-can_skip : goal.returns-clause-can_skip
 unfolding skip_call

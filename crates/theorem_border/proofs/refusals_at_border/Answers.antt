@@ -1,5 +1,5 @@
 use Rattle.host.proofs.Refused.{reset-refused, fill-refused, push-refused, pop-refused, filter-refused, begin-refused}
-use Rattle.host.proofs.Kept.{step-refused, row-refused, unset-refused, visible-refused, spans-refused, write-refused, skip-refused, split-refused}
+use Rattle.host.proofs.Kept.{step-refused, row-refused, unset-refused, visible-refused, spans-refused, write-refused, hidden-refused, skip-refused, split-refused}
 use Rattle.host.proofs.Sized.{size-refused}
 use Rattle.theorem_border.proofs.Why.{why-refused}
 use Rattle.theorem_border.proofs.Reading.{lengths-refused, cmd-refused, depth-refused, progress-refused}
@@ -42,6 +42,9 @@ returns-clause-visible_spans c = spans-refused
 
 pub returns-clause-unset_runs_and_write : goal.returns-clause-unset_runs_and_write
 returns-clause-unset_runs_and_write c = λ r t id st d l n. write-refused r t st d l n id
+
+pub returns-clause-is_hidden : goal.returns-clause-is_hidden
+returns-clause-is_hidden c = hidden-refused
 
 pub returns-clause-can_skip : goal.returns-clause-can_skip
 returns-clause-can_skip c = skip-refused

@@ -1,11 +1,11 @@
-//! The calls of painting, of a row's runs, of `can_skip` and of the split.
+//! The calls of painting, of a row's runs, of `is_hidden`, of `can_skip` and of the split.
 ghost use Rattle.std.specs.Prelude.{◌≡◌};
 ghost use Rattle.host.specs.Held.{one, parts_in};
-ghost use Rattle.theorem_once.specs.Border.{begin-words, paint-words, paint-left, runs-words, runs-left, write-left, spans-words, spans-left, skip-words};
+ghost use Rattle.theorem_once.specs.Border.{begin-words, paint-words, paint-left, runs-words, runs-left, write-words, spans-words, spans-left, hidden-words, skip-words};
 
 use crate::Twice;
 use host::painting::{
-    coarse_begin_painting, coarse_can_skip, coarse_paint_row, coarse_paint_step,
+    coarse_begin_painting, coarse_can_skip, coarse_is_hidden, coarse_paint_row, coarse_paint_step,
     coarse_split_opaque_span, coarse_unset_runs, coarse_unset_runs_and_write, coarse_visible_runs,
 };
 use host::results::{PaintedWords, SplitWords};
@@ -166,8 +166,8 @@ pub fn write_twice(
     buckets: TileSpan,
     id: u32,
 ) -> Twice<u32>
-    ensures { runs-words a.old ≡ runs-words b.old
-        → (result.0 ≡ result.1) × (write-left a.new ≡ write-left b.new) }
+    ensures { write-words a.old ≡ write-words b.old
+        → (result.0 ≡ result.1) × (write-words a.new ≡ write-words b.new) }
 {
     (
         coarse_unset_runs_and_write(
@@ -188,6 +188,31 @@ pub fn write_twice(
             b.list,
             &mut b.count,
         ),
+    )
+}
+
+/// What `is_hidden` reads and writes.
+#[derive(Drop)]
+pub struct HiddenHost<'a> {
+    pub state: StateWords,
+    pub minima: &'a [u32],
+    pub yes: u32,
+}
+
+/// Two calls of `coarse_is_hidden`.
+pub fn hidden_twice(
+    a: &mut HiddenHost<'_>,
+    b: &mut HiddenHost<'_>,
+    row: usize,
+    buckets: TileSpan,
+    id: u32,
+) -> Twice<u32>
+    ensures { hidden-words a.old ≡ hidden-words b.old
+        → (result.0 ≡ result.1) × (one a.new.yes ≡ one b.new.yes) }
+{
+    (
+        coarse_is_hidden(&a.state, a.minima, row, buckets, id, &mut a.yes),
+        coarse_is_hidden(&b.state, b.minima, row, buckets, id, &mut b.yes),
     )
 }
 

@@ -1,21 +1,24 @@
 -- The call is judged, then done.
-use Rattle.std.proofs.Common.{◌≡◌, refl, sym, ℕ, ◌*◌, ◌≤◌, arith, true, false, ◌&&◌, length, eqb, eqb-true, ne_eqb}
+use Rattle.std.proofs.Common.{◌≡◌, refl, sym, ℕ, ◌*◌, ◌≤◌, arith, Bool, true, false, cond, ◌&&◌, length, eqb, eqb-true, ne_eqb}
 use Rattle.sizes.specs.Sizes.{paint-attr-table, layer-attr-table}
+use Rattle.sizes.specs.Widths.{bucket-tiles}
 use Rattle.sizes.specs.declared.answers.Refusal.{Refusal}
 use Rattle.sizes.specs.Refusals.{number_of}
 use Rattle.sizes.proofs.Refusals.{not_done}
-use Rattle.rules.specs.Answers.{answer}
+use Rattle.rules.specs.Answers.{Answer, answer, Done}
 use Rattle.rules.proofs.All.{and_left, and_right}
 use Rattle.row.specs.Words.{Words}
+use Rattle.row.specs.Arena.{sizes, row_at}
 use Rattle.screen.specs.declared.Screen.{Screen}
 use Rattle.paint.specs.Beginning.{begun}
-use Rattle.paint.specs.Judging.{count}
+use Rattle.paint.specs.Judging.{count, wide}
 use Rattle.paint.specs.Painting.{attrs-at}
 use Rattle.paint.specs.Stepping.{Attributes}
 use Rattle.paint.specs.StoredCmds.{stored-long}
 use Rattle.paint.proofs.Judged.{There, there-by, past-begun}
 use Rattle.paint.proofs.ScreenParts.{lies, few-attrs}
-use Rattle.compact.specs.Call.{tables-long, compact_number, Stored, stored, row-compacted, compacting, RowReady}
+use Rattle.compact.specs.Row.{compact-words}
+use Rattle.compact.specs.Call.{tables-long, compact_number, Stored, stored, with-closed, row-compacted, ended, compacting, RowReady}
 
 -- the tables of attributes are whole, and few of them are in use
 pub record Tables (s : Screen) (a : Attributes) : Type 0 where
@@ -80,3 +83,29 @@ module _ (r : ℕ) (a : Attributes) (s : Screen) (w u : Words) (h : 0 ≡ compac
   pub done : made 0 → answer 0 (stored (begun false s) u) ≡ compacting r a (stored s w)
   unfolding compacting
   done m = rw (← h, ← m) refl
+
+-- What is refused alters no word.
+module _ (r : ℕ) (a : Attributes) (k : Stored) where
+  abbrev s : Screen
+  s = k.screen
+
+  abbrev x : Answer Words
+  x = compact-words (bucket-tiles s.width) (wide s) (attrs-at a.paints s.paint_attrs a.layers s.layer_attrs) (row_at (sizes s.c s.d) r k.words)
+
+  -- by whether the row's words are accepted, ..
+  abbrev in-place : Bool → Answer Words
+  in-place b = cond b (answer Done (with-closed s.c r k.words x.value)) (answer x.number k.words)
+
+  unread-kept : (b : Bool) → eqb x.number Done ≡ b → ((ended s (in-place b)).number ≡ Done → ⊥) → (ended s (in-place b)).value ≡ k
+  unread-kept true e q = absurd (q refl)
+  unread-kept false e q = rw e refl
+
+  -- .. and whether the call is
+  judged-kept : (b : Bool) (n : ℕ) → ((cond b (ended s (in-place (eqb x.number Done))) (answer n k)).number ≡ Done → ⊥)
+      → (cond b (ended s (in-place (eqb x.number Done))) (answer n k)).value ≡ k
+  judged-kept true n q = unread-kept (eqb x.number Done) refl q
+  judged-kept false n q = refl
+
+  pub compact-kept : ((compacting r a k).number ≡ Done → ⊥) → (compacting r a k).value ≡ k
+  unfolding compacting
+  compact-kept q = let n = compact_number s r k.words a in judged-kept (eqb n Done) n q

@@ -6,12 +6,14 @@ use Rattle.rules.specs.Spans.{Span}
 use Rattle.rules.specs.Inputs.{Props}
 use Rattle.rules.specs.Plans.{Frame, Step, a-push}
 use Rattle.rules.specs.Calls.{Canvas, step_call, begin-call, paint-call, unset-call, visible-call, write-call, hidden-call, can-skip-call}
+use Rattle.rules.specs.Compacted.{compact-call}
 use Rattle.screen.specs.Tables.{ScreenLent}
 use Rattle.screen.specs.declared.layers.LayerProps.{LayerProps}
 use Rattle.inputs.specs.declared.Draw.{Draw}
 use Rattle.layers.specs.Filter.{FilterGiven}
 use Rattle.walk.specs.Reading.{props_in}
 use Rattle.walk.specs.Steps.{call_at}
+use Rattle.compact.specs.Lent.{compact-at}
 use Rattle.depth.specs.Listing.{listing}
 use Rattle.paint.specs.DirectRuns.{unset-of, visible-of, hidden-of-row, skip-of-row}
 use Rattle.refine_paint.specs.Canvases.{given_out, wrote_of, WholeCanvas}
@@ -43,6 +45,7 @@ pub record Answers (k : Canvas) (l : ScreenLent) : Type 0 where
   pub visible : (i id : ℕ) (t : Span) (list : List ℕ)
       → visible-of l.screen i l.tables.depth.words t id list ≡ listing (visible-call id i (length list / 2) t k) list
   pub writes : (i id : ℕ) (t : Span) (list : List ℕ) → write-out i id t list l ≡ wrote_of (write-call id i (length list / 2) t k) list
+  pub compacts : (i : ℕ) → compact-at i l ≡ answer (compact-call i k).number (canvas-words (compact-call i k).value)
   pub hides : (i : ℕ) (t : Span) (id : ℕ) → hidden-of-row l.screen i l.tables.depth.minima t id ≡ hidden-call i t id k
   pub skips : (i : ℕ) (t : Span) (id : ℕ) → skip-of-row l.screen i l.tables.rows t id ≡ can-skip-call i t id k
 

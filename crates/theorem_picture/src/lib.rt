@@ -20,7 +20,7 @@ ghost use Rattle.theorem_picture.specs.Standing.{AloneStands};
 ghost use Rattle.theorem_picture.specs.Stored.{CanvasStored, StandsStored};
 ghost use Rattle.theorem_picture.specs.Summed.{ReachedHidden, ReachedSummed};
 ghost use Rattle.theorem_picture.specs.Said.{CallsSaid, FillsReached, PropertiesGood, PushReached, RefusedKept, ShiftsFree, StepReached};
-ghost use Rattle.theorem_picture.specs.Kept.{BeginKept, ResetKept, RowKept, StepKept, UnsetKept, VisibleKept, WriteKept};
+ghost use Rattle.theorem_picture.specs.Kept.{BeginKept, CompactKept, ResetKept, RowKept, StepKept, UnsetKept, VisibleKept, WriteKept};
 ghost use Rattle.theorem_picture.specs.Apart.{RowApart, StepApart};
 ghost use Rattle.theorem_picture.specs.Bounded.{FrameKept, RowsFew};
 ghost use Rattle.theorem_picture.specs.Refined.{FilePlays, ResetRefined, RowsRefined, StepRefined, StepsAgree, TouchedOwn, WalksAgree, WholeKept};
@@ -56,6 +56,7 @@ pub fn refused_calls_change_nothing()
     ensures unset_runs { UnsetKept }
     ensures visible_runs { VisibleKept }
     ensures writes { WriteKept }
+    ensures compacts { CompactKept }
 {}
 
 /// Painting a row leaves every other row as it was.

@@ -1,1 +1,5 @@
-pub mod Newest
+pub mod Reading
+pub mod Passing
+pub mod Row
+pub mod Call
+pub mod Lent

@@ -55,7 +55,7 @@ past_row n s r = go (eqb n 0) (leb (count s) r) refl refl
     go true false e f h = (eqb-true _ _ e, leb-false _ _ f)
     go false y e f h = absurd (eqb-false _ _ e h)
 
-past-begun : (n : ℕ) (b : Bool) → cond (eqb n 0) (cond b 0 13) n ≡ 0 → n ≡ 0
+pub past-begun : (n : ℕ) (b : Bool) → cond (eqb n 0) (cond b 0 13) n ≡ 0 → n ≡ 0
 past-begun n b = go (eqb n 0) b refl
   where
     go : (x y : Bool) → eqb n 0 ≡ x → cond x (cond y 0 13) n ≡ 0 → n ≡ 0

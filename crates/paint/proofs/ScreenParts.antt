@@ -62,7 +62,7 @@ module _ (s : Screen) (r : ℕ) where
       let t = skip-there s r (length rows) (sym h) in
       lies (count s) r 54 rows t.there t.passed.few (omega arith) t.passed.tables
 
-few-attrs : (s : Screen) → good_screen s ≡ true → (s.paint_attrs ≤ 1024) × (s.layer_attrs ≤ 1024)
+pub few-attrs : (s : Screen) → good_screen s ≡ true → (s.paint_attrs ≤ 1024) × (s.layer_attrs ≤ 1024)
 unfolding good_screen
 few-attrs s h =
     let a = leb 1 s.next_draw_id && leb s.next_draw_id 1048577 in

@@ -28,7 +28,7 @@ module _ {A : Type 0} (f : A → List ℕ) (w : ℕ) (long : (x : A) → length 
       let z : w * suc k + j ≡ length (f x) + (w * k + j) = rw (long, mul-suc w k) (omega arith) in
       rw (z, append_assoc (f x) (join f xs) ys, get_or-append-add (f x) (join f xs ++ ys) (w * k + j) 0) (join-at xs ys k j d (omega arith) g)
 
-four : (c : Command) → length (command_words c) ≡ 4
+pub four : (c : Command) → length (command_words c) ≡ 4
 unfolding command_words
 four (paint-fill s None i) = refl
 four (paint-fill s (Some a) i) = refl

@@ -54,7 +54,7 @@ set_same (p ∷ ps) zero d h = refl
 set_same (p ∷ ps) (suc i) d h = ap (λ (t : List Painter). p ∷ t) (set_same ps i d (omega arith))
 
 -- the tables hold the attributes' ids and panels
-holds : (s : rule.Screen Row) → Holds s.state.attrs (attributes-of s).paints (length s.state.attrs.paints) (attributes-of s).layers (length s.state.attrs.layers)
+pub holds : (s : rule.Screen Row) → Holds s.state.attrs (attributes-of s).paints (length s.state.attrs.paints) (attributes-of s).layers (length s.state.attrs.layers)
 unfolding table
 holds s =
     record {
@@ -67,13 +67,13 @@ holds s =
     }
 
 -- 12 without such a row, 13 where painting does not go on
-row_number : (t b : Bool) → cond (eqb (cond t BadRun Done) Done) (cond b Done Open) (cond t BadRun Done) ≡ cond t BadRun (cond b Done Open)
+pub row_number : (t b : Bool) → cond (eqb (cond t BadRun Done) Done) (cond b Done Open) (cond t BadRun Done) ≡ cond t BadRun (cond b Done Open)
 row_number true b = refl
 row_number false true = refl
 row_number false false = refl
 
 -- no open layer, by their number
-none_open : (ls : List Layer) → eqb (length ls) 0 ≡ is-empty ls
+pub none_open : (ls : List Layer) → eqb (length ls) 0 ≡ is-empty ls
 none_open [] = refl
 none_open (x ∷ ls) = ne_eqb (suc (length ls)) 0 (λ e. omega arith)
 
@@ -84,20 +84,20 @@ module _ (k : calls.Canvas) (w : WholeCanvas k) (i : ℕ) (l : List ℕ) where
   abbrev n : ℕ
   n = buckets-across s.state.frame
 
-  long : Long (sizes s.state.frame.c s.state.frame.d) (boxes.rows_of s.state.frame.viewport) (rows_of s)
+  pub long : Long (sizes s.state.frame.c s.state.frame.d) (boxes.rows_of s.state.frame.viewport) (rows_of s)
   long = rw (← w.sound.count) (screen-long s.state.frame.c s.state.frame.d s.rows)
 
-  few : (length s.state.attrs.paints ≤ 1024) × (length s.state.attrs.layers ≤ 1024)
+  pub few : (length s.state.attrs.paints ≤ 1024) × (length s.state.attrs.layers ≤ 1024)
   few =
       let f1 = ltb 1024 (length s.state.attrs.paints) in
       let f2 = ltb 1024 (length s.state.attrs.layers) in
       let h = neither f1 f2 (neither (f1 || f2) (ltb 256 (length s.state.attrs.filters)) w.sound.attrs).0 in
       (ltb-false _ _ h.0, ltb-false _ _ h.1)
 
-  paints-long : length (attributes-of s).paints ≡ paint-attr-table
+  pub paints-long : length (attributes-of s).paints ≡ paint-attr-table
   paints-long = table-length 0 paint-attr-table (join paint-attr-words s.state.attrs.paints) (omega (arith, join-length paint-attr-words paint-attr-size (λ x. refl) s.state.attrs.paints, few.0))
 
-  layers-long : length (attributes-of s).layers ≡ layer-attr-table
+  pub layers-long : length (attributes-of s).layers ≡ layer-attr-table
   layers-long = table-length 0 layer-attr-table (join attr-words s.state.attrs.layers) (omega (arith, join-length attr-words layer-attr-size (λ x. refl) s.state.attrs.layers, few.1))
 
   step-judged : number (screen-of s.state k.begun) i (attributes-of s) (words_of k l) ≡ cond (leb (length s.rows) i) BadRun (cond (calls.paints-on k) Done Open)

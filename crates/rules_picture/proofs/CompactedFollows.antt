@@ -9,14 +9,17 @@ use Rattle.rules.specs.Spans.{Span, covers}
 use Rattle.rules.specs.Commands.{Command, paint-fill, layer-fill, push-buf, pop-buf, DepthFill}
 use Rattle.rules.specs.Attributes.{PaintAttr, LayerAttr, Attrs, no-paint, no-layer}
 use Rattle.rules.specs.Rows.{Row, row-ops, fresh-row}
-use Rattle.rules.specs.Plans.{Frame, bucket, buckets-across, Step}
+use Rattle.rules.specs.Plans.{Frame, bucket, buckets-across, Step, plan}
 use Rattle.rules.specs.Steps.{Screen, reset, done, touched, call}
 use Rattle.rules.specs.Depth.{visible-runs, is-visible, can_skip}
 use Rattle.rules.specs.Painting.{paint-id, layer-id, paint-panel, layer-panel, received, paint-row}
 use Rattle.rules.specs.Plain.{Told, Story, OpenLayer, untold, tell-step, tell-steps, plain}
 use Rattle.rules.specs.Compacted.{newest-ids, is-hidden, a-fill, a-buffer, Removes, nothing, one-more, kept, passed, turned-round, compacted, compact, compact-screen}
 use Rattle.rules.proofs.All.{All, nil, cons, head, tail, all_append, all_first, all_rest, all-at, never}
+use Rattle.rules.proofs.laws.Changes.{puts-length}
 use Rattle.rules.proofs.laws.Widths.{bucket-some}
+use Rattle.rules_picture.specs.Built.{Built}
+use Rattle.rules_picture.specs.Built as built
 use Rattle.rules_picture.specs.Compacted.{Kept-up, no_step, then, tidied, Compacted-picture, Compacted-skip}
 use Rattle.rules_picture.proofs.Cases.{by}
 use Rattle.rules_picture.proofs.Buckets.{touched-end}
@@ -44,7 +47,7 @@ none-in (x ∷ xs) e = never (sym e)
 
 -- What removals leave, of facts of each command and of the nesting.
 module _ {P : Command → Type 0} (w : ℕ) (a : Attrs) (bs : List ℕ) where
-  removes-all : {cs ds : List Command} → Removes w a bs cs ds → All P cs → All P ds
+  pub removes-all : {cs ds : List Command} → Removes w a bs cs ds → All P cs → All P ds
   removes-all nothing h = h
   removes-all (one-more (a-fill front back c e) xs) h = removes-all xs (all_append (all_first front (c ∷ back) h) (tail (all_rest front (c ∷ back) h)))
   removes-all (one-more (a-buffer front back s) xs) h =
@@ -77,11 +80,11 @@ module _ (w : ℕ) (a : Attrs) (bs : List ℕ) where
 
 -- What the tile is told of a row's commands, and sees.
 module _ (w : ℕ) (a : Attrs) (t n : ℕ) (pos : 0 < w) (on : t / w < n) (fs : List DepthFill) where
-  abbrev words : List ℕ
+  abbrev pub words : List ℕ
   words = newest-ids a n fs
 
   -- the word of the tile's bucket
-  abbrev word : ℕ
+  abbrev pub word : ℕ
   word = newest-hide (told-fills w a t fs)
 
   words-long : length words ≡ n
@@ -94,7 +97,7 @@ module _ (w : ℕ) (a : Attrs) (t n : ℕ) (pos : 0 < w) (on : t / w < n) (fs : 
   Sees m cs = such (no-older word) (told-commands w a t m cs)
 
   -- a fill of which nothing is visible shows the tile nothing
-  hides-tile : (l : Bool) (id i q : ℕ) (s : Span) (x : Option ℕ) (m : ℕ) → is-empty (visible-runs w words id s) ≡ true → (covers s t && leb word id) ≡ false
+  pub hides-tile : (l : Bool) (id i q : ℕ) (s : Span) (x : Option ℕ) (m : ℕ) → is-empty (visible-runs w words id s) ≡ true → (covers s t && leb word id) ≡ false
   unfolding received
   hides-tile l id i q s x m e =
       let len : t / w < length words = rw words-long on in
@@ -200,7 +203,7 @@ module _ (w n : ℕ) (a c : Attrs) (t : ℕ) (v : Box) (row : ℕ) (l : Leads w 
 compact-ranged : (w n : ℕ) (a : Attrs) (p l : ℕ) (r : Row) → Ranged p l r → Ranged p l (compact w n a r)
 compact-ranged w n a p l r g = record { commands = removes-all w a (newest-ids a n r.fills) (removed-one-by-one w n a r) g.commands; fills = g.fills }
 
-screen-ranged : (i : ℕ) (s : Screen Row) → AllRanged s → AllRanged (compact-screen i s)
+pub screen-ranged : (i : ℕ) (s : Screen Row) → AllRanged s → AllRanged (compact-screen i s)
 screen-ranged i s g =
     let p = length s.state.attrs.paints in
     let l = length s.state.attrs.layers in
@@ -215,7 +218,7 @@ screen-ranged i s g =
     past (x ∷ xs) (suc i) h = past xs i (omega arith)
 
 module _ (w : ℕ) (c : Attrs) (t n : ℕ) (v : Box) (row : ℕ) (pos : 0 < w) (on : t / w < n) where
-  no-levels : {ls : List OpenLayer} {m : ℕ} → ls ≡ [] → Shape ls m → m ≡ 0
+  pub no-levels : {ls : List OpenLayer} {m : ℕ} → ls ≡ [] → Shape ls m → m ≡ 0
   no-levels e s = let h = shape-most (rw e at s) in omega arith
 
   none-of : {A : Type 0} (xs : List A) → length xs ≡ 0 → xs ≡ []
@@ -244,29 +247,38 @@ module _ (w : ℕ) (c : Attrs) (t n : ℕ) (v : Box) (row : ℕ) (pos : 0 < w) (
         shape = g.shape;
       }
 
-  compact-follows : (i : ℕ) (o : Story) (s : Screen Row) → buckets-across s.state.frame ≡ n → s.state.layers ≡ [] → Leads w c t v row s.state.attrs → AllRanged s
-      → Follows w c t v row o s → Follows w c t v row o (compact-screen i s)
-  compact-follows i o s e z l g f =
+  -- what holds of a row, and of it compacted, holds of it on the compacted screen
+  pub row-compacted : (P : Row → Type 0) (i : ℕ) (s : Screen Row) → bucket s.state.frame ≡ w → buckets-across s.state.frame ≡ n → Leads w c t v row s.state.attrs → AllRanged s
+      → row < length s.rows → P (get_or s.rows row fresh-row) → P (compact w n c (get_or s.rows row fresh-row)) → P (get_or (compact-screen i s).rows row fresh-row)
+  row-compacted P i s d e l g h old new =
       let a = s.state.attrs in
-      let old = get_or s.rows i fresh-row in
-      let q = compact (bucket s.state.frame) (buckets-across s.state.frame) a old in
-      let none : o.open-layers ≡ [] = map-none o.open-layers (sym f.opened ∙ z) in
-      let grown : Grown w c t v row o.told o.next o.open-layers (get_or (set s.rows i q) row fresh-row) =
+      let q = compact (bucket s.state.frame) (buckets-across s.state.frame) a (get_or s.rows i fresh-row) in
       by (eqb row i)
       (λ y.
       let k = eqb-true row i y in
-      let there : i < length s.rows = rw (← k) f.there in
-      let own : Grown w c t v row o.told o.next o.open-layers old =
-      subst (λ (j : ℕ). Grown w c t v row o.told o.next o.open-layers (get_or s.rows j fresh-row)) k f.grown in
-      let same : q ≡ compact w n c old =
-      ap (λ (m : ℕ). compact m (buckets-across s.state.frame) a old) f.wide
-      ∙ ap (λ (m : ℕ). compact w m a old) e
-      ∙ ap (λ (cs : List Command). record { commands = cs; fills = old.fills; levels = old.levels; depth = old.depth })
-      (compacted-alike w n a c t v row l old (all-at g i fresh-row there)) in
-      let at : get_or (set s.rows i q) row fresh-row ≡ compact w n c old =
-      ap (λ (j : ℕ). get_or (set s.rows i q) j fresh-row) k ∙ get_or-set_same s.rows i q fresh-row there ∙ same in
-      subst (λ (x : Row). Grown w c t v row o.told o.next o.open-layers x) (sym at) (compact-grows none own))
-      (λ m. rw (get_or-set_other s.rows i row q fresh-row (eqb-false row i m)) f.grown) in
+      let r = get_or s.rows row fresh-row in
+      let same : compact (bucket s.state.frame) (buckets-across s.state.frame) a r ≡ compact w n c r =
+      ap (λ (m : ℕ). compact m (buckets-across s.state.frame) a r) d
+      ∙ ap (λ (m : ℕ). compact w m a r) e
+      ∙ ap (λ (cs : List Command). record { commands = cs; fills = r.fills; levels = r.levels; depth = r.depth })
+      (compacted-alike w n a c t v row l r (all-at g row fresh-row h)) in
+      let at : get_or (set s.rows i q) row fresh-row ≡ compact w n c r =
+      rw (← k) (get_or-set_same s.rows row (compact (bucket s.state.frame) (buckets-across s.state.frame) a r) fresh-row h ∙ same) in
+      subst P (sym at) new)
+      (λ m. rw (get_or-set_other s.rows i row q fresh-row (eqb-false row i m)) old)
+
+  -- a screen on which no layer is open follows a story that has none open
+  pub none-open : {o : Story} {s : Screen Row} → s.state.layers ≡ [] → Follows w c t v row o s → o.open-layers ≡ []
+  none-open {o = o} z f = map-none o.open-layers (sym f.opened ∙ z)
+    where
+      map-none : (ls : List OpenLayer) → map layer-in ls ≡ [] → ls ≡ []
+      map-none [] y = refl
+      map-none (x ∷ xs) y = never (sym (ap is-empty y))
+
+  pub compact-follows : (i : ℕ) (o : Story) (s : Screen Row) → buckets-across s.state.frame ≡ n → s.state.layers ≡ [] → Leads w c t v row s.state.attrs → AllRanged s
+      → Follows w c t v row o s → Follows w c t v row o (compact-screen i s)
+  compact-follows i o s e z l g f =
+      let q = compact (bucket s.state.frame) (buckets-across s.state.frame) s.state.attrs (get_or s.rows i fresh-row) in
       record {
         view = f.view;
         wide = f.wide;
@@ -276,18 +288,33 @@ module _ (w : ℕ) (c : Attrs) (t n : ℕ) (v : Box) (row : ℕ) (pos : 0 < w) (
         layers = f.layers;
         opened = f.opened;
         there = rw (length-set s.rows i q) f.there;
-        grown = grown;
+        grown = row-compacted (λ (r : Row). Grown w c t v row o.told o.next o.open-layers r) i s f.wide e l g f.there f.grown (compact-grows (none-open z f) f.grown);
       }
-    where
-      map-none : (ls : List OpenLayer) → map layer-in ls ≡ [] → ls ≡ []
-      map-none [] y = refl
-      map-none (x ∷ xs) y = never (sym (ap is-empty y))
 
--- Histories with rows compacted between their steps: frames, attributes and stories go on as without.
+-- Histories with rows compacted between their steps: one with none is such, and frames, attributes and stories go on as without.
+pub built-kept : {xs : List Step} {s u : Screen Row} → Built xs s u → Kept-up xs s u
+built-kept built.no_step = no_step
+built-kept (built.then e b) = then e (built-kept b)
+
 pub kept-frame : {xs : List Step} {s u : Screen Row} → Kept-up xs s u → u.state.frame ≡ s.state.frame
 kept-frame no_step = refl
 kept-frame (then {x = x} {s = s} e b) = kept-frame b ∙ call-frame row-ops x s
 kept-frame (tidied i z b) = kept-frame b
+
+pub kept-rows : {xs : List Step} {s u : Screen Row} → Kept-up xs s u → length u.rows ≡ length s.rows
+unfolding done
+kept-rows no_step = refl
+kept-rows (then {x = x} {s = s} e b) =
+    let js = touched Row row-ops (length s.state.layers) 0 s.rows in
+    let p = plan x js s.state in
+    kept-rows b ∙ ap (λ (k : Screen Row). length k.rows) (call-done x s e).1 ∙ puts-length Row row-ops (bucket s.state.frame) (length p.layers) p.puts s.rows
+kept-rows (tidied {s = s} i z b) =
+    kept-rows b ∙ length-set s.rows i (compact (bucket s.state.frame) (buckets-across s.state.frame) s.state.attrs (get_or s.rows i fresh-row))
+
+pub kept-append : {xs ys : List Step} {s u v : Screen Row} → Kept-up xs s u → Kept-up ys u v → Kept-up (xs ++ ys) s v
+kept-append no_step b = b
+kept-append (then e a) b = then e (kept-append a b)
+kept-append (tidied i z a) b = tidied i z (kept-append a b)
 
 module _ (w t : ℕ) (v : Box) (row : ℕ) where
   pub kept-leads : {xs : List Step} {s u : Screen Row} → Kept-up xs s u → Leads w u.state.attrs t v row s.state.attrs
@@ -320,6 +347,11 @@ pub follows-kept : (f : Frame) (xs : List Step) (u : Screen Row) → Kept-up xs 
 unfolding reset
 follows-kept f xs u b row t h on =
     kept-follows (bucket f) t f.viewport row (bucket-some f.width) b on (reset-ranged f) untold (reset-follows u.state.attrs t row f h)
+
+-- .. has the frame of its reset, and the rows of that, ..
+pub kept-on : (f : Frame) (xs : List Step) (u : Screen Row) → Kept-up xs (reset fresh-row f) u → (row : ℕ) → row < rows_of f.viewport → (u.state.frame ≡ f) × (row < length u.rows)
+unfolding reset
+kept-on f xs u b row h = let k = kept-rows b in (kept-frame b, rw (k, length-replicate {A = Row} (rows_of f.viewport) fresh-row) h)
 
 -- .. so the picture holds of it.
 pub compacted-picture : Compacted-picture

@@ -18,6 +18,8 @@ use Rattle.rules_picture.specs.Colours.{Colours, Gentle, if-inside, SamePicture}
 use Rattle.rules_picture.proofs.Listed.{such-append}
 use Rattle.rules_picture.proofs.Shape.{touched-layers}
 use Rattle.rules_picture.proofs.StackedSteps.{Fair}
+use Rattle.rules_picture.specs.Compacted.{Compacted-colours}
+use Rattle.rules_picture.proofs.CompactedFollows.{built-kept}
 use Rattle.rules_picture.proofs.SamePicture.{Fairly, no_more, fair-then, same-buffers}
 
 -- the rows from a to b
@@ -219,8 +221,11 @@ module _ {B : Type 0} (c : Colours B) (w t : ℕ) (v : Box) (row : ℕ) (attrs :
   inside-fair [] o k = no_more
   inside-fair (x ∷ xs) o k = fair-then (all_map each-fair k.each) (inside-fair xs (tell-step w v row t x o) (step-boxed w v row t x o k))
 
-pub same-picture : {B : Type 0} → SamePicture B
-same-picture c f xs k b e ts r t h on fin op g =
+pub kept-colours : {B : Type 0} → Compacted-colours B
+kept-colours c f xs k b e ts r t h on fin op g =
     let w = bucket f in
     let v = f.viewport in
     same-buffers c (if-inside w v r t) f xs k b e ts r t h on fin op (inside-fair c w t v r k.screen.state.attrs g xs untold (untold-boxed w v r t))
+
+pub same-picture : {B : Type 0} → SamePicture B
+same-picture c f xs k b = kept-colours c f xs k (built-kept b)

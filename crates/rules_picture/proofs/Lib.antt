@@ -50,5 +50,6 @@ pub mod Compacted
 pub mod CompactedPieces
 pub mod CompactedCall
 pub mod Ranged
+pub mod CompactedColours
 pub mod CompactedFollows
 pub mod Roomier

@@ -20,8 +20,9 @@ use Rattle.rules_picture.proofs.Cases.{by}
 use Rattle.rules_picture.proofs.Buckets.{touched-end}
 use Rattle.rules_picture.proofs.Shown.{hides-of, newest-hide, hider, write-past}
 use Rattle.rules_picture.proofs.Rows.{entry-told, fill-told, told-fills, Numbered, newest-told}
-use Rattle.rules_picture.proofs.Picture.{built-on, follows}
 use Rattle.rules_picture.proofs.Skip.{words-painted, finished-fills}
+use Rattle.rules_picture.specs.Compacted.{Compacted-newest, Compacted-stored}
+use Rattle.rules_picture.proofs.CompactedFollows.{built-kept, kept-on, follows-kept}
 use Rattle.rules_picture.proofs.SamePicture.{plain-comes}
 use Rattle.rules_picture.proofs.Inside.{inside-fair, untold-boxed}
 
@@ -109,21 +110,28 @@ module _ {B : Type 0} (c : Colours B) (t : ℕ) {p q l m : ℕ → ℕ} (same-pa
       let ds = newest-over (t / w) fs in
       ap (λ (b : ℕ). commands-drawn c p l t b cs (depth-drawn c ds bs)) (newest-alike ds) ∙ commands-alike (newest-id q ds) cs (depth-drawn c ds bs)
 
-pub same-stored : {B : Type 0} → SameStored B
-same-stored c f xs k b e r t h on op g =
+pub kept-stored : {B : Type 0} → Compacted-stored B
+kept-stored c f xs k b e r t h on op g =
     let w = bucket f in
     let a = k.screen.state.attrs in
-    let n = (follows f xs k.screen b r t h).grown.holds.numbered in
+    let near : t / w < buckets-across f = touched-end w (bucket-some f.width) t (width f.viewport / 4) on in
+    let n = (follows-kept f xs k.screen b r t h near).grown.holds.numbered in
     sym (stored-comes w a t c (get_or k.screen.rows r fresh-row) n (c.blank ∷ []))
-    ∙ sym (plain-comes c _ f xs k b e r t h op (inside-fair c w t f.viewport r a g xs untold (untold-boxed w f.viewport r t)))
+    ∙ sym (plain-comes c _ f xs k b e r t h near op (inside-fair c w t f.viewport r a g xs untold (untold-boxed w f.viewport r t)))
 
-pub word-newest : WordNewest
-word-newest f xs k b e ts r t h on fin =
+pub same-stored : {B : Type 0} → SameStored B
+same-stored c f xs k b = kept-stored c f xs k (built-kept b)
+
+pub kept-newest : Compacted-newest
+kept-newest f xs k b e ts r t h on fin =
     let w = bucket f in
     let a = k.screen.state.attrs in
     let row = get_or k.screen.rows r fresh-row in
-    let (v, there) = built-on f xs k.screen b r h in
-    let near : t / w < buckets-across k.screen.state.frame = rw v (touched-end w (bucket-some f.width) t (width f.viewport / 4) on) in
-    words-painted k e ts r there (finished-fills (painted ts k).canvas r fin) (t / w) near
+    let (v, there) = kept-on f xs k.screen b r h in
+    let near : t / w < buckets-across f = touched-end w (bucket-some f.width) t (width f.viewport / 4) on in
+    words-painted k e ts r there (finished-fills (painted ts k).canvas r fin) (t / w) (rw v near)
     ∙ newest-told w a t row.fills
-    ∙ fills-id w a t row.fills (follows f xs k.screen b r t h).grown.holds.numbered
+    ∙ fills-id w a t row.fills (follows-kept f xs k.screen b r t h near).grown.holds.numbered
+
+pub word-newest : WordNewest
+word-newest f xs k b = kept-newest f xs k (built-kept b)

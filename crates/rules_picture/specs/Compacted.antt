@@ -9,11 +9,13 @@ use Rattle.rules.specs.Rows.{Row, row-ops, fresh-row}
 use Rattle.rules.specs.Boxes.{width, rows_of}
 use Rattle.rules.specs.Plans.{Frame, bucket, Step}
 use Rattle.rules.specs.Steps.{Screen, reset, call}
-use Rattle.rules.specs.Plain.{plain}
-use Rattle.rules.specs.Painting.{paint-row, received}
+use Rattle.rules.specs.Plain.{untold, tell-steps, plain}
+use Rattle.rules.specs.Painting.{paint-id, layer-id, paint-row, received}
 use Rattle.rules.specs.Calls.{Canvas, begin-call, painter-of, can-skip-call}
 use Rattle.rules.specs.Compacted.{newest-ids, Removed, Removes, compacted, compact, compact-screen, compact-call}
+use Rattle.rules_picture.specs.Colours.{Colours, turns-drawn, plain-drawn, if-touched, if-inside, Opaque, Gentle}
 use Rattle.rules_picture.specs.Skip.{FillsPainted}
+use Rattle.rules_picture.specs.StoredColours.{newest-over, newest-id, stored-drawn}
 use Rattle.rules_picture.specs.Turns.{Turn, from, has-finished, painted}
 
 -- with n buffers open: none is closed that is not open, and in the end none is open
@@ -88,3 +90,41 @@ Compacted-skip =
     → (s : Span) (id : ℕ) → (can-skip-call r s id (painted ts k).canvas).value ≡ true
     → (t : ℕ) → covers s t ≡ true → t < width f.viewport / 4
     → is-visible id (get_or (painter-of (painted ts k).canvas r).buckets (t / bucket f) 0) ≡ true
+
+-- Once a row has finished, the depth word of each tile's bucket is the id of the newest depth fill over it.
+abbrev pub Compacted-newest : Type 0
+Compacted-newest =
+    (f : Frame) (xs : List Step) (k : Canvas) → Kept-up xs (reset fresh-row f) k.screen → (begin-call k).number ≡ Done
+    → (ts : List Turn) (r t : ℕ) → r < rows_of f.viewport → t < width f.viewport / 4
+    → has-finished (painted ts k).canvas r ≡ true
+    → get_or (painter-of (painted ts k).canvas r).buckets (t / bucket f) 0 ≡ newest-id (paint-id k.screen.state.attrs) (newest-over (t / bucket f) (get_or k.screen.rows r fresh-row).fills)
+
+-- What a tile comes to over such histories, whatever the colours are, is what drawing everything in plain order comes to: of colours that keep law 1, where
+-- layers close over the rows that they touch, ..
+abbrev pub Compacted-touched : Type 0 → Type 0
+Compacted-touched B =
+    (c : Colours B) (f : Frame) (xs : List Step) (k : Canvas) → Kept-up xs (reset fresh-row f) k.screen → (begin-call k).number ≡ Done
+    → (ts : List Turn) (r t : ℕ) → r < rows_of f.viewport → t < width f.viewport / 4
+    → has-finished (painted ts k).canvas r ≡ true
+    → Opaque c (tell-steps (bucket f) f.viewport r t xs untold).told
+    → turns-drawn c r t ts (begin-call k).value (c.blank ∷ []) ≡ plain-drawn c if-touched (bucket f) f.viewport r t xs untold (c.blank ∷ [])
+
+-- .. of colours that keep both laws, where a layer closes over all rows of its own box, ..
+abbrev pub Compacted-colours : Type 0 → Type 0
+Compacted-colours B =
+    (c : Colours B) (f : Frame) (xs : List Step) (k : Canvas) → Kept-up xs (reset fresh-row f) k.screen → (begin-call k).number ≡ Done
+    → (ts : List Turn) (r t : ℕ) → r < rows_of f.viewport → t < width f.viewport / 4
+    → has-finished (painted ts k).canvas r ≡ true
+    → Opaque c (tell-steps (bucket f) f.viewport r t xs untold).told → Gentle c k.screen.state.attrs
+    → turns-drawn c r t ts (begin-call k).value (c.blank ∷ []) ≡ plain-drawn c (if-inside (bucket f) f.viewport r t) (bucket f) f.viewport r t xs untold (c.blank ∷ [])
+
+-- .. and of what the row's stored commands and depth fills come to by themselves.
+abbrev pub Compacted-stored : Type 0 → Type 0
+Compacted-stored B =
+    (c : Colours B) (f : Frame) (xs : List Step) (k : Canvas) → Kept-up xs (reset fresh-row f) k.screen → (begin-call k).number ≡ Done
+    → (r t : ℕ) → r < rows_of f.viewport → t < width f.viewport / 4
+    → Opaque c (tell-steps (bucket f) f.viewport r t xs untold).told → Gentle c k.screen.state.attrs
+    → (let attrs = k.screen.state.attrs in
+    let row = get_or k.screen.rows r fresh-row in
+    stored-drawn c (paint-id attrs) (layer-id attrs) t (bucket f) row.fills row.commands (c.blank ∷ []))
+    ≡ plain-drawn c (if-inside (bucket f) f.viewport r t) (bucket f) f.viewport r t xs untold (c.blank ∷ [])

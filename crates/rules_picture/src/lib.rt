@@ -3,7 +3,7 @@
 #![tactic(auto)]
 
 ghost use Rattle.rules_picture.specs.ColourScenes.{AllNeeded, TwoScenes, WrongRows};
-ghost use Rattle.rules_picture.specs.Compacted.{Compacted-balanced, Compacted-gives, Compacted-picture, Compacted-same, Compacted-skip, Less-room, Removals, Room-kept, Twice-called, Twice-once};
+ghost use Rattle.rules_picture.specs.Compacted.{Compacted-balanced, Compacted-colours, Compacted-gives, Compacted-newest, Compacted-picture, Compacted-same, Compacted-skip, Compacted-stored, Compacted-touched, Less-room, Removals, Room-kept, Twice-called, Twice-once};
 ghost use Rattle.rules_picture.specs.Edited.{Line-edited, Line-listed, Line-painted, Row-unchanged};
 ghost use Rattle.rules_picture.specs.EditedPairs.{EditedPairs};
 ghost use Rattle.rules_picture.specs.Minima.{Summary-long, Hidden-exact, Mended-afresh, Pieces-same};
@@ -77,4 +77,12 @@ pub fn compacting_changes_no_picture()
     ensures kept { Room-kept }
     ensures picture { Compacted-picture }
     ensures skip { Compacted-skip }
+    ensures newest { Compacted-newest }
+{}
+
+/// .. and no tile comes to anything else by it, whatever the colours are.
+pub fn compacting_changes_no_colours<B>()
+    ensures touched { Compacted-touched B }
+    ensures colours { Compacted-colours B }
+    ensures stored { Compacted-stored B }
 {}

@@ -11,6 +11,7 @@ use Rattle.walk.specs.Steps.{call_at}
 use Rattle.refine_steps.specs.Lent.{lent_of}
 use Rattle.refine_paint.specs.Canvases.{WholeCanvas}
 use Rattle.refine_paint.proofs.Runs.{unset-by, visible-by, hidden-by, skip_by}
+use Rattle.refine_compact.proofs.Lent.{compact-lent}
 use Rattle.theorem_picture.specs.Calls.{fill-said, pop-said, filter-said}
 use Rattle.theorem_picture.specs.Standing.{canvas-words}
 use Rattle.theorem_picture.specs.Answered.{Answers, CanvasAnswered, StandsAnswered}
@@ -42,6 +43,7 @@ module _ (k : Canvas) (w : WholeCanvas k) where
         unset = λ i t list. unset-by k w i t list;
         visible = λ i id t list. visible-by k w i id t list;
         writes = λ i id t list. write-gives k w i id t list;
+        compacts = λ i. compact-lent k w i;
         hides = λ i t id. hidden-by k w i t id;
         skips = λ i t id. skip_by k w i t id;
       }

@@ -1,5 +1,5 @@
 -- At words that hold a canvas of the rules every call has the rules' answer. Assumes nothing.
-use Rattle.std.proofs.Common.{◌≡◌, sym, ap, ◌∙◌, List, ℕ, ◌/◌, ◌%◌, length, ne_eqb}
+use Rattle.std.proofs.Common.{◌≡◌, sym, ap, ◌∙◌, Bool, List, ℕ, ◌/◌, ◌%◌, length, ne_eqb}
 use Rattle.sizes.specs.Sizes.{piece-size}
 use Rattle.rules.specs.Answers.{Answer, answer, Done}
 use Rattle.rules.specs.Spans.{Span}
@@ -22,11 +22,11 @@ use Rattle.refine_paint.specs.Canvases.{given_out, wrote_of}
 use Rattle.refine_paint.proofs.Runs.{unset-by, visible-by, skip_by}
 use Rattle.theorem_picture.specs.Calls.{fill-at, push_at, pop-at, filter-at, fill-said, pop-said, filter-said}
 use Rattle.theorem_picture.specs.Reached.{begin-at, paint-out, write-out}
-use Rattle.theorem_picture.specs.Standing.{canvas-words, Stands}
+use Rattle.theorem_picture.specs.Standing.{canvas-words, StandsBy}
 use Rattle.theorem_picture.proofs.Calls.{fill-whole, push-steps, pop-whole, filter_steps}
 use Rattle.theorem_picture.proofs.Words.{step_words, begin-words, paint-gives, write-gives}
 
-module _ {f : Frame} {xs : List Step} {l : ScreenLent} (h : Stands f xs l) where
+module _ {c : Bool} {f : Frame} {xs : List Step} {l : ScreenLent} (h : StandsBy c f xs l) where
   abbrev k : Canvas
   k = h.canvas
 

@@ -35,8 +35,8 @@ use Rattle.rules_picture.proofs.Picture.{built-on}
 use Rattle.rules_picture.proofs.Turns.{begun-there}
 use Rattle.rules_picture.proofs.Edited.{row-unchanged, line-listed}
 use Rattle.rules_picture.proofs.EditedFiles.{edited-histories, line-painted}
-use Rattle.theorem_picture.specs.Reached.{Reached, begin-at}
-use Rattle.theorem_picture.specs.Standing.{canvas-words, Stands}
+use Rattle.theorem_picture.specs.Reached.{ReachedAlone, begin-at}
+use Rattle.theorem_picture.specs.Standing.{canvas-words, StandsAlone}
 use Rattle.theorem_picture.specs.Turns.{turn-of, log}
 use Rattle.theorem_picture.specs.Picture.{finished}
 use Rattle.theorem_picture.specs.Rows.{Call, call-log, row-finished}
@@ -119,7 +119,7 @@ record Gives (i : ℕ) (k : Canvas) (cs : List Call) (l : ScreenLent) : Type 0 w
   finished : has-finished (painted turns k).canvas i ≡ true
   gave : from i (call-log cs (begin-at l).value) ≡ from i (painted turns k).log
 
-gives : {f : Frame} {xs : List Step} {l : ScreenLent} (s : Stands f xs l) → (begin-at l).number ≡ Done → (i : ℕ) → i < rows_of f.viewport
+gives : {f : Frame} {xs : List Step} {l : ScreenLent} (s : StandsAlone f xs l) → (begin-at l).number ≡ Done → (i : ℕ) → i < rows_of f.viewport
     → (cs : List Call) → row-finished i cs (begin-at l).value ≡ true → Gives i s.canvas cs l
 gives {f = f} {xs = xs} {l = l} s e i there cs fin =
     let k = s.canvas in
@@ -138,7 +138,7 @@ gives {f = f} {xs = xs} {l = l} s e i there cs fin =
     }
 
 -- two reached screens whose histories are edits of one another outside row i
-reached-pieces : {f : Frame} {xs ys : List Step} {l m : ScreenLent} → Reached f xs l → Reached f ys m → (begin-at l).number ≡ Done → (begin-at m).number ≡ Done
+reached-pieces : {f : Frame} {xs ys : List Step} {l m : ScreenLent} → ReachedAlone f xs l → ReachedAlone f ys m → (begin-at l).number ≡ Done → (begin-at m).number ≡ Done
     → (i : ℕ) → i < rows_of f.viewport → Edited (i + f.viewport.y0 / 4) [] xs ys
     → (cs ds : List Call) → row-finished i cs (begin-at l).value ≡ true → row-finished i ds (begin-at m).value ≡ true
     → from i (call-log cs (begin-at l).value) ≡ from i (call-log ds (begin-at m).value)
@@ -203,7 +203,7 @@ module _ (ws vs : File) (q : Setup) (i : ℕ) (l m : ScreenLent) (e : EditedPair
       → from i (call-log cs (begin-at (recorded ws q l).value).value) ≡ from i (call-log ds (begin-at (recorded vs q m).value).value)
   one-pieces cs ds fin end =
       let r = taken-reached vs e.other q m other in
-      let p : Reached f new.log (recorded vs q m).value = subst (λ (h : Frame). Reached h new.log (recorded vs q m).value) (sym fit) r in
+      let p : ReachedAlone f new.log (recorded vs q m).value = subst (λ (h : Frame). ReachedAlone h new.log (recorded vs q m).value) (sym fit) r in
       reached-pieces (taken-reached ws e.one q l one) p (taken-begins ws e.one q l one) (taken-begins vs e.other q m other) i e.there edits cs ds fin end
 
 pub line-words : LineWords

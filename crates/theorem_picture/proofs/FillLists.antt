@@ -10,7 +10,7 @@ use Rattle.inputs.specs.Draws.{draw_at}
 use Rattle.sizes.specs.Editions.{draw-size}
 use Rattle.walk.specs.Steps.{fill-part, fill-into}
 use Rattle.theorem_picture.specs.Calls.{fill-at, fill-said, fills-out, fills-left, fills-said}
-use Rattle.theorem_picture.specs.Reached.{Reached, by-fill}
+use Rattle.theorem_picture.specs.Reached.{ReachedBy, by-fill}
 use Rattle.theorem_picture.proofs.Calls.{fill-kept}
 
 abbrev pub told : List ℕ → List ℕ → List ℕ → ℕ → ℕ → ScreenLent → FillsOut
@@ -49,6 +49,6 @@ module _ (ps ss ws : List ℕ) (On : List Step → ScreenLent → Type 0)
       go true e = rw e (in-order (b - a) a xs l r)
       go false e = rw (e, append-nil xs) r
 
-pub fills-reached : (ps ss ws : List ℕ) (a b : ℕ) {f : Frame} {xs : List Step} {l : ScreenLent} → Reached f xs l
-    → Reached f (xs ++ fills-said ps ss ws a (fills-out ps ss ws a b l).done) (fills-left ps ss ws a b l)
-fills-reached ps ss ws a b {f} {xs} {l} r = carried ps ss ws (λ ys y. Reached f ys y) (λ ys y d s e. by-fill ps ss d s e) a b xs l r
+pub fills-reached : (ps ss ws : List ℕ) (a b : ℕ) {c : Bool} {f : Frame} {xs : List Step} {l : ScreenLent} → ReachedBy c f xs l
+    → ReachedBy c f (xs ++ fills-said ps ss ws a (fills-out ps ss ws a b l).done) (fills-left ps ss ws a b l)
+fills-reached ps ss ws a b {c} {f} {xs} {l} r = carried ps ss ws (λ ys y. ReachedBy c f ys y) (λ ys y d s e. by-fill ps ss d s e) a b xs l r

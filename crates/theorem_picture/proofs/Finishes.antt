@@ -16,7 +16,7 @@ use Rattle.rules_picture.specs.Turns.{turns, said-finished, has-finished}
 use Rattle.rules_picture.proofs.Turns.{step-ended, turns-screen, turns-paints, begun-is, begun-paints}
 use Rattle.rules_picture.proofs.Finishes as tiles
 use Rattle.rules_picture.proofs.Finishes.{in_order}
-use Rattle.rules_picture.proofs.Picture.{built-on}
+use Rattle.rules_picture.proofs.CompactedFollows.{kept-on}
 use Rattle.theorem_picture.specs.Reached.{Reached, begin-at}
 use Rattle.theorem_picture.specs.Standing.{canvas-words}
 use Rattle.theorem_picture.specs.Turns.{Turn, turn-of, turned, log, finished-at}
@@ -62,7 +62,7 @@ finishes f xs l h e =
     let g = begun-is k d in (
       map lent-turn us,
       λ r there.
-          let row = (built-on f xs k.screen s.built r there).1 in
+          let row = (kept-on f xs k.screen s.built r there).1 in
           let same : (turns us b).canvas.screen ≡ k.screen = turns-screen us b ∙ ap (λ (c : Canvas). c.screen) g in
           let on : paints-on (turns us b).canvas ≡ true = turns-paints us b ∙ begun-paints k d in
           let t : turned (map lent-turn us) (begin-at l).value ≡ canvas-words (turns us b).canvas =

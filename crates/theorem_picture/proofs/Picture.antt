@@ -11,8 +11,7 @@ use Rattle.refine_paint.proofs.Whole.{begin-whole}
 use Rattle.rules_picture.specs.Turns.{turns, said-finished, has-finished}
 use Rattle.rules_picture.proofs.Cases.{by}
 use Rattle.rules_picture.proofs.Turns.{call-refused, call-given, said-so, begun-there}
-use Rattle.rules_picture.proofs.Picture as tiles
-use Rattle.rules_picture.proofs.Picture.{built-on}
+use Rattle.rules_picture.proofs.CompactedFollows.{kept-on, compacted-picture}
 use Rattle.theorem_picture.specs.Reached.{begin-at}
 use Rattle.theorem_picture.specs.Standing.{canvas-words}
 use Rattle.theorem_picture.specs.Turns.{Turn, turn-of, turned, log, finished-at}
@@ -49,6 +48,6 @@ picture f xs l h e ts r t there on fin =
     let d : (begin-call k).number ≡ Done = sym (ap (λ (a : Answer ScreenLent). a.number) q) ∙ e in
     let v : (begin-at l).value ≡ canvas-words (begin-call k).value = ap (λ (a : Answer ScreenLent). a.value) q in
     let w = begin-whole k s.whole in
-    let row = begun-there k r d (built-on f xs k.screen s.built r there).1 in
+    let row = begun-there k r d (kept-on f xs k.screen s.built r there).1 in
     rw (v, log-words ts (begin-call k).value w)
-    (tiles.picture f xs k s.built d (map turn-of ts) r t there on (finished-rules ts (begin-call k).value w r row (sym (ap (finished r ts) v) ∙ fin)))
+    (compacted-picture f xs k s.built d (map turn-of ts) r t there on (finished-rules ts (begin-call k).value w r row (sym (ap (finished r ts) v) ∙ fin)))

@@ -16,7 +16,7 @@ use Rattle.walk.proofs.Given.{good-props-said}
 use Rattle.rules.proofs.laws.Answers.{settle-number}
 use Rattle.walk.specs.Steps.{rows_words, push-part}
 use Rattle.theorem_picture.specs.Calls.{push_at}
-use Rattle.theorem_picture.specs.Reached.{Reached, by-push}
+use Rattle.theorem_picture.specs.Reached.{ReachedBy, by-push}
 
 -- a number 0 has passed the last of three tests
 last-of : (a b c : Bool) (k : ℕ) → cond (a && b && c) k 4 ≡ 0 → c ≡ true
@@ -38,6 +38,6 @@ module _ (p : LayerProps) (l : ScreenLent) (e : (push_at p l).number ≡ Done) w
   push-says f = sym (good-props-said p f accepted).0
 
 -- any done push extends the history by the step that its properties say
-pub push-reached : {f : Frame} {xs : List Step} {l : ScreenLent} (p : LayerProps) → T (fits binary32 p.opacity) → Reached f xs l → (push_at p l).number ≡ Done
-    → Reached f (xs ++ (a-push (props_said p) ∷ [])) (push_at p l).value
+pub push-reached : {c : Bool} {f : Frame} {xs : List Step} {l : ScreenLent} (p : LayerProps) → T (fits binary32 p.opacity) → ReachedBy c f xs l → (push_at p l).number ≡ Done
+    → ReachedBy c f (xs ++ (a-push (props_said p) ∷ [])) (push_at p l).value
 push-reached {l = l} p z r e = by-push p (props_said p) (push-says p l e z) r e

@@ -23,8 +23,8 @@ use Rattle.rules.proofs.Follows.{Both, Follow, walk-follows}
 use Rattle.refine_file.specs.Played.{place}
 use Rattle.rules_picture.specs.Recorded.{Readable, said}
 use Rattle.rules_picture.proofs.Walked.{Late, all-walks}
-use Rattle.theorem_picture.specs.Reached.{Reached, by-reset, begin-at}
-use Rattle.theorem_picture.specs.Standing.{Stands}
+use Rattle.theorem_picture.specs.Reached.{ReachedAlone, by-reset, begin-at}
+use Rattle.theorem_picture.specs.Standing.{StandsAlone}
 use Rattle.theorem_picture.specs.Recorded.{Accepted, Refused, kept, emptied}
 use Rattle.theorem_picture.proofs.Answers.{begin-answer}
 use Rattle.theorem_picture.proofs.Reached.{reached, step-reached}
@@ -32,7 +32,7 @@ use Rattle.theorem_picture.proofs.Reached.{reached, step-reached}
 -- words that hold a logged screen, and are reached by its log
 record Logs (f : Frame) (s : Logged Row) (l : ScreenLent) : Type 0 where
   refines : Refines s.screen l
-  reached : Reached f s.log l
+  reached : ReachedAlone f s.log l
 
 -- each step
 step-logs : (f : Frame) (x : Step) → Follow (Logs f) (logged-call Row row-ops x) (call_at x)
@@ -50,7 +50,7 @@ begins-empty : (ls : List Layer) → length ls ≡ 0 → is-empty ls ≡ true
 begins-empty [] e = refl
 begins-empty (l ∷ ls) e = absurd (omega arith)
 
-begins : {f : Frame} {xs : List Step} {l : ScreenLent} → Stands f xs l → l.screen.layers ≡ 0 → (begin-at l).number ≡ Done
+begins : {f : Frame} {xs : List Step} {l : ScreenLent} → StandsAlone f xs l → l.screen.layers ≡ 0 → (begin-at l).number ≡ Done
 unfolding lent_of begin-call
 begins {l = l} h e =
     let k = h.canvas in
@@ -105,7 +105,7 @@ module _ (ws : File) (r : Readable ws) (q : Setup) (l : ScreenLent) where
     pub same : m ≡ walk.value
 
   -- they are reached by its steps, and painting can begin there
-  pub taken-reached : {m : ScreenLent} → Taken m → Reached f logged.value.log m
+  pub taken-reached : {m : ScreenLent} → Taken m → ReachedAlone f logged.value.log m
   taken-reached t = rw t.same ((walked t.resets).value t.walks).reached
 
   pub taken-begins : {m : ScreenLent} → Taken m → (begin-at m).number ≡ Done

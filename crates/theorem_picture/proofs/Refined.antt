@@ -19,6 +19,7 @@ use Rattle.refine_paint.proofs.Whole.{begin-whole, paint-whole}
 use Rattle.refine_paint.proofs.Runs.{write-whole}
 use Rattle.refine_file.specs.Played.{Outcome, unaltered, made}
 use Rattle.refine_file.proofs.Laws.{file-plays}
+use Rattle.refine_compact.proofs.Whole.{compact-whole}
 use Rattle.theorem_picture.specs.Refined.{Bounded, BoundedAct, BoundedPuts, FineRows, RowsRefined, TouchedOwn, StepRefined, Refined, ResetRefined, StepsAgree, WalksAgree, FilePlays, WholeKept}
 
 -- the rows
@@ -84,4 +85,5 @@ whole-kept =
       begins = λ k w. begin-whole k w;
       paints = λ k w i room. paint-whole k w i room;
       writes = λ k w i id t room. write-whole k w i id t room;
+      compacts = λ k w i. compact-whole k w i;
     }

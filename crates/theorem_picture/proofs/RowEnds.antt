@@ -22,7 +22,7 @@ use Rattle.rules.proofs.All.{and_right}
 use Rattle.rules_picture.proofs.Cases.{by}
 use Rattle.rules_picture.proofs.Turns.{step_counts, step-ended, late-ended, call-given, call-screen, call-paints, call-own}
 use Rattle.rules_picture.proofs.Finishes.{work}
-use Rattle.rules_picture.proofs.Picture.{built-on}
+use Rattle.rules_picture.proofs.CompactedFollows.{kept-on}
 use Rattle.theorem_picture.specs.Reached.{Reached, paint-out, paint-at}
 use Rattle.theorem_picture.specs.Standing.{canvas-words}
 use Rattle.theorem_picture.specs.Rows.{row_out}
@@ -169,5 +169,5 @@ row_ends {f} {xs} {l} h b r there =
     let k = s.canvas in
     let begun : k.begun ≡ true = unfold lent_of in (sym (ap (λ (m : ScreenLent). m.screen.painting) s.same) ∙ b) in
     let on : paints-on k ≡ true = rw (s.whole.closed begun) begun in
-    let row = (built-on f xs k.screen s.built r there).1 in
+    let row = (kept-on f xs k.screen s.built r there).1 in
     (piece-size * length (left-of (work k r) k r), λ list long. ap (λ (m : ScreenLent). (row_out r list m).answer.finished) s.same ∙ row-ended k s.whole on r row list long)

@@ -19,7 +19,7 @@ use Rattle.paint.proofs.WholeRuns.{stops, more}
 use Rattle.rules_picture.specs.Turns.{Gave, from, said-finished}
 use Rattle.rules.proofs.All.{and_left, and_right}
 use Rattle.rules_picture.proofs.Cases.{by}
-use Rattle.theorem_picture.specs.Reached.{Reached, by-paint, with-canvas, begin-at, paint-out, paint-at}
+use Rattle.theorem_picture.specs.Reached.{ReachedBy, by-paint, with-canvas, begin-at, paint-out, paint-at}
 use Rattle.theorem_picture.specs.Turns.{Turn, piece-in, pieces-in, gave-out, turned, log}
 use Rattle.theorem_picture.specs.Picture.{finished}
 use Rattle.theorem_picture.specs.Rows.{row_out, row_at, RowTurns, CallTurns, Call, one-step, whole_row, called, call-log, PictureByRows}
@@ -289,11 +289,11 @@ rows-picture f xs l h e cs r t there on fin =
     ap (received t) (sym (z.pieces r)) ∙ picture f xs l h e z.turns r t there on y
 
 -- Words from which painting steps are called stay reached, ..
-turned-reached : {f : Frame} {xs : List Step} (ts : List Turn) {l : ScreenLent} → Reached f xs l → Reached f xs (turned ts l)
+turned-reached : {c : Bool} {f : Frame} {xs : List Step} (ts : List Turn) {l : ScreenLent} → ReachedBy c f xs l → ReachedBy c f xs (turned ts l)
 unfolding turned
 turned-reached [] h = h
 turned-reached (t ∷ ts) h = turned-reached ts (by-paint t.row t.list h)
 
 -- .. and so they do by a row's call: `Reached` needs no case for it
-pub row-reached : {f : Frame} {xs : List Step} {l : ScreenLent} (i : ℕ) (list : List ℕ) → Reached f xs l → Reached f xs (row_at i list l)
+pub row-reached : {c : Bool} {f : Frame} {xs : List Step} {l : ScreenLent} (i : ℕ) (list : List ℕ) → ReachedBy c f xs l → ReachedBy c f xs (row_at i list l)
 row-reached {l = l} i list h = let z = row-turns i l list in rw (← z.words) (turned-reached z.turns h)

@@ -15,8 +15,8 @@ use Rattle.refine_paint.proofs.Whole.{begin-whole, paint-whole}
 use Rattle.rules_picture.specs.Colours.{Colours, drawn, nested, step-drawn, turns-drawn, Gentle}
 use Rattle.rules_picture.proofs.Cases.{by}
 use Rattle.rules_picture.proofs.Turns.{call-given, call-own, call-count, begun-there}
-use Rattle.rules_picture.proofs.Picture.{built-on}
-use Rattle.rules_picture.proofs.Inside as rules
+use Rattle.rules_picture.proofs.CompactedFollows.{kept-on}
+use Rattle.rules_picture.proofs.Inside.{kept-colours}
 use Rattle.rules_picture.specs.Turns.{Gave}
 use Rattle.theorem_picture.specs.Reached.{begin-at, paint-out, paint-at}
 use Rattle.theorem_picture.specs.Standing.{canvas-words}
@@ -24,7 +24,7 @@ use Rattle.theorem_picture.specs.Turns.{Turn, turn-of, pieces-in}
 use Rattle.theorem_picture.specs.Colours.{nesting-at, paint-id-at, layer-id-at, words-drawn, Gentle-at, SamePicture, RecordingSame}
 use Rattle.theorem_picture.specs.Picture.{finished}
 use Rattle.theorem_picture.proofs.Words.{paint-words}
-use Rattle.theorem_picture.proofs.Reached.{reached}
+use Rattle.theorem_picture.proofs.Reached.{reached, alone-reached}
 use Rattle.theorem_picture.proofs.Answers.{begin-answer}
 use Rattle.theorem_picture.proofs.Turns.{gave-same}
 use Rattle.theorem_picture.proofs.Picture.{finished-rules}
@@ -127,11 +127,11 @@ same-picture {B} c f xs l h e ts r t there on fin op g =
     let d : (begin-call k).number ≡ Done = sym (ap (λ (a : Answer ScreenLent). a.number) q) ∙ e in
     let v : (begin-at l).value ≡ canvas-words (begin-call k).value = ap (λ (a : Answer ScreenLent). a.value) q in
     let w = begin-whole k s.whole in
-    let row = begun-there k r d (built-on f xs k.screen s.built r there).1 in
+    let row = begun-there k r d (kept-on f xs k.screen s.built r there).1 in
     ap (λ (m : ScreenLent). words-drawn c r t ts m (c.blank ∷ [])) v
     ∙ drawn-words c r t ts (begin-call k).value w row (c.blank ∷ [])
-    ∙ rules.same-picture c f xs k s.built d (map turn-of ts) r t there on (finished-rules ts (begin-call k).value w r row (sym (ap (finished r ts) v) ∙ fin)) op
+    ∙ kept-colours c f xs k s.built d (map turn-of ts) r t there on (finished-rules ts (begin-call k).value w r row (sym (ap (finished r ts) v) ∙ fin)) op
     (gentle-words c r t k (rw s.same at g))
 
 pub recording-same : {B : Type 0} → RecordingSame B
-recording-same c ws q l a ts r t there on fin op g = same-picture c _ _ _ a.reached a.begins ts r t there on fin op g
+recording-same c ws q l a ts r t there on fin op g = same-picture c _ _ _ (alone-reached _ _ _ a.reached) a.begins ts r t there on fin op g

@@ -13,8 +13,8 @@ use Rattle.refine_paint.proofs.Step.{part_join}
 use Rattle.refine_paint.proofs.Whole.{begin-whole}
 use Rattle.rules_picture.specs.Turns.{turns}
 use Rattle.rules_picture.proofs.Turns.{begun-there, painted-screen}
-use Rattle.rules_picture.proofs.Picture.{built-on}
-use Rattle.rules_picture.proofs.StoredColours.{word-newest}
+use Rattle.rules_picture.proofs.CompactedFollows.{kept-on}
+use Rattle.rules_picture.proofs.StoredColours.{kept-newest}
 use Rattle.theorem_picture.specs.Reached.{begin-at}
 use Rattle.theorem_picture.specs.Standing.{canvas-words}
 use Rattle.theorem_picture.specs.Turns.{turn-of}
@@ -39,7 +39,7 @@ word-at f xs l s e cs r t there on fin =
     let v : (begin-at l).value ≡ canvas-words (begin-call k).value = ap (λ (a : Answer ScreenLent). a.value) q in
     let b = (begin-call k).value in
     let w = begin-whole k s.whole in
-    let rows : r < length k.screen.rows = (built-on f xs k.screen s.built r there).1 in
+    let rows : r < length k.screen.rows = (kept-on f xs k.screen s.built r there).1 in
     let row = begun-there k r d rows in
     let z = calls-turns cs (canvas-words b) in
     let n : row-finished r cs (canvas-words b) ≡ true = sym (ap (row-finished r cs) v) ∙ fin in
@@ -51,4 +51,4 @@ word-at f xs l s e cs r t there on fin =
     let row-now : r < length last.screen.rows = rw (painted-screen ts k d) rows in
     ap (λ (m : ScreenLent). get_or (part (wide m.screen) r m.tables.depth.words) (t / bucket f) 0) same
     ∙ ap (λ (bs : List ℕ). get_or bs (t / bucket f) 0) (depth-part last (turns-whole ts b w) r row-now)
-    ∙ word-newest f xs k s.built d ts r t there on fr
+    ∙ kept-newest f xs k s.built d ts r t there on fr

@@ -1,5 +1,5 @@
 -- Painting ends: there are schedules after which every row has finished, so the picture speaks of every screen; and what a row's call does.
-use Rattle.std.specs.Prelude.{ℕ, ◌+◌, ◌≤◌, ◌<◌, ◌≡◌, true, List, length, get_or}
+use Rattle.std.specs.Prelude.{ℕ, ◌+◌, ◌≤◌, ◌<◌, ◌≡◌, Bool, true, List, length, get_or}
 use Rattle.rules.specs.Answers.{Done}
 use Rattle.rules.specs.Boxes.{rows_of}
 use Rattle.rules.specs.Rows.{fresh-row}
@@ -8,7 +8,7 @@ use Rattle.rules.specs.Calls.{Canvas, begin-call}
 use Rattle.screen.specs.Tables.{ScreenLent}
 use Rattle.rules_picture.specs.Turns as rule
 use Rattle.rules_picture.specs.Turns.{turns, steps_of, has-finished, painted}
-use Rattle.theorem_picture.specs.Reached.{Reached, begin-at, paint-out}
+use Rattle.theorem_picture.specs.Reached.{ReachedBy, Reached, begin-at, paint-out}
 use Rattle.theorem_picture.specs.Turns.{Turn}
 use Rattle.theorem_picture.specs.Picture.{finished}
 use Rattle.theorem_picture.specs.Rows.{RowTurns, Call, CallTurns, row_out, row_at}
@@ -49,4 +49,4 @@ RowsAreSteps = (l : ScreenLent) → RowSteps l
 
 -- It leaves reached words reached.
 abbrev pub RowReached : Type 0
-RowReached = (f : Frame) (xs : List Step) (l : ScreenLent) (i : ℕ) (list : List ℕ) → Reached f xs l → Reached f xs (row_at i list l)
+RowReached = (c : Bool) (f : Frame) (xs : List Step) (l : ScreenLent) (i : ℕ) (list : List ℕ) → ReachedBy c f xs l → ReachedBy c f xs (row_at i list l)

@@ -11,6 +11,7 @@ use Rattle.paint.specs.Beginning.{Canvas, beginning}
 use Rattle.paint.specs.Stepping.{Attributes, stepped}
 use Rattle.paint.specs.Running.{row-painted}
 use Rattle.paint.specs.DirectRuns.{unset-of, visible-of, write-of}
+use Rattle.compact.specs.Call.{Stored, compacting}
 
 abbrev pub Refused : {A : Type 0} → Answer A → Type 0
 Refused a = a.number ≡ Done → ⊥
@@ -34,6 +35,10 @@ abbrev pub RowKept : Type 0
 RowKept =
     (s : Screen) (r : ℕ) (a : Attributes) (l : RowLent) → ((row-painted s r a l).answer.number ≡ Done → ⊥)
     → ((row-painted s r a l).depth ≡ l.depth) × ((row-painted s r a l).painting ≡ l.painting) × ((row-painted s r a l).list ≡ l.list)
+
+-- `compact_row`: the screen, which goes on painting if it did, and the words of the rows
+abbrev pub CompactKept : Type 0
+CompactKept = (r : ℕ) (a : Attributes) (k : Stored) → Refused (compacting r a k) → (compacting r a k).value ≡ k
 
 -- `unset_runs` and `visible_runs`: the list, which is all that they write
 abbrev pub UnsetKept : Type 0

@@ -1,5 +1,5 @@
 -- Calls on a screen and all its lent words, each on the words that the last one left: every call by the definition that its contract cites.
-use Rattle.std.specs.Prelude.{ℕ, ◌≡◌, List, [], ◌∷◌, ◌++◌}
+use Rattle.std.specs.Prelude.{ℕ, ◌≡◌, Bool, true, false, List, [], ◌∷◌, ◌++◌}
 use Rattle.rules.specs.Answers.{Answer, answer, Done}
 use Rattle.rules.specs.Spans.{Span}
 use Rattle.rules.specs.Inputs.{Props}
@@ -15,6 +15,7 @@ use Rattle.paint.specs.Painting as paint
 use Rattle.paint.specs.Beginning.{canvas, beginning}
 use Rattle.paint.specs.Stepping.{attributes, stepped}
 use Rattle.paint.specs.DirectRuns.{Wrote, write-of}
+use Rattle.compact.specs.Lent.{compact-at}
 use Rattle.theorem_picture.specs.Calls.{fill-at, push_at, pop-at, filter-at, fill-said, pop-said, filter-said}
 
 -- the words with another screen, other depth words with their minima, and other painting words
@@ -49,19 +50,32 @@ write-at i id t list l = let o = write-out i id t list l in with-canvas l o.scre
 -- `reset` makes the frame of what it is asked: in snapping mode it has the snapped box, and everything said of f speaks of that box.
 -- The picture calls such a screen *built*: nothing but its own calls has written its words, each given what the last one left. A building call
 -- is lent any paints and segments, any properties that are a step's (those of every done push are: `push-says`), any placement. Painting
--- calls and writing runs may come between, done or refused. A done recording is a reset and steps (`recorded-reached`), a row painted by one
--- call is painting steps (`row-reached`). The other calls, and refused building calls (`fill-kept`, ..), leave every lent word as it was: they
--- need no case.
-pub data Reached : Frame → List Step → ScreenLent → Type 0 where
-  by-reset : (f : Frame) (l : ScreenLent) → (reset_to f l).number ≡ Done → Reached f [] (reset_to f l).value
-  by-fill : {f : Frame} {xs : List Step} {l : ScreenLent} (ps ss : List ℕ) (d : Draw) → Reached f xs l → (fill-at ps ss d l).number ≡ Done
-      → Reached f (xs ++ (fill-said ps ss d ∷ [])) (fill-at ps ss d l).value
-  by-push : {f : Frame} {xs : List Step} {l : ScreenLent} (p : LayerProps) (q : Props) → p ≡ props_in q → Reached f xs l → (push_at p l).number ≡ Done
-      → Reached f (xs ++ (a-push q ∷ [])) (push_at p l).value
-  by-pop : {f : Frame} {xs : List Step} {l : ScreenLent} (ss : List ℕ) → Reached f xs l → (pop-at ss l).number ≡ Done
-      → Reached f (xs ++ (pop-said ss ∷ [])) (pop-at ss l).value
-  by-filter : {f : Frame} {xs : List Step} {l : ScreenLent} (g : FilterGiven) → Reached f xs l → (filter-at g l).number ≡ Done
-      → Reached f (xs ++ (filter-said g ∷ [])) (filter-at g l).value
-  by-begin : {f : Frame} {xs : List Step} {l : ScreenLent} → Reached f xs l → Reached f xs (begin-at l).value
-  by-paint : {f : Frame} {xs : List Step} {l : ScreenLent} (i : ℕ) (list : List ℕ) → Reached f xs l → Reached f xs (paint-at i list l)
-  by-write : {f : Frame} {xs : List Step} {l : ScreenLent} (i id : ℕ) (t : Span) (list : List ℕ) → Reached f xs l → Reached f xs (write-at i id t list l)
+-- calls and writing runs may come between, done or refused, and so may `compact_row` of any row if c is true. A done recording is a reset and steps
+-- (`recorded-reached`), a row painted by one call is painting steps (`row-reached`). The other calls, and refused building calls (`fill-kept`, ..),
+-- leave every lent word as it was: they need no case.
+pub data ReachedBy : Bool → Frame → List Step → ScreenLent → Type 0 where
+  by-reset : {c : Bool} (f : Frame) (l : ScreenLent) → (reset_to f l).number ≡ Done → ReachedBy c f [] (reset_to f l).value
+  by-fill : {c : Bool} {f : Frame} {xs : List Step} {l : ScreenLent} (ps ss : List ℕ) (d : Draw) → ReachedBy c f xs l → (fill-at ps ss d l).number ≡ Done
+      → ReachedBy c f (xs ++ (fill-said ps ss d ∷ [])) (fill-at ps ss d l).value
+  by-push : {c : Bool} {f : Frame} {xs : List Step} {l : ScreenLent} (p : LayerProps) (q : Props) → p ≡ props_in q → ReachedBy c f xs l → (push_at p l).number ≡ Done
+      → ReachedBy c f (xs ++ (a-push q ∷ [])) (push_at p l).value
+  by-pop : {c : Bool} {f : Frame} {xs : List Step} {l : ScreenLent} (ss : List ℕ) → ReachedBy c f xs l → (pop-at ss l).number ≡ Done
+      → ReachedBy c f (xs ++ (pop-said ss ∷ [])) (pop-at ss l).value
+  by-filter : {c : Bool} {f : Frame} {xs : List Step} {l : ScreenLent} (g : FilterGiven) → ReachedBy c f xs l → (filter-at g l).number ≡ Done
+      → ReachedBy c f (xs ++ (filter-said g ∷ [])) (filter-at g l).value
+  by-begin : {c : Bool} {f : Frame} {xs : List Step} {l : ScreenLent} → ReachedBy c f xs l → ReachedBy c f xs (begin-at l).value
+  by-paint : {c : Bool} {f : Frame} {xs : List Step} {l : ScreenLent} (i : ℕ) (list : List ℕ) → ReachedBy c f xs l → ReachedBy c f xs (paint-at i list l)
+  by-write : {c : Bool} {f : Frame} {xs : List Step} {l : ScreenLent} (i id : ℕ) (t : Span) (list : List ℕ) → ReachedBy c f xs l → ReachedBy c f xs (write-at i id t list l)
+  by-compact : {f : Frame} {xs : List Step} {l : ScreenLent} (i : ℕ) → ReachedBy true f xs l → ReachedBy true f xs (compact-at i l).value
+
+-- by any of these calls
+abbrev pub Reached : Frame → List Step → ScreenLent → Type 0
+Reached = ReachedBy true
+
+-- By all but `compact_row`: what a row's words are goes by the steps alone only here, for what a row is compacted of is not among the steps.
+abbrev pub ReachedAlone : Frame → List Step → ScreenLent → Type 0
+ReachedAlone = ReachedBy false
+
+-- The second is a case of the first.
+abbrev pub AloneReached : Type 0
+AloneReached = (f : Frame) (xs : List Step) (l : ScreenLent) → ReachedAlone f xs l → Reached f xs l

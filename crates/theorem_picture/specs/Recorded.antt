@@ -19,13 +19,13 @@ use Rattle.refine_file.specs.Played.{place}
 use Rattle.rules_picture.specs.Turns.{Turn, from, has-finished, painted}
 use Rattle.rules_picture.specs.Recorded as rule
 use Rattle.rules_picture.specs.Recorded.{history, Readable, said, LeftReset}
-use Rattle.theorem_picture.specs.Reached.{Reached, begin-at}
+use Rattle.theorem_picture.specs.Reached.{ReachedAlone, begin-at}
 use Rattle.theorem_picture.specs.Standing.{canvas-words}
 
 -- accepted: words that the steps of the file's walk reach from the reset to its frame; no layer is open there, so that painting can begin
 pub record Accepted (p : Place) (ws : File) (m : ScreenLent) : Type 0 where
   pub words : Readable ws
-  pub reached : Reached (frame-of p (said words)) (history p (said words)) m
+  pub reached : ReachedAlone (frame-of p (said words)) (history p (said words)) m
   pub begins : (begin-at m).number ≡ Done
 
 -- refused: the words as they were; or, with a number past 3, those of the reset to the file's frame

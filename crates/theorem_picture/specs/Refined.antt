@@ -10,6 +10,7 @@ use Rattle.rules.specs.Recording.{Recording, parsed, recording, File}
 use Rattle.rules.specs.Setups.{Setup, frame}
 use Rattle.rules.specs.Walk.{good-room, walk-all, play}
 use Rattle.rules.specs.Calls.{Canvas, fresh-canvas, step_call, begin-call, paint-call, write-call}
+use Rattle.rules.specs.Compacted.{compact-call}
 use Rattle.row.specs.Words.{Words, word-ops}
 use Rattle.screen.specs.Depths.{Depths}
 use Rattle.screen.specs.Judging.{judged_reset, good-tables}
@@ -105,3 +106,4 @@ pub record WholeKept : Type 0 where
   pub begins : (k : Canvas) → WholeCanvas k → WholeCanvas (begin-call k).value
   pub paints : (k : Canvas) → WholeCanvas k → (i room : ℕ) → WholeCanvas (paint-call i room k).value.canvas
   pub writes : (k : Canvas) → WholeCanvas k → (i id : ℕ) (t : Span) (room : ℕ) → WholeCanvas (write-call id i room t k).value.canvas
+  pub compacts : (k : Canvas) → WholeCanvas k → (i : ℕ) → WholeCanvas (compact-call i k).value

@@ -1,6 +1,6 @@
 -- The building calls and the steps of the rules are the same: a done call, whatever words it was lent, is the step that its words say, and each
 -- step is such a call.
-use Rattle.std.specs.Prelude.{ℕ, ◌+◌, ◌*◌, ◌%◌, ◌≡◌, true, T, List, [], ◌∷◌, ◌++◌, length, get_or}
+use Rattle.std.specs.Prelude.{ℕ, ◌+◌, ◌*◌, ◌%◌, ◌≡◌, Bool, true, T, List, [], ◌∷◌, ◌++◌, length, get_or}
 use lib.Ieee.{binary32, fits}
 use Rattle.rules.specs.Answers.{Done}
 use Rattle.rules.specs.Inputs.{Props, good-props}
@@ -13,7 +13,7 @@ use Rattle.layers.specs.Filter.{FilterGiven}
 use Rattle.walk.specs.Reading.{props_in, props_said}
 use Rattle.walk.specs.Steps.{call_at}
 use Rattle.theorem_picture.specs.Calls.{fill-at, push_at, pop-at, filter-at, fill-said, pop-said, filter-said, fills-out, fills-left, fills-said}
-use Rattle.theorem_picture.specs.Reached.{Reached}
+use Rattle.theorem_picture.specs.Reached.{ReachedBy}
 
 -- Done, or lent whole records, a building call is the step that its words say. The properties of a done push are a step's: its opacity is an f32.
 pub record Said (l : ScreenLent) : Type 0 where
@@ -44,23 +44,23 @@ pub record Kept (l : ScreenLent) : Type 0 where
 abbrev pub RefusedKept : Type 0
 RefusedKept = (l : ScreenLent) → Kept l
 
--- Every done step of the rules is a call: it leaves reached words reached, by the history and it.
+-- Every done step of the rules is a call: it leaves reached words reached, by the history and it; c says whether rows were compacted.
 abbrev pub StepReached : Type 0
 StepReached =
-    (f : Frame) (xs : List Step) (l : ScreenLent) (x : Step) → Reached f xs l → (call_at x l).number ≡ Done
-    → Reached f (xs ++ (x ∷ [])) (call_at x l).value
+    (c : Bool) (f : Frame) (xs : List Step) (l : ScreenLent) (x : Step) → ReachedBy c f xs l → (call_at x l).number ≡ Done
+    → ReachedBy c f (xs ++ (x ∷ [])) (call_at x l).value
 
 -- Any done push extends the history by the step that its properties say; its opacity is an f32.
 abbrev pub PushReached : Type 0
 PushReached =
-    (f : Frame) (xs : List Step) (l : ScreenLent) (p : LayerProps) → T (fits binary32 p.opacity) → Reached f xs l → (push_at p l).number ≡ Done
-    → Reached f (xs ++ (a-push (props_said p) ∷ [])) (push_at p l).value
+    (c : Bool) (f : Frame) (xs : List Step) (l : ScreenLent) (p : LayerProps) → T (fits binary32 p.opacity) → ReachedBy c f xs l → (push_at p l).number ≡ Done
+    → ReachedBy c f (xs ++ (a-push (props_said p) ∷ [])) (push_at p l).value
 
 -- A list of fills, done or stopped, extends the history by the steps that its done fills say.
 abbrev pub FillsReached : Type 0
 FillsReached =
-    (f : Frame) (xs : List Step) (l : ScreenLent) (ps ss ws : List ℕ) (a b : ℕ) → Reached f xs l
-    → Reached f (xs ++ fills-said ps ss ws a (fills-out ps ss ws a b l).done) (fills-left ps ss ws a b l)
+    (c : Bool) (f : Frame) (xs : List Step) (l : ScreenLent) (ps ss ws : List ℕ) (a b : ℕ) → ReachedBy c f xs l
+    → ReachedBy c f (xs ++ fills-said ps ss ws a (fills-out ps ss ws a b l).done) (fills-left ps ss ws a b l)
 
 -- What no rule reads is free: lists of paints that differ in their shift words alone say the same step.
 abbrev pub ShiftsFree : Type 0

@@ -9,17 +9,18 @@ ghost use Rattle.rules_picture.specs.Colours as colours;
 ghost use Rattle.rules_picture.specs.StoredColours.{SameStored, WordNewest};
 ghost use Rattle.rules_picture.specs.Turns as rules;
 ghost use Rattle.rules_picture.specs.Skip.{Skipped-visible};
-ghost use Rattle.theorem_picture.specs.Reached.{Reached};
+ghost use Rattle.theorem_picture.specs.Reached.{AloneReached, Reached};
 ghost use Rattle.theorem_picture.specs.Picture.{Picture};
 ghost use Rattle.theorem_picture.specs.Colours.{RecordingSame, SamePicture, WordAt};
 ghost use Rattle.theorem_picture.specs.Rows.{PictureByRows};
 ghost use Rattle.theorem_picture.specs.Skip.{Clear, FinishedFills, SkippedBuckets, SkippedRuns};
 ghost use Rattle.theorem_picture.specs.Alone.{AllShown, FinishedAlone, RowPicture, SaidFinished};
 ghost use Rattle.theorem_picture.specs.Answered.{CanvasAnswered, ReachedStands, StandsAnswered};
+ghost use Rattle.theorem_picture.specs.Standing.{AloneStands};
 ghost use Rattle.theorem_picture.specs.Stored.{CanvasStored, StandsStored};
 ghost use Rattle.theorem_picture.specs.Summed.{ReachedHidden, ReachedSummed};
 ghost use Rattle.theorem_picture.specs.Said.{CallsSaid, FillsReached, PropertiesGood, PushReached, RefusedKept, ShiftsFree, StepReached};
-ghost use Rattle.theorem_picture.specs.Kept.{BeginKept, ResetKept, RowKept, StepKept, UnsetKept, VisibleKept, WriteKept};
+ghost use Rattle.theorem_picture.specs.Kept.{BeginKept, CompactKept, ResetKept, RowKept, StepKept, UnsetKept, VisibleKept, WriteKept};
 ghost use Rattle.theorem_picture.specs.Apart.{RowApart, StepApart};
 ghost use Rattle.theorem_picture.specs.Bounded.{FrameKept, RowsFew};
 ghost use Rattle.theorem_picture.specs.Refined.{FilePlays, ResetRefined, RowsRefined, StepRefined, StepsAgree, TouchedOwn, WalksAgree, WholeKept};
@@ -31,6 +32,8 @@ ghost use Rattle.theorem_picture.specs.Recorded.{RecordingAccepted, RecordingEar
 /// rules do. Each row's minima are the summary of its depth words, so that `is_hidden` tells of the words.
 pub fn reached_words_are_the_rules_screen()
     ensures stands { ReachedStands }
+    ensures alone { AloneReached }
+    ensures alone_stands { AloneStands }
     ensures answered { StandsAnswered }
     ensures stored { StandsStored }
     ensures said { CallsSaid }
@@ -53,6 +56,7 @@ pub fn refused_calls_change_nothing()
     ensures unset_runs { UnsetKept }
     ensures visible_runs { VisibleKept }
     ensures writes { WriteKept }
+    ensures compacts { CompactKept }
 {}
 
 /// Painting a row leaves every other row as it was.

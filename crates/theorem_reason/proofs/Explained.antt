@@ -29,9 +29,10 @@ use Rattle.refine_tile.proofs.Walked.{tile-told}
 use Rattle.refine_tile.proofs.Reasons as read
 use Rattle.rules_reason.specs.Answers.{off-screen}
 use Rattle.tile.specs.Explained.{Explained, told_of, explained-of, explained-as, explained}
-use Rattle.theorem_picture.specs.Reached.{Reached}
+use Rattle.theorem_picture.specs.Reached.{ReachedAlone}
 use Rattle.theorem_picture.proofs.Picture.{picture}
 use Rattle.theorem_picture.proofs.Recorded.{recorded-reached}
+use Rattle.theorem_picture.proofs.Reached.{alone-reached}
 use Rattle.theorem_reason.specs.Reasons.{Listed, Unlisted}
 use Rattle.theorem_reason.specs.Explained.{Explained-true, Explained-painted}
 use Rattle.theorem_reason.proofs.Reasons.{shown-exact, not-shown}
@@ -109,8 +110,8 @@ explained-painted ws q l z r row tile h k ts fin a =
     let xs = history p (said r) in
     let m = recorded-reached ws q l z in
     let parts : m.words.parts ≡ r.parts = ap (λ (o : Option (List (List (List ℕ)))). unwrap_or o []) (sym m.words.formed ∙ r.formed) in
-    let reached = subst (λ (ss : List (List (List ℕ))). Reached (frame-of p (recording ss)) (history p (recording ss)) (recorded ws q l).value) parts m.reached in
-    let same = sym (picture (frame-of p (said r)) xs (recorded ws q l).value reached m.begins ts row tile h k fin) in
+    let reached = subst (λ (ss : List (List (List ℕ))). ReachedAlone (frame-of p (recording ss)) (history p (recording ss)) (recorded ws q l).value) parts m.reached in
+    let same = sym (picture (frame-of p (said r)) xs (recorded ws q l).value (alone-reached _ _ _ reached) m.begins ts row tile h k fin) in
     let gives : (explained ws q row tile a l).reason ≡ reason (bucket f) v row tile xs a = ap (λ (x : Explained). x.reason) (explains ws q l z r row tile a (there-on v row tile h k)) in
     let u = (walk-logged Row row-ops fresh-row (frame-of p (said r)) (said r)).value.screen in
     let good = view ws q l z r in

@@ -37,6 +37,7 @@ use Rattle.rules_picture.specs.Turns.{from}
 use Rattle.theorem_picture.specs.Turns.{pieces-in, log}
 use Rattle.theorem_picture.proofs.Pieces.{pieces-back}
 use Rattle.theorem_picture.proofs.Picture.{picture}
+use Rattle.theorem_picture.proofs.Reached.{alone-reached}
 use Rattle.theorem_picture.proofs.Recorded.{taken-reached, taken-begins, recorded-taken}
 use Rattle.theorem_reason.specs.Lists.{ListLeft, List-is-plain, Recorded-roomless, List-received, list-numbers, List-without-room, call-left}
 use Rattle.theorem_reason.proofs.Explained.{there-on}
@@ -216,7 +217,7 @@ list-received ws q l z s row tile h k ts fin =
     let es = received tile (from row (log ts (begin-at m).value)) in
     let walk = same-walk ws q l z s in
     let shown : es ≡ entries-of g row tile (history (place q l) (said s)) =
-    picture g (history (place q l) (said s)) m (taken-reached ws s q l t) (taken-begins ws s q l t) ts row tile h k fin in
+    picture g (history (place q l) (said s)) m (alone-reached _ _ _ (taken-reached ws s q l t)) (taken-begins ws s q l t) ts row tile h k fin in
     let same : entries-of bare row tile (roomless bare (said s)).value.log ≡ es = ap (entries-of bare row tile) walk.1 ∙ sym shown in
     let answers : (room : ℕ) → tile-list q.mode q.width ws row tile room ≡ in-room room es =
     λ room. rw s.formed

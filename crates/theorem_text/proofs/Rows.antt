@@ -25,7 +25,7 @@ use Rattle.rules_picture.specs.Turns.{Gave, from, steps_of, said-finished, turns
 use Rattle.refine_paint.proofs.Whole.{begin-whole}
 use Rattle.rules.proofs.All.{and_left, and_right}
 use Rattle.rules_picture.proofs.Turns.{all-given, by-turns, said-so, next-at, turns-screen, turns-paints, call-other, begun-is, begun-paints, begun-painter}
-use Rattle.rules_picture.proofs.Picture.{built-on}
+use Rattle.rules_picture.proofs.CompactedFollows.{kept-on}
 use Rattle.theorem_picture.specs.Reached.{begin-at}
 use Rattle.theorem_picture.specs.Standing.{canvas-words, Stands}
 use Rattle.theorem_picture.specs.Turns.{Turn, turn-of, piece-in, pieces-in, turned}
@@ -136,7 +136,7 @@ stands-wait {f} {xs} {l} s e r there =
     let k = s.canvas in
     let words = ap begin-at s.same ∙ begin-words k s.whole in
     let d : (begin-call k).number ≡ Done = sym (ap (λ (a : Answer ScreenLent). a.number) words) ∙ e in
-    let row = (built-on f xs k.screen s.built r there).1 in
+    let row = (kept-on f xs k.screen s.built r there).1 in
     let p : (begin-call k).value.screen ≡ k.screen = ap (λ (c : Canvas). c.screen) (begun-is k d) in
     record {
       canvas = (begin-call k).value;

@@ -70,9 +70,9 @@ fn judge(screen: Screen, arenas: bool, tables: bool) -> Result<(), Refusal>
     Ok(())
 }
 
-// The same, then 12 where there is no such row.
+/// The same, then 12 where there is no such row.
 #[inline(always)]
-fn judge_row(screen: Screen, row: usize, arenas: bool, tables: bool) -> Result<(), Refusal>
+pub fn judge_row(screen: Screen, row: usize, arenas: bool, tables: bool) -> Result<(), Refusal>
     ensures { answer_number result ≡ of_row (judged screen arenas tables) screen row }
 {
     judge(screen, arenas, tables)?;

@@ -4,6 +4,7 @@ use Rattle.rules_picture.proofs.CompactedPieces.{compacted-same}
 use Rattle.rules_picture.proofs.CompactedCall.{twice-called, compacted-gives}
 use Rattle.rules_picture.proofs.CompactedFollows.{compacted-picture, compacted-skip}
 use Rattle.rules_picture.proofs.Roomier.{room-kept}
+use Rattle.rules_picture.proofs.StoredColours.{kept-newest}
 use Rattle.rules_picture.proofs.compacting_changes_no_picture.Goals as goal
 
 pub returns-clause-removals : goal.returns-clause-removals
@@ -35,3 +36,6 @@ returns-clause-kept c = room-kept
 
 pub returns-clause-skip : goal.returns-clause-skip
 returns-clause-skip c = compacted-skip
+
+pub returns-clause-newest : goal.returns-clause-newest
+returns-clause-newest c = kept-newest

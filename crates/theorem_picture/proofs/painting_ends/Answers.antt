@@ -22,4 +22,4 @@ pub returns-clause-turns : goal.returns-clause-turns
 returns-clause-turns c = λ l. record { turns = λ i list. row-turns i l list; number = λ i list. row_number i l list; mixed = λ cs. calls-turns cs l }
 
 pub returns-clause-reached : goal.returns-clause-reached
-returns-clause-reached c = λ f xs l i list h. row-reached i list h
+returns-clause-reached c = λ b f xs l i list h. row-reached i list h

@@ -1,7 +1,7 @@
 use Rattle.walk.proofs.Given.{good-props-said, props-good}
 use Rattle.theorem_picture.proofs.Calls.{shifts-free}
 use Rattle.theorem_picture.proofs.Props.{push-reached}
-use Rattle.theorem_picture.proofs.Reached.{reached, step-reached}
+use Rattle.theorem_picture.proofs.Reached.{reached, step-reached, alone-reached, alone-stands}
 use Rattle.theorem_picture.proofs.FillLists.{fills-reached}
 use Rattle.theorem_picture.proofs.Answered.{stands-answered, calls-said, refused-kept}
 use Rattle.theorem_picture.proofs.Stored.{stands-stored}
@@ -9,7 +9,13 @@ use Rattle.theorem_picture.proofs.Summed.{reached-summed, reached-hidden}
 use Rattle.theorem_picture.proofs.reached_words_are_the_rules_screen.Goals as goal
 
 pub returns-clause-stands : goal.returns-clause-stands
-returns-clause-stands c = λ f xs l h. reached h
+returns-clause-stands c = λ b f xs l h. reached h
+
+pub returns-clause-alone : goal.returns-clause-alone
+returns-clause-alone c = alone-reached
+
+pub returns-clause-alone_stands : goal.returns-clause-alone_stands
+returns-clause-alone_stands c = alone-stands
 
 pub returns-clause-answered : goal.returns-clause-answered
 returns-clause-answered c = stands-answered
@@ -24,13 +30,13 @@ pub returns-clause-refused : goal.returns-clause-refused
 returns-clause-refused c = refused-kept
 
 pub returns-clause-steps : goal.returns-clause-steps
-returns-clause-steps c = λ f xs l x h e. step-reached x h e
+returns-clause-steps c = λ b f xs l x h e. step-reached x h e
 
 pub returns-clause-pushes : goal.returns-clause-pushes
-returns-clause-pushes c = λ f xs l p z r e. push-reached p z r e
+returns-clause-pushes c = λ b f xs l p z r e. push-reached p z r e
 
 pub returns-clause-fills : goal.returns-clause-fills
-returns-clause-fills c = λ f xs l ps ss ws a b r. fills-reached ps ss ws a b r
+returns-clause-fills c = λ t f xs l ps ss ws a b r. fills-reached ps ss ws a b r
 
 pub returns-clause-properties : goal.returns-clause-properties
 returns-clause-properties c = record { said = good-props-said; given = props-good }

@@ -6,6 +6,7 @@ use Rattle.screen.specs.Tables.{lengths, zeros, cleared, screen_lent, reset_to}
 use Rattle.paint.specs.Judging.{count, wide, begin_number}
 use Rattle.paint.specs.Beginning.{canvas, begun, beginning}
 use Rattle.paint.proofs.Kept.{unsettled, step-kept, row-kept, unset-kept, visible-kept, write-kept}
+use Rattle.compact.proofs.Call.{compact-kept}
 use Rattle.theorem_picture.proofs.refused_calls_change_nothing.Goals as goal
 
 pub returns-clause-resets : goal.returns-clause-resets
@@ -32,3 +33,6 @@ returns-clause-visible_runs c = visible-kept
 
 pub returns-clause-writes : goal.returns-clause-writes
 returns-clause-writes c = write-kept
+
+pub returns-clause-compacts : goal.returns-clause-compacts
+returns-clause-compacts c = compact-kept

@@ -1,0 +1,4 @@
+pub mod Rows
+pub mod Call
+pub mod Whole
+pub mod Lent

@@ -15,13 +15,6 @@ use Rattle.paint.proofs.Putting.{words-none}
 
 -- any step
 module _ (step : Depths → List ℕ → List ℕ → StepOut) (D : Depths) (d : ℕ) where
-  none_more : (n f k : ℕ) (g : StepOut) → run step f k g ≡ run step (f - (n - n)) (k + (n - n)) g
-  none_more n f k g = let e : n - n ≡ 0 = omega arith in let i : f - 0 ≡ f = omega arith in let j : k + 0 ≡ k = omega arith in rw (e, i, j)
-
-  pub reach-none : (p : Place) → p.nesting ≤ 16 → piece-size * p.pieces ≤ length p.list → Reaches step D d p p
-  reach-none p h g =
-      record { after = omega arith; onward = λ f k i. none_more p.at f k (stands D d p); shallow = h; few = g; long = refl; still = λ h. refl }
-
   module _ (a b : Place) (z : Reaches step D d a b) (b' : Place) (up : b'.at ≡ b.at + 1) (e : one_more step (stands D d b) ≡ stands D d b')
       (h : b'.nesting ≤ 16) (g : piece-size * b'.pieces ≤ length b'.list) (i : length b'.list ≡ length b.list) where
     further : (f k : ℕ) → b'.at - a.at ≤ f → run step f k (stands D d a) ≡ run step (f - (b'.at - a.at)) (k + (b'.at - a.at)) (stands D d b')
@@ -33,19 +26,7 @@ module _ (step : Depths → List ℕ → List ℕ → StepOut) (D : Depths) (d :
         ∙ rw (e, n, m)
 
     pub reach-more : Reaches step D d a b'
-    reach-more = record { after = omega (arith, z.after); onward = further; shallow = h; few = g; long = i ∙ z.long; still = λ j. absurd (omega (arith, z.after)) }
-
-  -- from a place to a second, and from there to a third
-  pub reach-both : (a b c : Place) → Reaches step D d a b → Reaches step D d b c → Reaches step D d a c
-  reach-both a b c z y = record { after = omega (arith, z.after, y.after); onward = further-on; shallow = y.shallow; few = y.few; long = y.long ∙ z.long; still = λ h. y.still (omega (arith, z.after)) ∙ z.still (omega (arith, y.after)) }
-    where
-      further-on : (f k : ℕ) → c.at - a.at ≤ f → run step f k (stands D d a) ≡ run step (f - (c.at - a.at)) (k + (c.at - a.at)) (stands D d c)
-      further-on f k j =
-          let n : f - (b.at - a.at) - (c.at - b.at) ≡ f - (c.at - a.at) = omega (arith, z.after, y.after) in
-          let m : k + (b.at - a.at) + (c.at - b.at) ≡ k + (c.at - a.at) = omega (arith, z.after, y.after) in
-          z.onward f k (omega (arith, z.after, y.after))
-          ∙ y.onward (f - (b.at - a.at)) (k + (b.at - a.at)) (omega (arith, z.after, y.after))
-          ∙ rw (n, m)
+    reach-more = record { after = omega (arith, z.after); onward = further; shallow = h; few = g; long = i ∙ z.long }
 
 -- the steps of a row's commands
 module _ (v : ℕ) (a : Attrs) (s re fi D M : List ℕ) (c : Calm s re fi) where

@@ -143,9 +143,6 @@ module _ (D : List ℕ) (id lo hi v i p : ℕ) (l₀ : List ℕ) (a₀ k : ℕ) 
     pub long : length ms ≡ length ms₀
     pub mended : mended-runs k ms all (runs b) ≡ mended-runs k ms₀ all (runs lo)
 
-  pub filled-first : Filled lo a₀ l₀ D ms₀
-  filled-first = record { marked = mark-first id hi D lo; kept = refl; count = refl; rest = refl; long = refl; mended = refl }
-
   module _ (fits : hi ≤ length D) (b at : ℕ) (l bs ms : List ℕ) (f : Filled b at l bs ms) (in-range : b < hi) where
     -- a set bucket begins no run
     pub filled-on : (get_or bs b 0 ≡ 0 → ⊥) → Filled (b + 1) at l bs ms
@@ -179,7 +176,7 @@ module _ (D : List ℕ) (id lo hi v i p : ℕ) (l₀ : List ℕ) (a₀ k : ℕ) 
       run-holds = record {
         there = rw (written-long id (span lo hi) D) (omega (arith, m.within));
         holds = λ n h g.
-          rw (← f.marked.rest) (written-there id b hi n bs (rw f.marked.long (omega (arith, m.within))) h (omega (arith, m.within)) (m.unset n h g));
+            rw (← f.marked.rest) (written-there id b hi n bs (rw f.marked.long (omega (arith, m.within))) h (omega (arith, m.within)) (m.unset n h g));
       }
 
       marked-on : Marked id hi D lo (j + 1) bs'
@@ -215,8 +212,7 @@ module _ (D : List ℕ) (id lo hi v i p : ℕ) (l₀ : List ℕ) (a₀ k : ℕ) 
       → (bs ≡ all) × (at ≡ a₀ + piece-size * length (runs lo)) × (l ≡ words-at l₀ a₀ (words lo)) × (ms ≡ mended-runs k ms₀ all (runs lo))
   unfolding mended-runs
   filled-end b at l bs ms f h =
-      let none : runs b ≡ [] = runs-end (is-visible 0) D hi b h in
-      (
+      let none : runs b ≡ [] = runs-end (is-visible 0) D hi b h in (
         mark-done id hi D lo b bs f.marked h,
         omega (arith, f.count, ap length none),
         sym (words-none l at) ∙ (rw none at f.rest),

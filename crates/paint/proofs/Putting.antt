@@ -50,9 +50,6 @@ module _ (D : List ℕ) (id hi v : ℕ) (c : CmdWords) (m p start k : ℕ) (l₀
     pub words-left : n + piece-size * length (runs at) ≡ k + piece-size * length (runs start)
     pub rest : words-at l n (words at) ≡ words-at l₀ k (words start)
 
-  pub put_first : Put start k l₀
-  put_first = record { kept = refl; words-left = refl; rest = refl }
-
   module _ (at n : ℕ) (l : List ℕ) (s : Put at n l) where
     module _ (room : k + piece-size * length (runs start) ≤ length l₀) (r : Span) (j : ℕ) (e : runs at ≡ r ∷ runs j) where
       pub put_room : n + piece-size ≤ length l
@@ -66,9 +63,6 @@ module _ (D : List ℕ) (id hi v : ℕ) (c : CmdWords) (m p start k : ℕ) (l₀
             words-left = omega (arith, s.words-left, ap length e);
             rest = words-on l n (run-words v c m p r) (words j) put_room ∙ (rw e at s.rest);
           })
-
-    pub put_end : runs at ≡ [] → (n ≡ k + piece-size * length (runs start)) × (l ≡ words-at l₀ k (words start))
-    put_end none = (omega (arith, s.words-left, ap length none), sym (words-none l n) ∙ (rw none at s.rest))
 
 -- a fill's pieces, from its first bucket on after k words
 abbrev pub PutCut : Cut → List ℕ → ℕ → List ℕ → ℕ → ℕ → List ℕ → Type 0

@@ -10,7 +10,3 @@ past_last n e h g =
     let sum : suc q * n + (e - 1) % n ≡ e + (n - 1) = rw (suc-mul q n) (omega (arith, parts)) in
     let whole : (suc q * n + (e - 1) % n) / n ≡ suc q = div-mul-add (suc q) n ((e - 1) % n) (mod-lt (e - 1) h) in
     omega (arith, sym (ap (λ (x : ℕ). x / n) sum) ∙ whole)
-
--- the buckets that tiles meet are there if the tiles are
-pub met-there : (n k e : ℕ) → 0 < n → 0 < e → e ≤ k * n → (e + (n - 1)) / n ≤ k
-met-there n k e h g i = let l : (e - 1) / n < k = div_below (e - 1) n k h (omega (arith, i)) in omega (arith, past_last n e h g)

@@ -22,16 +22,7 @@ use Rattle.paint.proofs.ScreenParts.{part-is, put_is, ready}
 use Rattle.paint.specs.Running.{goes_on, ended, one_more, run, most, standing, own-step, row-run, row-run-on, call_step, row-painted}
 use Rattle.paint.proofs.WholeRuns.{stops, more}
 
--- steps over the row's own depth words and minima, which are put back in their places
-module _ (b r : ℕ) (d : Depths) (f : Depths → StepOut) (o : Painted) (q ms p t : List ℕ) (k : ℕ) (j : k ≡ minima-room b) where
-  pub depth-back : out o (depths q ms) p t ≡ f (depths (take (r * b + b - r * b) (drop (r * b) d.words)) (take (r * k + k - r * k) (drop (r * k) d.minima)))
-      → out o (depths (put_mid (r * b) (r * b + b - r * b) d.words q) (put_mid (r * k) (r * k + k - r * k) d.minima ms)) p t
-      ≡ put-depth b r d (f (depth-part b r d))
-  depth-back h =
-      let i : out o (depths q ms) p t ≡ f (depth-part b r d) = rw (part-is b r d.words, part-is k r d.minima, j) at h in
-      rw (put_is b r d.words q, put_is k r d.minima ms, j) (ap (put-depth b r d) i)
-
--- .. and then the painting words
+-- steps over the row's own words, which are put back in their places
 module _ (v f k n : ℕ) (a : Attrs) (b c d r : ℕ) (l : RowLent) (o : Painted) (q : Depths) (p t : List ℕ) where
   pub run-back : out o q p t ≡ put-depth b r l.depth (run (own-step v a (part 54 r l.state) (part (4 * c) r l.render) (part (2 * d) r l.fills)) f k
       (out (listed n) (depth-part b r l.depth) (take (r * 2 + 2 - r * 2) (drop (r * 2) l.painting)) l.list))

@@ -102,4 +102,3 @@ pub record Reaches (step : Depths → List ℕ → List ℕ → StepOut) (D : De
   pub shallow : b.nesting ≤ most-layers
   pub few : piece-size * b.pieces ≤ length b.list
   pub long : length b.list ≡ length a.list
-  pub still : b.at ≤ a.at → b.pieces ≡ a.pieces

@@ -4,7 +4,7 @@ use Rattle.span.specs.Spans.{buckets}
 use Rattle.rules.specs.Minima.{half, halvings}
 use Rattle.depth.proofs.Groups.{room-of-some}
 use Rattle.depth.proofs.Written.{room-for}
-use Rattle.paint.proofs.DepthFills.{filled-first, filled-on, filled-run, filled-end, run-room, run-holds, put-room, write-runs-visible}
+use Rattle.paint.proofs.DepthFills.{filled-on, filled-run, filled-end, run-room, run-holds, put-room, write-runs-visible}
 use Rattle.paint.proofs.whole.depths.put_depth.Goals as goal
 use Rattle.paint.proofs.whole.depths.put_depth.Goals.{then-depth-b-eq0, else-depth-b-eq0}
 
@@ -25,14 +25,14 @@ loop-b-preserved c =
     let f = c.loop-b.invariant in
     elim c.if-depth-b-eq0.branch [
       | then-depth-b-eq0 w ↦
-        let marks = w.mark_run-b.ensures in
-        let holds = run-holds _ _ _ _ _ _ _ _ _ _ _ fits _ _ _ _ _ f.filled c.loop-b-test.true _ _ marks in
-        let mended = w.mend.ensures _ _ (f.filled.long ∙ c.requires.minima ∙ room-of-some _ (omega (arith, fits, c.loop-b-test.true))) holds in
-        rw (w.depth-is, w.minima-is, w.pieces-is, w.b-is, w.push.ensures.at) (record {
-          filled = filled-run _ _ _ _ _ _ _ _ _ _ _ fits _ _ _ _ _ f.filled c.loop-b-test.true _ _ marks (put-room c.args.depth.now (buckets c.args.fill.buckets) _ _ c.requires.room) _ _
-              (rw (w.times.ensures, w.times-then-depth-b-eq0.ensures) at w.push.ensures.list) mended w.mend.auto.minima;
-          same = w.push.ensures.same ∙ f.same;
-        })
+          let marks = w.mark_run-b.ensures in
+          let holds = run-holds _ _ _ _ _ _ _ _ _ _ _ fits _ _ _ _ _ f.filled c.loop-b-test.true _ _ marks in
+          let mended = w.mend.ensures _ _ (f.filled.long ∙ c.requires.minima ∙ room-of-some _ (omega (arith, fits, c.loop-b-test.true))) holds in
+          rw (w.depth-is, w.minima-is, w.pieces-is, w.b-is, w.push.ensures.at) (record {
+            filled = filled-run _ _ _ _ _ _ _ _ _ _ _ fits _ _ _ _ _ f.filled c.loop-b-test.true _ _ marks (put-room c.args.depth.now (buckets c.args.fill.buckets) _ _ c.requires.room) _ _
+                (rw (w.times.ensures, w.times-then-depth-b-eq0.ensures) at w.push.ensures.list) mended w.mend.auto.minima;
+            same = w.push.ensures.same ∙ f.same;
+          })
       | else-depth-b-eq0 w ↦ rw (w.depth-is, w.minima-is, w.pieces-is, w.b-is) (record {
         filled = filled-on _ _ _ _ _ _ _ _ _ _ _ fits _ _ _ _ _ f.filled c.loop-b-test.true w.if-depth-b-eq0.false;
         same = f.same;

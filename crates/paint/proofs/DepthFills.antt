@@ -179,7 +179,7 @@ module _ (D : List ℕ) (id lo hi v i p : ℕ) (l₀ : List ℕ) (a₀ k : ℕ) 
       run-holds = record {
         there = rw (written-long id (span lo hi) D) (omega (arith, m.within));
         holds = λ n h g.
-          rw (← f.marked.rest) (written-there id b hi n bs (rw f.marked.long (omega (arith, m.within))) h (omega (arith, m.within)) (m.unset n h g));
+            rw (← f.marked.rest) (written-there id b hi n bs (rw f.marked.long (omega (arith, m.within))) h (omega (arith, m.within)) (m.unset n h g));
       }
 
       marked-on : Marked id hi D lo (j + 1) bs'
@@ -215,8 +215,7 @@ module _ (D : List ℕ) (id lo hi v i p : ℕ) (l₀ : List ℕ) (a₀ k : ℕ) 
       → (bs ≡ all) × (at ≡ a₀ + piece-size * length (runs lo)) × (l ≡ words-at l₀ a₀ (words lo)) × (ms ≡ mended-runs k ms₀ all (runs lo))
   unfolding mended-runs
   filled-end b at l bs ms f h =
-      let none : runs b ≡ [] = runs-end (is-visible 0) D hi b h in
-      (
+      let none : runs b ≡ [] = runs-end (is-visible 0) D hi b h in (
         mark-done id hi D lo b bs f.marked h,
         omega (arith, f.count, ap length none),
         sym (words-none l at) ∙ (rw none at f.rest),

@@ -79,7 +79,7 @@ module _ (v : ℕ) (a : Attrs) (s re fi : List ℕ) (c : Calm s re fi) where
           → steps (depths D M) (q ∷ m ∷ []) l ≡ out (listed (length rs)) (depths D' ms) ((q + 1) ∷ m ∷ []) (ws ++ drop (length ws) l)
       step l i =
           let roomy = room D M (q ∷ m ∷ []) l (gives (map (depth-piece v no-attrs f.attrs_idx mk.panel) rs) D' (q + 1) m) ms D' ms ((q + 1) ∷ m ∷ []) (ws ++ drop (length ws) l) (length rs)
-              (le-ltb (length l / piece-size) (length (map (depth-piece v no-attrs f.attrs_idx mk.panel) rs)) (rw length-map (omega (arith, i)))) refl (rw length-map) refl refl refl (laid-words l) in
+          (le-ltb (length l / piece-size) (length (map (depth-piece v no-attrs f.attrs_idx mk.panel) rs)) (rw length-map (omega (arith, i)))) refl (rw length-map) refl refl refl (laid-words l) in
           taken l ∙ sym (depth_taken v a D M (q ∷ m ∷ []) l (depth-fill-at (length D) fi k) o read f e mk (out (listed (length rs)) (depths D' ms) ((q + 1) ∷ m ∷ []) (ws ++ drop (length ws) l)) w roomy)
 
       -- its words go behind n pieces of the list
@@ -122,7 +122,7 @@ module _ (v : ℕ) (a : Attrs) (s re fi : List ℕ) (c : Calm s re fi) (q m : �
 -- depth fills that are done, from where the painting stands
 pub fills-far : (r : StoredRow) (p l D M D' M' l' : List ℕ) (left n k₀ k : ℕ) → length p ≡ 2 → word p 0 + left ≡ word r.state.now 1 → k₀ ≡ 0
     → Onward (steps_of r) n (out (listed k₀) (depths D M) ((word r.state.now 1 - left) ∷ word p 1 ∷ []) l)
-      (out (listed k) (depths D' M') ((word r.state.now 1 - left + n) ∷ word p 1 ∷ []) l')
+    (out (listed k) (depths D' M') ((word r.state.now 1 - left + n) ∷ word p 1 ∷ []) l')
     → Onward (steps_of r) n (out (listed 0) (depths D M) p l) (out (listed k) (depths D' M') ((word p 0 + n) ∷ word p 1 ∷ []) l')
 fills-far r p l D M D' M' l' left n k₀ k h e z w =
     let here : word r.state.now 1 - left ≡ word p 0 = omega (arith, e) in
@@ -142,8 +142,8 @@ sure-all r calm f d p l D M n a b w z all k p' e few i o t h =
       onward = onward-both (steps_of r) n (b.at - a.at) _ _ _ w z.onward;
       unended = λ j. (rw e at (h j).1);
       ended = λ j.
-        none-more (bucket-tiles r.width) (attrs_of r.attrs) r.state.now r.render_cmds.now r.depth_cmds.now calm (word r.state.now 1 + b.at) b.nesting
-        (ap (λ (x : ℕ). word r.state.now 1 + x) (h j).0) z.shallow D M b.pieces b.list;
+          none-more (bucket-tiles r.width) (attrs_of r.attrs) r.state.now r.render_cmds.now r.depth_cmds.now calm (word r.state.now 1 + b.at) b.nesting
+          (ap (λ (x : ℕ). word r.state.now 1 + x) (h j).0) z.shallow D M b.pieces b.list;
     })
 
 -- .. or depth fills alone

@@ -25,14 +25,14 @@ loop-b-preserved c =
     let f = c.loop-b.invariant in
     elim c.if-depth-b-eq0.branch [
       | then-depth-b-eq0 w ↦
-        let marks = w.mark_run-b.ensures in
-        let holds = run-holds _ _ _ _ _ _ _ _ _ _ _ fits _ _ _ _ _ f.filled c.loop-b-test.true _ _ marks in
-        let mended = w.mend.ensures _ _ (f.filled.long ∙ c.requires.minima ∙ room-of-some _ (omega (arith, fits, c.loop-b-test.true))) holds in
-        rw (w.depth-is, w.minima-is, w.pieces-is, w.b-is, w.push.ensures.at) (record {
-          filled = filled-run _ _ _ _ _ _ _ _ _ _ _ fits _ _ _ _ _ f.filled c.loop-b-test.true _ _ marks (put-room c.args.depth.now (buckets c.args.fill.buckets) _ _ c.requires.room) _ _
-              (rw (w.times.ensures, w.times-then-depth-b-eq0.ensures) at w.push.ensures.list) mended w.mend.auto.minima;
-          same = w.push.ensures.same ∙ f.same;
-        })
+          let marks = w.mark_run-b.ensures in
+          let holds = run-holds _ _ _ _ _ _ _ _ _ _ _ fits _ _ _ _ _ f.filled c.loop-b-test.true _ _ marks in
+          let mended = w.mend.ensures _ _ (f.filled.long ∙ c.requires.minima ∙ room-of-some _ (omega (arith, fits, c.loop-b-test.true))) holds in
+          rw (w.depth-is, w.minima-is, w.pieces-is, w.b-is, w.push.ensures.at) (record {
+            filled = filled-run _ _ _ _ _ _ _ _ _ _ _ fits _ _ _ _ _ f.filled c.loop-b-test.true _ _ marks (put-room c.args.depth.now (buckets c.args.fill.buckets) _ _ c.requires.room) _ _
+                (rw (w.times.ensures, w.times-then-depth-b-eq0.ensures) at w.push.ensures.list) mended w.mend.auto.minima;
+            same = w.push.ensures.same ∙ f.same;
+          })
       | else-depth-b-eq0 w ↦ rw (w.depth-is, w.minima-is, w.pieces-is, w.b-is) (record {
         filled = filled-on _ _ _ _ _ _ _ _ _ _ _ fits _ _ _ _ _ f.filled c.loop-b-test.true w.if-depth-b-eq0.false;
         same = f.same;

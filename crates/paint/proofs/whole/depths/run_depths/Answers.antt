@@ -61,8 +61,8 @@ loop-k-preserved c =
       minima = put.long ∙ so_far.minima;
       list = ap length put.list ∙ length_at c.loop-k.pieces.list.now c.loop-k.pieces.at (join (depth-words (tiles_in c.of-scale.result) fill.attrs_idx c.in-Some-paint.mark.panel) rs) (rw depth-words-long (room at)) ∙ so_far.list;
       onward = λ m h.
-        rw (put.minima, put.depth)
-        (on-fill _ _ _ _ _ c.requires.calm here m (omega (arith, so_far.below, c.requires.left, above)) h c.loop-k.depth c.loop-k.minima fill c.read.result c.in-Some.is read
+          rw (put.minima, put.depth)
+          (on-fill _ _ _ _ _ c.requires.calm here m (omega (arith, so_far.below, c.requires.left, above)) h c.loop-k.depth c.loop-k.minima fill c.read.result c.in-Some.is read
           c.in-Some-paint.mark paint _ (c.args.left - c.loop-k.k) c.loop-k.pieces.at c.put_depth.new.pieces.at c.loop-k.pieces.list.now c.put_depth.new.pieces.list.now c.loop-k.pieces.whole
           (room at) put.at (rw c.of-scale.ensures at put.list) (word row.state.now 1 - (c.loop-k.k - 1)) (omega (arith, so_far.below, c.requires.left, above))
           (c.args.left - (c.loop-k.k - 1)) (omega (arith, so_far.below, above)) (so_far.onward m h));

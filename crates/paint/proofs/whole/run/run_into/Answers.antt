@@ -17,7 +17,7 @@ returns-then-limit-steps-clause-sure c =
     let p = c.args.painting.now in
     let pieces = c.run_depths-steps.new.pieces in
     let w = fills-far c.args.row.now p _ _ _ _ _ _ _ _ _ (count_of pieces) c.requires.lens.2 (omega (arith, c.if-done-depths.true)) (omega (arith, c.requires.none))
-        (fills.onward (word p 1) (omega (arith, c.if-nesting-gt-MOST_LAYERS.false))) in
+    (fills.onward (word p 1) (omega (arith, c.if-nesting-gt-MOST_LAYERS.false))) in
     sure-fills c.args.row.now c.args.limit _ p _ _ _ _ _ w fills.few.1 (omega (arith, pieces.few, pieces.whole)) _ _ _
     (rw (c.count.ensures, two_set p (word p 0 + c.run_depths-steps.result) c.requires.lens.2) refl)
 
@@ -27,26 +27,26 @@ led : (c : Joined-done-depths)
     (word c.args.row.now.state.now 1 ≤ word c.args.painting.now 0 + c.if-done-depths.steps)
     × (c.if-done-depths.steps ≤ c.args.limit)
     × Onward (steps_of c.args.row.now) c.if-done-depths.steps (out (listed 0) (depths c.args.depth.now c.args.minima.now) c.args.painting.now c.args.pieces.now.list.now)
-      (stands (depths c.if-done-depths.depth c.if-done-depths.minima) (word c.args.row.now.state.now 1)
-        (place at (count_of c.if-done-depths.pieces) (word c.args.painting.now 1) c.if-done-depths.pieces.list.now))
+    (stands (depths c.if-done-depths.depth c.if-done-depths.minima) (word c.args.row.now.state.now 1)
+    (place at (count_of c.if-done-depths.pieces) (word c.args.painting.now 1) c.if-done-depths.pieces.list.now))
 led c =
     let p = c.args.painting.now in
     let m : word p 1 ≤ 16 = omega (arith, c.if-nesting-gt-MOST_LAYERS.false) in
     elim c.if-done-depths.branch [
       | then-done-depths+else-limit-steps+else-steps-left w ↦
-        let fills = w.run_depths-steps.ensures in
-        let all : word p 0 + w.run_depths-steps.result ≡ word c.args.row.now.state.now 1 = omega (arith, fills.few.0, w.if-steps-left.false, w.if-done-depths.true) in
-        let at : word c.args.row.now.state.now 1 + (word p 0 + w.run_depths-steps.result - word c.args.row.now.state.now 1) ≡ word p 0 + w.run_depths-steps.result = omega (arith, all) in
-        rw (w.depth-is, w.minima-is, w.pieces-is, w.steps-is, at) (
-          omega (arith, all),
-          fills.few.1,
-          fills-far c.args.row.now p _ _ _ _ _ _ _ _ _ (count_of w.run_depths-steps.new.pieces) c.requires.lens.2 (omega (arith, w.if-done-depths.true)) (omega (arith, c.requires.none))
-          (fills.onward (word p 1) m),
-        )
+          let fills = w.run_depths-steps.ensures in
+          let all : word p 0 + w.run_depths-steps.result ≡ word c.args.row.now.state.now 1 = omega (arith, fills.few.0, w.if-steps-left.false, w.if-done-depths.true) in
+          let at : word c.args.row.now.state.now 1 + (word p 0 + w.run_depths-steps.result - word c.args.row.now.state.now 1) ≡ word p 0 + w.run_depths-steps.result = omega (arith, all) in
+          rw (w.depth-is, w.minima-is, w.pieces-is, w.steps-is, at) (
+            omega (arith, all),
+            fills.few.1,
+            fills-far c.args.row.now p _ _ _ _ _ _ _ _ _ (count_of w.run_depths-steps.new.pieces) c.requires.lens.2 (omega (arith, w.if-done-depths.true)) (omega (arith, c.requires.none))
+                (fills.onward (word p 1) m),
+          )
       | else-done-depths w ↦
-        let here : word c.args.row.now.state.now 1 + (word p 0 + 0 - word c.args.row.now.state.now 1) ≡ word p 0 = omega (arith, w.if-done-depths.false) in
-        let none : count_of c.args.pieces.now ≡ 0 = omega (arith, c.requires.none) in
-        rw (w.depth-is, w.minima-is, w.pieces-is, w.steps-is, here, none) (omega (arith, w.if-done-depths.false), omega arith, rw (← two_same p c.requires.lens.2) (onward-none _ _))
+          let here : word c.args.row.now.state.now 1 + (word p 0 + 0 - word c.args.row.now.state.now 1) ≡ word p 0 = omega (arith, w.if-done-depths.false) in
+          let none : count_of c.args.pieces.now ≡ 0 = omega (arith, c.requires.none) in
+          rw (w.depth-is, w.minima-is, w.pieces-is, w.steps-is, here, none) (omega (arith, w.if-done-depths.false), omega arith, rw (← two_same p c.requires.lens.2) (onward-none _ _))
     ]
 
 -- the row is as a run of its commands asks
@@ -85,8 +85,7 @@ long c =
 
 pub returns-then-reached-renders-clause-long : goal.returns-then-reached-renders-clause-long
 returns-then-reached-renders-clause-long c =
-    let at = (goal.at.returns-then-reached-renders-clause-long c).Joined-done-depths in
-    (
+    let at = (goal.at.returns-then-reached-renders-clause-long c).Joined-done-depths in (
       c.if-done-depths.auto.depth,
       (long at).0,
       simp length-set (c.if-done-depths.auto.painting ∙ c.requires.lens.2),
@@ -95,8 +94,7 @@ returns-then-reached-renders-clause-long c =
 
 pub returns-else-reached-renders-clause-long : goal.returns-else-reached-renders-clause-long
 returns-else-reached-renders-clause-long c =
-    let at = (goal.at.returns-else-reached-renders-clause-long c).Joined-done-depths in
-    (
+    let at = (goal.at.returns-else-reached-renders-clause-long c).Joined-done-depths in (
       c.if-done-depths.auto.depth,
       (long at).0,
       simp length-set (c.if-done-depths.auto.painting ∙ c.requires.lens.2),

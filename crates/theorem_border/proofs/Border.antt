@@ -131,6 +131,16 @@ finished-calls r cs l fin =
       gave = ap (λ (x : Host). from r (log cs x)) v ∙ w.pieces r;
     }
 
+-- painting begun and any calls of a host are such at the words
+pub record CalledWords (cs : List Call) (l : ScreenLent) : Type 0 where
+  pub calls : List rows.Call
+  pub words : painted cs (begin-at (host-of l)).value ≡ host-of (rows.called calls (reached.begin-at l).value)
+
+pub called-words : (cs : List Call) (l : ScreenLent) → CalledWords cs l
+called-words cs l =
+    let w = runs cs (reached.begin-at l).value in
+    record { calls = w.calls; words = ap (λ (a : Answer Host). painted cs a.value) (begin-on l) ∙ w.words }
+
 pub border-picture : Picture
 border-picture f xs h z e cs r t there on fin =
     let y = holds z in

@@ -18,10 +18,10 @@ use Rattle.rules_picture.specs.Turns.{Gave, said-finished}
 use Rattle.rules_picture.specs.Colours.{Colours, drawn, nested}
 use Rattle.rules_picture.specs.StoredColours.{newest-over, newest-id, stored-drawn}
 use Rattle.rules_picture.proofs.Cases.{by}
-use Rattle.rules_picture.proofs.Picture.{built-on}
+use Rattle.rules_picture.proofs.CompactedFollows.{kept-on}
 use Rattle.rules_picture.proofs.Recorded.{begin-done}
 use Rattle.rules_picture.proofs.SamePicture.{closed-canvas}
-use Rattle.rules_picture.proofs.StoredColours.{built_once, stored-alike, same-stored}
+use Rattle.rules_picture.proofs.StoredColours.{stored-alike, kept-stored}
 use Rattle.host.specs.Reading.{cmd-parts, cmd_call, depth_call}
 use Rattle.theorem_picture.specs.Turns as turns
 use Rattle.theorem_picture.specs.Reached as reached
@@ -33,26 +33,26 @@ use Rattle.theorem_picture.specs.Stored.{stored-row}
 use Rattle.theorem_picture.specs.Colours.{nesting-at, words-drawn}
 use Rattle.theorem_picture.proofs.Reached as proved
 use Rattle.theorem_picture.proofs.Answers.{begin-answer}
+use Rattle.theorem_picture.proofs.Rows.{called-stands}
 use Rattle.theorem_picture.proofs.WordAt.{word-at}
 use Rattle.theorem_picture.proofs.SamePicture as words
 use Rattle.theorem_picture.proofs.SamePicture.{nesting-words, gentle-words, paint-id-words, layer-id-words}
-use Rattle.theorem_border.specs.Hosted.{Host, Hosted, by-begin, Turn, Call, one-step, begin-at, paint-out, paint-at}
-use Rattle.theorem_border.specs.Hosted as hosts
+use Rattle.theorem_border.specs.Hosted.{Host, Turn, Call, one-step, begin-at, paint-out, paint-at}
 use Rattle.theorem_border.specs.Border.{gave-words, painted, log, finished}
-use Rattle.theorem_border.specs.Held.{host-of}
+use Rattle.theorem_border.specs.Held.{host-of, Holds}
 use Rattle.theorem_border.specs.Reading.{HostStands}
 use Rattle.theorem_border.specs.Colours.{nesting-read, steps-drawn, Gentle-host, cmd-said, depth-said, read-from, commands-read, fills-read, paint-id-read, layer-id-read, SamePicture, SameStored, WordRead}
 use Rattle.theorem_border.proofs.Words.{hosted, begin-on, paint-done, paint-kept}
 use Rattle.theorem_border.proofs.Holds.{holds}
-use Rattle.theorem_border.proofs.Reading.{hosted-stands, lengths-read, cmds-read, depths-read, progress-read}
-use Rattle.theorem_border.proofs.Border.{gave-done, first_said, finished-too, or-either, finished-calls, width_read}
+use Rattle.theorem_border.proofs.Reading.{lengths-read, cmds-read, depths-read, progress-read}
+use Rattle.theorem_border.proofs.Border.{gave-done, first_said, finished-too, or-either, finished-calls, called-words, width_read}
 
 -- the nesting that is read is the painting word
 nesting-same : (f : Frame) (xs : List Step) (l : ScreenLent) → Reached f xs l → (r : ℕ) → r < rows_of f.viewport → nesting-read r (host-of l) ≡ nesting-at l r
 nesting-same f xs l z r h =
     let s = proved.reached z in
     let k = s.canvas in
-    let there : r < length k.screen.rows = (built-on f xs k.screen s.built r h).1 in
+    let there : r < length k.screen.rows = (kept-on f xs k.screen s.built r h).1 in
     let p = progress-read f xs (host-of l) (record { words = l; stands = s; same = refl }) r there (0 ∷ 0 ∷ []) in
     let row : r < length k.painters = rw s.whole.count there in
     ap (λ (a : Answer (List ℕ)). get_or a.value 1 0) p ∙ sym (ap (λ (m : ScreenLent). nesting-at m r) s.same ∙ nesting-words k r row)
@@ -193,12 +193,24 @@ module _ (f : Frame) (xs : List Step) (h : Host) (s : HostStands f xs h) (r : �
   layer-ids : (i : ℕ) → layer-id-read h i ≡ layer-id k.screen.state.attrs i
   layer-ids i = ap (λ (x : Host). layer-id-read x i) held ∙ layer-id-words k i
 
--- painting alters no layer attribute
-painted-hosted : {f : Frame} {xs : List Step} (cs : List Call) (h : Host) → Hosted f xs h → Hosted f xs (painted cs h)
-unfolding painted
-painted-hosted [] h z = z
-painted-hosted (d ∷ cs) h z = painted-hosted cs (paint-at d h) (hosts.by-paint d z)
+-- after painting is begun, and any calls, stands a canvas with the screen that stood before
+painted-stands : {f : Frame} {xs : List Step} {h : Host} (y : Holds f xs h) → (begin-at h).number ≡ Done → (cs : List Call)
+    → (s : HostStands f xs (painted cs (begin-at h).value)) × (s.stands.canvas.screen ≡ (proved.reached y.reached).canvas.screen)
+painted-stands {h = h} y e cs =
+    let l = y.words in
+    let q : begin-at h ≡ hosted (reached.begin-at l) = ap begin-at y.same ∙ begin-on l in
+    let d : (reached.begin-at l).number ≡ Done = sym (ap (λ (a : Answer Host). a.number) q) ∙ e in
+    let w = called-words cs l in
+    let t = called-stands (proved.reached y.reached) d w.calls in (
+      record {
+        words = rows.called w.calls (reached.begin-at l).value;
+        stands = t.0;
+        same = ap (λ (u : Host). painted cs (begin-at u).value) y.same ∙ w.words;
+      },
+      t.1,
+    )
 
+-- painting alters no layer attribute
 painted-gentle : {B : Type 0} (c : Colours B) (cs : List Call) (h : Host) → Gentle-host c h → Gentle-host c (painted cs h)
 unfolding painted
 painted-gentle c [] h g = g
@@ -216,16 +228,15 @@ same-stored-read c f xs h z e cs r t there on op g =
     let q : begin-at h ≡ hosted (reached.begin-at l) = ap begin-at y.same ∙ begin-on l in
     let d : (begin-call st.canvas).number ≡ Done = sym (ap (λ (a : Answer ScreenLent). a.number) (begin-answer st)) ∙ sym (ap (λ (a : Answer Host). a.number) q) ∙ e in
     let x = painted cs (begin-at h).value in
-    let s = hosted-stands f xs x (painted-hosted cs (begin-at h).value (by-begin z)) in
+    let (s, one) = painted-stands y e cs in
     let k = s.stands.canvas in
-    let one : k.screen ≡ st.canvas.screen = built_once s.stands.built st.built in
     let d2 : (begin-call k).number ≡ Done = begin-done k (ap (λ (u : Screen Row). u.state.layers) one ∙ closed-canvas st.canvas d) in
-    let row : r < length k.screen.rows = (built-on f xs k.screen s.stands.built r there).1 in
+    let row : r < length k.screen.rows = (kept-on f xs k.screen s.stands.built r there).1 in
     let g2 = painted-gentle c cs (begin-at h).value (begin-gentle c h g) in
     ap (λ (fs : List DepthFill). stored-drawn c (paint-id-read x) (layer-id-read x) t (bucket f) fs (commands-read r x) (c.blank ∷ [])) (fills-back f xs x s r row)
     ∙ ap (λ (ds : List Command). stored-drawn c (paint-id-read x) (layer-id-read x) t (bucket f) (stored-row k r).fills ds (c.blank ∷ [])) (commands-back f xs x s r row)
     ∙ stored-alike c t (paint-ids f xs x s r row) (layer-ids f xs x s r row) (bucket f) (stored-row k r).fills (stored-row k r).commands (c.blank ∷ [])
-    ∙ same-stored c f xs k s.stands.built d2 r t there on op (gentle-words c r t k (rw (held f xs x s r row) at g2))
+    ∙ kept-stored c f xs k s.stands.built d2 r t there on op (gentle-words c r t k (rw (held f xs x s r row) at g2))
 
 newest-alike-read : (p q : ℕ → ℕ) → ((i : ℕ) → p i ≡ q i) → (ds : List DepthFill) → newest-id p ds ≡ newest-id q ds
 newest-alike-read p q e [] = refl
@@ -243,10 +254,9 @@ word-read f xs h z e cs r t there on fin =
     let x = painted cs (begin-at h).value in
     let m = rows.called fc.calls (reached.begin-at l).value in
     let w : x ≡ host-of m = ap (λ (u : Host). painted cs (begin-at u).value) y.same ∙ fc.words in
-    let s = hosted-stands f xs x (painted-hosted cs (begin-at h).value (by-begin z)) in
+    let (s, one) = painted-stands y e cs in
     let k = s.stands.canvas in
-    let one : k.screen ≡ st.canvas.screen = built_once s.stands.built st.built in
-    let row : r < length k.screen.rows = (built-on f xs k.screen s.stands.built r there).1 in
+    let row : r < length k.screen.rows = (kept-on f xs k.screen s.stands.built r there).1 in
     let b = t / bucket f in
     let at-words : get_or (part (wide (screen-at (host-of m).state)) r m.tables.depth.words) b 0 ≡ newest-id (paint-id a) (newest-over b (stored-row st.canvas r).fills) =
     rw (width_read m.screen.width) (word-at f xs l st d fc.calls r t there on fc.finished) in

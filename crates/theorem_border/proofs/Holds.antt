@@ -21,6 +21,7 @@ use Rattle.theorem_picture.specs.Calls as calls
 use Rattle.theorem_picture.specs.Rows as rows
 use Rattle.theorem_picture.specs.Reached as reached
 use Rattle.theorem_picture.specs.Reached.{Reached}
+use Rattle.theorem_picture.proofs.Reached.{alone-reached}
 use Rattle.theorem_picture.proofs.Rows.{row-reached}
 use Rattle.theorem_picture.proofs.Recorded.{recorded-reached}
 use Rattle.layers.specs.Filter.{given}
@@ -85,7 +86,7 @@ recording-holds f file w q h r y a e (nothing n) = absurd (recording-never h n w
 recording-holds f file w q h r y a e (these l s) =
     let k = ap (recording-at f w) s ∙ recording_on w q a l f file y in
     let z = recorded-reached file q l (number_of _ (recorded file q l) k e) in
-    made _ (recorded file q l) k (rw (s, said-once r z.words) z.reached)
+    made _ (recorded file q l) k (rw (s, said-once r z.words) (alone-reached _ _ _ z.reached))
 
 -- Whatever calls a host has made, its words are those of a screen reached by the same steps.
 pub holds : {f : Frame} {xs : List Step} {h : Host} → Hosted f xs h → Holds f xs h

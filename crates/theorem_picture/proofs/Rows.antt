@@ -1,12 +1,13 @@
 -- A row painted by one call is painting steps of it, one after the other; so the picture speaks of such calls too. Assumes nothing.
-use Rattle.std.proofs.Common.{◌≡◌, refl, sym, ap, ◌∙◌, Bool, true, false, ◌&&◌, ◌||◌, not, cond, List, [], ◌∷◌, ◌++◌, append-nil, append_assoc, Option, None, Some, ℕ, zero, suc, ◌+◌, ◌-◌, ◌*◌, ◌/◌}
+use Rattle.std.proofs.Common.{◌≡◌, refl, sym, ap, ◌∙◌, Bool, true, false, ◌&&◌, ◌||◌, not, cond, List, [], ◌∷◌, ◌++◌, map, append-nil, append_assoc, Option, None, Some, ℕ, zero, suc, ◌+◌, ◌-◌, ◌*◌, ◌/◌}
 use Rattle.std.proofs.Common.{◌≤◌, ◌<◌, zero-add, suc-add, arith, ltb, eqb, length, take, drop, length-append, length-drop, take-append-drop, length-take-le, take-add, eq-eqb, ne_eqb, eqb-true}
 use Rattle.sizes.specs.Sizes.{piece-size}
 use Rattle.rules.specs.Lists.{every}
-use Rattle.rules.specs.Answers.{Done}
+use Rattle.rules.specs.Answers.{Answer, Done}
 use Rattle.rules.specs.Plans.{Frame, Step}
 use Rattle.rules.specs.Painting as rules
 use Rattle.rules.specs.Painting.{Piece, received}
+use Rattle.rules.specs.Calls.{Canvas, begin-call}
 use Rattle.screen.specs.declared.Screen.{Screen}
 use Rattle.screen.specs.Depths.{Depths}
 use Rattle.screen.specs.Tables.{ScreenLent}
@@ -16,14 +17,19 @@ use Rattle.paint.proofs.Spreading.{length-pieces}
 use Rattle.paint.specs.Stepping.{Attributes, attributes, number, row_step, stepped}
 use Rattle.paint.specs.Running.{goes_on, ended, one_more, run, most, standing, call_step, row-painted}
 use Rattle.paint.proofs.WholeRuns.{stops, more}
-use Rattle.rules_picture.specs.Turns.{Gave, from, said-finished}
+use Rattle.refine_paint.proofs.Whole.{begin-whole}
+use Rattle.rules_picture.specs.Turns.{Gave, from, said-finished, turns}
 use Rattle.rules.proofs.All.{and_left, and_right}
 use Rattle.rules_picture.proofs.Cases.{by}
+use Rattle.rules_picture.proofs.Turns.{painted-screen}
 use Rattle.theorem_picture.specs.Reached.{ReachedBy, by-paint, with-canvas, begin-at, paint-out, paint-at}
-use Rattle.theorem_picture.specs.Turns.{Turn, piece-in, pieces-in, gave-out, turned, log}
+use Rattle.theorem_picture.specs.Standing.{canvas-words, StandsBy}
+use Rattle.theorem_picture.specs.Turns.{Turn, turn-of, piece-in, pieces-in, gave-out, turned, log}
 use Rattle.theorem_picture.specs.Picture.{finished}
 use Rattle.theorem_picture.specs.Rows.{row_out, row_at, RowTurns, CallTurns, Call, one-step, whole_row, called, call-log, PictureByRows}
 use Rattle.theorem_picture.proofs.Pieces.{pieces-first}
+use Rattle.theorem_picture.proofs.Answers.{begin-answer}
+use Rattle.theorem_picture.proofs.Turns.{turned-words, turns-whole}
 use Rattle.theorem_picture.proofs.Picture.{picture}
 
 -- pieces that stand after n others
@@ -297,3 +303,25 @@ turned-reached (t ∷ ts) h = turned-reached ts (by-paint t.row t.list h)
 -- .. and so they do by a row's call: `Reached` needs no case for it
 pub row-reached : {c : Bool} {f : Frame} {xs : List Step} {l : ScreenLent} (i : ℕ) (list : List ℕ) → ReachedBy c f xs l → ReachedBy c f xs (row_at i list l)
 row-reached {l = l} i list h = let z = row-turns i l list in rw (← z.words) (turned-reached z.turns h)
+
+-- Painting changes no screen: after painting is begun at words of a canvas, and any calls, stands a canvas with the same screen.
+pub called-stands : {c : Bool} {f : Frame} {xs : List Step} {l : ScreenLent} (s : StandsBy c f xs l) → (begin-at l).number ≡ Done → (cs : List Call)
+    → (t : StandsBy c f xs (called cs (begin-at l).value)) × (t.canvas.screen ≡ s.canvas.screen)
+called-stands {l = l} s e cs =
+    let k = s.canvas in
+    let q = begin-answer s in
+    let d : (begin-call k).number ≡ Done = sym (ap (λ (a : Answer ScreenLent). a.number) q) ∙ e in
+    let v : (begin-at l).value ≡ canvas-words (begin-call k).value = ap (λ (a : Answer ScreenLent). a.value) q in
+    let b = (begin-call k).value in
+    let w = begin-whole k s.whole in
+    let z = calls-turns cs (canvas-words b) in
+    let ts = map turn-of z.turns in
+    let p = painted-screen ts k d in (
+      record {
+        canvas = (turns ts b).canvas;
+        whole = turns-whole ts b w;
+        built = rw p s.built;
+        same = ap (called cs) v ∙ sym z.words ∙ turned-words z.turns b w;
+      },
+      p,
+    )

@@ -43,9 +43,9 @@ fn is_tables(screen: Screen, rows: &Rows<'_>, paint_attrs: &[u32], layer_attrs: 
         && layer_attrs.len() == LAYER_TABLE
 }
 
-// Before anything of the row is read: 2, 1, 4, 12 for no such row, then 13 with a layer open.
+/// Before anything of the row is read: 2, 1, 4, 12 for no such row, then 13 with a layer open.
 #[tactic(auto, unfolding(crate::specs::Call::compact_number))]
-fn judge(
+pub fn judge(
     screen: Screen,
     rows: &Rows<'_>,
     paint_attrs: &[u32],

@@ -19,3 +19,4 @@ pub mod Left
 pub mod Conversions
 pub mod FillLists
 pub mod TileLists
+pub mod Compacted

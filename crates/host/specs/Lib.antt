@@ -15,3 +15,4 @@ pub mod Reading
 pub mod Editions
 pub mod FillLists
 pub mod TileList
+pub mod Compacted

@@ -5,6 +5,7 @@
 
 mod border;
 pub mod build;
+pub mod compacting;
 pub mod editions;
 pub mod layer;
 pub mod lengths;

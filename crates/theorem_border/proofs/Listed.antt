@@ -44,6 +44,7 @@ use Rattle.theorem_border.specs.Hosted.{Host, Asks, Says, Call, place as at-host
 use Rattle.theorem_border.specs.Border.{log, finished, Accepted}
 use Rattle.theorem_border.specs.Held.{host-of}
 use Rattle.theorem_border.specs.TileLists.{ListReceived, ListRoom}
+use Rattle.theorem_border.proofs.Holds.{alone-hosted}
 use Rattle.theorem_border.proofs.Words.{hosted, recording_on, Known, nothing, these, known, recording-never}
 use Rattle.theorem_border.proofs.Recorded.{recording-accepted}
 use Rattle.theorem_border.proofs.Border.{border-picture}
@@ -211,7 +212,7 @@ module _ (told : FileWords) (w : SetupWords) (h : Host) (d : (recording-at told 
 
   had : row < rows_of v → tile < width v / 4 → finished row cs after ≡ true
       → entries-had ≡ plain (bucket (frame m.setup (said m.words).viewport)) v row tile (history (at-host m.setup h) (said m.words))
-  had = border-picture _ _ _ m.hosted m.begins cs row tile
+  had = border-picture _ _ _ (alone-hosted _ _ _ m.hosted) m.begins cs row tile
 
   received-of : Known h → finished row cs after ≡ true → call.number ≡ Done → pieces-in (get_or call.value.1 0 0) call.value.0 ≡ map (piece-of tile) entries-had
   received-of (nothing x) fin e = absurd (recording-never h x w m.setup m.asks told m.file m.says d)

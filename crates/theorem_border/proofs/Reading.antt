@@ -5,7 +5,7 @@ use Rattle.screen.specs.declared.Screen.{Screen}
 use Rattle.walk.specs.Steps.{rows_words}
 use Rattle.paint.specs.StoredCmds.{lengths-of-row, command-of-row, depth-of-row, progress-of-row}
 use Rattle.theorem_picture.specs.Kept.{Refused}
-use Rattle.theorem_picture.proofs.Reached.{reached}
+use Rattle.theorem_picture.proofs.Reached.{reached, alone-stands}
 use Rattle.theorem_picture.proofs.Stored.{stands-stored}
 use Rattle.host.specs.State.{screen-words, on}
 use Rattle.host.specs.Reading.{lengths-parts, cmd-parts, depth-parts, gone-parts, of-some, read-left, lengths_call, cmd_call, depth_call, progress_call}
@@ -13,7 +13,7 @@ use Rattle.host.proofs.Kept.{at-screen}
 use Rattle.theorem_border.specs.Refused.{LengthsRefused, CmdRefused, DepthRefused, ProgressRefused}
 use Rattle.theorem_border.specs.Numbers.{LengthsKeeps, CmdKeeps, DepthKeeps, ProgressKeeps}
 use Rattle.theorem_border.specs.Hosted.{Host}
-use Rattle.theorem_border.specs.Reading.{HostedStands, LengthsRead, CmdsRead, NoCmdRead, DepthsRead, NoDepthRead, ProgressRead}
+use Rattle.theorem_border.specs.Reading.{HostedStands, AloneHostStands, LengthsRead, CmdsRead, NoCmdRead, DepthsRead, NoDepthRead, ProgressRead}
 use Rattle.theorem_border.proofs.Words.{on-screen}
 use Rattle.theorem_border.proofs.Numbers.{kept-on}
 use Rattle.theorem_border.proofs.Holds.{holds}
@@ -53,7 +53,10 @@ pub progress-keeps : ProgressKeeps
 progress-keeps r painting st old long = kept-on true st old (left gone-parts old (λ s. progress-of-row s r painting)) long
 
 pub hosted-stands : HostedStands
-hosted-stands f xs h z = let y = holds z in record { words = y.words; stands = reached y.reached; same = y.same }
+hosted-stands b f xs h z = let y = holds z in record { words = y.words; stands = reached y.reached; same = y.same }
+
+pub alone-host-stands : AloneHostStands
+alone-host-stands f xs h s = let t = alone-stands f xs s.words s.stands in (record { words = s.words; stands = t.0; same = s.same }, t.1)
 
 pub lengths-read : LengthsRead
 lengths-read f xs h s r there old =

@@ -28,6 +28,7 @@ use Rattle.pop.specs.Pop.{popped}
 use Rattle.layers.specs.Filter as filter
 use Rattle.layers.specs.Filter.{given, filtered}
 use Rattle.paint.specs.Beginning.{canvas, beginning}
+use Rattle.paint.specs.Stepping.{attributes}
 use Rattle.paint.specs.DirectRuns.{hidden-of-row, skip-of-row}
 use Rattle.walk.specs.Recorded.{recorded}
 use Rattle.walk.specs.Steps.{rows_words, pop-part}
@@ -37,15 +38,19 @@ use Rattle.host.specs.Asked.{FileWords, asked_setup, told_file}
 use Rattle.host.proofs.Words.{read_back, written_back}
 use Rattle.host.specs.Border.{unasked, unasked_number}
 use Rattle.host.specs.Building.{tables-left, reset_in, recording_in, fill-left, fill_call, props, push-left, push_call, pop-left, pop_call, filter-in, picture, filter-left, filter_call}
+use Rattle.host.specs.Compacted.{compact-left, compact_call}
 use Rattle.host.specs.Results.{skip-left}
 use Rattle.host.specs.Painting.{begin-left, begin_call, step_left, step_call, row_call, write_call, hidden_call, skip_call}
 use Rattle.host.proofs.HostAsked.{reset_unasked, recording_unasked, recording_untold, reset_asked, recording-asked, recording_told}
 use Rattle.host.proofs.Kept.{step-refused, row-refused, write-refused}
+use Rattle.compact.specs.Call as called
+use Rattle.compact.specs.Call.{stored}
+use Rattle.compact.specs.Lent as compacting
 use Rattle.theorem_picture.specs.Calls as calls
 use Rattle.theorem_picture.specs.Reached as reached
 use Rattle.theorem_picture.specs.Rows as rows
 use Rattle.theorem_border.specs.Held.{host-of}
-use Rattle.theorem_border.specs.Hosted.{Host, host, Asks, Says, with_rows, with-painting, reset-at, recording-at, fill-at, push_at, pop-at, filter-at, begin-at, Turn, Call, one-step, whole_row, turn_in, paint-out, paint-at, write-at}
+use Rattle.theorem_border.specs.Hosted.{Host, host, Asks, Says, with_rows, with-painting, reset-at, recording-at, fill-at, push_at, pop-at, filter-at, begin-at, Turn, Call, one-step, whole_row, turn_in, paint-out, paint-at, write-at, compact-at}
 
 abbrev pub hosted : Answer ScreenLent → Answer Host
 hosted a = answer a.number (host-of a.value)
@@ -240,6 +245,13 @@ module _ (l : ScreenLent) where
   begin-on =
       ap (λ (a : Answer (List ℕ × Depths × List ℕ)). answer a.number (host a.value.0 (with-painting t a.value.1 a.value.2)))
       (on-screen (screen-words l.screen, t.depth, t.painting) (λ (s : Screen). begin-left (beginning (canvas s t.depth t.painting))) l.screen)
+
+  pub compact-on : (i : ℕ) → compact-at i (host-of l) ≡ hosted (compacting.compact-at i l)
+  unfolding compact-at compact_call compacting.compact-at
+  compact-on i =
+      ap (λ (a : Answer (List ℕ × Words)). answer a.number (host a.value.0 (with_rows t a.value.1 t.layers t.opacities t.paint-attrs t.layer-attrs t.filter-paints)))
+      (on-screen (screen-words l.screen, rows_words t)
+      (λ (s : Screen). compact-left (called.compacting i (attributes t.paint-attrs t.layer-attrs) (stored s (rows_words t)))) l.screen)
 
 -- a painting call among picture's
 abbrev pub call-of : Call → rows.Call

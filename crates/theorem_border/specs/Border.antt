@@ -22,7 +22,7 @@ use Rattle.host.specs.declared.state.SetupWords.{SetupWords}
 use Rattle.host.specs.Asked.{FileWords}
 use Rattle.host.specs.State.{screen-at}
 use Rattle.host.specs.Painting.{skip_call}
-use Rattle.theorem_border.specs.Hosted.{Host, Hosted, Asks, Says, Call, one-step, turn_in, paint-out, paint-at, place, reset-at, recording-at, begin-at}
+use Rattle.theorem_border.specs.Hosted.{Host, Hosted, HostedAlone, Asks, Says, Call, one-step, turn_in, paint-out, paint-at, place, reset-at, recording-at, begin-at}
 
 -- What a host reads after a painting call of row r. Done: the first result word is 1 where the row has finished, the second says how many
 -- pieces stand in the list. Refused: nothing.
@@ -74,7 +74,7 @@ Clear h =
     → (x : ℕ) → t.first ≤ x → x < t.end
     → get_or (part (wide (screen-at h.state)) r h.tables.depth.words) (x / bucket-tiles (screen-at h.state).width) 0 ≤ id
 
--- What a recording leaves. Accepted: its number said an edition, its words asked for a setup; words that are `Hosted` by the steps of its walk, and painting can
+-- What a recording leaves. Accepted: its number said an edition, its words asked for a setup; words that are `HostedAlone` by the steps of its walk, and painting can
 -- begin there.
 pub record Accepted (f : FileWords) (w : SetupWords) (h : Host) : Type 0 where
   pub file : File
@@ -82,7 +82,7 @@ pub record Accepted (f : FileWords) (w : SetupWords) (h : Host) : Type 0 where
   pub setup : Setup
   pub asks : Asks w setup
   pub words : Readable file
-  pub hosted : Hosted (frame-of (place setup h) (said words)) (history (place setup h) (said words)) (recording-at f w h).value
+  pub hosted : HostedAlone (frame-of (place setup h) (said words)) (history (place setup h) (said words)) (recording-at f w h).value
   pub begins : (begin-at (recording-at f w h).value).number ≡ Done
 
 -- Refused: every word as it was; or, with a number past 3, what a reset to the file's viewport leaves.

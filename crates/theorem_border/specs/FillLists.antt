@@ -1,5 +1,5 @@
 -- A list of fills on a host's words, by the definition that the contract of `coarse_fill_list` cites.
-use Rattle.std.specs.Prelude.{ℕ, ◌≡◌, List, ◌++◌}
+use Rattle.std.specs.Prelude.{ℕ, ◌≡◌, Bool, List, ◌++◌}
 use Rattle.rules.specs.Answers.{Answer}
 use Rattle.rules.specs.Plans.{Frame, Step}
 use Rattle.row.specs.Words.{Words}
@@ -7,7 +7,7 @@ use Rattle.walk.specs.Steps.{rows_words}
 use Rattle.theorem_picture.specs.Calls.{fills-said}
 use Rattle.host.specs.Held.{one}
 use Rattle.host.specs.FillLists.{list_call}
-use Rattle.theorem_border.specs.Hosted.{Host, host, with_rows, Hosted}
+use Rattle.theorem_border.specs.Hosted.{Host, host, with_rows, HostedBy}
 
 -- any words as paints, as segments and as draws, of which those from a to b: its number; the state, the rows, the attributes and how many fills are done
 unfoldable pub list-out : List ℕ → List ℕ → List ℕ → ℕ → ℕ → Host → Answer (List ℕ × Words × List ℕ × List ℕ)
@@ -22,5 +22,5 @@ list-at ps ss ws a b h =
 -- Done or stopped, it extends a host's history by the steps that its done fills say, n of them.
 abbrev pub FillsHosted : Type 0
 FillsHosted =
-    (f : Frame) (xs : List Step) (h : Host) (ps ss ws : List ℕ) (a b n : ℕ) → Hosted f xs h → (list-out ps ss ws a b h).value.3 ≡ one n
-    → Hosted f (xs ++ fills-said ps ss ws a n) (list-at ps ss ws a b h)
+    (c : Bool) (f : Frame) (xs : List Step) (h : Host) (ps ss ws : List ℕ) (a b n : ℕ) → HostedBy c f xs h → (list-out ps ss ws a b h).value.3 ≡ one n
+    → HostedBy c f (xs ++ fills-said ps ss ws a n) (list-at ps ss ws a b h)

@@ -1,5 +1,5 @@
 -- What a host holds from call to call, and the `coarse_` calls on it: each by the definition that its contract cites.
-use Rattle.std.specs.Prelude.{ℕ, ◌≡◌, List, [], ◌∷◌, ◌++◌, Float, ℤ}
+use Rattle.std.specs.Prelude.{ℕ, ◌≡◌, Bool, true, false, List, [], ◌∷◌, ◌++◌, Float, ℤ}
 use Rattle.std.specs.Prelude.{Ok}
 use Rattle.sizes.specs.Sizes.{most-rows}
 use Rattle.rules.specs.Recording.{File}
@@ -27,6 +27,7 @@ use Rattle.host.specs.declared.state.SetupWords.{SetupWords}
 use Rattle.host.specs.Asked.{FileWords, asked_setup, told_file}
 use Rattle.host.specs.Building.{reset_call, recording_call, fill_call, said-props, props, push_call, pop_call, filter-in, picture, filter_call}
 use Rattle.host.specs.Painting.{begin_call, step_call, row_call, write_call}
+use Rattle.host.specs.Compacted.{compact_call}
 
 -- the state's words and the ten tables
 pub record Host : Type 0 where
@@ -134,6 +135,13 @@ write-at i id t list count h =
     let a = write_call i t id h.state h.tables.depth list count in
     host a.value.0 (with-painting h.tables a.value.1 h.tables.painting)
 
+-- `coarse_compact_row` of row i
+unfoldable pub compact-at : ℕ → Host → Answer Host
+compact-at i h =
+    let t = h.tables in
+    let a = compact_call i (own-attributes h) h.state (rows_words t) in
+    answer a.number (host a.value.0 (with_rows t a.value.1 t.layers t.opacities t.paint-attrs t.layer-attrs t.filter-paints))
+
 -- where a recording is played: the setup, and how much is lent of the arenas
 abbrev pub place : Setup → Host → Place
 place q h = record { limit = most-rows; setup = q; arenas = arenas (lengths h.tables) }
@@ -141,23 +149,36 @@ place q h = record { limit = most-rows; setup = q; arenas = arenas (lengths h.ta
 -- A host's words after a done `coarse_reset` to the frame f, or a done recording, on any words whatever, and then `coarse_` calls, each given
 -- what the last one left; xs are the steps that the done building calls say, in order. f is the frame that the reset makes of what it is asked: in
 -- snapping mode it has the snapped box, and everything said of f speaks of that box. Painting calls and writing runs may come between, done or
--- refused. The other calls write nothing but their results; a refused building call leaves every word as it was, and a refused recording too, or
+-- refused, and so may `coarse_compact_row` of any row if c is true. The other calls write nothing but their results; a refused building call leaves every word as it was, and a refused recording too, or
 -- it is a reset (`recording-refused`): they need no case. A done reset or recording was asked for some setup, and a recording's number said an edition
 -- (`reset-asks`, `recording-accepted`).
-pub data Hosted : Frame → List Step → Host → Type 0 where
-  by-reset : (v : Rect) (w : SetupWords) (q : Setup) (h : Host) → Asks w q → (reset-at v w h).number ≡ Done → Hosted (frame q (box_of v)) [] (reset-at v w h).value
-  by-recording : (f : FileWords) (file : File) (w : SetupWords) (q : Setup) (h : Host) (r : Readable file) → Says f file → Asks w q
-      → (recording-at f w h).number ≡ Done → Hosted (frame-of (place q h) (said r)) (history (place q h) (said r)) (recording-at f w h).value
-  by-fill : {f : Frame} {xs : List Step} {h : Host} (ps ss : List ℕ) (d : Draw) → Hosted f xs h → (fill-at ps ss d h).number ≡ Done
-      → Hosted f (xs ++ (fill-said ps ss d ∷ [])) (fill-at ps ss d h).value
-  by-push : {f : Frame} {xs : List Step} {h : Host} (mix compose opacity mask flag : ℕ) (clip : Clip) (panel : ℕ) → Hosted f xs h
+pub data HostedBy : Bool → Frame → List Step → Host → Type 0 where
+  by-reset : {c : Bool} (v : Rect) (w : SetupWords) (q : Setup) (h : Host) → Asks w q → (reset-at v w h).number ≡ Done → HostedBy c (frame q (box_of v)) [] (reset-at v w h).value
+  by-recording : {c : Bool} (f : FileWords) (file : File) (w : SetupWords) (q : Setup) (h : Host) (r : Readable file) → Says f file → Asks w q
+      → (recording-at f w h).number ≡ Done → HostedBy c (frame-of (place q h) (said r)) (history (place q h) (said r)) (recording-at f w h).value
+  by-fill : {c : Bool} {f : Frame} {xs : List Step} {h : Host} (ps ss : List ℕ) (d : Draw) → HostedBy c f xs h → (fill-at ps ss d h).number ≡ Done
+      → HostedBy c f (xs ++ (fill-said ps ss d ∷ [])) (fill-at ps ss d h).value
+  by-push : {c : Bool} {f : Frame} {xs : List Step} {h : Host} (mix compose opacity mask flag : ℕ) (clip : Clip) (panel : ℕ) → HostedBy c f xs h
       → (push_at mix compose opacity mask flag clip panel h).number ≡ Done
-      → Hosted f (xs ++ (push-said mix compose opacity mask flag clip panel ∷ [])) (push_at mix compose opacity mask flag clip panel h).value
-  by-pop : {f : Frame} {xs : List Step} {h : Host} (ss : List ℕ) → Hosted f xs h → (pop-at ss h).number ≡ Done
-      → Hosted f (xs ++ (pop-said ss ∷ [])) (pop-at ss h).value
-  by-filter : {f : Frame} {xs : List Step} {h : Host} (dest : Rect) (x y flag m n q : ℕ) → Hosted f xs h → (filter-at dest x y flag m n q h).number ≡ Done
-      → Hosted f (xs ++ (filter-said (given (filter-in dest x y (picture flag m)) n q) ∷ [])) (filter-at dest x y flag m n q h).value
-  by-begin : {f : Frame} {xs : List Step} {h : Host} → Hosted f xs h → Hosted f xs (begin-at h).value
-  by-paint : {f : Frame} {xs : List Step} {h : Host} (c : Call) → Hosted f xs h → Hosted f xs (paint-at c h)
-  by-write : {f : Frame} {xs : List Step} {h : Host} (i id : ℕ) (t : Span) (list count : List ℕ) → Hosted f xs h
-      → Hosted f xs (write-at i id t list count h)
+      → HostedBy c f (xs ++ (push-said mix compose opacity mask flag clip panel ∷ [])) (push_at mix compose opacity mask flag clip panel h).value
+  by-pop : {c : Bool} {f : Frame} {xs : List Step} {h : Host} (ss : List ℕ) → HostedBy c f xs h → (pop-at ss h).number ≡ Done
+      → HostedBy c f (xs ++ (pop-said ss ∷ [])) (pop-at ss h).value
+  by-filter : {c : Bool} {f : Frame} {xs : List Step} {h : Host} (dest : Rect) (x y flag m n q : ℕ) → HostedBy c f xs h → (filter-at dest x y flag m n q h).number ≡ Done
+      → HostedBy c f (xs ++ (filter-said (given (filter-in dest x y (picture flag m)) n q) ∷ [])) (filter-at dest x y flag m n q h).value
+  by-begin : {c : Bool} {f : Frame} {xs : List Step} {h : Host} → HostedBy c f xs h → HostedBy c f xs (begin-at h).value
+  by-paint : {c : Bool} {f : Frame} {xs : List Step} {h : Host} (k : Call) → HostedBy c f xs h → HostedBy c f xs (paint-at k h)
+  by-write : {c : Bool} {f : Frame} {xs : List Step} {h : Host} (i id : ℕ) (t : Span) (list count : List ℕ) → HostedBy c f xs h
+      → HostedBy c f xs (write-at i id t list count h)
+  by-compact : {f : Frame} {xs : List Step} {h : Host} (i : ℕ) → HostedBy true f xs h → HostedBy true f xs (compact-at i h).value
+
+-- by any of these calls
+abbrev pub Hosted : Frame → List Step → Host → Type 0
+Hosted = HostedBy true
+
+-- by all but `coarse_compact_row`
+abbrev pub HostedAlone : Frame → List Step → Host → Type 0
+HostedAlone = HostedBy false
+
+-- The second is a case of the first.
+abbrev pub AloneHosted : Type 0
+AloneHosted = (f : Frame) (xs : List Step) (h : Host) → HostedAlone f xs h → Hosted f xs h

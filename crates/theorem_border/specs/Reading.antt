@@ -1,6 +1,6 @@
 -- What a host reads of a row without painting it, after any calls: the commands and depth fills of the row that its steps have built by the rules, each under its
 -- number and none past the last, and how far the rules' painter of the row has come.
-use Rattle.std.specs.Prelude.{ℕ, ◌≤◌, ◌<◌, ◌≡◌, List, length, get_or}
+use Rattle.std.specs.Prelude.{ℕ, ◌≤◌, ◌<◌, ◌≡◌, Bool, true, false, List, length, get_or}
 use Rattle.rules.specs.Answers.{answer, Done, BadRun}
 use Rattle.rules.specs.Commands.{pop-buf}
 use Rattle.rules.specs.Plans.{Frame, Step}
@@ -9,21 +9,28 @@ use Rattle.rules.specs.Calls.{Canvas, painter-of}
 use Rattle.screen.specs.Tables.{ScreenLent}
 use Rattle.walk.specs.Steps.{rows_words}
 use Rattle.paint.specs.StoredCmds.{lengths, gone}
-use Rattle.theorem_picture.specs.Standing.{Stands}
+use Rattle.theorem_picture.specs.Standing.{StandsBy}
 use Rattle.theorem_picture.specs.Stored.{stored-row}
 use Rattle.host.specs.Reading.{cmd-parts, depth-parts, lengths-parts, gone-parts, lengths_call, cmd_call, depth_call, progress_call}
-use Rattle.theorem_border.specs.Hosted.{Host, Hosted}
+use Rattle.theorem_border.specs.Hosted.{Host, HostedBy}
 use Rattle.theorem_border.specs.Held.{host-of}
 
--- words of a whole canvas of the rules, whose screen the steps xs have built from the reset to f
-pub record HostStands (f : Frame) (xs : List Step) (h : Host) : Type 0 where
+-- words of a whole canvas of the rules, whose screen the steps xs have built from the reset to f; if c is true, rows of it may have been compacted
+pub record HostStandsBy (c : Bool) (f : Frame) (xs : List Step) (h : Host) : Type 0 where
   pub words : ScreenLent
-  pub stands : Stands f xs words
+  pub stands : StandsBy c f xs words
   pub same : h ≡ host-of words
 
 -- Whatever calls a host has made, its words are such, ..
 abbrev pub HostedStands : Type 0
-HostedStands = (f : Frame) (xs : List Step) (h : Host) → Hosted f xs h → HostStands f xs h
+HostedStands = (c : Bool) (f : Frame) (xs : List Step) (h : Host) → HostedBy c f xs h → HostStandsBy c f xs h
+
+abbrev pub HostStands : Frame → List Step → Host → Type 0
+HostStands = HostStandsBy true
+
+-- (by the steps alone they are such words too, of the same canvas,)
+abbrev pub AloneHostStands : Type 0
+AloneHostStands = (f : Frame) (xs : List Step) (h : Host) (s : HostStandsBy false f xs h) → (t : HostStands f xs h) × (t.stands.canvas ≡ s.stands.canvas)
 
 -- .. and there, for each row r of the canvas k, whatever stood in the result:
 abbrev pub AtRows : (Canvas → ℕ → Host → List ℕ → Type 0) → Type 0

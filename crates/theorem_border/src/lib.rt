@@ -4,7 +4,7 @@
 
 ghost use Rattle.std.specs.Prelude.{List};
 ghost use Rattle.rules.specs.Plans.{Frame, Step};
-ghost use Rattle.theorem_border.specs.Hosted.{Host, Hosted};
+ghost use Rattle.theorem_border.specs.Hosted.{AloneHosted, Host, Hosted};
 ghost use Rattle.theorem_border.specs.Border.{Picture, Clear, Finishes, RecordingAccepted, RecordingRefused, RecordingEarly, ResetAsks};
 ghost use Rattle.theorem_border.specs.Refused.{BeginRefused, FillRefused, FilterRefused, PopRefused, PushRefused, ResetRefused, RowRefused, LengthsRefused, CmdRefused, DepthRefused, ProgressRefused, SizesRefused, SkipRefused, SpansRefused, SplitRefused, StepRefused, UnsetRefused, VisibleRefused, WhyRefused, WriteRefused, HiddenRefused, ListTileRefused, ToTwoRefused, ToOneRefused};
 ghost use Rattle.theorem_border.specs.Numbers.{BeginKeeps, FillKeeps, FilterKeeps, PopKeeps, PushKeeps, RecordingKeeps, ResetKeeps, RowKeeps, SkipKeeps, SpansKeeps, StepKeeps, UnsetKeeps, VisibleKeeps, WhyKeeps, WriteKeeps, HiddenKeeps, LengthsKeeps, CmdKeeps, DepthKeeps, ProgressKeeps};
@@ -13,7 +13,7 @@ ghost use Rattle.theorem_border.specs.Words.{ScreenReadBack, SizesFit, WordsWrit
 ghost use Rattle.theorem_border.specs.FillLists.{FillsHosted};
 ghost use Rattle.theorem_border.specs.TileLists.{ListReceived, ListRoom, ListNumbers};
 ghost use Rattle.theorem_border.specs.Held.{HostedReached};
-ghost use Rattle.theorem_border.specs.Reading.{HostedStands, LengthsRead, CmdsRead, NoCmdRead, DepthsRead, NoDepthRead, ProgressRead};
+ghost use Rattle.theorem_border.specs.Reading.{AloneHostStands, HostedStands, LengthsRead, CmdsRead, NoCmdRead, DepthsRead, NoDepthRead, ProgressRead};
 ghost use Rattle.theorem_border.specs.Colours as colours;
 ghost use Rattle.theorem_border.specs.Edited.{LinePieces, LineWords};
 ghost use Rattle.theorem_border.specs.Panel.{CallsDone, EachTile, MixedFinish, PaintsTaken, StepsFinish, Tile10, Tile25, Tile40};
@@ -125,6 +125,7 @@ pub fn words_at_border()
     ensures screen_read { ScreenReadBack }
     ensures words_written { WordsWrittenBack }
     ensures reached { HostedReached }
+    ensures alone { AloneHosted }
     ensures fills { FillsHosted }
     ensures sizes { SizesFit }
 {}
@@ -132,6 +133,7 @@ pub fn words_at_border()
 /// What a host reads of a row without painting it, whatever it has called: the rules' row and its painter.
 pub fn rows_read_at_border()
     ensures stands { HostedStands }
+    ensures alone { AloneHostStands }
     ensures row_lengths { LengthsRead }
     ensures render_cmds { CmdsRead }
     ensures no_render_cmd { NoCmdRead }

@@ -1,8 +1,11 @@
-use Rattle.theorem_border.proofs.Reading.{hosted-stands, lengths-read, cmds-read, no-cmd-read, depths-read, no-depth-read, progress-read}
+use Rattle.theorem_border.proofs.Reading.{hosted-stands, alone-host-stands, lengths-read, cmds-read, no-cmd-read, depths-read, no-depth-read, progress-read}
 use Rattle.theorem_border.proofs.rows_read_at_border.Goals as goal
 
 pub returns-clause-stands : goal.returns-clause-stands
 returns-clause-stands c = hosted-stands
+
+pub returns-clause-alone : goal.returns-clause-alone
+returns-clause-alone c = alone-host-stands
 
 pub returns-clause-row_lengths : goal.returns-clause-row_lengths
 returns-clause-row_lengths c = lengths-read

@@ -1,5 +1,5 @@
 use Rattle.host.proofs.Words.{read_back, written_back}
-use Rattle.theorem_border.proofs.Holds.{holds}
+use Rattle.theorem_border.proofs.Holds.{holds, alone-hosted}
 use Rattle.theorem_border.proofs.FillLists.{fills-hosted}
 use Rattle.theorem_border.proofs.Sized.{sizes-fit}
 use Rattle.theorem_border.proofs.words_at_border.Goals as goal
@@ -11,10 +11,13 @@ pub returns-clause-words_written : goal.returns-clause-words_written
 returns-clause-words_written c = written_back
 
 pub returns-clause-reached : goal.returns-clause-reached
-returns-clause-reached c = λ f xs h hosted. holds hosted
+returns-clause-reached c = λ b f xs h hosted. holds hosted
+
+pub returns-clause-alone : goal.returns-clause-alone
+returns-clause-alone c = alone-hosted
 
 pub returns-clause-sizes : goal.returns-clause-sizes
 returns-clause-sizes c = sizes-fit
 
 pub returns-clause-fills : goal.returns-clause-fills
-returns-clause-fills c = λ f xs h ps ss ws a b n r e. fills-hosted ps ss ws a b n r e
+returns-clause-fills c = λ t f xs h ps ss ws a b n r e. fills-hosted ps ss ws a b n r e

@@ -35,13 +35,6 @@ module _ (ws : List ℕ) (n t s a i : ℕ) where
   above : (j : ℕ) → 4 * n + 3 < j → get_or (put4 ws n t s a i) j 0 ≡ get_or ws j 0
   above j h = other j (λ e. omega arith) (λ e. omega arith) (λ e. omega arith) (λ e. omega arith)
 
-  pub put-long : length (put4 ws n t s a i) ≡ length ws
-  put-long =
-      length-set (set (set (set ws (4 * n) t) (4 * n + 1) s) (4 * n + 2) a) (4 * n + 3) i
-      ∙ length-set (set (set ws (4 * n) t) (4 * n + 1) s) (4 * n + 2) a
-      ∙ length-set (set ws (4 * n) t) (4 * n + 1) s
-      ∙ length-set ws (4 * n) t
-
   -- the command there, and those at other places
   pub put-there : 4 * n + 4 ≤ length ws → words_of (cmd_at (put4 ws n t s a i) n) ≡ t ∷ s ∷ a ∷ i ∷ []
   put-there h = grind (arith, get_or-set_other, get_or-set_same, length-set)

@@ -43,6 +43,13 @@ pop-words segments w t = (segments, words_in w, pop_in t)
 abbrev pub pop-left : StateWords → Lent → List ℕ × PopLent
 pop-left w t = (words_in w, pop_in t)
 
+-- a row is compacted: the rows and both tables of attributes
+abbrev pub compact-words : StateWords → Lent → List ℕ × Words × List ℕ × List ℕ
+compact-words w t = (words_in w, rows_in t, t.paint_attrs.now, t.layer_attrs.now)
+
+abbrev pub compact-left : StateWords → Lent → List ℕ × Words
+compact-left w t = (words_in w, rows_in t)
+
 abbrev pub begin-words : StateWords → Canvas → List ℕ × Depths × List ℕ
 begin-words w c = (words_in w, depths_in c.depth, c.painting.now)
 

@@ -12,6 +12,7 @@ use Rattle.theorem_once.specs.declared.building.FillLent.{FillLent}
 use Rattle.theorem_once.specs.declared.building.PushLent.{PushLent}
 use Rattle.theorem_once.specs.declared.building.PopLent.{PopLent}
 use Rattle.theorem_once.specs.declared.building.FilterLent.{FilterLent}
+use Rattle.theorem_once.specs.declared.building.CompactLent.{CompactLent}
 use Rattle.theorem_once.specs.declared.recordings.RecordingLent.{RecordingLent}
 
 abbrev pub fill-words : FillLent → Screen × Words × List ℕ × List ℕ × List ℕ
@@ -29,6 +30,9 @@ pop-words l = (l.screen, all-held l.rows, l.layers.table.now, l.layers.opacities
 
 abbrev pub filter-words : FilterLent → Screen × Words × List ℕ × List ℤ
 filter-words l = (l.screen, all-held l.rows, l.paint_attrs.now, l.filter_paints.now)
+
+abbrev pub compact-words : CompactLent → Screen × Words × List ℕ × List ℕ
+compact-words l = (l.screen, all-held l.rows, l.paint_attrs.now, l.layer_attrs.now)
 
 abbrev pub recording-words : RecordingLent → ScreenLent × File
 recording-words l = (whole l.screen l.lent, file_of l.file)

@@ -1,9 +1,10 @@
-//! Each building call.
+//! Each building call, and the call that gives a row room back.
 ghost use Rattle.std.specs.Prelude.{◌≡◌};
 ghost use Rattle.screen.specs.Lent.{tables_in};
-ghost use Rattle.theorem_once.specs.Lent.{fill-words, list-words, push-words, pop-words, filter-words};
+ghost use Rattle.theorem_once.specs.Lent.{fill-words, list-words, push-words, pop-words, filter-words, compact-words};
 
 use crate::Twice;
+use compact::compact_row;
 use fill::fill;
 use fill::list::{Draws, Stopped, fill_list};
 use inputs::Draw;
@@ -186,6 +187,42 @@ pub fn filter_twice(
             b.paint_attrs,
             b.filter_paints,
             layer,
+        ),
+    )
+}
+
+/// What compacting a row reads and writes.
+#[derive(Drop)]
+pub struct CompactLent<'a> {
+    pub screen: Screen,
+    pub rows: Rows<'a>,
+    pub paint_attrs: &'a [u32],
+    pub layer_attrs: &'a [u32],
+}
+
+/// Two calls of `compact_row`.
+pub fn compact_twice(
+    a: &mut CompactLent<'_>,
+    b: &mut CompactLent<'_>,
+    row: usize,
+) -> Twice<Result<(), Refusal>>
+    ensures { compact-words a.old ≡ compact-words b.old
+        → (result.0 ≡ result.1) × (compact-words a.new ≡ compact-words b.new) }
+{
+    (
+        compact_row(
+            &mut a.screen,
+            &mut a.rows,
+            a.paint_attrs,
+            a.layer_attrs,
+            row,
+        ),
+        compact_row(
+            &mut b.screen,
+            &mut b.rows,
+            b.paint_attrs,
+            b.layer_attrs,
+            row,
         ),
     )
 }

@@ -3,11 +3,12 @@ ghost use Rattle.std.specs.Prelude.{◌≡◌};
 ghost use Rattle.host.specs.Called.{fill_out, push_out, filter_out, why_out};
 ghost use Rattle.host.specs.FillLists.{list_out};
 ghost use Rattle.host.specs.Sizes.{length-words};
-ghost use Rattle.theorem_once.specs.Border.{screen-words, recording-words, pop-words, pop-left, fill-words, list-words, why-words, tile-list-words, tile-list-left};
+ghost use Rattle.theorem_once.specs.Border.{screen-words, recording-words, pop-words, pop-left, fill-words, list-words, why-words, tile-list-words, tile-list-left, compact-words, compact-left};
 
 use crate::Twice;
 use fill::list::Draws;
 use host::build::{DrawWords, coarse_bucket_recording, coarse_fill, coarse_reset};
+use host::compacting::coarse_compact_row;
 use host::layer::{
     FilterWords, PropsWords, coarse_filter_fill, coarse_pop_layer, coarse_push_layer,
 };
@@ -248,6 +249,23 @@ pub fn filter_twice(
     (
         coarse_filter_fill(a_state, a_tables, &filter),
         coarse_filter_fill(b_state, b_tables, &filter),
+    )
+}
+
+/// Two calls of `coarse_compact_row`.
+pub fn compact_twice(
+    a_state: &mut StateWords,
+    a_tables: &mut Lent<'_>,
+    b_state: &mut StateWords,
+    b_tables: &mut Lent<'_>,
+    row: usize,
+) -> Twice<u32>
+    ensures { compact-words a_state.old a_tables.old ≡ compact-words b_state.old b_tables.old
+        → (result.0 ≡ result.1) × (compact-left a_state.new a_tables.new ≡ compact-left b_state.new b_tables.new) }
+{
+    (
+        coarse_compact_row(a_state, a_tables, row),
+        coarse_compact_row(b_state, b_tables, row),
     )
 }
 

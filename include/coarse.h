@@ -63,7 +63,7 @@ enum coarse_answer {
     COARSE_FULL_ROW = 10,    /* a row's render commands pass C */
     COARSE_FULL_DEPTH = 11,  /* a row's depth fills pass D */
     COARSE_BAD_RUN = 12,     /* no such row, tile or command, a range out of order or past its end, or id 0 where it is written */
-    COARSE_OPEN = 13,        /* painting with a layer open, or a step with painting not begun */
+    COARSE_OPEN = 13,        /* painting, or compacting a row, with a layer open; or a step with painting not begun */
     COARSE_NO_ROOM = 14,     /* the list is shorter than the result */
     COARSE_HAS_PANELS = 15   /* towards edition one: a draw or a layer has a panel that is not 0 */
 };
@@ -364,6 +364,16 @@ uint32_t coarse_pop_layer(coarse_state *state, coarse_tables *tables, const uint
 
 /* Draws a filter layer's picture into a box. */
 uint32_t coarse_filter_fill(coarse_state *state, coarse_tables *tables, const coarse_filter *filter);
+
+/* Takes out of a row of the screen the render commands that nothing will ever show, so that the row has room for others: a fill of which no tile is
+ * visible, as every bucket that it meets has a depth fill of a newer id, and a PushBuf directly followed by a PopBuf; again and again until there is
+ * neither. What is left closes up in its order, each command as it was, the words behind it are 0, and the row's record has the new count: painted,
+ * the row gives the pieces that it would have given, and further drawing goes on behind them. Depth fills, the depth words and their minima,
+ * attributes, ids and every other row stay. Done, also where nothing is taken out, it ends painting. Refused, in this order: by 2 for the state's
+ * viewport; 1 where render_cmds or depth_cmds has another length than the state's C and D ask for, or for C or D; 4 where rows, paint_attrs or
+ * layer_attrs has, or for a state that is none; 12 for no such row; 13 with a layer open; 4 for a count, a depth fill or a command of the row that is
+ * none, or an attribute of one. */
+uint32_t coarse_compact_row(coarse_state *state, coarse_tables *tables, size_t row);
 
 /* Clears the depth words, makes their minima afresh, and sets every row to its first step. */
 uint32_t coarse_begin_painting(coarse_state *state, coarse_canvas *canvas);

@@ -62,6 +62,8 @@ static void null_pointers(void) {
     expect("hidden in no row", COARSE_BAD_RUN, coarse_is_hidden(&state, NULL, 0, 0, (coarse_span){0, 0}, 1, &hidden));
     expect("its answer stays", 7, hidden);
     expect("a recording of no words", COARSE_BAD_FORM, coarse_bucket_recording(&state, COARSE_EDITION_ONE, NULL, 0, one, &tables));
+    expect("compacting no row", COARSE_BAD_RUN, coarse_compact_row(&state, &tables, 0));
+    expect("painting goes on", 1, state.painting);
     free(layers), free(paint_attrs), free(layer_attrs), free(opacities), free(filter_paints);
 }
 
@@ -1082,6 +1084,159 @@ static void stored_commands(void) {
     coarse_bucketer_free(&b);
 }
 
+/* The tags of a row's commands, in order. */
+static void expect_tags(const char *what, const coarse_bucketer *b, size_t row, const uint32_t *want, size_t count) {
+    coarse_row_counts lengths = {0, 0};
+    coarse_command cmd = {0, 0, 0, 0, 0};
+    size_t i;
+    expect(what, COARSE_DONE, coarse_bucketer_row_lengths(b, row, &lengths));
+    expect(what, (uint32_t)count, lengths.render_cmds);
+    for (i = 0; i < count; i++) {
+        expect(what, COARSE_DONE, coarse_bucketer_render_cmd(b, row, i, &cmd));
+        expect(what, want[i], cmd.tag);
+    }
+    for (i = 4 * count; i < 4 * (size_t)b->setup.c; i++)
+        expect("nothing stands behind them", 0, b->tables.render_cmds[4 * b->setup.c * row + i]);
+}
+
+/* A layer over the whole screen in which its fill is drawn; without a clip it closes over all, with one of no segments over nothing. */
+static void layer_of(coarse_bucketer *b, int has_clip, size_t segment) {
+    coarse_clip none = {{0, 0, 256, 8}, 0, 0, 0};
+    coarse_layer_props props = {.blend = COARSE_DEFAULT_BLEND, .opacity = 1.0f, .clip = has_clip ? &none : NULL};
+    coarse_draw draw = {.start = segment, .end = segment + 1, .paint = 1, .blend = COARSE_DEFAULT_BLEND};
+    static const coarse_segment list[] = {{0, 0, 0, 64, 0}, {0, 0, 4, 8, 0}};
+    expect("a layer", COARSE_DONE, coarse_bucketer_push_layer(b, &props));
+    expect("a fill in it", COARSE_DONE, coarse_bucketer_generate_fill(b, paints, 2, list, 2, &draw));
+    expect("closed", COARSE_DONE, coarse_bucketer_pop_layer(b, NULL, 0));
+}
+
+/* Fills in row 0 alone, of two buckets, in a row with room for 8 commands: over both buckets or the first, hiding or not. */
+static uint32_t fill_row(coarse_bucketer *b, size_t segment, uint32_t paint) {
+    static const coarse_segment list[] = {{0, 0, 0, 64, 0}, {0, 0, 0, 32, 0}, {1, 0, 20, 40, 160}};
+    coarse_draw draw = {.start = segment, .end = segment + 1, .paint = paint, .blend = COARSE_DEFAULT_BLEND};
+    return coarse_bucketer_generate_fill(b, paints, 2, list, 3, &draw);
+}
+
+/* Row 0 compacted: the commands that are left, and the pieces, which are those that it gave before. */
+static void expect_compacted(const char *what, coarse_bucketer *b, const uint32_t *want, size_t count) {
+    coarse_piece before[16];
+    const coarse_piece *pieces = NULL;
+    size_t n = 0, m = 0;
+    uint32_t left;
+    expect(what, COARSE_DONE, coarse_bucketer_begin_painting(b));
+    expect(what, COARSE_DONE, coarse_bucketer_paint_row(b, 0, &pieces, &n));
+    expect(what, 1, n <= 16);
+    memcpy(before, pieces, n * sizeof *pieces);
+    expect(what, COARSE_DONE, coarse_bucketer_compact_row(b, 0));
+    expect("it ends painting", COARSE_OPEN, coarse_bucketer_paint_row(b, 0, &pieces, &m));
+    expect_tags(what, b, 0, want, count);
+    left = sum(b);
+    expect("twice", COARSE_DONE, coarse_bucketer_compact_row(b, 0));
+    expect("is once", left, sum(b));
+    expect(what, COARSE_DONE, coarse_bucketer_begin_painting(b));
+    expect(what, COARSE_DONE, coarse_bucketer_paint_row(b, 0, &pieces, &m));
+    expect("as many pieces", (uint32_t)n, (uint32_t)m);
+    expect("the same pieces", 0, n == m && memcmp(before, pieces, n * sizeof *pieces) != 0);
+}
+
+/* What nothing will ever show is taken out of a row, which has room again, and paints as before. */
+static void compacted_rows(void) {
+    static const uint32_t closed[] = {COARSE_PUSH_BUF_SPAN, COARSE_PAINT_FILL, COARSE_LAYER_FILL, COARSE_POP_BUF};
+    static const uint32_t dropped[] = {COARSE_PUSH_BUF_SPAN, COARSE_PAINT_FILL, COARSE_POP_BUF};
+    static const uint32_t half[] = {COARSE_PAINT_FILL_ALPHA, COARSE_PUSH_BUF_SPAN, COARSE_LAYER_FILL, COARSE_POP_BUF};
+    static const uint32_t eight[] = {2, 2, 2, 2, 2, 2, 2, 2};
+    const coarse_rect view = {0, 0, 256, 8};
+    coarse_bucketer b;
+    coarse_command cmd = {0, 0, 0, 0, 0};
+    uint32_t before, i;
+    expect("a screen", COARSE_DONE, coarse_bucketer_new(&b, view, small));
+
+    expect_compacted("an empty row", &b, NULL, 0);
+    layer_of(&b, 1, 0);
+    expect_tags("a dropped buffer", &b, 0, dropped, 3);
+    expect_compacted("which nothing hides", &b, dropped, 3);
+    expect("a fill that hides it", COARSE_DONE, fill_row(&b, 0, 0));
+    expect_compacted("goes whole", &b, NULL, 0);
+    layer_of(&b, 0, 0);
+    expect_tags("a buffer", &b, 0, closed, 4);
+    expect_compacted("newer than what hides", &b, closed, 4);
+    expect("a fill that hides it too", COARSE_DONE, fill_row(&b, 0, 0));
+    expect_compacted("goes with its closing", &b, NULL, 0);
+
+    /* A fill that shows in one bucket stays, and so does the buffer of a closing that shows there. */
+    expect("reset", COARSE_DONE, coarse_bucketer_reset(&b, view));
+    expect("a fill across two buckets", COARSE_DONE, fill_row(&b, 2, 1));
+    expect("one of the first", COARSE_DONE, fill_row(&b, 1, 1));
+    layer_of(&b, 0, 1);
+    expect("what hides the first", COARSE_DONE, fill_row(&b, 1, 0));
+    expect("the buffer", COARSE_DONE, coarse_bucketer_render_cmd(&b, 0, 2, &cmd));
+    expect("has a span", 1, cmd.tag == COARSE_PUSH_BUF_SPAN && cmd.first < cmd.end);
+    before = cmd.end;
+    expect_compacted("half of it", &b, half, 4);
+    expect("the buffer that is left", COARSE_DONE, coarse_bucketer_render_cmd(&b, 0, 1, &cmd));
+    expect("keeps its span", before, cmd.end);
+
+    /* A full row: all of it is hidden, and it takes as many again. */
+    expect("reset", COARSE_DONE, coarse_bucketer_reset(&b, view));
+    for (i = 0; i < 8; i++)
+        expect("a fill", COARSE_DONE, fill_row(&b, 2, 1));
+    expect("the row is full", COARSE_FULL_ROW, fill_row(&b, 2, 1));
+    expect_compacted("nothing is hidden", &b, eight, 8);
+    expect("it is full still", COARSE_FULL_ROW, fill_row(&b, 2, 1));
+    expect("a fill that hides all", COARSE_DONE, fill_row(&b, 0, 0));
+    expect("has no command there, and makes no room", COARSE_FULL_ROW, fill_row(&b, 2, 1));
+    expect_compacted("now there is", &b, NULL, 0);
+    for (i = 0; i < 8; i++)
+        expect("a fill more", COARSE_DONE, fill_row(&b, 2, 1));
+    expect("and full again", COARSE_FULL_ROW, fill_row(&b, 2, 1));
+
+    /* Each refusal, in order: 2, 1, 4, 12, 13, and 4 for the row's words. Nothing changes, and painting goes on. */
+    expect("painting", COARSE_DONE, coarse_bucketer_begin_painting(&b));
+    before = sum(&b);
+    expect("no row 2", COARSE_BAD_RUN, coarse_bucketer_compact_row(&b, 2));
+    expect("nor the last of all numbers", COARSE_BAD_RUN, coarse_bucketer_compact_row(&b, SIZE_MAX));
+    b.tables.depth_len--, b.tables.minima_len--, b.tables.painting_len--, b.tables.layers_len--, b.tables.opacities_len--, b.tables.filter_paints_len--;
+    expect("what it does not read may be short", COARSE_BAD_RUN, coarse_bucketer_compact_row(&b, 2));
+    b.tables.rows_len--;
+    expect("short rows before no row", COARSE_BAD_RECORD, coarse_bucketer_compact_row(&b, 2));
+    b.tables.rows_len++, b.tables.paint_attrs_len--;
+    expect("short paint attributes too", COARSE_BAD_RECORD, coarse_bucketer_compact_row(&b, 2));
+    b.tables.paint_attrs_len++, b.tables.layer_attrs_len--;
+    expect("short layer attributes too", COARSE_BAD_RECORD, coarse_bucketer_compact_row(&b, 2));
+    b.tables.render_cmds_len--;
+    expect("short commands before that", COARSE_BAD_ARENA, coarse_bucketer_compact_row(&b, 2));
+    b.tables.render_cmds_len++, b.tables.depth_cmds_len++;
+    expect("long depth fills before that", COARSE_BAD_ARENA, coarse_bucketer_compact_row(&b, 2));
+    b.state.viewport.x1 = 2;
+    expect("a bad viewport before that", COARSE_BAD_VIEWPORT, coarse_bucketer_compact_row(&b, 2));
+    b.state.viewport.x1 = 256, b.tables.depth_cmds_len--, b.tables.layer_attrs_len++;
+    b.state.painting = 2;
+    expect("a state that is none before no row", COARSE_BAD_RECORD, coarse_bucketer_compact_row(&b, 2));
+    b.state.painting = 1, b.state.layers = 1;
+    expect("no row before an open layer", COARSE_BAD_RUN, coarse_bucketer_compact_row(&b, 2));
+    b.tables.rows[0] = 9;
+    expect("an open layer before a bad count", COARSE_OPEN, coarse_bucketer_compact_row(&b, 0));
+    b.state.layers = 0;
+    expect("more commands than C", COARSE_BAD_RECORD, coarse_bucketer_compact_row(&b, 0));
+    b.tables.rows[0] = 8, b.tables.rows[1] = 9;
+    expect("more depth fills than D", COARSE_BAD_RECORD, coarse_bucketer_compact_row(&b, 0));
+    b.tables.rows[1] = 1, b.tables.depth_cmds[0] = 3;
+    expect("a depth fill past the row's end", COARSE_BAD_RECORD, coarse_bucketer_compact_row(&b, 0));
+    b.tables.depth_cmds[0] = 2, b.tables.render_cmds[28] = 8;
+    expect("no tag, in the last command", COARSE_BAD_RECORD, coarse_bucketer_compact_row(&b, 0));
+    b.tables.render_cmds[28] = COARSE_PAINT_FILL_ALPHA;
+    for (i = 8; i <= 16; i += 8) {
+        b.tables.paint_attrs[i * COARSE_PAINT_ATTR + 8] = 256;
+        expect(i == 8 ? "no panel, of the depth fill" : "no panel, of the last command", COARSE_BAD_RECORD, coarse_bucketer_compact_row(&b, 0));
+        b.tables.paint_attrs[i * COARSE_PAINT_ATTR + 8] = 0;
+    }
+    expect("nothing has changed", before, sum(&b));
+    expect("the other row", COARSE_DONE, coarse_bucketer_compact_row(&b, 1));
+    b.state.painting = 1;
+    expect("has nothing taken out", before, sum(&b));
+    coarse_bucketer_free(&b);
+}
+
 /* All attributes and filter paints, typed: in a list that is long enough. */
 static void all_attributes(void) {
     static const coarse_segment list[] = {{1, 0, 0, 8, 0}};
@@ -1274,6 +1429,7 @@ int main(void) {
     conversions();
     tile_lists();
     stored_commands();
+    compacted_rows();
     all_attributes();
     words_of_numbers();
     default_blend();

@@ -519,6 +519,34 @@ impl CommandBucketer {
         };
         Answer::check(unsafe { sys::coarse_filter_fill(&mut self.state, &mut self.lent, &filter) })
     }
+
+    /// Takes out of a row of the screen the render commands that nothing will ever show, so that it has room for others: a fill of which no tile is
+    /// visible, as every bucket that it meets has a depth fill of a newer id, and a `PushBuf` directly followed by a `PopBuf`; again and again until
+    /// there is neither. What is left keeps its order, and the row gives the pieces that it would have given. Done, also where nothing is taken out, it
+    /// ends painting.
+    ///
+    /// ```
+    /// use coarse::{Answer, CommandBucketer, Paint, RecordedFill, Segment, Setup};
+    ///
+    /// // One row of 64 tiles, with room for one render command.
+    /// let mut screen = CommandBucketer::from_wh(256, 4, Setup::new(1, 8))?;
+    /// let paints = [Paint::new(true, 1), Paint::new(false, 2)];
+    /// let segments = [Segment::solid(0, 0, 64)];
+    /// let fill = |paint| RecordedFill { end: 1, paint, ..RecordedFill::default() };
+    /// screen.generate_fill(&paints, &segments, &fill(1))?;
+    /// assert_eq!(screen.generate_fill(&paints, &segments, &fill(1)), Err(Answer::FullRow));
+    /// // An opaque fill over all buckets is a depth fill, which hides what was drawn before it.
+    /// screen.generate_fill(&paints, &segments, &fill(0))?;
+    /// screen.compact_row(0)?;
+    /// screen.generate_fill(&paints, &segments, &fill(1))?;
+    /// # Ok::<(), Answer>(())
+    /// ```
+    ///
+    /// # Errors
+    /// [`Answer::BadRun`] for no such row, then [`Answer::Open`] where a layer is open.
+    pub fn compact_row(&mut self, row: usize) -> Result<(), Answer> {
+        Answer::check(unsafe { sys::coarse_compact_row(&mut self.state, &mut self.lent, row) })
+    }
 }
 
 /// Painting, on the screen's own canvas.
@@ -750,7 +778,7 @@ impl CommandBucketer {
         self.state.next_draw_id
     }
 
-    /// Whether painting has begun, and nothing was drawn since.
+    /// Whether painting has begun, and nothing has ended it.
     #[must_use]
     pub fn is_painting(&self) -> bool {
         self.state.painting == 1

@@ -433,6 +433,8 @@ extern "C" {
         filter: *const FilterWords,
     ) -> u32;
 
+    pub fn coarse_compact_row(state: *mut StateWords, tables: *mut TableWords, row: usize) -> u32;
+
     pub fn coarse_begin_painting(state: *mut StateWords, canvas: *mut CanvasWords) -> u32;
 
     pub fn coarse_paint_step(

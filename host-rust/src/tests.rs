@@ -994,6 +994,115 @@ fn hidden_buckets() {
     }
 }
 
+/// Three commands in row 0 of two buckets: a layer's buffer with a fill in it, and nothing that closes it over the row.
+fn dropped_buffer(bucketer: &mut CommandBucketer) {
+    let clip = LayerClip {
+        bbox: Rect::new(0, 0, 256, 4),
+        ..LayerClip::default()
+    };
+    let props = LayerProps {
+        clip: Some(clip),
+        ..LayerProps::default()
+    };
+    bucketer.push_layer(&props).unwrap();
+    bucketer
+        .generate_fill(
+            &[Paint::new(false, 1)],
+            &[Segment::solid(0, 0, 64)],
+            &fill(0, 1, 0),
+        )
+        .unwrap();
+    bucketer.pop_layer(&[]).unwrap();
+}
+
+fn fill_row_0(bucketer: &mut CommandBucketer, is_opaque: bool) -> Result<(), Answer> {
+    bucketer.generate_fill(
+        &[Paint::new(is_opaque, 1)],
+        &[Segment::solid(0, 0, 64)],
+        &fill(0, 1, 0),
+    )
+}
+
+fn stored_in_row_0(bucketer: &CommandBucketer) -> usize {
+    bucketer.row(0).unwrap().render_cmds().len()
+}
+
+/// How many commands are taken out of row 0, whose pieces before and after are equal.
+fn compacted(bucketer: &mut CommandBucketer) -> usize {
+    let stored = stored_in_row_0(bucketer);
+    bucketer.begin_painting().unwrap();
+    let canvas = bucketer.canvas().unwrap();
+    let pieces = painted(bucketer, 0);
+    bucketer.compact_row(0).unwrap();
+    assert!(!bucketer.is_painting());
+    assert_eq!(bucketer.paint_row(0), Err(Answer::Open));
+    bucketer.begin_painting().unwrap();
+    assert_eq!(canvas.clone().paint_row(bucketer, 0), Err(Answer::Open));
+    assert_eq!(painted(bucketer, 0), pieces);
+    let left = stored_in_row_0(bucketer);
+    bucketer.compact_row(0).unwrap();
+    assert_eq!(stored_in_row_0(bucketer), left);
+    stored - left
+}
+
+#[test]
+fn compacted_rows() {
+    let mut bucketer = CommandBucketer::from_wh(256, 8, Setup::new(6, 8)).unwrap();
+    assert_eq!(compacted(&mut bucketer), 0);
+    // What a newer fill hides goes, with the buffer that it was drawn in.
+    dropped_buffer(&mut bucketer);
+    assert_eq!(stored_in_row_0(&bucketer), 3);
+    assert_eq!(compacted(&mut bucketer), 0);
+    fill_row_0(&mut bucketer, true).unwrap();
+    assert_eq!(compacted(&mut bucketer), 3);
+    // What is newer stays.
+    dropped_buffer(&mut bucketer);
+    fill_row_0(&mut bucketer, false).unwrap();
+    assert_eq!(compacted(&mut bucketer), 0);
+    assert_eq!(stored_in_row_0(&bucketer), 4);
+    // A full row takes as many commands again once all of it is hidden.
+    fill_row_0(&mut bucketer, false).unwrap();
+    fill_row_0(&mut bucketer, false).unwrap();
+    assert_eq!(fill_row_0(&mut bucketer, false), Err(Answer::FullRow));
+    fill_row_0(&mut bucketer, true).unwrap();
+    assert_eq!(fill_row_0(&mut bucketer, false), Err(Answer::FullRow));
+    assert_eq!(compacted(&mut bucketer), 6);
+    for _ in 0..6 {
+        fill_row_0(&mut bucketer, false).unwrap();
+    }
+    assert_eq!(fill_row_0(&mut bucketer, false), Err(Answer::FullRow));
+}
+
+#[test]
+fn rows_that_are_not_compacted() {
+    let mut bucketer = CommandBucketer::from_wh(256, 8, Setup::new(6, 8)).unwrap();
+    dropped_buffer(&mut bucketer);
+    fill_row_0(&mut bucketer, true).unwrap();
+    bucketer.begin_painting().unwrap();
+    let refused = |bucketer: &mut CommandBucketer, row, answer| {
+        let mut before = bucketer.clone();
+        assert_eq!(bucketer.compact_row(row), Err(answer));
+        assert_eq!(bucketer.state(), before.state());
+        let (_, tables, _) = bucketer.parts();
+        let (_, held, _) = before.parts();
+        assert_eq!(
+            (&tables.rows, &tables.render_cmds, &tables.depth_cmds),
+            (&held.rows, &held.render_cmds, &held.depth_cmds)
+        );
+    };
+    refused(&mut bucketer, 2, Answer::BadRun);
+    refused(&mut bucketer, usize::MAX, Answer::BadRun);
+    // Words that no call leaves: a count past C.
+    bucketer.parts().1.rows[0] = 7;
+    refused(&mut bucketer, 0, Answer::BadRecord);
+    bucketer.parts().1.rows[0] = 3;
+    bucketer.push_layer(&LayerProps::default()).unwrap();
+    refused(&mut bucketer, 0, Answer::Open);
+    refused(&mut bucketer, 2, Answer::BadRun);
+    bucketer.pop_layer(&[]).unwrap();
+    assert_eq!(compacted(&mut bucketer), 3);
+}
+
 #[test]
 fn spans_in_a_lent_list() {
     let mut bucketer = CommandBucketer::from_wh(512, 8, Setup::new(8, 8)).unwrap();

@@ -365,6 +365,12 @@ uint32_t coarse_pop_layer(coarse_state *state, coarse_tables *tables, const uint
 /* Draws a filter layer's picture into a box. */
 uint32_t coarse_filter_fill(coarse_state *state, coarse_tables *tables, const coarse_filter *filter);
 
+/* Takes out of a row the render commands that nothing will ever show, so that there is room for others: fills of which no tile is visible under all the
+ * row's depth fills, and a PushBuf directly followed by a PopBuf, again and again until there is neither. What is left closes up in its order, the words after
+ * it are 0, and the row gives the same pieces as before. Done, also where it removes nothing, it ends painting. Refused, every word stays: 2 for the state's
+ * viewport; 1 for a length; 4 for a state that is none; 12 for no such row; 13 while a layer is open; 4 for what it reads of the row. */
+uint32_t coarse_compact_row(coarse_state *state, coarse_tables *tables, size_t row);
+
 /* Clears the depth words, makes their minima afresh, and sets every row to its first step. */
 uint32_t coarse_begin_painting(coarse_state *state, coarse_canvas *canvas);
 

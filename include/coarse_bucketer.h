@@ -255,6 +255,11 @@ static inline uint32_t coarse_bucketer_generate_filter_layer_fill(coarse_buckete
     return coarse_filter_fill(&b->state, &b->tables, &given);
 }
 
+/* Takes out of a row of the screen the render commands that nothing will ever show. Done, it ends painting. */
+static inline uint32_t coarse_bucketer_compact_row(coarse_bucketer *b, size_t row) {
+    return coarse_compact_row(&b->state, &b->tables, row);
+}
+
 /* Clears the depth words, makes their minima afresh, and sets every row to its first step. */
 static inline uint32_t coarse_bucketer_begin_painting(coarse_bucketer *b) {
     return coarse_begin_painting(&b->state, &b->canvas);

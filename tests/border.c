@@ -54,6 +54,7 @@ static void null_pointers(void) {
     expect("the structs hold what they held", 1, tables.layers == layers && tables.layers_len == COARSE_LAYERS && tables.render_cmds == none);
     expect("a pop with none open", COARSE_NO_LAYER, coarse_pop_layer(&state, &tables, NULL, 0));
     expect("a fill without a paint", COARSE_BAD_RECORD, coarse_fill(&state, &tables, NULL, 0, NULL, 0, &draw));
+    expect("room back in no row", COARSE_BAD_RUN, coarse_compact_row(&state, &tables, 0));
     expect("painting no rows", COARSE_DONE, coarse_begin_painting(&state, &canvas));
     expect("a run of no row", COARSE_BAD_RUN, coarse_unset_runs(&state, &canvas, 0, (coarse_span){0, 4}, NULL, 0, &count));
     expect("its count stays", 7, (uint32_t)count);

@@ -307,6 +307,8 @@ static uint32_t call_filter(void) {
     return coarse_filter_fill(SCREEN_STATE, &lent.tables, &filter);
 }
 
+static uint32_t call_compact(void) { return coarse_compact_row(SCREEN_STATE, &lent.tables, about(8)); }
+
 static uint32_t call_begin(void) { return coarse_begin_painting(SCREEN_STATE, &lent.canvas); }
 
 static uint32_t call_step(void) { return coarse_paint_step(SCREEN_STATE, &lent.stored, &lent.canvas, about(8), LENT(LIST), &results.painted); }
@@ -401,6 +403,7 @@ static struct {
     {"coarse_push_layer", ready_none, call_push, ROWS_TOO | 1 << LAYERS | 1 << OPACITIES, 14, 0, 0},
     {"coarse_pop_layer", ready_none, call_pop, ROWS_TOO | 1 << LAYERS | 1 << OPACITIES | 1 << LAYER_ATTRS, 20, 0, 0},
     {"coarse_filter_fill", ready_none, call_filter, ROWS_TOO | 1 << PAINT_ATTRS | 1 << FILTER_PAINTS, 8, 0, 0},
+    {"coarse_compact_row", ready_none, call_compact, 1 << STATE | 1 << ROWS | 1 << RENDER_CMDS, 12, 0, 0},
     {"coarse_begin_painting", ready_none, call_begin, 1 << STATE | 1 << DEPTH | 1 << MINIMA | 1 << PAINTING, 20, 0, 0},
     {"coarse_paint_step", ready_none, call_step, 1 << DEPTH | 1 << MINIMA | 1 << PAINTING | LISTED, 40, 0, 0},
     {"coarse_paint_row", ready_none, call_row, 1 << DEPTH | 1 << MINIMA | 1 << PAINTING | LISTED, 20, 0, 0},

@@ -523,6 +523,16 @@ impl CommandBucketer {
 
 /// Painting, on the screen's own canvas.
 impl CommandBucketer {
+    /// Takes out of a row of the screen the render commands that nothing will ever show, so that there is room for others: fills of which no tile is visible
+    /// under all the row's depth fills, and a push directly followed by a pop, again and again until there is neither. What is left keeps its order, and the
+    /// row gives the same pieces as before. It ends painting, also where it removes nothing.
+    ///
+    /// # Errors
+    /// [`Answer::BadRun`] for no such row; [`Answer::Open`] while a layer is open.
+    pub fn compact_row(&mut self, row: usize) -> Result<(), Answer> {
+        Answer::check(unsafe { sys::coarse_compact_row(&mut self.state, &mut self.lent, row) })
+    }
+
     /// Ends drawing, clears the depth words, makes their minima afresh and sets every row to its first step. What is drawn afterwards ends painting.
     ///
     /// # Errors

@@ -427,6 +427,8 @@ extern "C" {
         segments_len: usize,
     ) -> u32;
 
+    pub fn coarse_compact_row(state: *mut StateWords, tables: *mut TableWords, row: usize) -> u32;
+
     pub fn coarse_filter_fill(
         state: *mut StateWords,
         tables: *mut TableWords,

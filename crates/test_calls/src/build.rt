@@ -1,6 +1,7 @@
 //! The building steps of a sequence.
 use crate::call::{FillList, Step};
 use crate::tables::Shape;
+use compact::compact_row;
 use fill::fill;
 use fill::list::{Stopped, fill_list};
 use layers::{filter_fill, push_layer};
@@ -65,6 +66,7 @@ impl Step<'_> {
                 lent.filter_paints,
                 given,
             ),
+            Step::Compact { row } => compact_row(screen, &mut rows, lent.paint_attrs, lent.layer_attrs, row),
         }
     }
 }

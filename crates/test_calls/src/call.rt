@@ -46,6 +46,10 @@ pub enum Step<'a> {
         segments: &'a [u32],
     },
     FilterFill(FilterFill),
+    // No step of the rules' history: it takes out of a row what nothing will ever show.
+    Compact {
+        row: usize,
+    },
 }
 
 /// A list of fills.

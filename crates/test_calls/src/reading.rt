@@ -124,7 +124,7 @@ fn read_forgery(words: &mut Words<'_>) -> Forgery
     }
 }
 
-// Kinds 0 to 4.
+// Kinds 0 to 4 and 18.
 fn read_step<'a>(kind: u32, words: &mut Words<'a>) -> Step<'a>
     ensures { Passes words.old words.new }
 {
@@ -142,7 +142,8 @@ fn read_step<'a>(kind: u32, words: &mut Words<'a>) -> Step<'a>
         3 => Step::Pop {
             segments: words.records(5),
         },
-        _ => Step::FilterFill(read_filter_fill(words)),
+        4 => Step::FilterFill(read_filter_fill(words)),
+        _ => Step::Compact { row: words.index() },
     }
 }
 
@@ -204,7 +205,7 @@ impl<'a> Call<'a> {
         ensures { Passes words.old words.new }
     {
         match kind {
-            0..=4 => Call::Build(read_step(kind, words)),
+            0..=4 | 18 => Call::Build(read_step(kind, words)),
             5 => Call::Begin,
             7..=10 | 17 => Call::Paint(read_painting(kind, words)),
             6 => Call::PaintStep {

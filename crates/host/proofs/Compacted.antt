@@ -10,11 +10,14 @@ use Rattle.screen.specs.declared.Screen.{Screen}
 use Rattle.paint.specs.Judging.{wide}
 use Rattle.paint.specs.Painting.{attrs-at}
 use Rattle.paint.specs.Stepping.{Attributes}
+use Rattle.paint.proofs.Kept.{Refused}
 use Rattle.compact.specs.Row.{or-forged, compact-words}
 use Rattle.compact.specs.Call.{compact_number, Stored, stored, closed-in, row-compacted, ended, compacting}
+use Rattle.compact.proofs.Call.{compact-kept}
 use Rattle.host.specs.State.{screen-words, screen_of, before_4, refused_at, at_held}
 use Rattle.host.specs.Compacted.{compact-left, compact_call}
-use Rattle.host.proofs.Words.{refused-on}
+use Rattle.host.proofs.Words.{refused-on, written_back}
+use Rattle.host.proofs.Kept.{at-screen}
 use Rattle.host.proofs.Early.{after}
 
 -- what is read of the row refuses by 4
@@ -64,3 +67,10 @@ unfolding compact_call
 compact_built st st' s s' m n h rn sw r a w w' e =
     rw (rn, sw)
     (ap compact-left e ∙ ap (λ (x : Option Screen). at_held x st (st, w) (λ (s : Screen). compact-left (compacting r a (stored s w)))) h)
+
+-- refused, it leaves everything as it was
+pub compact-refused : (r : ℕ) (a : Attributes) (st : List ℕ) (w : Words) → Refused (compact_call r a st w) → (compact_call r a st w).value ≡ (st, w)
+unfolding compact_call
+compact-refused r a st w =
+    at-screen true st (st, w) (λ (s : Screen). compact-left (compacting r a (stored s w)))
+    (λ s e q. rw (compact-kept r a (stored s w) q, written_back true st s e))

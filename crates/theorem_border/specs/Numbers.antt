@@ -31,6 +31,8 @@ use Rattle.paint.specs.Running.{row-painted}
 use Rattle.paint.specs.DirectRuns.{unset-of, visible-of, write-of, hidden-of-row, skip-of-row}
 use Rattle.paint.specs.StoredCmds.{lengths-of-row, command-of-row, depth-of-row, progress-of-row}
 use Rattle.host.specs.declared.state.SetupWords.{SetupWords}
+use Rattle.compact.specs.Call.{stored, compacting}
+use Rattle.host.specs.Compacted.{compact_call}
 use Rattle.host.specs.Asked.{FileWords}
 use Rattle.host.specs.State.{screen-at, before_4}
 use Rattle.host.specs.Reasons.{asked, why_call}
@@ -81,6 +83,9 @@ FilterKeeps =
 
 abbrev pub BeginKeeps : Type 0
 BeginKeeps = (st : List ℕ) (d : Depths) (p : List ℕ) → Keeps st (beginning (canvas (screen-at st) d p)).number (begin_call st d p).number
+
+abbrev pub CompactKeeps : Type 0
+CompactKeeps = (r : ℕ) (a : Attributes) (st : List ℕ) (w : Words) → Keeps st (compacting r a (stored (screen-at st) w)).number (compact_call r a st w).number
 
 abbrev pub StepKeeps : Type 0
 StepKeeps =

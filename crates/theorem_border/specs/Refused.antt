@@ -18,6 +18,7 @@ use Rattle.host.specs.declared.state.SetupWords.{SetupWords}
 use Rattle.host.specs.Asked.{FileWords}
 use Rattle.host.specs.Editions.{two_call, one_call}
 use Rattle.host.specs.Sizes.{size_call}
+use Rattle.host.specs.Compacted.{compact_call}
 use Rattle.host.specs.Reasons.{why_call}
 use Rattle.host.specs.TileList.{tile_list_call}
 use Rattle.host.specs.Building.{reset_call, fill_call, push_call, pop_call, filter_call}
@@ -51,6 +52,10 @@ FilterRefused =
 -- state, depth words with their minima, painting words
 abbrev pub BeginRefused : Type 0
 BeginRefused = (st : List ℕ) (d : Depths) (p : List ℕ) → Refused (begin_call st d p) → (begin_call st d p).value ≡ (st, d, p)
+
+-- state and rows
+abbrev pub CompactRefused : Type 0
+CompactRefused = (r : ℕ) (a : Attributes) (st : List ℕ) (w : Words) → Refused (compact_call r a st w) → (compact_call r a st w).value ≡ (st, w)
 
 -- depth words with their minima, painting words, the list, the result words
 abbrev pub StepRefused : Type 0

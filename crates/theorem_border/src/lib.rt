@@ -6,8 +6,8 @@ ghost use Rattle.std.specs.Prelude.{List};
 ghost use Rattle.rules.specs.Plans.{Frame, Step};
 ghost use Rattle.theorem_border.specs.Hosted.{AloneHosted, Host, Hosted};
 ghost use Rattle.theorem_border.specs.Border.{Picture, Clear, Finishes, RecordingAccepted, RecordingRefused, RecordingEarly, ResetAsks};
-ghost use Rattle.theorem_border.specs.Refused.{BeginRefused, FillRefused, FilterRefused, PopRefused, PushRefused, ResetRefused, RowRefused, LengthsRefused, CmdRefused, DepthRefused, ProgressRefused, SizesRefused, SkipRefused, SpansRefused, SplitRefused, StepRefused, UnsetRefused, VisibleRefused, WhyRefused, WriteRefused, HiddenRefused, ListTileRefused, ToTwoRefused, ToOneRefused};
-ghost use Rattle.theorem_border.specs.Numbers.{BeginKeeps, FillKeeps, FilterKeeps, PopKeeps, PushKeeps, RecordingKeeps, ResetKeeps, RowKeeps, SkipKeeps, SpansKeeps, StepKeeps, UnsetKeeps, VisibleKeeps, WhyKeeps, WriteKeeps, HiddenKeeps, LengthsKeeps, CmdKeeps, DepthKeeps, ProgressKeeps};
+ghost use Rattle.theorem_border.specs.Refused.{BeginRefused, CompactRefused, FillRefused, FilterRefused, PopRefused, PushRefused, ResetRefused, RowRefused, LengthsRefused, CmdRefused, DepthRefused, ProgressRefused, SizesRefused, SkipRefused, SpansRefused, SplitRefused, StepRefused, UnsetRefused, VisibleRefused, WhyRefused, WriteRefused, HiddenRefused, ListTileRefused, ToTwoRefused, ToOneRefused};
+ghost use Rattle.theorem_border.specs.Numbers.{BeginKeeps, CompactKeeps, FillKeeps, FilterKeeps, PopKeeps, PushKeeps, RecordingKeeps, ResetKeeps, RowKeeps, SkipKeeps, SpansKeeps, StepKeeps, UnsetKeeps, VisibleKeeps, WhyKeeps, WriteKeeps, HiddenKeeps, LengthsKeeps, CmdKeeps, DepthKeeps, ProgressKeeps};
 ghost use Rattle.theorem_border.specs.Summed.{HostedSummed, HostedHidden};
 ghost use Rattle.theorem_border.specs.Words.{ScreenReadBack, SizesFit, WordsWrittenBack};
 ghost use Rattle.theorem_border.specs.FillLists.{FillsHosted};
@@ -75,6 +75,7 @@ pub fn refusals_at_border()
     ensures pop_layer { PopRefused }
     ensures filter_fill { FilterRefused }
     ensures begin_painting { BeginRefused }
+    ensures compact_row { CompactRefused }
     ensures paint_step { StepRefused }
     ensures paint_row { RowRefused }
     ensures unset_runs { UnsetRefused }
@@ -105,6 +106,7 @@ pub fn numbers_at_border()
     ensures pop_layer { PopKeeps }
     ensures filter_fill { FilterKeeps }
     ensures begin_painting { BeginKeeps }
+    ensures compact_row { CompactKeeps }
     ensures paint_step { StepKeeps }
     ensures paint_row { RowKeeps }
     ensures unset_runs { UnsetKeeps }

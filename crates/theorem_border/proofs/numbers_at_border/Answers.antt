@@ -20,6 +20,8 @@ use Rattle.paint.specs.Beginning.{canvas, beginning}
 use Rattle.paint.specs.Stepping.{stepped}
 use Rattle.paint.specs.Running.{row-painted}
 use Rattle.paint.specs.DirectRuns.{unset-of, visible-of, write-of, hidden-of-row, skip-of-row}
+use Rattle.compact.specs.Call.{stored, compacting}
+use Rattle.host.specs.Compacted.{compact-left, compact_call}
 use Rattle.host.specs.State.{screen-at, before_4}
 use Rattle.host.specs.Asked.{asked_setup, told_file}
 use Rattle.host.specs.Border.{unasked_number}
@@ -72,6 +74,10 @@ returns-clause-filter_fill c = λ flag g st w pas fps long. kept-on (leb flag 1)
 pub returns-clause-begin_painting : goal.returns-clause-begin_painting
 unfolding begin_call
 returns-clause-begin_painting c = λ st d p long. kept-on true st (st, d, p) (λ (s : Screen). begin-left (beginning (canvas s d p))) long
+
+pub returns-clause-compact_row : goal.returns-clause-compact_row
+unfolding compact_call
+returns-clause-compact_row c = λ r a st w long. kept-on true st (st, w) (λ (s : Screen). compact-left (compacting r a (stored s w))) long
 
 pub returns-clause-paint_step : goal.returns-clause-paint_step
 unfolding step_call

@@ -1,4 +1,5 @@
 use Rattle.host.proofs.Refused.{reset-refused, fill-refused, push-refused, pop-refused, filter-refused, begin-refused}
+use Rattle.host.proofs.Compacted.{compact-refused}
 use Rattle.host.proofs.Kept.{step-refused, row-refused, unset-refused, visible-refused, spans-refused, write-refused, hidden-refused, skip-refused, split-refused}
 use Rattle.host.proofs.Sized.{size-refused}
 use Rattle.theorem_border.proofs.Why.{why-refused}
@@ -24,6 +25,9 @@ returns-clause-filter_fill c = filter-refused
 
 pub returns-clause-begin_painting : goal.returns-clause-begin_painting
 returns-clause-begin_painting c = begin-refused
+
+pub returns-clause-compact_row : goal.returns-clause-compact_row
+returns-clause-compact_row c = compact-refused
 
 pub returns-clause-paint_step : goal.returns-clause-paint_step
 returns-clause-paint_step c = step-refused

@@ -1,7 +1,7 @@
 /* Random drawings composited three ways, every tile of every row: by painting steps and the nesting after each, by the stored commands of painted rows, and in plain
  * draw order, written from the rules in words (docs/RULES.md): each call done to whole pictures, one over the other, with no stored commands, no depth and
  * nothing left out. The colours are numbers made of all that was done to a tile, but for what lies under a fill that hides, and for blank buffers that leave no
- * trace: wherever any colours differ that keep the two laws (docs/THEOREMS.md), these do.
+ * trace: wherever any colours differ that keep the two laws (docs/THEOREMS.md), these do. Rows are compacted in between, which is nothing in plain draw order.
  *     colours [DRAWINGS [SEED]]        20,000 drawings, seed 1
  * Prints the first drawing of which a tile differs; the status is 1 then. Wants coarse_bucketer.h on the include path. */
 #include "coarse_bucketer.h"
@@ -113,7 +113,7 @@ static pictures plain, by_steps, by_commands;
 
 /* A drawing: calls on the screen, each of which is done to the plain pictures if it is done */
 
-enum call { FILL, PUSH, POP, FILTER };
+enum call { FILL, PUSH, POP, FILTER, COMPACT };
 
 typedef struct {
     enum call call;
@@ -121,12 +121,12 @@ typedef struct {
     coarse_layer_props props;
     coarse_clip clip;
     coarse_placement placement;
-    uint32_t pixmap, has_pixmap, panel, answer;
+    uint32_t pixmap, has_pixmap, panel, row, answer;
     size_t count;
     coarse_segment segments[MOST_SEGMENTS];
 } step;
 
-static step steps[MOST_STEPS + LEVELS];
+static step steps[MOST_STEPS + LEVELS + 1 + MOST_ROWS];
 static size_t step_count;
 
 /* Tiles of the screen. */
@@ -137,7 +137,7 @@ static const step *layers[LEVELS];
 static box boxes[LEVELS];
 static uint32_t level, paint_attrs, layer_attrs;
 
-static unsigned long drawings, done, refused, hiding, blank, outside, deep;
+static unsigned long drawings, done, refused, hiding, blank, outside, deep, taken_out;
 
 static uint32_t least(uint32_t a, uint32_t b) { return a < b ? a : b; }
 static uint32_t most(uint32_t a, uint32_t b) { return a < b ? b : a; }
@@ -241,6 +241,18 @@ static void plain_pop(void) {
     level--;
 }
 
+/* How many commands a row has. */
+static uint32_t row_commands(size_t row) {
+    coarse_row_counts stored = {0, 0};
+    return coarse_bucketer_row_lengths(&screen, row, &stored) == COARSE_DONE ? stored.render_cmds : 0;
+}
+
+static uint32_t compacted(uint32_t row) {
+    uint32_t before = row_commands(row), answer = coarse_bucketer_compact_row(&screen, row);
+    taken_out += before - row_commands(row);
+    return answer;
+}
+
 static uint32_t called(const step *now) {
     switch (now->call) {
     case FILL:
@@ -249,6 +261,8 @@ static uint32_t called(const step *now) {
         return coarse_bucketer_push_layer(&screen, &now->props);
     case POP:
         return coarse_bucketer_pop_layer(&screen, layers[level]->segments, layers[level]->count);
+    case COMPACT:
+        return compacted(now->row);
     default:
         return coarse_bucketer_generate_filter_layer_fill(&screen, now->has_pixmap ? &now->pixmap : NULL, &now->placement, PAINTS, now->panel);
     }
@@ -264,7 +278,7 @@ static uint32_t take(step *now) {
         plain_push(now);
     else if (now->call == POP)
         plain_pop();
-    else
+    else if (now->call == FILTER)
         plain_filter(now);
     return now->answer;
 }
@@ -299,6 +313,17 @@ static coarse_blend some_blend(uint32_t default_of_4) {
     return blend;
 }
 
+/* An opaque fill over a whole row, and now and then over the next. */
+static void some_cover(step *now) {
+    uint32_t row = view.y0 / 4 + below(rows);
+    now->call = FILL;
+    do {
+        coarse_segment *s = &now->segments[now->count++];
+        s->kind = 0, s->row = row++, s->first = view.x0 / 4, s->end = s->first + tiles, s->alpha = 0;
+    } while (once_in(3) && now->count < MOST_SEGMENTS);
+    now->draw.end = now->count, now->draw.paint = below(2), now->draw.blend = COARSE_DEFAULT_BLEND, now->draw.panel = below(256);
+}
+
 /* On and around the viewport, in pixels; at times empty. */
 static coarse_rect some_box(uint32_t step_down) {
     coarse_rect of;
@@ -327,7 +352,11 @@ static void some_step(step *now, uint32_t pushes) {
         now->call = FILTER;
         now->placement.dest = some_box(1), now->placement.source_x = below(50), now->placement.source_y = below(50);
         now->has_pixmap = !once_in(4), now->pixmap = below(9), now->panel = below(256);
-    } else {
+    } else if (which < 70 && (level == 0 || once_in(9)))
+        now->call = COMPACT, now->row = below(once_in(9) ? rows + 1 : rows);
+    else if (which < 85 && level == 0)
+        some_cover(now);
+    else {
         now->call = FILL;
         some_segments(now);
         now->draw.start = 0, now->draw.end = now->count, now->draw.paint = below(PAINTS), now->draw.blend = some_blend(3);
@@ -340,11 +369,13 @@ static void print_drawing(void) {
     printf("viewport %u %u %u %u, %u pixels, mode %u, C %u\n", view.x0, view.y0, view.x1, view.y1, screen.setup.width, screen.setup.mode, screen.setup.c);
     for (i = 0; i < step_count; i++) {
         const step *s = &steps[i];
-        static const char *const names[] = {"fill", "push", "pop", "filter"};
+        static const char *const names[] = {"fill", "push", "pop", "filter", "compact"};
         const coarse_rect b = s->call == FILTER ? s->placement.dest : s->clip.box;
         printf("%s", names[s->call]);
         if (s->call == FILL)
             printf(" paint %u blend %u %u mask %u", s->draw.paint, s->draw.blend.mix, s->draw.blend.compose, s->draw.mask);
+        if (s->call == COMPACT)
+            printf(" row %u", s->row);
         if (s->call == PUSH)
             printf(" blend %u %u mask %u", s->props.blend.mix, s->props.blend.compose, s->props.mask);
         if (s->call == FILTER || s->props.clip)
@@ -486,12 +517,12 @@ static int is_same(void) {
     return 1;
 }
 
-/* Draws one. All layers are closed at the end; where that is refused, for a row that is full, nothing is painted. */
+/* Draws one. All layers are closed at the end; where that is refused, for a row that is full, nothing is painted. Then rows may be covered and compacted. */
 static int draw(void) {
     static const uint32_t widths[] = {3, 16, 17, 20, 32, 33, 48, 64, 65, 80}, corners[] = {0, 0, 80, 120};
     coarse_setup setup = {0, 48, COARSE_EXACT, COARSE_64};
     size_t count = 1 + below(MOST_STEPS - 1);
-    uint32_t pushes = once_in(4) ? 45 : 20, x = corners[below(4)], y = 4 * below(4);
+    uint32_t pushes = once_in(4) ? 45 : 20, x = corners[below(4)], y = 4 * below(4), row;
     memset(&plain, 0, sizeof plain), memset(&by_steps, 0, sizeof by_steps), memset(&by_commands, 0, sizeof by_commands);
     memset(hides, 0, sizeof hides);
     rows = 1 + below(MOST_ROWS), tiles = widths[below(10)];
@@ -516,6 +547,17 @@ static int draw(void) {
         if (take(&steps[step_count++]) != COARSE_DONE)
             return 1;
     }
+    if (once_in(4)) {
+        memset(&steps[step_count], 0, sizeof steps[step_count]);
+        some_cover(&steps[step_count]);
+        take(&steps[step_count++]);
+    }
+    for (row = 0; row < rows; row++)
+        if (once_in(3)) {
+            memset(&steps[step_count], 0, sizeof steps[step_count]);
+            steps[step_count].call = COMPACT, steps[step_count].row = row;
+            take(&steps[step_count++]);
+        }
     done++;
     if (is_same())
         return 1;
@@ -529,12 +571,13 @@ int main(int argc, char **argv) {
     seed = 0x9e3779b97f4a7c15u ^ (argc > 2 ? strtoul(argv[2], NULL, 10) : 1);
     for (drawings = 0; holds && drawings < count; drawings++)
         holds = draw();
-    if (holds && (done < count / 2 || refused < count / 10 || hiding < count || blank < count || outside < count / 10 || deep < COARSE_MOST_LAYERS)) {
+    if (holds && (done < count / 2 || refused < count / 10 || hiding < count || blank < count || outside < count / 10 || deep < COARSE_MOST_LAYERS ||
+                  taken_out < count / 2)) {
         printf("too little was met\n");
         holds = 0;
     }
     printf("%lu drawings, %lu of them painted; %lu calls refused; %lu fills that hide, %lu blank tiles under a closing layer, %lu tiles of a clip outside the rows of"
-           " its layer's box\n", drawings, done, refused, hiding, blank, outside);
+           " its layer's box, %lu commands taken out\n", drawings, done, refused, hiding, blank, outside, taken_out);
     coarse_bucketer_free(&screen);
     return !holds;
 }

@@ -22,6 +22,7 @@ A line is a call; `#` starts a comment. What is left out is 0; a blend is 0 3, a
     write ROW ID FIRST END WORDS                   in buckets
     can_skip ROW FIRST END ID
     hidden ROW FIRST END ID                        in buckets
+    compact ROW
     next_id N                                      the id that the next step takes
     show
     repeat N .. end                                the lines between, N times
@@ -30,8 +31,8 @@ import struct
 import sys
 
 KINDS = {"solid": 0, "alpha": 1, "clear": 0, "opaque": 1}
-PLAIN = {"begin": 5, "step": 6, "unset": 7, "visible": 8, "write": 9, "can_skip": 10, "next_id": 11, "show": 12, "hidden": 17}
-COUNTS = {"begin": 0, "step": 2, "unset": 4, "visible": 5, "write": 5, "can_skip": 4, "next_id": 1, "show": 0, "hidden": 4}
+PLAIN = {"begin": 5, "step": 6, "unset": 7, "visible": 8, "write": 9, "can_skip": 10, "next_id": 11, "show": 12, "hidden": 17, "compact": 18}
+COUNTS = {"begin": 0, "step": 2, "unset": 4, "visible": 5, "write": 5, "can_skip": 4, "next_id": 1, "show": 0, "hidden": 4, "compact": 1}
 
 
 class Line:

@@ -151,7 +151,7 @@ pub(crate) fn filter(pixmap: impl Into<Option<u32>>, dest: [u32; 4]) -> Call {
     }
 }
 
-pub(super) fn step(row: u32) -> Call {
+fn step(row: u32) -> Call {
     Call::Step { row, words: PIECES }
 }
 
@@ -1990,7 +1990,7 @@ mod tests {
     fn hidden_of_every_sort() {
         let mut random = Random::new(1);
         let mut met = [0; 3];
-        let drawn = (0..3_000).map(|_| sequence(&mut random));
+        let drawn = (0..4_000).map(|_| sequence(&mut random));
         for calls in hidden_edges().into_iter().chain(drawn) {
             let said = sequences(&stream(&[words(&calls)]));
             assert_eq!(words(&said[0]), words(&calls));
@@ -2027,7 +2027,7 @@ mod tests {
             }
         }
         assert!([0, 12, 13].iter().all(|&of| met[of] > 100), "{met:?}");
-        assert!(lost > 1_000 && met[0] > 2 * lost, "{lost} of {met:?}");
+        assert!(lost > 500 && met[0] > 2 * lost, "{lost} of {met:?}");
     }
 
     /// Each step that has a panel is met with every panel and with numbers that are none; layers close in layers of other panels.

@@ -1,6 +1,6 @@
 //! Sequences of calls that give room back in crowded rows: edges, and random ones in which rows fill up, are hidden and compacted, and building goes on.
 
-use super::calls::{alpha, clipped, destructive, fill, filter, pop, push, reset_at, step};
+use super::calls::{alpha, clipped, destructive, fill, filter, pop, push, reset_at, ONE_PIECE};
 use super::draft::solid;
 use crate::calls::Call;
 use crate::random::Random;
@@ -10,6 +10,14 @@ use crate::width::Width;
 /// Rows of the screens of edges, and buckets of each.
 const ROWS: u32 = 2;
 const BUCKETS: u32 = 2;
+
+/// A step with room for two pieces.
+fn step(row: u32) -> Call {
+    Call::Step {
+        row,
+        words: 2 * ONE_PIECE,
+    }
+}
 
 fn edge_reset(width: Width) -> Call {
     reset_at(width.pixels(), width.pixels() * BUCKETS, ROWS)
@@ -26,7 +34,7 @@ fn painted(steps: usize) -> Vec<Call> {
 
 /// Row 0 painted, compacted, and painted again; then more is built, and once more.
 fn compacted(width: Width, built: &[Call], more: &[Call]) -> Vec<Call> {
-    let stage = [painted(8), vec![Call::Compact(0)], painted(6)].concat();
+    let stage = [painted(5), vec![Call::Compact(0)], painted(4)].concat();
     [
         &[edge_reset(width)][..],
         built,
@@ -167,8 +175,8 @@ pub(super) fn sequence(random: &mut Random) -> Vec<Call> {
     let tiles = buckets * width.tiles() - random.below(2) * random.below(5);
     let mut calls = vec![Call::Reset {
         viewport: [0, 0, 4 * tiles, 4 * rows],
-        c: random.from(2, 14),
-        d: random.from(2, 10),
+        c: random.pick(&[6, 12, 20, 64, 64, 64]),
+        d: random.from(4, 40),
         mode: Mode::Exact,
         width: width.pixels(),
     }];
@@ -180,7 +188,7 @@ pub(super) fn sequence(random: &mut Random) -> Vec<Call> {
         while !open.is_empty() && random.chance(95) {
             calls.push(closed(&mut open, [rows, tiles], random));
         }
-        for _ in 0..random.below(3) {
+        for _ in 0..random.from(0, 2 * rows) {
             calls.push(cover_of([random.below(rows), tiles, width.tiles()], random));
         }
         if random.chance(50) {
@@ -211,6 +219,13 @@ fn range(most: u32, random: &mut Random) -> [u32; 2] {
     [first, end]
 }
 
+/// A segment of some of a row's tiles, solid or not.
+fn segment([row, tiles]: [u32; 2], random: &mut Random) -> [u32; 5] {
+    let [first, end] = range(tiles, random);
+    let kind = random.below(2);
+    [kind, row, first, end, 160 * kind]
+}
+
 /// An opaque fill of some whole buckets of a row, often of all.
 fn cover_of([row, tiles, width]: [u32; 3], random: &mut Random) -> Call {
     let buckets = tiles.div_ceil(width);
@@ -226,11 +241,8 @@ fn cover_of([row, tiles, width]: [u32; 3], random: &mut Random) -> Call {
 fn built(open: &mut Vec<bool>, [rows, tiles, width]: [u32; 3], random: &mut Random) -> Call {
     let row = random.below(rows);
     match random.below(100) {
-        0..40 => {
-            let [first, end] = range(tiles, random);
-            fill(&[[random.below(2), row, first, end, 160]])
-        }
-        40..60 if open.is_empty() => cover_of([row, tiles, width], random),
+        0..60 if !open.is_empty() || random.chance(60) => fill(&[segment([row, tiles], random)]),
+        0..60 => cover_of([row, tiles, width], random),
         60..80 => {
             open.push(random.chance(50));
             match (open.last(), random.below(4)) {
@@ -247,8 +259,7 @@ fn built(open: &mut Vec<bool>, [rows, tiles, width]: [u32; 3], random: &mut Rand
 /// A pop; of a clipped layer with one segment of its clip.
 fn closed(open: &mut Vec<bool>, [rows, tiles]: [u32; 2], random: &mut Random) -> Call {
     if open.pop() == Some(true) {
-        let [first, end] = range(tiles, random);
-        pop(&[[random.below(2), random.below(rows), first, end, 160]])
+        pop(&[segment([random.below(rows), tiles], random)])
     } else {
         pop(&[])
     }

@@ -1,13 +1,16 @@
 //! Sequences of calls on one screen, answered by the Rust: building steps, painting by turns, runs. README.md has their words.
 
+use crate::compacted::{self, Hiding};
 use crate::file::{good_blend, good_box, good_dest, good_segment, in_order};
 use crate::limits::{
     self, BAD_ARENA, BAD_ORDER, BAD_RECORD, BAD_RUN, BAD_VIEWPORT, HANDLES, LAST_PIXEL, LAST_TILE,
     MOST_RECORDS, MOST_ROOM, NO_LAYER, NO_ROOM, OPEN, THREADS,
 };
+use crate::painting::{row_pieces, Piece};
 use crate::panels::{draws, good_panel, Panels};
 use crate::print;
-use crate::rules::Ledger;
+use crate::random::Random;
+use crate::rules::{self, Ledger};
 use crate::scene::{blend, draw, mask, paint, rect, strip};
 use crate::screen::{Command, Range, Screen};
 use crate::sizes::{LAYER_ATTR, PAINT_ATTR, PIECE};
@@ -104,6 +107,7 @@ pub enum Call {
         end: u32,
         id: u32,
     },
+    Compact(u32),
 }
 
 fn list<const N: usize>(records: &[[u32; N]]) -> Vec<u32> {
@@ -185,6 +189,7 @@ impl Call {
                 end,
                 id,
             } => vec![17, *row, *first, *end, *id],
+            Self::Compact(row) => vec![18, *row],
         }
     }
 
@@ -318,6 +323,10 @@ impl Call {
                     id,
                 }
             }
+            18 => {
+                let [row] = take(rest)?;
+                Self::Compact(row)
+            }
             _ => return None,
         })
     }
@@ -370,6 +379,15 @@ pub fn answers(calls: &[Call]) -> Vec<u32> {
     calls.iter().flat_map(answer).collect()
 }
 
+/// Of each compacting of a sequence that is done, how many commands it takes out.
+pub fn removed(calls: &[Call]) -> Vec<usize> {
+    let mut sequence = Sequence::new();
+    for call in calls {
+        sequence.answer(call);
+    }
+    sequence.removed
+}
+
 /// The number of each step of a history after its reset, then the attributes and pieces that it leaves, with their panels.
 pub fn told(calls: &[Call]) -> String {
     let mut sequence = Sequence::new();
@@ -407,6 +425,12 @@ struct Sequence {
     panels: Panels,
     begun: bool,
     painters: Vec<Painter>,
+    /// In which order single removals are made.
+    random: Random,
+    /// How many commands each compacting took out that was done.
+    removed: Vec<usize>,
+    /// Whether an id was set to one that is not new, so that a later depth fill may hide less than one before it.
+    lowered: bool,
 }
 
 impl Sequence {
@@ -424,6 +448,9 @@ impl Sequence {
             panels: Panels::default(),
             begun: false,
             painters: Vec::new(),
+            random: Random::new(1),
+            removed: Vec::new(),
+            lowered: false,
         }
     }
 
@@ -451,6 +478,7 @@ impl Sequence {
                 segments,
             } => self.fills(draws, *range, paints, segments),
             Call::NextId(id) => {
+                self.lowered |= *id < self.screen.next_id();
                 self.screen.set_next_id(*id);
                 self.done.push(call.clone());
                 vec![0]
@@ -475,13 +503,20 @@ impl Sequence {
                 words,
             } => self.write(*row, *id, *buckets, *words),
             Call::CanSkip { row, tiles, id } => self.can_skip(*row, *tiles, *id),
-            Call::Show => [vec![0], self.show()].concat(),
+            Call::Show => {
+                let compacts = |call: &Call| matches!(call, Call::Compact(_));
+                if !self.lowered && self.done.iter().any(compacts) {
+                    self.must_paint_the_same();
+                }
+                [vec![0], self.show()].concat()
+            }
             Call::Hidden {
                 row,
                 first,
                 end,
                 id,
             } => self.is_hidden(*row, (*first, *end), *id),
+            Call::Compact(row) => vec![self.compact(*row)],
         }
     }
 
@@ -502,6 +537,7 @@ impl Sequence {
         }
         must_hold(&*self.screen, self.held);
         self.done.clear();
+        self.lowered = false;
         self.ledger = Ledger::new(self.held, width.tiles());
         self.panels.clear();
         self.begun = false;
@@ -740,8 +776,69 @@ impl Sequence {
                     .filter(Arc::new(Pixmap::of(*handle)), placement, *count as usize);
             }
             Call::NextId(id) => self.screen.set_next_id(*id),
+            Call::Compact(row) => self.close_up(*row as usize),
             _ => {}
         }
+    }
+
+    /// 12 for no such row, then 13 with a layer open. Done, it ends painting.
+    fn compact(&mut self, row: u32) -> u32 {
+        let at = row as usize;
+        if at >= self.screen.rows() {
+            return BAD_RUN;
+        }
+        if self.screen.open_layers() > 0 {
+            return OPEN;
+        }
+        let hiding = self.hiding(at);
+        self.ledger.compact(at, &hiding);
+        let (before, count) = (self.pieces(at), self.screen.row(at).commands.len());
+        let call = Call::Compact(row);
+        self.perform(&call);
+        assert_eq!(self.pieces(at), before, "row {row}");
+        self.removed
+            .push(count - self.screen.row(at).commands.len());
+        self.done.push(call);
+        self.begun = false;
+        self.ledger.must_agree(&*self.screen);
+        0
+    }
+
+    fn pieces(&self, row: usize) -> Vec<Piece> {
+        row_pieces(&*self.screen, self.width, &self.panels, row)
+    }
+
+    /// The row without what nothing will ever show. Removals in another order must leave the same.
+    fn close_up(&mut self, row: usize) {
+        let hiding = self.hiding(row);
+        let commands = self.screen.row(row).commands;
+        let places = compacted::left(&commands, &hiding, &mut self.random);
+        let again = compacted::left(&commands, &hiding, &mut self.random);
+        assert_eq!(places, again, "{commands:?}");
+        self.screen.keep(row, &places);
+    }
+
+    fn hiding(&self, row: usize) -> Hiding {
+        let tiles = self.width.tiles();
+        let buckets = rules::buckets(u32::from(self.screen.width()) / 4, tiles);
+        Hiding::of(&*self.screen, row, buckets, tiles)
+    }
+
+    /// Every row must paint as it does on a screen on which the same was built and nothing compacted.
+    fn must_paint_the_same(&mut self) {
+        let pieces = |own: &Self| -> Vec<Vec<Piece>> {
+            let rows = 0..own.screen.rows();
+            rows.map(|row| own.pieces(row)).collect()
+        };
+        let compacted = pieces(self);
+        let whole = self.width.screen(self.given);
+        let screen = std::mem::replace(&mut self.screen, whole);
+        let ledger = self.ledger.clone();
+        let done = self.done.clone();
+        let builds = done.iter().filter(|call| !matches!(call, Call::Compact(_)));
+        builds.for_each(|call| self.perform(call));
+        assert_eq!(compacted, pieces(self), "compacted, and whole");
+        (self.screen, self.ledger) = (screen, ledger);
     }
 
     fn begin(&mut self) -> u32 {

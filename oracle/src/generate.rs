@@ -3,6 +3,7 @@
 mod boxes;
 pub mod calls;
 pub mod coloured;
+mod crowded;
 mod damage;
 pub mod draft;
 mod edges;

@@ -7,6 +7,7 @@ mod coarse;
 mod coarse_256;
 mod coarse_64;
 pub mod colours;
+mod compacted;
 pub mod composited;
 pub mod edited;
 pub mod editions;

@@ -29,6 +29,7 @@ const USAGE: &str = "usage: oracle rowlist [--snap] [--width N] [--edition N] [-
        oracle leaves [--text] [SEED [COUNT]]
        oracle calls SEED COUNT [MOST] > CALLS
        oracle answers < CALLS
+       oracle removed < CALLS
        oracle histories SEED COUNT > CALLS
        oracle told < CALLS
        oracle forged [--text]";
@@ -94,6 +95,13 @@ fn main() {
                 .map(|calls| calls::answers(calls))
                 .collect::<Vec<_>>(),
         ),
+        ["removed"] => {
+            let all = calls::sequences(&input());
+            let removed: Vec<usize> = all.iter().flat_map(|calls| calls::removed(calls)).collect();
+            let some = removed.iter().filter(|&&count| count > 0).count();
+            let (done, all) = (removed.len(), removed.iter().sum::<usize>());
+            format!("compactings {done}, that removed commands {some}, commands {all}\n").into()
+        }
         ["histories", seed, count] => generate::calls::histories(number(seed), number(count)),
         ["told"] => {
             let told = |(i, calls): (usize, &Vec<calls::Call>)| {

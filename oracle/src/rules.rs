@@ -1,6 +1,7 @@
 //! The rules that know how wide a depth bucket is, over a number of tiles and written from the rules in words (docs/RULES.md). The original answers beside them
 //! at each width, and in every run the two must agree.
 
+use crate::compacted::Hiding;
 use crate::painting::Piece;
 use crate::panels::Panels;
 use crate::peniko::BlendMode;
@@ -235,6 +236,12 @@ impl Ledger {
                 row.regular.push((attribute, range));
             }
         }
+    }
+
+    /// The regular parts that a row's newest ids hide are taken out of it.
+    pub(crate) fn compact(&mut self, row: usize, hiding: &Hiding) {
+        let stays = |&(attribute, tiles): &(u32, Range)| !hiding.hides(false, attribute, tiles);
+        self.rows[row].regular.retain(stays);
     }
 
     /// The screen's rows must have these depth fills, this summary, and these solid commands of eligible attributes.

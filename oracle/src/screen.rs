@@ -56,6 +56,8 @@ pub(crate) trait Screen {
     fn push(&mut self, props: &LayerProps);
     fn filter(&mut self, pixmap: Arc<Pixmap>, placement: FilterLayerPlacement, paints: usize);
     fn pop(&mut self, strips: &[Strip]);
+    /// Of a row's commands those at these places alone are left. The original has no such call.
+    fn keep(&mut self, row: usize, places: &[usize]);
     /// The original's own walk of a whole recording.
     fn walk(&mut self, scene: &Scene);
 

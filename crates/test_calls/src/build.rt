@@ -1,6 +1,7 @@
-//! The building steps of a sequence.
+//! The building steps of a sequence, and the call that gives room back.
 use crate::call::{FillList, Step};
 use crate::tables::Shape;
+use compact::compact_row;
 use fill::fill;
 use fill::list::{Stopped, fill_list};
 use layers::{filter_fill, push_layer};
@@ -84,4 +85,31 @@ impl FillList<'_> {
         } = self;
         fill_list(screen, &mut rows, lent.paint_attrs, paints, segments, draws)
     }
+}
+
+// Over the rows and both tables of attributes.
+fn compact_by(
+    screen: &mut Screen,
+    rows: &mut Rows<'_>,
+    paint_attrs: &mut [u32],
+    layer_attrs: &mut [u32],
+    row: usize,
+) -> Result<(), Refusal> {
+    compact_row(screen, rows, paint_attrs, layer_attrs, row)
+}
+
+/// Compacts a row, on the screen's own tables.
+pub fn compact(screen: &mut Screen, lent: &mut Lent<'_>, row: usize) -> Result<(), Refusal> {
+    let mut rows = Rows {
+        state: lent.rows,
+        render_cmds: lent.render_cmds,
+        depth_cmds: lent.depth_cmds,
+    };
+    compact_by(
+        screen,
+        &mut rows,
+        lent.paint_attrs,
+        lent.layer_attrs,
+        row,
+    )
 }

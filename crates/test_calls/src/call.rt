@@ -17,6 +17,7 @@ pub enum Call<'a> {
     Paint(Painting),
     // A step of a row, lent `room` words of a list.
     PaintStep { row: usize, room: usize },
+    CompactRow { row: usize },
     // The id that the next step takes.
     NextId(u32),
     Show,

@@ -1,5 +1,6 @@
 //! A sequence, from its calls to their answers.
 use crate::answers::Answers;
+use crate::build::compact;
 use crate::call::Call;
 use crate::forge::sum_all;
 use crate::reading::Calls;
@@ -44,6 +45,10 @@ impl Stand {
             }
             Call::PaintStep { row, room } => {
                 tables.step(self.screen, row, room, self.short, answers);
+            }
+            Call::CompactRow { row } => {
+                let mut lent = tables.lend(Shape::of_screen(self.screen), self.short);
+                answers.put(answer_number(compact(&mut self.screen, &mut lent, row)));
             }
             Call::NextId(id) => {
                 self.screen.next_draw_id = id;

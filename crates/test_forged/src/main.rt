@@ -1,6 +1,7 @@
 //! Calls each public step with a screen, an arena or a table that somebody scribbled in, or that is lent one word short, and prints the
-//! answers: one line for each forging of data/forged.txt, thirteen calls on it: fill, push, pop, filter fill, begin, a step that takes a depth fill, one
-//! that takes a command, the three runs, `can_skip`, a step that takes a layer's closing fill, `is_hidden`. `!` marks a refused call that changed a word.
+//! answers: one line for each forging of data/forged.txt, fifteen calls on it: fill, push, pop, filter fill, begin, a step that takes a depth fill, one
+//! that takes a command, the three runs, `can_skip`, a step that takes a layer's closing fill, `is_hidden`, `compact_row` of either row. `!` marks a refused call
+//! that changed a word.
 #![tactic(auto)]
 
 ghost use Rattle.std.specs.Prelude.{length};
@@ -14,7 +15,7 @@ use test_calls::{Tables, Words, run, word_at};
 const PATH: &str = "forged.words";
 
 // The calls of a line.
-const CALLS: usize = 13;
+const CALLS: usize = 15;
 
 // Most words of a sequence's answers.
 const MOST: usize = 256;

@@ -85,6 +85,13 @@ pub(crate) fn viewport(bucketer: &CommandBucketer) -> RectU16 {
     }
 }
 
+/// Of a row's commands those at these places alone are left.
+pub(crate) fn keep(bucketer: &mut CommandBucketer, row: usize, places: &[usize]) {
+    let mut place = 0..;
+    let cmds = &mut bucketer.rows[row].render_cmds;
+    cmds.retain(|_| places.contains(&place.next().expect("a place")));
+}
+
 /// How many layers a row has a PushBuf of.
 pub(crate) fn levels(row: &RowState) -> usize {
     row.layer_depth

@@ -146,6 +146,10 @@ impl Screen for CommandBucketer {
         self.pop_layer(strips);
     }
 
+    fn keep(&mut self, row: usize, places: &[usize]) {
+        probe::keep(self, row, places);
+    }
+
     fn walk(&mut self, scene: &Scene) {
         walk(self, scene);
     }

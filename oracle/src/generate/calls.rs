@@ -1,6 +1,7 @@
 //! Sequences of calls: building, painting by turns, runs, with edges and with calls that are refused in between.
 
 use super::boxes::{across, axis, down, longest, loosened, Edge};
+use super::crowded;
 use super::damage::WORDS;
 use super::draft::{solid, HALF, ONE};
 use super::scenes::{any_pixmap, blend, bounds, new_list, viewport, OPACITIES};
@@ -109,7 +110,7 @@ pub(crate) fn push() -> Call {
     }
 }
 
-fn destructive() -> Call {
+pub(super) fn destructive() -> Call {
     Call::Push {
         mix: 0,
         compose: 5,
@@ -121,7 +122,7 @@ fn destructive() -> Call {
     }
 }
 
-fn clipped(bounds: [u32; 4], start: u32, end: u32) -> Call {
+pub(super) fn clipped(bounds: [u32; 4], start: u32, end: u32) -> Call {
     let [x0, y0, x1, y1] = bounds;
     Call::Push {
         mix: 0,
@@ -181,8 +182,8 @@ fn at(mut calls: Vec<Call>, pixels: u32) -> Vec<Call> {
     calls
 }
 
-/// Those at 128 pixels a bucket, the same at the other widths, viewports at one width after another, and what is made for the widths and for the
-/// panels.
+/// Those at 128 pixels a bucket, the same at the other widths, viewports at one width after another, and what is made for the widths, for lists, for the minima, for
+/// crowded rows and for the panels.
 fn edges() -> Vec<Vec<Call>> {
     let others = [64, 256].map(|pixels| plain_edges().into_iter().map(move |e| at(e, pixels)));
     let turns = Width::ALL.into_iter().cycle().skip(1);
@@ -193,6 +194,7 @@ fn edges() -> Vec<Vec<Call>> {
     all.extend(width_edges());
     all.extend(list_edges());
     all.extend(hidden_edges());
+    all.extend(crowded::edges());
     all = all.into_iter().map(panelled).collect();
     all.extend(panel_edges());
     all
@@ -558,7 +560,7 @@ fn plain_edges() -> Vec<Vec<Call>> {
 }
 
 /// A reset to a screen of so many pixels across and rows, with so many pixels a bucket.
-fn reset_at(pixels: u32, across: u32, rows: u32) -> Call {
+pub(super) fn reset_at(pixels: u32, across: u32, rows: u32) -> Call {
     Call::Reset {
         viewport: [0, 0, across, 4 * rows],
         c: 16,
@@ -1366,6 +1368,9 @@ fn wide_viewport(random: &mut Random) -> [u32; 4] {
 }
 
 fn sequence(random: &mut Random) -> Vec<Call> {
+    if random.chance(15) {
+        return panelled(crowded::sequence(random));
+    }
     let viewport = if random.chance(35) {
         wide_viewport(random)
     } else {
@@ -1449,7 +1454,7 @@ fn again(sketch: &mut Sketch, random: &mut Random) -> Call {
 }
 
 fn build(sketch: &mut Sketch, random: &mut Random) {
-    match random.below(101) {
+    match random.below(104) {
         100 => {
             let call = again(sketch, random);
             sketch.calls.push(call);
@@ -1465,6 +1470,10 @@ fn build(sketch: &mut Sketch, random: &mut Random) {
         }
         98 => {
             let call = damaged_reset(sketch, random);
+            sketch.calls.push(call);
+        }
+        101.. => {
+            let call = Call::Compact(any_row(sketch, random));
             sketch.calls.push(call);
         }
         _ => {
@@ -1801,6 +1810,17 @@ fn damaged_reset(sketch: &mut Sketch, random: &mut Random) -> Call {
     sized([x0, y0, x1, y1], [c, d], mode, any_width(random))
 }
 
+/// A row, at times the one after the last.
+fn any_row(sketch: &Sketch, random: &mut Random) -> u32 {
+    let [_, y0, _, y1] = sketch.viewport;
+    let rows = (y1 - y0) / 4;
+    if random.chance(3) {
+        rows
+    } else {
+        random.below(rows.max(1))
+    }
+}
+
 /// Painting by turns, and runs in between.
 fn paint(sketch: &mut Sketch, random: &mut Random) {
     let [x0, y0, x1, y1] = sketch.viewport;
@@ -1811,11 +1831,7 @@ fn paint(sketch: &mut Sketch, random: &mut Random) {
     let more = PIECES + ONE_PIECE;
     let words = random.pick(&[PIECES, PIECES, PIECES, more, ONE_PIECE + 1, ONE_PIECE, 0]);
     for _ in 0..random.from(1, 6 * rows.clamp(1, 8)) {
-        let row = if random.chance(3) {
-            rows
-        } else {
-            random.below(rows.max(1))
-        };
+        let row = any_row(sketch, random);
         let range = |random: &mut Random, most: u32| {
             let (a, b) = (random.below(most + 1), random.below(most + 1));
             if random.chance(4) {
@@ -1826,7 +1842,8 @@ fn paint(sketch: &mut Sketch, random: &mut Random) {
         };
         let id = random.below(12);
         let call = match random.below(100) {
-            0..76 => Call::Step { row, words },
+            0..73 => Call::Step { row, words },
+            73..76 => Call::Compact(row),
             76..88 => any_hidden(sketch, row, random),
             88..91 => Call::Unset {
                 row,
@@ -1851,7 +1868,7 @@ fn paint(sketch: &mut Sketch, random: &mut Random) {
                 id,
             },
         };
-        let ended = matches!(call, Call::Write { .. });
+        let ended = matches!(call, Call::Write { .. } | Call::Compact(_));
         sketch.calls.push(call);
         if ended && random.chance(70) {
             sketch.calls.push(Call::Begin);
@@ -1889,7 +1906,7 @@ fn any_hidden(sketch: &Sketch, row: u32, random: &mut Random) -> Call {
 #[cfg(test)]
 mod tests {
     use super::{fill, fits, hidden_edges, reset_at, sequence, sized, viewport_edges};
-    use crate::calls::{answers, sequences, stream, Call};
+    use crate::calls::{answers, removed, sequences, stream, Call};
     use crate::generate::draft::solid;
     use crate::random::Random;
     use crate::viewport::Mode;
@@ -1973,7 +1990,7 @@ mod tests {
     fn hidden_of_every_sort() {
         let mut random = Random::new(1);
         let mut met = [0; 3];
-        let drawn = (0..3_000).map(|_| sequence(&mut random));
+        let drawn = (0..4_000).map(|_| sequence(&mut random));
         for calls in hidden_edges().into_iter().chain(drawn) {
             let said = sequences(&stream(&[words(&calls)]));
             assert_eq!(words(&said[0]), words(&calls));
@@ -1991,6 +2008,26 @@ mod tests {
             }
         }
         assert!(met.iter().all(|&times| times > 1_000), "{met:?}");
+    }
+
+    /// Rows are compacted, refused and not, each often; of those that are done many lose commands.
+    #[test]
+    fn compacted_of_every_sort() {
+        let mut random = Random::new(1);
+        let (mut met, mut lost) = ([0; 14], 0);
+        for calls in (0..3_000).map(|_| sequence(&mut random)) {
+            let said = sequences(&stream(&[words(&calls)]));
+            assert_eq!(words(&said[0]), words(&calls));
+            lost += removed(&calls).iter().filter(|&&count| count > 0).count();
+            for (at, call) in calls.iter().enumerate() {
+                if matches!(call, Call::Compact(_)) {
+                    let own = answers(&calls[..=at]);
+                    met[*own.last().expect("its number") as usize] += 1;
+                }
+            }
+        }
+        assert!([0, 12, 13].iter().all(|&of| met[of] > 100), "{met:?}");
+        assert!(lost > 500 && met[0] > 2 * lost, "{lost} of {met:?}");
     }
 
     /// Each step that has a panel is met with every panel and with numbers that are none; layers close in layers of other panels.

@@ -171,8 +171,8 @@ fn built() -> Vec<Call> {
     ])
 }
 
-/// Four calls on it with the layer open, nine with the layer closed and painting begun: among them a step that takes a depth fill, one that takes a
-/// command, one that takes the layer's closing fill, and last the question to the minima, once the row's depth fill is painted.
+/// Four calls on it with the layer open, eleven with the layer closed and painting begun: among them a step that takes a depth fill, one that takes a
+/// command, one that takes the layer's closing fill, then the question to the minima, once the row's depth fill is painted, and last both rows compacted.
 fn calls() -> Vec<(Vec<Call>, Call)> {
     let pop = || Call::Pop {
         segments: Vec::new(),
@@ -244,6 +244,8 @@ fn calls() -> Vec<(Vec<Call>, Call)> {
                 id: 0,
             },
         ),
+        (painting(), Call::Compact(0)),
+        (painting(), Call::Compact(1)),
     ]
 }
 

@@ -105,11 +105,5 @@ pub fn compact(screen: &mut Screen, lent: &mut Lent<'_>, row: usize) -> Result<(
         render_cmds: lent.render_cmds,
         depth_cmds: lent.depth_cmds,
     };
-    compact_by(
-        screen,
-        &mut rows,
-        lent.paint_attrs,
-        lent.layer_attrs,
-        row,
-    )
+    compact_by(screen, &mut rows, lent.paint_attrs, lent.layer_attrs, row)
 }

@@ -217,9 +217,7 @@ impl<'a> Call<'a> {
             14 => Call::LendShort(Table::numbered(words.word())),
             15 => Call::Sum,
             16 => Call::FillList(read_fill_list(words)),
-            18 => Call::CompactRow {
-                row: words.index(),
-            },
+            18 => Call::CompactRow { row: words.index() },
             _ => Call::Unknown,
         }
     }

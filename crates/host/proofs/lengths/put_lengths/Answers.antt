@@ -12,7 +12,7 @@ use Rattle.host.proofs.lengths.put_lengths.Goals as goal
 pub returns-in_err-seen : goal.returns-in_err-seen
 returns-in_err-seen c =
     let p = err_from_is_err_and c.from_residual.result c.from_residual.ensures.1 in
-    rw (p.1, p.2) (no-view (frame c.args.setup c.args.viewport) _ _ (bad-seen _ _ c.in_err-seen.ensures))
+    rw (p.1, p.2) (no-view (frame c.args.setup c.args.viewport) (length-words c.args.sizes.now) _ (bad-seen _ _ c.in_err-seen.ensures))
 
 pub put_lengths_of-requires : goal.put_lengths_of-requires
 put_lengths_of-requires c = search (rules, begun-good)

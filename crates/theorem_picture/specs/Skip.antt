@@ -13,7 +13,7 @@ use Rattle.screen.specs.Tables.{ScreenLent}
 use Rattle.paint.specs.Judging.{wide}
 use Rattle.paint.specs.Stepping.{part}
 use Rattle.paint.specs.DirectRuns.{skip-of-row}
-use Rattle.rules_picture.specs.Built.{Built}
+use Rattle.rules_picture.specs.Compacted.{Kept-up}
 use Rattle.rules_picture.specs.Turns.{Turn, has-finished, painted}
 use Rattle.rules_picture.specs.Skip.{FillsPainted}
 
@@ -23,10 +23,11 @@ Clear l =
     l.screen.painting ≡ true → (r : ℕ) (t : Span) (id : ℕ) → skip-of-row l.screen r l.tables.rows t id ≡ answer Done true
     → (x : ℕ) → t.first ≤ x → x < t.end → get_or (part (wide l.screen) r l.tables.depth.words) (x / bucket-tiles l.screen.width) 0 ≤ id
 
--- About the rules, in a row whose depth fills are painted, where `can-skip-call` says yes: every bucket that the span meets is visible, ..
+-- About the rules, rows being compacted between the steps, in a row whose depth fills are painted, where `can-skip-call` says yes: every bucket
+-- that the span meets is visible, ..
 abbrev pub SkippedBuckets : Type 0
 SkippedBuckets =
-    (f : Frame) (xs : List Step) (k : Canvas) → Built xs (reset fresh-row f) k.screen → (begin-call k).number ≡ Done
+    (f : Frame) (xs : List Step) (k : Canvas) → Kept-up xs (reset fresh-row f) k.screen → (begin-call k).number ≡ Done
     → (ts : List Turn) (r : ℕ) → r < rows_of f.viewport → FillsPainted (painted ts k).canvas r
     → (s : Span) (id : ℕ) → (can-skip-call r s id (painted ts k).canvas).value ≡ true
     → s.first < s.end → (j : ℕ) → covers (buckets-met (bucket f) s) j ≡ true → j < buckets-across f
@@ -35,7 +36,7 @@ SkippedBuckets =
 -- .. and for a span that is not empty and on the screen the visible runs are the span itself.
 abbrev pub SkippedRuns : Type 0
 SkippedRuns =
-    (f : Frame) (xs : List Step) (k : Canvas) → Built xs (reset fresh-row f) k.screen → (begin-call k).number ≡ Done
+    (f : Frame) (xs : List Step) (k : Canvas) → Kept-up xs (reset fresh-row f) k.screen → (begin-call k).number ≡ Done
     → (ts : List Turn) (r : ℕ) → r < rows_of f.viewport → FillsPainted (painted ts k).canvas r
     → (s : Span) (id : ℕ) → (can-skip-call r s id (painted ts k).canvas).value ≡ true
     → s.first < s.end → s.end ≤ width f.viewport / 4

@@ -14,7 +14,8 @@ use Rattle.rules.specs.Recording.{Recording, recording, File}
 use Rattle.rules.specs.Setups.{Setup, frame}
 use Rattle.rules.specs.Walk.{Place, frame-of, walk-all}
 use Rattle.rules.specs.Logged.{walk-logged}
-use Rattle.rules_picture.specs.Built.{Built}
+use Rattle.rules_picture.specs.Compacted.{Kept-up}
+use Rattle.rules_picture.proofs.CompactedFollows.{built-kept}
 use Rattle.rules_picture.specs.Recorded.{history, Readable, said}
 use Rattle.rules_picture.proofs.Walked.{all-walks}
 use Rattle.rules_reason.specs.Reasons.{Asked, reason}
@@ -69,11 +70,11 @@ module _ (ws : File) (q : Setup) (l : ScreenLent) (z : (recorded ws q l).number 
   logged-done = ((all-walks r).at (record { screen = fresh; log = [] }) (unfold reset in refl)).number ∙ rules-done
 
   -- its history builds its screen
-  history-built : Built (history p r) fresh (walk-logged Row row-ops fresh-row (frame-of p r) r).value.screen
+  history-built : Kept-up (history p r) fresh (walk-logged Row row-ops fresh-row (frame-of p r) r).value.screen
   unfolding walk-logged
   history-built =
       let k = (all-walks r).at (record { screen = fresh; log = [] }) (unfold reset in refl) in
-      rw k.log (k.built logged-done)
+      rw k.log (built-kept (k.built logged-done))
 
   module _ (row tile : ℕ) (a : Asked) where
     abbrev blank : List ℕ

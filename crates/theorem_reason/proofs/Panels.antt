@@ -1,5 +1,5 @@
 -- A reason's panels are those of the attributes: each account has the panel of the attribute that its step adds, and attributes are only added.
-use Rattle.std.proofs.Common.{ℕ, arith, ◌≡◌, refl, sym, ◌∙◌, ap, subst, Bool, true, false, ◌&&◌, Option, None, Some, List, [], ◌∷◌, ◌++◌, map, append_assoc, append-nil, length, get_or}
+use Rattle.std.proofs.Common.{ℕ, arith, ◌≡◌, refl, sym, ◌∙◌, ap, subst, Bool, true, false, ◌&&◌, Option, None, Some, List, [], ◌∷◌, ◌++◌, map, append_assoc, length, get_or}
 use lib.Seq.{get_or-append_seam}
 use Rattle.rules.specs.Lists.{keep, is-empty}
 use Rattle.rules.specs.Answers.{Done}
@@ -13,10 +13,11 @@ use Rattle.rules.specs.Steps.{Screen, done, touched, call}
 use Rattle.rules.specs.Painting.{paint-panel, layer-panel}
 use Rattle.rules.specs.Plain.{Told, OpenLayer, Story, untold, box-now, tell-step, tell-steps, shown}
 use Rattle.rules.proofs.All.{All, nil, cons, all_append}
-use Rattle.rules_picture.specs.Built.{Built, no_step, then}
+use Rattle.rules_picture.specs.Compacted.{Kept-up, no_step, then, tidied}
 use Rattle.rules_picture.proofs.Cases.{by}
+use Rattle.rules_picture.proofs.CompactedFollows.{kept-leads}
 use Rattle.rules_picture.proofs.Follows.{layer-in, Leads, new-paint}
-use Rattle.rules_picture.proofs.Stepped.{call-done, step-leads}
+use Rattle.rules_picture.proofs.Stepped.{call-done}
 use Rattle.rules_reason.specs.Reasons.{Asked, Account, account-fill, account-pop, account-filter, account-step, accounts, account-of, place_of, placed, because, reason}
 use Rattle.refine_tile.proofs.Numbers.{told-all, accounts-told}
 use Rattle.refine_tile.proofs.Stories.{Stands, filter-planned, step-stands, done-state, reset-stands}
@@ -78,25 +79,17 @@ module _ (w : ℕ) (v : Box) (row tile : ℕ) (t : Attrs) where
   step-has (a-filter n f q) js o s h j l = filter-has n f q o s h j l
 
 module _ (w : ℕ) (v : Box) (row tile : ℕ) where
-  built-begins : {xs : List Step} {s u : Screen Row} → Built xs s u → Begins w v row tile u.state.attrs s.state.attrs
-  unfolding done
-  built-begins {u = u} no_step =
-      record { paints-more = []; paints = sym (append-nil u.state.attrs.paints); layers-more = []; layers = sym (append-nil u.state.attrs.layers) }
-  built-begins {u = u} ((then) {x = x} {s = s} e b) =
-      let l : Begins w v row tile u.state.attrs (call Row row-ops x s).value.state.attrs = built-begins b in
-      step-leads w u.state.attrs tile v row x (touched Row row-ops (length s.state.layers) 0 s.rows) s.state
-      (rw (ap (λ (k : Screen Row). k.state.attrs) (call-done x s e).1) at l)
-
-  built-has : {xs : List Step} {s u : Screen Row} → Built xs s u → (o : Story) → Stands v o s.state → All (Has u.state.attrs) (accounts w v row tile xs o)
+  kept-has : {xs : List Step} {s u : Screen Row} → Kept-up xs s u → (o : Story) → Stands v o s.state → All (Has u.state.attrs) (accounts w v row tile xs o)
   unfolding accounts done
-  built-has no_step o h = nil
-  built-has {u = u} ((then) {x = x} {s = s} e b) o h =
+  kept-has no_step o h = nil
+  kept-has {u = u} ((then) {x = x} {s = s} e b) o h =
       let js = touched Row row-ops (length s.state.layers) 0 s.rows in
       let (j, q) = call-done x s e in
-      let l : Begins w v row tile u.state.attrs (call Row row-ops x s).value.state.attrs = built-begins b in
+      let l : Begins w v row tile u.state.attrs (call Row row-ops x s).value.state.attrs = kept-leads w tile v row b in
       let k = (step-stands w v row tile x js o s.state h j).1 in
       all_append (step-has w v row tile u.state.attrs x js o s.state h j (rw (ap (λ (y : Screen Row). y.state.attrs) q) at l))
-      (built-has b (tell-step w v row tile x o) (rw (q, done-state row-ops (plan x js s.state) s) k))
+      (kept-has b (tell-step w v row tile x o) (rw (q, done-state row-ops (plan x js s.state) s) k))
+  kept-has (tidied i z b) o h = kept-has b o h
 
 -- an entry has the panel of its attribute
 abbrev HasEntry : Attrs → Told → Type 0
@@ -154,7 +147,7 @@ panel-true f xs u g b row tile a =
     v = f.viewport
 
     has : All (Has u.state.attrs) (accounts (bucket f) f.viewport row tile xs untold)
-    has = built-has (bucket f) f.viewport row tile b untold (reset-stands f)
+    has = kept-has (bucket f) f.viewport row tile b untold (reset-stands f)
 
     entries : All (HasEntry u.state.attrs) (tell-steps (bucket f) f.viewport row tile xs untold).told
     entries =

@@ -7,22 +7,23 @@ use Rattle.rules.specs.Spans.{covers, solid-tiles}
 use Rattle.rules.specs.Boxes.{Box, span_of, good_viewport}
 use Rattle.rules.specs.Segments.{Segment, Cut}
 use Rattle.rules.specs.Inputs.{draw-segments, draw-paint, Filter}
-use Rattle.rules.specs.Rows.{Row, fresh-row}
+use Rattle.rules.specs.Rows.{Row, fresh-row, row-ops}
 use Rattle.rules.specs.Plans.{Frame, bucket, Step, a-fill, a-push, a-pop, a-filter, eligible, filter-box, draws-nothing}
 use Rattle.rules.specs.Steps.{Screen, reset}
 use Rattle.rules.specs.Painting.{Entry}
 use Rattle.rules.specs.Plain.{Told, OpenLayer, Story, untold, box-now, here, in_rows, closers, tell, tell-pop, tell-filter, tell-step, tell-steps, shown, plain}
 use Rattle.rules.proofs.All.{All, nil, cons, all_append, all-if, never, and_left, and_both}
-use Rattle.rules_picture.specs.Built.{Built}
+use Rattle.rules_picture.specs.Compacted.{Kept-up, no_step, then, tidied}
 use Rattle.rules_picture.proofs.Cases.{by}
 use Rattle.rules_picture.proofs.Picture.{all_shown}
 use Rattle.rules_reason.specs.Reasons.{Reason, unknown-attribute, no-segment, cut-away, row-untouched, hidden-by, shown-at, Asked, Account, accounts, account-of, place_of, Hider, newest-hider, hidden as hidden-for, because, reason}
 use Rattle.tile.specs.Telling.{Line}
 use Rattle.tile.specs.Listed.{entry_of}
 use Rattle.refine_tile.specs.Retold.{tells, Say, said, says}
-use Rattle.refine_tile.proofs.Inside.{inside-none}
+use Rattle.refine_tile.proofs.Inside as fits
+use Rattle.refine_tile.proofs.Inside.{Fitting, inside-none}
 use Rattle.refine_tile.proofs.Lines.{steps-say}
-use Rattle.refine_tile.proofs.Stories.{reset-stands, built-fits}
+use Rattle.refine_tile.proofs.Stories.{Stands, call-stands, reset-stands}
 use Rattle.refine_tile.proofs.Walked.{even}
 use Rattle.refine_tile.proofs.Numbers.{told-all, accounts-numbered, accounts-told, Once, numbered-once}
 use Rattle.refine_tile.proofs.Shows.{hiding, Unnamed}
@@ -448,17 +449,25 @@ module _ (w : ℕ) (v : Box) (row tile : ℕ) (xs : List Step) (a : Asked) (fair
         ∙ ap (hidden-by h b) (hidden-panel x),
   )
 
--- the accounts of a built screen tell what they say
-fairs : (f : Frame) (xs : List Step) (u : Screen Row) → good_viewport f.viewport ≡ true → Built xs (reset fresh-row f) u
+-- the steps of a history fit one after the other, and rows compacted between them change no state
+kept-fits : (w : ℕ) (v : Box) (row tile : ℕ) {xs : List Step} {s u : Screen Row} → Kept-up xs s u → (o : Story) → Stands v o s.state → Fitting w v row tile xs o
+kept-fits w v row tile no_step o h = fits.no_step
+kept-fits w v row tile ((then) {x = x} {s = s} e b) o h =
+    let (f, k) = call-stands w v row tile row-ops x o s h e in
+    fits.and_then f (kept-fits w v row tile b (tell-step w v row tile x o) k)
+kept-fits w v row tile (tidied i z b) o h = kept-fits w v row tile b o h
+
+-- the accounts of a screen built so tell what they say
+fairs : (f : Frame) (xs : List Step) (u : Screen Row) → good_viewport f.viewport ≡ true → Kept-up xs (reset fresh-row f) u
     → (row tile : ℕ) (a : Asked) → All (Fair a) (accounts (bucket f) f.viewport row tile xs untold)
 fairs f xs u g b row tile a =
     let v = f.viewport in
-    fair a (steps-say (bucket f) v row tile (even v g) (built-fits (bucket f) v row tile b untold (reset-stands f)).0 (inside-none v row))
+    fair a (steps-say (bucket f) v row tile (even v g) (kept-fits (bucket f) v row tile b untold (reset-stands f)) (inside-none v row))
 
 pub told-exact : Told-exact
 told-exact f xs u g b row tile a =
     let v = f.viewport in
-    own (steps-say (bucket f) v row tile (even v g) (built-fits (bucket f) v row tile b untold (reset-stands f)).0 (inside-none v row))
+    own (steps-say (bucket f) v row tile (even v g) (kept-fits (bucket f) v row tile b untold (reset-stands f)) (inside-none v row))
   where
     own : {ks : List Account} {ls : List Line} → Say ks ls → All TellsOwn ks
     own said = nil
@@ -480,7 +489,7 @@ pub hidden-exact : Hidden-exact
 hidden-exact f xs u g b row tile a = exact-hidden (bucket f) f.viewport row tile xs a (fairs f xs u g b row tile a)
 
 -- where the reason is none of shown-at, the tile's list has no entry of the attribute
-pub not-shown : (f : Frame) (xs : List Step) (u : Screen Row) → good_viewport f.viewport ≡ true → Built xs (reset fresh-row f) u
+pub not-shown : (f : Frame) (xs : List Step) (u : Screen Row) → good_viewport f.viewport ≡ true → Kept-up xs (reset fresh-row f) u
     → (row tile : ℕ) (a : Asked) → ((p q : ℕ) → reason (bucket f) f.viewport row tile xs a ≡ shown-at p q → ⊥) → Unlisted a (plain (bucket f) f.viewport row tile xs)
 not-shown f xs u g b row tile a n = go (where-shown (bucket f) v row tile xs a h) refl
   where

@@ -1,5 +1,5 @@
 -- What a reason says, and the theorems about it: the one that is given holds, none before it in the order does, and no other is the first.
--- At the screen's own width, for tile and row of a screen that done steps built from its reset.
+-- At the screen's own width, for tile and row of a screen that was built from its reset by done steps, rows being compacted between them.
 use Rattle.std.specs.Prelude.{ℕ, suc, ◌/◌, ◌≤◌, ◌<◌, ◌≡◌, ◌↔◌, Bool, true, false, ◌&&◌, cond, List, [], ◌∷◌}
 use Rattle.std.specs.Prelude.{Option, None, Some}
 use Rattle.rules.specs.Lists.{keep}
@@ -13,7 +13,7 @@ use Rattle.rules.specs.Painting.{paint-panel, layer-panel, Entry, received}
 use Rattle.rules.specs.Plain.{Told, Story, untold, tell-steps, plain}
 use Rattle.rules.specs.Calls.{Canvas, begin-call}
 use Rattle.rules.proofs.All.{All}
-use Rattle.rules_picture.specs.Built.{Built}
+use Rattle.rules_picture.specs.Compacted.{Kept-up}
 use Rattle.rules_picture.specs.Turns.{Turn, from, has-finished, painted}
 use Rattle.rules_reason.specs.Reasons.{Reason, unknown-attribute, no-segment, cut-away, row-untouched, hidden-by, shown-at, Asked, Account, accounts, reason}
 
@@ -97,10 +97,11 @@ pub record First (w : ℕ) (v : Box) (row tile : ℕ) (xs : List Step) (a : Aske
   pub holds : Holds w v row tile xs a r
   pub earlier : (s : Reason) → rank s < rank r → Holds w v row tile xs a s → ⊥
 
--- what is told, at its own width, of any screen built from its reset by done steps xs, for any row and tile and any asked attribute
+-- what is told, at its own width, of any screen built from its reset by done steps xs, rows being compacted between them, for any row and tile and any asked
+-- attribute
 abbrev pub Of-built : (ℕ → Box → ℕ → ℕ → List Step → Asked → Type 0) → Type 0
 Of-built P =
-    (f : Frame) (xs : List Step) (u : Screen Row) → good_viewport f.viewport ≡ true → Built xs (reset fresh-row f) u
+    (f : Frame) (xs : List Step) (u : Screen Row) → good_viewport f.viewport ≡ true → Kept-up xs (reset fresh-row f) u
     → (row tile : ℕ) (a : Asked) → P (bucket f) f.viewport row tile xs a
 
 -- an account tells one entry, of its own attribute and panel, exactly if it is covered, kept and touched
@@ -152,7 +153,7 @@ pub record Paneled (a : Asked) (r : Reason) (t : Attrs) : Type 0 where
 
 abbrev pub Panel-true : Type 0
 Panel-true =
-    (f : Frame) (xs : List Step) (u : Screen Row) → good_viewport f.viewport ≡ true → Built xs (reset fresh-row f) u
+    (f : Frame) (xs : List Step) (u : Screen Row) → good_viewport f.viewport ≡ true → Kept-up xs (reset fresh-row f) u
     → (row tile : ℕ) (a : Asked) → Paneled a (reason (bucket f) f.viewport row tile xs a) u.state.attrs
 
 -- Beside painting: where the reason is shown at p, the tile has received the attribute's entry at place p, with the reason's panel; where
@@ -163,7 +164,7 @@ pub record Painted (a : Asked) (r : Reason) (es : List Entry) : Type 0 where
 
 abbrev pub Reason-painted : Type 0
 Reason-painted =
-    (f : Frame) (xs : List Step) (k : Canvas) → good_viewport f.viewport ≡ true → Built xs (reset fresh-row f) k.screen → (begin-call k).number ≡ Done
+    (f : Frame) (xs : List Step) (k : Canvas) → good_viewport f.viewport ≡ true → Kept-up xs (reset fresh-row f) k.screen → (begin-call k).number ≡ Done
     → (ts : List Turn) (r t : ℕ) → r < rows_of f.viewport → t < width f.viewport / 4
     → has-finished (painted ts k).canvas r ≡ true
     → (a : Asked) → Painted a (reason (bucket f) f.viewport r t xs a) (received t (from r (painted ts k).log))

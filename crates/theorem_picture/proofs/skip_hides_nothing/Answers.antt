@@ -1,7 +1,6 @@
 use Rattle.rules_picture.proofs.Skip as rules
 use Rattle.rules_picture.proofs.Skip.{finished-fills}
-use Rattle.rules_picture.proofs.Unhidden.{skip-buckets, skip_runs}
-use Rattle.theorem_picture.proofs.Skip.{skip}
+use Rattle.theorem_picture.proofs.Skip.{skip, skip-buckets, skip-runs}
 use Rattle.theorem_picture.proofs.skip_hides_nothing.Goals as goal
 
 pub returns-clause-by_rules : goal.returns-clause-by_rules
@@ -14,7 +13,7 @@ pub returns-clause-buckets : goal.returns-clause-buckets
 returns-clause-buckets c = skip-buckets
 
 pub returns-clause-runs : goal.returns-clause-runs
-returns-clause-runs c = skip_runs
+returns-clause-runs c = skip-runs
 
 pub returns-clause-fills : goal.returns-clause-fills
 returns-clause-fills c = finished-fills

@@ -8,14 +8,12 @@ use Rattle.rules.specs.Inputs.{Paint, Draw, draw-segments, Props, Filter, good-f
 use Rattle.rules.specs.Rows.{Row, RowOps, fresh-row, row-ops}
 use Rattle.rules.specs.Plans.{Frame, Layer, State, Step, a-fill, a-push, a-pop, a-filter, Plan, still, box_of, with-paint, layer-box, touches-all, filter-box, draws-nothing, plan-fill, plan-push, plan-pop, plan-filter-in, plan-filter, plan}
 use Rattle.rules.specs.Steps.{Screen, reset, done, touched, call}
-use Rattle.rules.specs.Plain.{Told, OpenLayer, Story, untold, touch-all, box-now, here, in_rows, tell-fill, tell-push, tell-pop, tell-filter, tell-step, tell-steps}
-use Rattle.rules_picture.specs.Built.{Built, no_step, then}
+use Rattle.rules.specs.Plain.{Told, OpenLayer, Story, untold, touch-all, box-now, here, in_rows, tell-fill, tell-push, tell-pop, tell-filter, tell-step}
 use Rattle.rules_picture.proofs.Cases.{by}
 use Rattle.rules_picture.proofs.Shape.{touched-layers}
 use Rattle.rules_picture.proofs.Stepped.{call-carried}
 use Rattle.rules_picture.proofs.Follows.{layer-in}
-use Rattle.refine_tile.proofs.Inside as fits
-use Rattle.refine_tile.proofs.Inside.{PopFits, Fits, Fitting}
+use Rattle.refine_tile.proofs.Inside.{PopFits, Fits}
 
 -- a screen's state and the story: the viewport is v
 pub record Stands (v : Box) (o : Story) (s : State) : Type 0 where
@@ -136,15 +134,6 @@ module _ (w : ℕ) (v : Box) (row tile : ℕ) where
       let (j, q) = call-carried ops x s e in
       let r = step-stands x js o s.state h j in
       (r.0, rw (q, done-state ops (plan x js s.state) s) r.1)
-
-  -- the steps that built a screen fit one after the other
-  pub built-fits : {xs : List Step} {s u : Screen Row} → Built xs s u → (o : Story) → Stands v o s.state → Fitting w v row tile xs o × Stands v (tell-steps w v row tile xs o) u.state
-  unfolding tell-steps
-  built-fits no_step o h = (fits.no_step, h)
-  built-fits ((then) {x = x} {s = s} e b) o h =
-      let (f, k) = call-stands row-ops x o s h e in
-      let (fs, l) = built-fits b (tell-step w v row tile x o) k in
-      (fits.and_then f fs, l)
 
 -- a reset screen and an untold story
 pub reset-stands : (f : Frame) → Stands f.viewport untold (reset fresh-row f).state

@@ -18,8 +18,8 @@ use sizes::{DEPTHS, MOST_WIDTH, NARROWEST, RENDERS, TILE_WIDTH};
 // No row has more.
 const MOST_BUCKETS: usize = (MOST_WIDTH / TILE_WIDTH) as usize / NARROWEST;
 
-// The counts of the row's record have room in its words.
-fn is_good_counts(state: &[u32], render_cmds: &[u32], depth_cmds: &[u32]) -> bool
+/// Whether the counts of the row's record have room in its words.
+pub fn is_good_counts(state: &[u32], render_cmds: &[u32], depth_cmds: &[u32]) -> bool
     requires { length state.now ≡ row-size }
     ensures { result ≡ has-counts (words state.now render_cmds.now depth_cmds.now) }
 {

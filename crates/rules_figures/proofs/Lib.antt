@@ -1,0 +1,4 @@
+mod Tallies
+mod Narrow
+mod Ended
+mod Asked

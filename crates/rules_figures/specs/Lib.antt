@@ -1,0 +1,4 @@
+pub mod Figures
+pub mod Recordings
+pub mod RowFigures
+pub mod Accounted

@@ -2,3 +2,4 @@ mod Tallies
 mod Narrow
 mod Ended
 mod Asked
+mod Counted

@@ -10,7 +10,9 @@ use Rattle.rules.specs.Plain.{Told, untold, tell-steps, shown, plain}
 use Rattle.rules.proofs.All.{and_left}
 use Rattle.sizes.specs.declared.width.Width.{Width}
 use Rattle.sizes.specs.Widths.{bucket-tiles}
-use Rattle.rules.proofs.laws.Widths.{each}
+use Rattle.rules.proofs.laws.Widths.{bucket-some, raised-least}
+use Rattle.rules.proofs.laws.Viewports.{view}
+use Rattle.rules_picture.proofs.Buckets.{to-bucket-before}
 use Rattle.rules.proofs.laws.Changes.{puts-length}
 use Rattle.rules_picture.proofs.Stepped.{call-done}
 use Rattle.rules_picture.specs.Built.{Built, no_step, then}
@@ -18,26 +20,9 @@ use Rattle.rules_picture.proofs.Cases.{by}
 use Rattle.rules_picture.proofs.Picture.{built-frame, row-picture}
 use Rattle.rules_figures.specs.Figures.{sum-to, sum-of, dropped, tiles-in, asked, hidden, painted}
 use Rattle.rules_figures.specs.Accounted.{Left, Asked-accounted}
-use Rattle.rules_figures.proofs.Tallies.{told-accounted, sum-same, sum-both, sum-zero, pieces-counted}
+use Rattle.rules_figures.proofs.Tallies.{told-accounted, sum-same, sum-both, sum-longer, pieces-counted}
 use Rattle.rules_figures.proofs.Ended.{row_ends}
 use Rattle.rules_figures.proofs.Narrow.{nothing-past}
-
--- a sum goes on over zeros
-sum-longer : (n m : ℕ) (g : ℕ → ℕ) → ((i : ℕ) → n ≤ i → i < n + m → g i ≡ 0) → sum-to (n + m) g ≡ sum-to n g
-unfolding sum-to
-sum-longer n zero g h = ap (λ (k : ℕ). sum-to k g) (omega arith)
-sum-longer n (suc m) g h =
-    let e : n + suc m ≡ suc (n + m) = omega arith in
-    let a = sum-longer n m g (λ i p q. h i p (omega arith)) in
-    let z = h (n + m) (omega arith) (omega arith) in
-    rw e (omega arith)
-
--- a row's buckets have all of its tiles
-all-tiles : (w : Width) (x : ℕ) → x ≤ (x + (bucket-tiles w - 1)) / bucket-tiles w * bucket-tiles w
-all-tiles w = each (λ (m : ℕ). (x : ℕ) → x ≤ (x + (m - 1)) / m * m) (λ x. omega arith) (λ x. omega arith) (λ x. omega arith) w
-
-in_buckets : (w : Width) (t n : ℕ) → t < n * bucket-tiles w → t / bucket-tiles w < n
-in_buckets w = each (λ (m : ℕ). (t n : ℕ) → t < n * m → t / m < n) (λ t n h. omega arith) (λ t n h. omega arith) (λ t n h. omega arith) w
 
 -- steps keep how many rows there are
 built-rows : {xs : List Step} {s v : Screen Row} → Built xs s v → length v.rows ≡ length s.rows
@@ -46,16 +31,6 @@ built-rows no_step = refl
 built-rows ((then) {x = x} {s = s} e b) =
     let p = plan x (touched Row row-ops (length s.state.layers) 0 s.rows) s.state in
     built-rows b ∙ ap (λ (k : Screen Row). length k.rows) (call-done x s e).1 ∙ puts-length Row row-ops (bucket s.state.frame) (length p.layers) p.puts s.rows
-
-left-whole : (v : Box) → good_viewport v ≡ true → v.x0 % 4 ≡ 0
-unfolding good_viewport
-left-whole v g =
-    let a = by_4 v.x0 in
-    let b = by_4 v.x1 in
-    let c = by_4 v.y0 in
-    let d = by_4 v.y1 in
-    let sides = and_left (a && b && c && d) (bounded v) (and_left _ _ (and_left _ _ g)) in
-    eqb-true (v.x0 % 4) 0 (and_left a b (and_left (a && b) c (and_left (a && b && c) d sides)))
 
 abbrev told-of : Frame → List Step → ℕ → ℕ → List Told
 told-of f xs r t = (tell-steps (bucket f) f.viewport r t xs untold).told
@@ -78,7 +53,7 @@ module _ (f : Frame) (xs : List Step) (u : Screen Row) (g : good_viewport f.view
   -- of a tile past the screen nothing is
   received-none : (t : ℕ) → across ≤ t → t / bucket f < buckets-across f → length (received t ps) ≡ 0
   received-none t p h =
-      received-shown t h ∙ ap (λ (ts : List Told). length (shown ts)) (nothing-past (bucket f) f.viewport r t (left-whole f.viewport g) p xs) ∙ unfold shown in refl
+      received-shown t h ∙ ap (λ (ts : List Told). length (shown ts)) (nothing-past (bucket f) f.viewport r t ((view f.viewport g).x0-by-4) p xs) ∙ unfold shown in refl
 
   abbrev across-buckets : ℕ
   across-buckets = buckets-across f * bucket f
@@ -86,15 +61,15 @@ module _ (f : Frame) (xs : List Step) (u : Screen Row) (g : good_viewport f.view
   -- one row
   row-accounted : sum-to across (λ t. length (told t)) ≡ sum-of (map tiles-in ps) + sum-to across (λ t. length (dropped (told t)))
   row-accounted =
-      let wide : across ≤ across-buckets = all-tiles f.width across in
+      let wide : across ≤ across-buckets = raised-least f.width across in
       let m = across-buckets - across in
       let e : across-buckets ≡ across + m = omega arith in
       let counted : sum-to across-buckets (λ t. length (received t ps)) ≡ sum-of (map tiles-in ps) = pieces-counted across-buckets (row_ends (bucket f) u.state.attrs (buckets-across f) (get_or u.rows r fresh-row)) in
       let same : sum-to across-buckets (λ t. length (received t ps)) ≡ sum-to across (λ t. length (received t ps)) =
       ap (λ (k : ℕ). sum-to k (λ t. length (received t ps))) e
-      ∙ sum-longer across m (λ t. length (received t ps)) (λ i p q. received-none i p (in_buckets f.width i (buckets-across f) (omega arith))) in
+      ∙ sum-longer across m (λ t. length (received t ps)) (λ i p q. received-none i p (to-bucket-before (bucket f) (bucket-some f.width) (omega arith))) in
       sum-same across (λ t. length (told t)) (λ t. length (received t ps) + length (dropped (told t)))
-      (λ t h. let i = told-accounted (told t) in let k = received-shown t (in_buckets f.width t (buckets-across f) (omega arith)) in omega arith)
+      (λ t h. let i = told-accounted (told t) in let k = received-shown t (to-bucket-before (bucket f) (bucket-some f.width) (omega arith)) in omega arith)
       ∙ sum-both across (λ t. length (received t ps)) (λ t. length (dropped (told t)))
       ∙ ap (λ (k : ℕ). k + sum-to across (λ t. length (dropped (told t)))) (sym same ∙ counted)
 

@@ -25,7 +25,7 @@ use Rattle.rules_figures.proofs.Ended.{row_ends}
 use Rattle.rules_figures.proofs.Narrow.{nothing-past}
 
 -- steps keep how many rows there are
-built-rows : {xs : List Step} {s v : Screen Row} → Built xs s v → length v.rows ≡ length s.rows
+pub built-rows : {xs : List Step} {s v : Screen Row} → Built xs s v → length v.rows ≡ length s.rows
 unfolding done
 built-rows no_step = refl
 built-rows ((then) {x = x} {s = s} e b) =

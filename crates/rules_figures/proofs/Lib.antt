@@ -3,3 +3,7 @@ mod Narrow
 mod Ended
 mod Asked
 mod Counted
+mod Newer
+mod Tiled
+mod Totals
+mod Read

@@ -7,3 +7,6 @@ mod Newer
 mod Tiled
 mod Totals
 mod Read
+mod Roomed
+mod Small
+mod Files

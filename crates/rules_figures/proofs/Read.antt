@@ -36,7 +36,7 @@ unfolding sum-of
 sum-alike g h e [] = refl
 sum-alike g h e (x ∷ xs) = rw (e x, sum-alike g h e xs)
 
-such-all : (ts : List Told) → such (λ (u : Told). true) ts ≡ ts
+pub such-all : (ts : List Told) → such (λ (u : Told). true) ts ≡ ts
 such-all [] = refl
 such-all (t ∷ ts) = ap (λ (us : List Told). t ∷ us) (such-all ts)
 

@@ -1,25 +1,21 @@
 -- Every tile that was asked for is painted or hidden.
-use Rattle.std.proofs.Common.{ℕ, zero, suc, ◌+◌, ◌-◌, ◌*◌, ◌/◌, ◌%◌, ◌≤◌, ◌<◌, arith, ◌≡◌, refl, sym, ◌∙◌, ap, Bool, true, false, ◌&&◌, List, [], ◌∷◌, map, length, get_or, ltb, eqb-true}
+use Rattle.std.proofs.Common.{ℕ, ◌+◌, ◌-◌, ◌*◌, ◌/◌, ◌≤◌, ◌<◌, arith, ◌≡◌, refl, sym, ◌∙◌, ap, true, List, map, length, get_or}
 use lib.ListN.{length-map, length-replicate}
-use Rattle.rules.specs.Boxes.{Box, width, rows_of, buckets-of, by_4, bounded, good_viewport}
+use Rattle.rules.specs.Boxes.{width, rows_of, good_viewport}
 use Rattle.rules.specs.Rows.{Row, fresh-row, row-ops}
 use Rattle.rules.specs.Plans.{Frame, bucket, buckets-across, Step, plan}
 use Rattle.rules.specs.Steps.{Screen, reset, done, touched}
 use Rattle.rules.specs.Painting.{Piece, Entry, paint-row, received}
 use Rattle.rules.specs.Plain.{Told, untold, tell-steps, shown, plain}
-use Rattle.rules.proofs.All.{and_left}
-use Rattle.sizes.specs.declared.width.Width.{Width}
-use Rattle.sizes.specs.Widths.{bucket-tiles}
 use Rattle.rules.proofs.laws.Widths.{bucket-some, raised-least}
 use Rattle.rules.proofs.laws.Viewports.{view}
 use Rattle.rules_picture.proofs.Buckets.{to-bucket-before}
 use Rattle.rules.proofs.laws.Changes.{puts-length}
 use Rattle.rules_picture.proofs.Stepped.{call-done}
 use Rattle.rules_picture.specs.Built.{Built, no_step, then}
-use Rattle.rules_picture.proofs.Cases.{by}
 use Rattle.rules_picture.proofs.Picture.{built-frame, row-picture}
 use Rattle.rules_figures.specs.Figures.{sum-to, sum-of, dropped, tiles-in, asked, hidden, painted}
-use Rattle.rules_figures.specs.Accounted.{Left, Asked-accounted}
+use Rattle.rules_figures.specs.Accounted.{Asked-accounted}
 use Rattle.rules_figures.proofs.Tallies.{told-accounted, sum-same, sum-both, sum-longer, pieces-counted}
 use Rattle.rules_figures.proofs.Ended.{row_ends}
 use Rattle.rules_figures.proofs.Narrow.{nothing-past}

@@ -1,5 +1,5 @@
 -- A built row holds each entry that does not hide as a command: none is lost and none is added, seen or not.
-use Rattle.std.proofs.Common.{ℕ, zero, suc, ◌+◌, ◌≤◌, ◌<◌, zero-add, arith, ◌≡◌, refl, sym, ◌∙◌, ap, Bool, true, false, ◌&&◌, not, cond, None, List, [], ◌∷◌, ◌++◌, map, append-nil, length, get_or, replicate, eqb}
+use Rattle.std.proofs.Common.{ℕ, suc, ◌≤◌, ◌<◌, zero-add, arith, ◌≡◌, refl, sym, ◌∙◌, ap, Bool, true, false, ◌&&◌, cond, None, List, [], ◌∷◌, ◌++◌, map, append-nil, length, get_or, replicate, eqb}
 use lib.ListN.{length-map, get_or-replicate}
 use Rattle.rules.specs.Lists.{such, keep, some_of, is-empty}
 use Rattle.rules.specs.Answers.{Done, BadRecord, NoLayer}

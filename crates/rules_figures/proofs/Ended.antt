@@ -1,5 +1,5 @@
 -- The pieces of a painted row end with its buckets.
-use Rattle.std.proofs.Common.{ℕ, zero, suc, ◌+◌, ◌-◌, ◌*◌, ◌≤◌, ◌<◌, min, arith, ◌≡◌, refl, sym, ◌∙◌, ap, Bool, true, false, cond, Option, None, Some, List, [], ◌∷◌, ◌++◌, map, length, get_or, take, drop, replicate, length-take, length-drop, eqb, ltb, leb, leb-true}
+use Rattle.std.proofs.Common.{ℕ, zero, suc, ◌+◌, ◌-◌, ◌*◌, ◌≤◌, ◌<◌, arith, ◌≡◌, sym, ◌∙◌, Bool, true, false, Option, List, [], ◌∷◌, length, drop, length-take, length-drop, eqb, ltb, leb, leb-true}
 use native.Mathlib.Nat.{mul-le-mul_right}
 use lib.ListN.{length-replicate}
 use borrow.Author.Tests.{leb-false}
@@ -8,8 +8,8 @@ use Rattle.rules.specs.Spans.{Span, span, common}
 use Rattle.rules.specs.Commands.{Command, paint-fill, layer-fill, push-buf, pop-buf, DepthFill}
 use Rattle.rules.specs.Rows.{Row}
 use Rattle.rules.specs.Attributes.{Attrs}
-use Rattle.rules.specs.Depth.{join-run, bucket-runs, runs-in, runs, buckets-met, tiles-of, visible-runs, write-runs, written}
-use Rattle.rules.specs.Painting.{Piece, Painter, Painted, begin, no-fill, paint-id, layer-id, paint-panel, layer-panel, paint-depth, paint-fill-runs, paint-command, paint-when, paint-step, paint-steps, paint-row}
+use Rattle.rules.specs.Depth.{join-run, bucket-runs, runs-in, runs, buckets-met, tiles-of, visible-runs, write-runs}
+use Rattle.rules.specs.Painting.{Piece, Painter, Painted, begin, paint-id, layer-id, paint-panel, layer-panel, paint-depth, paint-fill-runs, paint-command, paint-when, paint-step, paint-steps, paint-row}
 use Rattle.rules.proofs.All.{All, nil, cons, all_append, all-over}
 use Rattle.rules_picture.proofs.Cases.{by}
 use Rattle.rules_picture.proofs.Newest.{written-length}

@@ -1,19 +1,18 @@
 -- The figures of a file, played in any place: accepted or refused, every tile is accounted for, and each number is small.
-use Rattle.std.proofs.Common.{ℕ, ◌≤◌, ◌<◌, arith, ◌≡◌, refl, sym, ◌∙◌, ap, Bool, true, false, ◌&&◌, ◌||◌, not, cond, Option, None, Some, List, [], ◌∷◌, eqb, eqb-true, leb, leb-true, ltb}
+use Rattle.std.proofs.Common.{ℕ, ◌≤◌, arith, ◌≡◌, refl, sym, ◌∙◌, Bool, true, false, ◌&&◌, ◌||◌, not, Option, None, Some, List, [], ◌∷◌, eqb, eqb-true, leb, leb-true, ltb}
 use Rattle.sizes.specs.Sizes.{most-room}
-use Rattle.rules.specs.Answers.{Answer, answer, first_of, Done, BadViewport, BadArena, BadRecord, BadOrder, BadForm}
+use Rattle.rules.specs.Answers.{Answer, first_of, Done, BadViewport, BadArena, BadRecord, BadOrder}
 use Rattle.rules.specs.Boxes.{good_viewport, rows_of}
 use Rattle.rules.specs.Rows.{Row, fresh-row, row-ops}
 use Rattle.rules.specs.Steps.{Screen, reset, call}
-use Rattle.rules.specs.Recording.{Recording, File, parsed, recording, good-records, good-order}
+use Rattle.rules.specs.Recording.{Recording, parsed, recording, good-records, good-order}
 use Rattle.rules.specs.Walk.{Place, frame-of, good-room, good-arenas, needed, same-arenas, judge-records, play-records}
 use Rattle.rules.specs.Lines as rule
 use Rattle.rules.proofs.All.{and_left, and_right, or_left, never}
-use Rattle.rules_picture.specs.Recorded.{played, history}
+use Rattle.rules_picture.specs.Recorded.{history}
 use Rattle.rules_picture.proofs.Cases.{by}
-use Rattle.rules_picture.proofs.Walked.{not_done}
 use Rattle.rules_picture.proofs.Recorded.{records-done, play-some}
-use Rattle.rules_figures.specs.Figures.{Figures, one-refused, figures}
+use Rattle.rules_figures.specs.Figures.{one-refused}
 use Rattle.rules_figures.specs.Recordings.{of-answer, of-sections, of-file}
 use Rattle.rules_figures.specs.Accounted.{Left, Accounted, Small, Files-accounted}
 use Rattle.rules_figures.proofs.Asked.{asked-accounted}

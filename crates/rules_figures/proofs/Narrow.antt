@@ -1,14 +1,13 @@
 -- Past the screen's right edge nothing is told: every box lies within the screen.
-use Rattle.std.proofs.Common.{ℕ, zero, suc, ◌+◌, ◌-◌, ◌*◌, ◌/◌, ◌%◌, ◌≤◌, ◌<◌, min, max, arith, ◌≡◌, refl, sym, ◌∙◌, ap, Bool, true, false, ◌&&◌, ◌||◌, cond, Option, None, Some, List, [], ◌∷◌, ◌++◌, map, append-nil, length, leb, ltb, eqb}
-use borrow.Author.Tests.{leb-false}
-use Rattle.rules.specs.Lists.{such, keep, join}
-use Rattle.rules.specs.Boxes.{Box, width, empty-box, meet, to-local, span_of, scene-tiles}
-use Rattle.rules.specs.Spans.{Span, span, covers, common, Stretch, shifted, cut_to, meeting, solid-tiles}
-use Rattle.rules.specs.Segments.{Segment, Cut, stretch-of, localised, on_row, cut_in, cuts}
+use Rattle.std.proofs.Common.{ℕ, ◌+◌, ◌-◌, ◌/◌, ◌%◌, ◌≤◌, min, max, arith, ◌≡◌, refl, Bool, true, false, ◌&&◌, cond, Option, None, Some, List, [], ◌∷◌, length, leb, ltb}
+use Rattle.rules.specs.Lists.{such}
+use Rattle.rules.specs.Boxes.{Box, width, empty-box, span_of, scene-tiles}
+use Rattle.rules.specs.Spans.{span, covers, cut_to, meeting, solid-tiles}
+use Rattle.rules.specs.Segments.{Segment, Cut, cut_in, cuts}
 use Rattle.rules.specs.Inputs.{Paint, Draw, Clip, Props, Filter}
-use Rattle.rules.specs.Plans.{Step, a-fill, a-push, a-pop, a-filter, layer-box, filter-box, draws-nothing, clip-segments}
-use Rattle.rules.specs.Plain.{Told, OpenLayer, Story, untold, touch-all, box-now, here, closers, in_rows, tell, tell-fill, tell-push, tell-pop, tell-filter, tell-step, tell-steps}
-use Rattle.rules.proofs.All.{All, nil, cons, tail, all_append, all-over, or_left}
+use Rattle.rules.specs.Plans.{Step, a-fill, a-push, a-pop, a-filter, layer-box, filter-box, draws-nothing}
+use Rattle.rules.specs.Plain.{OpenLayer, Story, untold, touch-all, box-now, here, closers, in_rows, tell, tell-fill, tell-push, tell-pop, tell-filter, tell-step, tell-steps}
+use Rattle.rules.proofs.All.{All, nil, cons, all_append, all-over}
 use Rattle.rules_picture.proofs.Cases.{by, covers-no}
 
 module _ (w : ℕ) (v : Box) (row t : ℕ) (whole : v.x0 % 4 ≡ 0) (past : width v / 4 ≤ t) where

@@ -1,5 +1,5 @@
 -- What is read off a built screen's rows is what its history asked for, what its pieces cover, and what the picture leaves out.
-use Rattle.std.proofs.Common.{ℕ, ◌+◌, ◌-◌, ◌*◌, ◌/◌, ◌≤◌, ◌<◌, arith, ◌≡◌, refl, sym, ◌∙◌, ap, Bool, true, false, cond, List, [], ◌∷◌, map, length, get_or}
+use Rattle.std.proofs.Common.{ℕ, ◌+◌, ◌-◌, ◌*◌, ◌/◌, ◌≤◌, ◌<◌, arith, ◌≡◌, refl, sym, ◌∙◌, ap, Bool, true, cond, List, [], ◌∷◌, map, length, get_or}
 use lib.ListN.{length-replicate}
 use Rattle.rules.specs.Lists.{such}
 use Rattle.rules.specs.Boxes.{width, rows_of}
@@ -10,7 +10,7 @@ use Rattle.rules.specs.Steps.{Screen, reset}
 use Rattle.rules.specs.Plain.{Told}
 use Rattle.rules.specs.Compacted.{newest-ids}
 use Rattle.rules.specs.Painting.{paint-id}
-use Rattle.rules.proofs.All.{All, all-mapped}
+use Rattle.rules.proofs.All.{all-mapped}
 use Rattle.rules.proofs.laws.Widths.{bucket-some, raised-least}
 use Rattle.rules.proofs.laws.Viewports.{view}
 use Rattle.rules_picture.proofs.Cases.{by}
@@ -20,7 +20,7 @@ use Rattle.rules_picture.proofs.Shown.{hides-of, newest-hide}
 use Rattle.rules_picture.proofs.Rows.{newest-told}
 use Rattle.rules_picture.proofs.Picture.{follows, built-frame}
 use Rattle.rules_picture.proofs.CompactedPieces.{words-after}
-use Rattle.rules_figures.specs.Figures.{sum-to, sum-of, told-at, dropped, asked, hidden, painted, Figures, figures, total}
+use Rattle.rules_figures.specs.Figures.{sum-to, sum-of, told-at, dropped, asked, hidden, Figures}
 use Rattle.rules_figures.specs.RowFigures.{Fill, fills-of, over-tiles, newer, tiles-asked, tiles-painted, tiles-hidden, row-figures, screen-figures}
 use Rattle.rules_figures.specs.Accounted.{Left, Accounted, Asked-plain, Painted-pieces, Hidden-dropped, Figures-read}
 use Rattle.rules_figures.proofs.Tallies.{sum-same, sum-both, sum-zero, sum-ones, sum-longer, sum-listed}

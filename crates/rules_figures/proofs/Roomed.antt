@@ -1,5 +1,5 @@
 -- A built row has room for what it holds: at most C commands and D depth fills.
-use Rattle.std.proofs.Common.{ℕ, zero, suc, ◌≤◌, ◌<◌, arith, ◌≡◌, refl, sym, ◌∙◌, ap, Bool, true, false, cond, List, [], ◌∷◌, length, get_or, replicate, ltb, eqb, eqb-true, eq-eqb, ltb-false}
+use Rattle.std.proofs.Common.{ℕ, zero, suc, ◌≤◌, ◌<◌, arith, ◌≡◌, refl, sym, ◌∙◌, Bool, true, false, List, [], ◌∷◌, length, get_or, replicate, ltb, eqb, eqb-true, eq-eqb, ltb-false}
 use lib.ListN.{get_or-replicate, length-replicate}
 use Rattle.sizes.specs.Sizes.{most-layers}
 use Rattle.rules.specs.Answers.{first_of, Done, Deep, Ids, FullAttrs, FullRow, FullDepth}

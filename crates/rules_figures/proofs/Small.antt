@@ -1,5 +1,5 @@
 -- Each number of a recording's figures is below 2^31: at most 512 rows of 1,024 tiles, of which each is told of at most 2,048 fills.
-use Rattle.std.proofs.Common.{ℕ, zero, suc, ◌+◌, ◌-◌, ◌*◌, ◌/◌, ◌≤◌, ◌<◌, arith, ◌≡◌, refl, sym, ◌∙◌, ap, Bool, true, false, List, [], ◌∷◌, length, get_or}
+use Rattle.std.proofs.Common.{ℕ, suc, ◌+◌, ◌-◌, ◌/◌, ◌≤◌, ◌<◌, arith, ◌≡◌, ◌∙◌, Bool, true, false, List, [], ◌∷◌, length, get_or}
 use lib.ListN.{length-replicate}
 use Rattle.sizes.specs.Sizes.{most-room}
 use Rattle.rules.specs.Lists.{such, keep}
@@ -12,7 +12,6 @@ use Rattle.rules.specs.Plans.{Frame, bucket, Step}
 use Rattle.rules.specs.Steps.{Screen, reset}
 use Rattle.rules.specs.Plain.{Told}
 use Rattle.rules.proofs.laws.Viewports.{view}
-use Rattle.rules_picture.proofs.Cases.{by}
 use Rattle.rules_picture.proofs.Shown.{hides-of}
 use Rattle.rules_picture.proofs.Held.{stays}
 use Rattle.rules_picture.proofs.Rows.{told-fills, told-commands}

@@ -1,9 +1,9 @@
 -- Sums over tiles: what is told of a tile is shown or dropped, and the tiles of pieces are counted tile by tile.
-use Rattle.std.proofs.Common.{ℕ, zero, suc, ◌+◌, ◌-◌, ◌*◌, ◌≤◌, ◌<◌, min, suc-mul, arith, ◌≡◌, refl, sym, ◌∙◌, ap, Bool, true, false, cond, List, [], ◌∷◌, ◌++◌, map, length, get_or, leb, ltb, leb-true, ltb-true, ltb-false}
+use Rattle.std.proofs.Common.{ℕ, zero, suc, ◌+◌, ◌-◌, ◌*◌, ◌≤◌, ◌<◌, min, suc-mul, arith, ◌≡◌, refl, sym, ◌∙◌, ap, cond, List, [], ◌∷◌, map, length, get_or, leb, ltb, leb-true, ltb-true, ltb-false}
 use borrow.Author.Tests.{leb-false}
-use Rattle.rules.specs.Lists.{some_of, such, keep}
+use Rattle.rules.specs.Lists.{some_of}
 use Rattle.rules.specs.Spans.{Span, covers}
-use Rattle.rules.specs.Painting.{Piece, Entry, received}
+use Rattle.rules.specs.Painting.{Piece, received}
 use Rattle.rules.specs.Plain.{Told, shown}
 use Rattle.rules.proofs.All.{All, nil, cons, never}
 use Rattle.rules_picture.proofs.Cases.{by, covers_low, covers_high, covers-yes}

@@ -1,12 +1,11 @@
 -- What a row's fills add up to, tile by tile: at each tile they are the entries that the row holds for it.
-use Rattle.std.proofs.Common.{ℕ, zero, suc, ◌+◌, ◌-◌, ◌*◌, ◌/◌, ◌≤◌, ◌<◌, arith, ◌≡◌, refl, sym, ◌∙◌, ap, Bool, true, false, cond, List, [], ◌∷◌, ◌++◌, map, length}
+use Rattle.std.proofs.Common.{ℕ, ◌+◌, ◌-◌, ◌/◌, ◌≤◌, ◌<◌, arith, ◌≡◌, refl, sym, ◌∙◌, Bool, true, false, cond, List, [], ◌∷◌, ◌++◌, map, length}
 use Rattle.rules.specs.Lists.{such, keep}
 use Rattle.rules.specs.Spans.{Span, covers}
 use Rattle.rules.specs.Commands.{Command, paint-fill, layer-fill, push-buf, pop-buf, DepthFill}
 use Rattle.rules.specs.Attributes.{Attrs}
 use Rattle.rules.specs.Rows.{Row}
 use Rattle.rules.specs.Depth.{tiles-of}
-use Rattle.rules.specs.Painting.{paint-id, layer-id}
 use Rattle.rules.specs.Plain.{Told}
 use Rattle.rules.proofs.All.{All, nil, cons, all_map}
 use Rattle.rules_picture.proofs.Cases.{by, same_test, covers-yes, covers_low, covers_high}
@@ -14,7 +13,7 @@ use Rattle.rules_picture.proofs.Buckets.{from-bucket, to-bucket, from-bucket-bef
 use Rattle.rules_picture.proofs.Rows.{told-fills, told-commands}
 use Rattle.rules_figures.specs.Figures.{sum-to, sum-of}
 use Rattle.rules_figures.specs.RowFigures.{Fill, depth-fills, command-fills, fills-of, over-tiles}
-use Rattle.rules_figures.proofs.Tallies.{sum-same, sum-both, sum-zero, over-all}
+use Rattle.rules_figures.proofs.Tallies.{sum-both, sum-zero, over-all}
 
 -- the fills over the tile t, each by what its id counts
 abbrev pub at-tile : ℕ → (ℕ → ℕ) → List Fill → ℕ

@@ -1,8 +1,8 @@
 -- Totals: a figure of a total is the sum of that figure, every tile is accounted for in it, and it stays small.
-use Rattle.std.proofs.Common.{ℕ, zero, suc, ◌+◌, ◌*◌, ◌≤◌, ◌<◌, suc-mul, arith, ◌≡◌, refl, sym, ◌∙◌, ap, List, [], ◌∷◌, map, length, get_or}
+use Rattle.std.proofs.Common.{ℕ, ◌+◌, ◌*◌, ◌≤◌, arith, ◌≡◌, refl, ◌∙◌, ap, List, [], ◌∷◌, map, length, get_or}
 use Rattle.rules.proofs.All.{All, nil, cons}
 use Rattle.rules_figures.specs.Figures.{sum-to, sum-of, Figures, nothing, plus, total}
-use Rattle.rules_figures.specs.Accounted.{most-recordings, Accounted, Totals-accounted, Small, Small-total, Totals-small}
+use Rattle.rules_figures.specs.Accounted.{Totals-accounted, Small, Totals-small}
 use Rattle.rules_figures.proofs.Tallies.{sum-listed}
 
 -- of a figure that is 0 of nothing and adds up

@@ -1,5 +1,5 @@
 -- What the figures come to, on every screen that done steps build from its reset.
-use Rattle.std.specs.Prelude.{ℕ, ◌+◌, ◌*◌, ◌≤◌, ◌<◌, ◌≡◌, true, List, length}
+use Rattle.std.specs.Prelude.{ℕ, ◌+◌, ◌≤◌, ◌<◌, ◌≡◌, true, List, length}
 use Rattle.sizes.specs.Sizes.{most-room}
 use Rattle.rules.specs.Boxes.{good_viewport}
 use Rattle.rules.specs.Recording.{File}

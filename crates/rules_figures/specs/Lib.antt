@@ -2,3 +2,4 @@ pub mod Figures
 pub mod Recordings
 pub mod RowFigures
 pub mod Accounted
+pub mod Cases

@@ -1,5 +1,5 @@
 -- The figures of recordings: each played on its own, by its file.
-use Rattle.std.specs.Prelude.{ℕ, cond, List, map, eqb}
+use Rattle.std.specs.Prelude.{ℕ, cond, List, eqb}
 use Rattle.std.specs.Prelude.{Option, None, Some}
 use Rattle.rules.specs.Answers.{Answer, Done}
 use Rattle.rules.specs.Rows.{Row, fresh-row}

@@ -101,29 +101,6 @@ module _ (f : Frame) (xs : List Step) (u : Screen Row) (l : Left f xs u) (row : 
       ∙ sum-same across (λ t. length (such (λ (k : Told). newer w bs k.id t) (told t))) (λ t. length (dropped (told t)))
       (λ t h. ap (λ (n : ℕ). length (such (older n) (told t))) (word t h) ∙ dropped-older (follows f xs u l.built row t there).grown.holds.rising)
 
--- a fill's tiles are painted or hidden
-tiles-accounted : (w : ℕ) (bs : List ℕ) (x : Fill) → tiles-asked w bs x ≡ tiles-painted w bs x + tiles-hidden w bs x
-unfolding tiles-painted tiles-hidden
-tiles-accounted w bs x =
-    let n = x.tiles.end - x.tiles.first in
-    let g : ℕ → ℕ = λ k. cond (newer w bs x.id (x.tiles.first + k)) 0 1 in
-    let h : ℕ → ℕ = λ k. cond (newer w bs x.id (x.tiles.first + k)) 1 0 in
-    sym (sum-ones n)
-    ∙ sum-same n (λ k. 1) (λ k. g k + h k) (λ k p. by (newer w bs x.id (x.tiles.first + k)) (λ y. rw y (omega arith)) (λ z. rw z (omega arith)))
-    ∙ sum-both n g h
-
-fills-accounted : (w : ℕ) (bs : List ℕ) (fs : List Fill) → sum-of (map (tiles-asked w bs) fs) ≡ sum-of (map (tiles-painted w bs) fs) + sum-of (map (tiles-hidden w bs) fs)
-unfolding sum-of
-fills-accounted w bs [] = refl
-fills-accounted w bs (x ∷ fs) = let e = tiles-accounted w bs x in let h = fills-accounted w bs fs in omega arith
-
-pub rows-accounted : (u : Screen Row) → Accounted (screen-figures u)
-unfolding screen-figures row-figures
-rows-accounted u =
-    let f = u.state.frame in
-    totals-accounted _ (all-mapped (row-figures (bucket f) (buckets-across f) u.state.attrs)
-    (λ (r : Row). fills-accounted (bucket f) (newest-ids u.state.attrs (buckets-across f) r.fills) (fills-of (bucket f) u.state.attrs r)) u.rows)
-
 pub asked-plain : Asked-plain
 unfolding screen-figures row-figures asked reset
 asked-plain f xs u l =
@@ -143,6 +120,29 @@ hidden-dropped f xs u l =
     (total-listed (λ (g : Figures). g.hidden) refl (λ x y. refl) (row-figures (bucket f) (buckets-across f) u.state.attrs) fresh-row u.rows
     ∙ ap (λ (n : ℕ). sum-to n (λ i. (row-figures (bucket f) (buckets-across f) u.state.attrs (get_or u.rows i fresh-row)).hidden)) rows
     ∙ sum-same (rows_of f.viewport) _ _ (λ i h. row-hidden f xs u l i h))
+
+-- a fill's tiles are painted or hidden
+tiles-accounted : (w : ℕ) (bs : List ℕ) (x : Fill) → tiles-asked w bs x ≡ tiles-painted w bs x + tiles-hidden w bs x
+unfolding tiles-painted tiles-hidden
+tiles-accounted w bs x =
+    let n = x.tiles.end - x.tiles.first in
+    let g : ℕ → ℕ = λ k. cond (newer w bs x.id (x.tiles.first + k)) 0 1 in
+    let h : ℕ → ℕ = λ k. cond (newer w bs x.id (x.tiles.first + k)) 1 0 in
+    sym (sum-ones n)
+    ∙ sum-same n (λ k. 1) (λ k. g k + h k) (λ k p. by (newer w bs x.id (x.tiles.first + k)) (λ y. rw y (omega arith)) (λ z. rw z (omega arith)))
+    ∙ sum-both n g h
+
+fills-accounted : (w : ℕ) (bs : List ℕ) (fs : List Fill) → sum-of (map (tiles-asked w bs) fs) ≡ sum-of (map (tiles-painted w bs) fs) + sum-of (map (tiles-hidden w bs) fs)
+unfolding sum-of
+fills-accounted w bs [] = refl
+fills-accounted w bs (x ∷ fs) = let e = tiles-accounted w bs x in let h = fills-accounted w bs fs in omega arith
+
+rows-accounted : (u : Screen Row) → Accounted (screen-figures u)
+unfolding screen-figures row-figures
+rows-accounted u =
+    let f = u.state.frame in
+    totals-accounted _ (all-mapped (row-figures (bucket f) (buckets-across f) u.state.attrs)
+    (λ (r : Row). fills-accounted (bucket f) (newest-ids u.state.attrs (buckets-across f) r.fills) (fills-of (bucket f) u.state.attrs r)) u.rows)
 
 -- painted is what is left, on both sides
 pub painted-pieces : Painted-pieces

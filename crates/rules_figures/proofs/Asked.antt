@@ -1,39 +1,27 @@
 -- Every tile that was asked for is painted or hidden.
 use Rattle.std.proofs.Common.{ℕ, ◌+◌, ◌-◌, ◌*◌, ◌/◌, ◌≤◌, ◌<◌, arith, ◌≡◌, refl, sym, ◌∙◌, ap, true, List, map, length, get_or}
-use lib.ListN.{length-map, length-replicate}
+use lib.ListN.{length-map}
 use Rattle.rules.specs.Boxes.{width, rows_of, good_viewport}
-use Rattle.rules.specs.Rows.{Row, fresh-row, row-ops}
-use Rattle.rules.specs.Plans.{Frame, bucket, buckets-across, Step, plan}
-use Rattle.rules.specs.Steps.{Screen, reset, done, touched}
+use Rattle.rules.specs.Rows.{Row, fresh-row}
+use Rattle.rules.specs.Plans.{Frame, bucket, buckets-across, Step}
+use Rattle.rules.specs.Steps.{Screen, reset}
 use Rattle.rules.specs.Painting.{Piece, Entry, paint-row, received}
-use Rattle.rules.specs.Plain.{Told, untold, tell-steps, shown, plain}
+use Rattle.rules.specs.Plain.{Told, shown, plain}
 use Rattle.rules.proofs.laws.Widths.{bucket-some, raised-least}
 use Rattle.rules.proofs.laws.Viewports.{view}
 use Rattle.rules_picture.proofs.Buckets.{to-bucket-before}
-use Rattle.rules.proofs.laws.Changes.{puts-length}
-use Rattle.rules_picture.proofs.Stepped.{call-done}
-use Rattle.rules_picture.specs.Built.{Built, no_step, then}
-use Rattle.rules_picture.proofs.Picture.{built-frame, row-picture}
-use Rattle.rules_figures.specs.Figures.{sum-to, sum-of, dropped, tiles-in, asked, hidden, painted}
+use Rattle.rules_picture.specs.Built.{Built}
+use Rattle.rules_picture.proofs.Picture.{row-picture}
+use Rattle.rules_figures.specs.Figures.{told-at, sum-to, sum-of, dropped, tiles-in, asked, hidden, painted}
 use Rattle.rules_figures.specs.Accounted.{Asked-accounted}
 use Rattle.rules_figures.proofs.Tallies.{told-accounted, sum-same, sum-both, sum-longer, pieces-counted}
+use Rattle.rules_figures.proofs.Screens.{rows-are, frame-is}
 use Rattle.rules_figures.proofs.Ended.{row_ends}
 use Rattle.rules_figures.proofs.Narrow.{nothing-past}
 
--- steps keep how many rows there are
-pub built-rows : {xs : List Step} {s v : Screen Row} → Built xs s v → length v.rows ≡ length s.rows
-unfolding done
-built-rows no_step = refl
-built-rows ((then) {x = x} {s = s} e b) =
-    let p = plan x (touched Row row-ops (length s.state.layers) 0 s.rows) s.state in
-    built-rows b ∙ ap (λ (k : Screen Row). length k.rows) (call-done x s e).1 ∙ puts-length Row row-ops (bucket s.state.frame) (length p.layers) p.puts s.rows
-
-abbrev told-of : Frame → List Step → ℕ → ℕ → List Told
-told-of f xs r t = (tell-steps (bucket f) f.viewport r t xs untold).told
-
 module _ (f : Frame) (xs : List Step) (u : Screen Row) (g : good_viewport f.viewport ≡ true) (b : Built xs (reset fresh-row f) u) (r : ℕ) (there : r < rows_of f.viewport) where
   abbrev told : ℕ → List Told
-  told t = (tell-steps (bucket f) f.viewport r t xs untold).told
+  told t = told-at f xs r t
 
   abbrev ps : List Piece
   ps = paint-row (bucket f) u.state.attrs (buckets-across f) (get_or u.rows r fresh-row)
@@ -70,13 +58,13 @@ module _ (f : Frame) (xs : List Step) (u : Screen Row) (g : good_viewport f.view
       ∙ ap (λ (k : ℕ). k + sum-to across (λ t. length (dropped (told t)))) (sym same ∙ counted)
 
 pub asked-accounted : Asked-accounted
-unfolding reset asked painted hidden
+unfolding asked painted hidden
 asked-accounted f xs u l =
     let n = rows_of f.viewport in
-    let rows : length u.rows ≡ n = built-rows l.built ∙ length-replicate (rows_of f.viewport) fresh-row in
-    let fr : u.state.frame ≡ f = built-frame l.built in
+    let rows : length u.rows ≡ n = rows-are f l.built in
+    let fr : u.state.frame ≡ f = frame-is f l.built in
     let w : ℕ → ℕ = λ r. sum-of (map tiles-in (paint-row (bucket f) u.state.attrs (buckets-across f) (get_or u.rows r fresh-row))) in
     let pieces : painted u ≡ sum-to n w = rw (rows, fr) in
-    sum-same n (λ r. sum-to (width f.viewport / 4) (λ t. length (told-of f xs r t))) (λ r. w r + sum-to (width f.viewport / 4) (λ t. length (dropped (told-of f xs r t)))) (λ r h. row-accounted f xs u l.view l.built r h)
-    ∙ sum-both n w (λ r. sum-to (width f.viewport / 4) (λ t. length (dropped (told-of f xs r t))))
+    sum-same n (λ r. sum-to (width f.viewport / 4) (λ t. length (told-at f xs r t))) (λ r. w r + sum-to (width f.viewport / 4) (λ t. length (dropped (told-at f xs r t)))) (λ r h. row-accounted f xs u l.view l.built r h)
+    ∙ sum-both n w (λ r. sum-to (width f.viewport / 4) (λ t. length (dropped (told-at f xs r t))))
     ∙ ap (λ (k : ℕ). k + hidden f xs) (sym pieces)

@@ -1,4 +1,5 @@
 mod Tallies
+mod Screens
 mod Narrow
 mod Ended
 mod Asked

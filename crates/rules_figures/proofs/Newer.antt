@@ -52,6 +52,10 @@ newest-hider (t ∷ ts) = by t.hides
     (λ y. rw (y, newest-hider ts))
     (λ n. rw n (write-zero (newest-hide ts) ∙ newest-hider ts))
 
+pub such-all : {A : Type 0} (xs : List A) → such (λ (x : A). true) xs ≡ xs
+such-all [] = refl
+such-all {A} (x ∷ xs) = ap (λ (ys : List A). x ∷ ys) (such-all xs)
+
 -- those that a test takes, by another test
 pub such-parted : {A : Type 0} (h p : A → Bool) (xs : List A) → length (such p xs) ≡ length (such p (such h xs)) + length (such p (such (λ (x : A). not (h x)) xs))
 such-parted h p [] = refl

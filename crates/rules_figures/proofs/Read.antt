@@ -1,12 +1,11 @@
 -- What is read off a built screen's rows is what its history asked for, what its pieces cover, and what the picture leaves out.
 use Rattle.std.proofs.Common.{ℕ, ◌+◌, ◌-◌, ◌*◌, ◌/◌, ◌≤◌, ◌<◌, arith, ◌≡◌, refl, sym, ◌∙◌, ap, Bool, true, cond, List, [], ◌∷◌, map, length, get_or}
-use lib.ListN.{length-replicate}
 use Rattle.rules.specs.Lists.{such}
 use Rattle.rules.specs.Boxes.{width, rows_of}
 use Rattle.rules.specs.Rows.{Row, fresh-row}
 use Rattle.rules.specs.Attributes.{Attrs}
 use Rattle.rules.specs.Plans.{Frame, bucket, buckets-across, Step}
-use Rattle.rules.specs.Steps.{Screen, reset}
+use Rattle.rules.specs.Steps.{Screen}
 use Rattle.rules.specs.Plain.{Told}
 use Rattle.rules.specs.Compacted.{newest-ids}
 use Rattle.rules.specs.Painting.{paint-id}
@@ -18,16 +17,17 @@ use Rattle.rules_picture.proofs.Buckets.{to-bucket-before}
 use Rattle.rules_picture.proofs.Newest.{holds-newest}
 use Rattle.rules_picture.proofs.Shown.{hides-of, newest-hide}
 use Rattle.rules_picture.proofs.Rows.{newest-told}
-use Rattle.rules_picture.proofs.Picture.{follows, built-frame}
+use Rattle.rules_picture.proofs.Picture.{follows}
 use Rattle.rules_picture.proofs.CompactedPieces.{words-after}
 use Rattle.rules_figures.specs.Figures.{sum-to, sum-of, told-at, dropped, asked, hidden, Figures}
 use Rattle.rules_figures.specs.RowFigures.{Fill, fills-of, over-tiles, newer, tiles-asked, tiles-painted, tiles-hidden, row-figures, screen-figures}
 use Rattle.rules_figures.specs.Accounted.{Left, Accounted, Asked-plain, Painted-pieces, Hidden-dropped, Figures-read}
 use Rattle.rules_figures.proofs.Tallies.{sum-same, sum-both, sum-zero, sum-ones, sum-longer, sum-listed}
 use Rattle.rules_figures.proofs.Narrow.{nothing-past}
-use Rattle.rules_figures.proofs.Asked.{built-rows, asked-accounted}
+use Rattle.rules_figures.proofs.Screens.{rows-are, frame-is}
+use Rattle.rules_figures.proofs.Asked.{asked-accounted}
 use Rattle.rules_figures.proofs.Counted.{counted}
-use Rattle.rules_figures.proofs.Newer.{older, dropped-older, newest-hider, such-parted}
+use Rattle.rules_figures.proofs.Newer.{older, dropped-older, newest-hider, such-all, such-parted}
 use Rattle.rules_figures.proofs.Tiled.{at-tile, ends, fills-end, tile-by-tile, row-told}
 use Rattle.rules_figures.proofs.Totals.{total-listed, total-of, totals-accounted}
 
@@ -35,10 +35,6 @@ sum-alike : {A : Type 0} (g h : A → ℕ) → ((x : A) → g x ≡ h x) → (xs
 unfolding sum-of
 sum-alike g h e [] = refl
 sum-alike g h e (x ∷ xs) = rw (e x, sum-alike g h e xs)
-
-pub such-all : (ts : List Told) → such (λ (u : Told). true) ts ≡ ts
-such-all [] = refl
-such-all (t ∷ ts) = ap (λ (us : List Told). t ∷ us) (such-all ts)
 
 -- One row of a screen that the steps have left.
 module _ (f : Frame) (xs : List Step) (u : Screen Row) (l : Left f xs u) (row : ℕ) (there : row < rows_of f.viewport) where
@@ -102,23 +98,19 @@ module _ (f : Frame) (xs : List Step) (u : Screen Row) (l : Left f xs u) (row : 
       (λ t h. ap (λ (n : ℕ). length (such (older n) (told t))) (word t h) ∙ dropped-older (follows f xs u l.built row t there).grown.holds.rising)
 
 pub asked-plain : Asked-plain
-unfolding screen-figures row-figures asked reset
+unfolding screen-figures row-figures asked
 asked-plain f xs u l =
-    let rows : length u.rows ≡ rows_of f.viewport = built-rows l.built ∙ length-replicate (rows_of f.viewport) fresh-row in
-    let fr : u.state.frame ≡ f = built-frame l.built in
-    rw fr
+    rw (frame-is f l.built)
     (total-listed (λ (g : Figures). g.asked) refl (λ x y. refl) (row-figures (bucket f) (buckets-across f) u.state.attrs) fresh-row u.rows
-    ∙ ap (λ (n : ℕ). sum-to n (λ i. (row-figures (bucket f) (buckets-across f) u.state.attrs (get_or u.rows i fresh-row)).asked)) rows
+    ∙ ap (λ (n : ℕ). sum-to n (λ i. (row-figures (bucket f) (buckets-across f) u.state.attrs (get_or u.rows i fresh-row)).asked)) (rows-are f l.built)
     ∙ sum-same (rows_of f.viewport) _ _ (λ i h. row-asked f xs u l i h))
 
 pub hidden-dropped : Hidden-dropped
-unfolding screen-figures row-figures hidden reset
+unfolding screen-figures row-figures hidden
 hidden-dropped f xs u l =
-    let rows : length u.rows ≡ rows_of f.viewport = built-rows l.built ∙ length-replicate (rows_of f.viewport) fresh-row in
-    let fr : u.state.frame ≡ f = built-frame l.built in
-    rw fr
+    rw (frame-is f l.built)
     (total-listed (λ (g : Figures). g.hidden) refl (λ x y. refl) (row-figures (bucket f) (buckets-across f) u.state.attrs) fresh-row u.rows
-    ∙ ap (λ (n : ℕ). sum-to n (λ i. (row-figures (bucket f) (buckets-across f) u.state.attrs (get_or u.rows i fresh-row)).hidden)) rows
+    ∙ ap (λ (n : ℕ). sum-to n (λ i. (row-figures (bucket f) (buckets-across f) u.state.attrs (get_or u.rows i fresh-row)).hidden)) (rows-are f l.built)
     ∙ sum-same (rows_of f.viewport) _ _ (λ i h. row-hidden f xs u l i h))
 
 -- a fill's tiles are painted or hidden

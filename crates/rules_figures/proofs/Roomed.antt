@@ -14,7 +14,7 @@ use Rattle.rules.proofs.laws.Changes.{puts-on, puts-length, untouched}
 use Rattle.rules_picture.specs.Built.{Built, no_step, then}
 use Rattle.rules_picture.proofs.Cases.{by}
 use Rattle.rules_picture.proofs.Stepped.{call-done}
-use Rattle.rules_picture.proofs.Picture.{built-frame}
+use Rattle.rules_figures.proofs.Screens.{frame-is}
 
 record Fits (f : Frame) (r : Row) : Type 0 where
   commands : length r.commands ≤ f.c
@@ -94,8 +94,7 @@ reset-fits f i h =
 -- each row of a screen built from the reset of f
 pub rows-fit : (f : Frame) (xs : List Step) (u : Screen Row) → Built xs (reset fresh-row f) u → (i : ℕ) → i < length u.rows
     → (length (get_or u.rows i fresh-row).commands ≤ f.c) × (length (get_or u.rows i fresh-row).fills ≤ f.d)
-unfolding reset
 rows-fit f xs u b i h =
     let k = built-fits b (reset-fits f) i h in
-    let e : u.state.frame ≡ f = built-frame b in
+    let e = frame-is f b in
     (rw e at k.commands, rw e at k.fills)

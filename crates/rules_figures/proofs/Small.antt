@@ -1,6 +1,5 @@
 -- Each number of a recording's figures is below 2^31: at most 512 rows of 1,024 tiles, of which each is told of at most 2,048 fills.
-use Rattle.std.proofs.Common.{ℕ, suc, ◌+◌, ◌-◌, ◌/◌, ◌≤◌, ◌<◌, arith, ◌≡◌, ◌∙◌, Bool, true, false, List, [], ◌∷◌, length, get_or}
-use lib.ListN.{length-replicate}
+use Rattle.std.proofs.Common.{ℕ, suc, ◌+◌, ◌-◌, ◌/◌, ◌≤◌, ◌<◌, arith, ◌≡◌, Bool, true, false, List, [], ◌∷◌, length, get_or}
 use Rattle.sizes.specs.Sizes.{most-room}
 use Rattle.rules.specs.Lists.{such, keep}
 use Rattle.rules.specs.Boxes.{width, rows_of}
@@ -9,7 +8,7 @@ use Rattle.rules.specs.Commands.{Command, paint-fill, layer-fill, push-buf, pop-
 use Rattle.rules.specs.Attributes.{Attrs}
 use Rattle.rules.specs.Rows.{Row, fresh-row}
 use Rattle.rules.specs.Plans.{Frame, bucket, Step}
-use Rattle.rules.specs.Steps.{Screen, reset}
+use Rattle.rules.specs.Steps.{Screen}
 use Rattle.rules.specs.Plain.{Told}
 use Rattle.rules.proofs.laws.Viewports.{view}
 use Rattle.rules_picture.proofs.Shown.{hides-of}
@@ -19,10 +18,10 @@ use Rattle.rules_picture.proofs.Picture.{follows}
 use Rattle.rules_figures.specs.Figures.{sum-to, told-at, asked, commands-held, fills-held, figures}
 use Rattle.rules_figures.specs.Accounted.{Left, Small, Figures-small}
 use Rattle.rules_figures.proofs.Tallies.{sum-most, sum-listed}
-use Rattle.rules_figures.proofs.Asked.{built-rows, asked-accounted}
+use Rattle.rules_figures.proofs.Screens.{rows-are}
+use Rattle.rules_figures.proofs.Asked.{asked-accounted}
 use Rattle.rules_figures.proofs.Counted.{counted}
-use Rattle.rules_figures.proofs.Newer.{such-parted}
-use Rattle.rules_figures.proofs.Read.{such-all}
+use Rattle.rules_figures.proofs.Newer.{such-all, such-parted}
 use Rattle.rules_figures.proofs.Roomed.{rows-fit}
 
 keep-most : (b : Bool) (k : Told) (ks : List Told) (n : ℕ) → length ks ≤ n → length (keep b k ks) ≤ suc n
@@ -43,14 +42,10 @@ module _ (w : ℕ) (a : Attrs) (t : ℕ) where
   commands-most n (pop-buf ∷ cs) = let h = commands-most (n - 1) cs in omega arith
 
 module _ (f : Frame) (xs : List Step) (u : Screen Row) (l : Left f xs u) (c : f.c ≤ most-room) (d : f.d ≤ most-room) where
-  rows-are : length u.rows ≡ rows_of f.viewport
-  unfolding reset
-  rows-are = built-rows l.built ∙ length-replicate (rows_of f.viewport) fresh-row
-
   told-most : (row t : ℕ) → row < rows_of f.viewport → length (told-at f xs row t) ≤ 2048
   told-most row t h =
       let r = get_or u.rows row fresh-row in
-      let (m, n) = rows-fit f xs u l.built row (rw rows-are h) in
+      let (m, n) = rows-fit f xs u l.built row (rw (rows-are f l.built) h) in
       let i = fills-most (bucket f) u.state.attrs t r.fills in
       let j = commands-most (bucket f) u.state.attrs t 0 r.commands in
       let e : length (told-at f xs row t) ≡ length (told-fills (bucket f) u.state.attrs t r.fills) + length (told-commands (bucket f) u.state.attrs t 0 r.commands) =
@@ -77,7 +72,7 @@ module _ (f : Frame) (xs : List Step) (u : Screen Row) (l : Left f xs u) (c : f.
       let high = (view f.viewport l.view).high in
       let e = sum-listed (λ (r : Row). length r.commands) fresh-row u.rows in
       let s = sum-most (length u.rows) 1024 (λ i. length (get_or u.rows i fresh-row).commands) (λ i h. let k = (rows-fit f xs u l.built i h).0 in omega arith) in
-      let n = rows-are in
+      let n = rows-are f l.built in
       omega arith
 
   fills-small : fills-held u ≤ 524288
@@ -85,7 +80,7 @@ module _ (f : Frame) (xs : List Step) (u : Screen Row) (l : Left f xs u) (c : f.
       let high = (view f.viewport l.view).high in
       let e = sum-listed (λ (r : Row). length r.fills) fresh-row u.rows in
       let s = sum-most (length u.rows) 1024 (λ i. length (get_or u.rows i fresh-row).fills) (λ i h. let k = (rows-fit f xs u l.built i h).1 in omega arith) in
-      let n = rows-are in
+      let n = rows-are f l.built in
       omega arith
 
   -- what is painted or hidden was asked for

@@ -1,11 +1,12 @@
 -- What a row's fills add up to, tile by tile: at each tile they are the entries that the row holds for it.
-use Rattle.std.proofs.Common.{ℕ, ◌+◌, ◌-◌, ◌/◌, ◌≤◌, ◌<◌, arith, ◌≡◌, refl, sym, ◌∙◌, Bool, true, false, cond, List, [], ◌∷◌, ◌++◌, map, length}
+use Rattle.std.proofs.Common.{ℕ, ◌+◌, ◌-◌, ◌/◌, ◌≤◌, ◌<◌, arith, ◌≡◌, refl, sym, ◌∙◌, ap, Bool, true, false, cond, List, [], ◌∷◌, ◌++◌, map, length}
 use Rattle.rules.specs.Lists.{such, keep}
 use Rattle.rules.specs.Spans.{Span, covers}
 use Rattle.rules.specs.Commands.{Command, paint-fill, layer-fill, push-buf, pop-buf, DepthFill}
 use Rattle.rules.specs.Attributes.{Attrs}
 use Rattle.rules.specs.Rows.{Row}
 use Rattle.rules.specs.Depth.{tiles-of}
+use Rattle.rules.specs.Painting.{paint-id}
 use Rattle.rules.specs.Plain.{Told}
 use Rattle.rules.proofs.All.{All, nil, cons, all_map}
 use Rattle.rules_picture.proofs.Cases.{by, same_test, covers-yes, covers_low, covers_high}
@@ -61,7 +62,9 @@ module _ (w : ℕ) (pos : 0 < w) (a : Attrs) (t : ℕ) (q : ℕ → Bool) where
 
   depth-told : (fs : List DepthFill) → at-tile t passed (depth-fills w a fs) ≡ length (such by-id (told-fills w a t fs))
   depth-told [] = refl
-  depth-told (f ∷ fs) = rw (tiles-cover f.buckets) (one-fill (covers f.buckets (t / w)) _ (told-fills w a t fs) _ (depth-told fs))
+  depth-told (f ∷ fs) =
+      ap (λ (b : Bool). cond b (passed (paint-id a f.attribute)) 0 + at-tile t passed (depth-fills w a fs)) (tiles-cover f.buckets)
+      ∙ one-fill (covers f.buckets (t / w)) _ (told-fills w a t fs) _ (depth-told fs)
 
   commands-told : (n : ℕ) (cs : List Command) → at-tile t passed (command-fills w a cs) ≡ length (such by-id (told-commands w a t n cs))
   unfolding told-commands

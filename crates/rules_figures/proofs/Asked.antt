@@ -37,7 +37,7 @@ module _ (f : Frame) (xs : List Step) (u : Screen Row) (g : good_viewport f.view
   -- of a tile past the screen nothing is
   received-none : (t : ℕ) → across ≤ t → t / bucket f < buckets-across f → length (received t ps) ≡ 0
   received-none t p h =
-      received-shown t h ∙ ap (λ (ts : List Told). length (shown ts)) (nothing-past (bucket f) f.viewport r t ((view f.viewport g).x0-by-4) p xs) ∙ unfold shown in refl
+      received-shown t h ∙ ap (λ (ts : List Told). length (shown ts)) (nothing-past (bucket f) f.viewport r t (view f.viewport g).x0-by-4 p xs) ∙ unfold shown in refl
 
   abbrev across-buckets : ℕ
   across-buckets = buckets-across f * bucket f

@@ -16,7 +16,7 @@ module _ (w : ℕ) (v : Box) (row t : ℕ) (whole : v.x0 % 4 ≡ 0) (past : widt
 
   missed-tell : (l : Bool) (i q n id : ℕ) (e : Bool) (ks : List Cut) → All Missed ks → tell w v row t l i q n id e ks ≡ []
   missed-tell l i q n id e [] nil = refl
-  missed-tell l i q n id e (k ∷ ks) (cons m a) = rw (m) (missed-tell l i q n id e ks a)
+  missed-tell l i q n id e (k ∷ ks) (cons m a) = rw m (missed-tell l i q n id e ks a)
 
   missed-such : (p : Cut → Bool) {ks : List Cut} → All Missed ks → All Missed (such p ks)
   missed-such p nil = nil

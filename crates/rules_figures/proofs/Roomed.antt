@@ -20,6 +20,7 @@ record Fits (f : Frame) (r : Row) : Type 0 where
   commands : length r.commands ≤ f.c
   fills : length r.fills ≤ f.d
 
+-- a row that the limit n is asked of, and one that something is put on, hold at most n
 module _ (count : Row → ℕ) (n : ℕ) where
   row-least : (i : ℕ) (rs : List Row) → i < length rs → row-passes Row row-ops count n i rs ≡ false → count (get_or rs i fresh-row) ≤ n
   row-least i [] h e = absurd (omega arith)
@@ -35,7 +36,7 @@ module _ (count : Row → ℕ) (n : ℕ) where
       (λ z. row-least i rs h (rw (eqb-true p.row i z) at k.0))
       (λ z. put-least i ps rs h (rw z at y) k.1)
 
--- a done step leaves its rows the room that they have
+-- what the limits of a done step say of its rows
 rooms_of : (a b c d e : Bool) → first_of ((a, Deep) ∷ (b, Ids) ∷ (c, FullAttrs) ∷ (d, FullRow) ∷ (e, FullDepth) ∷ []) ≡ Done → (d ≡ false) × (e ≡ false)
 rooms_of true b c d e q = absurd (omega arith)
 rooms_of false true c d e q = absurd (omega arith)
@@ -67,6 +68,7 @@ call-rooms p t r e =
 abbrev AllFit : Screen Row → Type 0
 AllFit s = (i : ℕ) → i < length s.rows → Fits s.state.frame (get_or s.rows i fresh-row)
 
+-- a done step leaves each row within its room: it has put something on the row, or left it as it was
 step-fits : (x : Step) (s : Screen Row) → (call Row row-ops x s).number ≡ Done → AllFit s → AllFit (call Row row-ops x s).value
 unfolding call perform done
 step-fits x s e h =

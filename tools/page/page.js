@@ -51,6 +51,8 @@ const receive = (slot, told) => {
   const figure = $(`figure-${slot}`), notice = $(`notice-${slot}`);
   figure.hidden = !told;
   if (told) {
+    // (a long list begins with what matters)
+    if (state.slots[slot].dump && slot === 'a') state.withNone = state.slots[slot].dump.draws.length + state.slots[slot].dump.layers.length <= 40;
     figure.classList.toggle('is-refused', told.refused !== null);
     notice.hidden = told.refused === null && !told.note;
     notice.replaceChildren(...(told.refused === null ? [told.note] : [make('b', {}, `refused ${told.refused}`), told.words ? `${told.words[0].toUpperCase()}${told.words.slice(1)}.` : '']));

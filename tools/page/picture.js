@@ -2,7 +2,7 @@
 const GUTTER = 38, AXIS = 18;
 
 // Where the picture stands; two pictures share it. x is the tile at the left edge, y the row at the upper.
-const view = { x: 0, y: 0, scale: 1, by: 'attribute', layers: true, fills: true };
+const view = { x: 0, y: 0, scale: 1, isFit: true, by: 'attribute', layers: true, fills: true };
 
 const insetOf = (height, nesting) => Math.min(nesting * Math.max(2, height / 9), height / 3);
 
@@ -52,13 +52,14 @@ class Picture {
 
   clamp() {
     if (!this.told || !this.told.tiles) return;
-    view.scale = Math.min(Math.max(view.scale, this.least), 64);
+    // (the whole screen stays the whole screen where the window's width changes)
+    view.scale = view.isFit ? this.least : Math.min(Math.max(view.scale, this.least), 64);
     view.x = Math.min(Math.max(view.x, 0), Math.max(this.told.tiles - this.width / view.scale, 0));
     view.y = Math.min(Math.max(view.y, 0), Math.max(this.told.rows - this.height / this.rowHeight, 0));
   }
 
   fit() {
-    view.scale = this.least;
+    view.isFit = true;
     view.x = view.y = 0;
     this.clamp();
   }
@@ -66,6 +67,7 @@ class Picture {
   zoom(factor, px = GUTTER + this.width / 2, py = AXIS + this.height / 2) {
     const tile = view.x + (px - GUTTER) / view.scale, row = view.y + (py - AXIS) / this.rowHeight;
     view.scale *= factor;
+    view.isFit = view.scale <= this.least * 1.0001;
     this.clamp();
     view.x = tile - (px - GUTTER) / view.scale;
     view.y = row - (py - AXIS) / this.rowHeight;
@@ -215,7 +217,7 @@ class Picture {
 
   // A stored depth fill: a bar at the bottom of each of its buckets, with a notch. The newest stands for its bucket.
   drawFills(g, px, py, rowFrom, rowTo, high) {
-    const wide = this.told.bucketTiles, tall = Math.max(2.5, Math.min(high / 5, 6));
+    const wide = this.told.bucketTiles, isLow = high < 14, tall = isLow ? 2 : Math.min(high / 5, 6);
     for (let row = rowFrom; row < rowTo; row++) {
       for (const fill of this.dump.rows[row].fills) {
         const colour = colourOf(view.by === 'panel' ? this.dump.draws[fill.attribute] : fill.attribute), y = py(row) + high - tall;
@@ -224,8 +226,9 @@ class Picture {
           if (end < GUTTER || x > this.canvas.clientWidth) continue;
           g.fillStyle = palette.ink;
           g.fillRect(x, y, end - x, tall);
+          if (isLow) continue;
           g.fillStyle = colour;
-          g.fillRect(x + 1, y + 1, Math.max(end - x - 2, 1), tall - 2 > 0 ? tall - 2 : 1);
+          g.fillRect(x + 1, y + 1, Math.max(end - x - 2, 1), Math.max(tall - 2, 1));
           g.fillStyle = palette.ink;
           g.beginPath();
           g.moveTo(x, y + tall);

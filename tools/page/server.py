@@ -16,6 +16,9 @@ HOST = '127.0.0.1'
 MOST_BYTES = 1024 * 1024
 MOST_ADDRESS, MOST_NAME, MOST_CONNECTIONS, SILENCE = 2048, 120, 24, 20
 NUMBER = re.compile(r'\d{1,7}')
+# What is said of a request that cannot be read.
+UNREAD = {400: 'this is no request', 414: 'the address is too long', 431: 'the request has too many lines, or too long ones', 501: 'there is no such method here',
+          505: 'this version of HTTP is not taken'}
 SCRIPTS = ('text.js', 'colours.js', 'picture.js', 'steps.js', 'page.js')
 
 
@@ -50,9 +53,9 @@ class Handler(http.server.BaseHTTPRequestHandler):
         pass
 
     def send_error(self, code, message=None, explain=None):
-        """What the library itself refuses, as a line that is no request."""
+        """What the library itself refuses, as a line that is no request; nothing of it is sent back."""
         self.close_connection = True
-        self.answer(code, 'text/plain; charset=utf-8', ((message or 'refused') + '\n').encode())
+        self.answer(code, 'text/plain; charset=utf-8', (UNREAD.get(code, UNREAD[400]) + '\n').encode())
 
     def answer(self, status, kind, data, nonce=None):
         # The request may be too broken to have a version.

@@ -58,6 +58,7 @@ const receive = (slot, told) => {
     notice.replaceChildren(...(told.refused === null ? [told.note] : [make('b', {}, `refused ${told.refused}`), told.words ? `${told.words[0].toUpperCase()}${told.words.slice(1)}.` : '']));
     if (told.refused === null) {
       pictures[slot].show(told, state.slots[slot].dump);
+      pictures[slot].canvas.style.setProperty('--rows', told.rows);
       if (!was || slot === 'a') requestAnimationFrame(() => { pictures[slot].fit(); redraw(); });
     }
   }

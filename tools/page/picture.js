@@ -90,9 +90,14 @@ class Picture {
     this.clamp();
   }
 
-  at(event) {
+  // Where a pointer is on the canvas, within its border.
+  spot(event) {
     const box = this.canvas.getBoundingClientRect();
-    const x = event.clientX - box.left - GUTTER, y = event.clientY - box.top - AXIS;
+    return [event.clientX - box.left - this.canvas.clientLeft, event.clientY - box.top - this.canvas.clientTop];
+  }
+
+  at(event) {
+    const [left, top] = this.spot(event), x = left - GUTTER, y = top - AXIS;
     const tile = Math.floor(view.x + x / view.scale), row = Math.floor(view.y + y / this.rowHeight);
     return x < 0 || y < 0 || row < 0 || row >= this.told.rows || tile >= this.told.tiles ? null : { row, tile };
   }
@@ -100,9 +105,8 @@ class Picture {
   onWheel(event) {
     if (!this.dump) return;
     event.preventDefault();
-    const box = this.canvas.getBoundingClientRect();
     if (event.shiftKey) this.move((event.deltaY + event.deltaX) / view.scale, 0);
-    else this.zoom(Math.exp(-event.deltaY * (event.deltaMode ? 0.05 : 0.0016)), event.clientX - box.left, event.clientY - box.top);
+    else this.zoom(Math.exp(-event.deltaY * (event.deltaMode ? 0.05 : 0.0016)), ...this.spot(event));
     this.act.moved();
   }
 

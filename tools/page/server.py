@@ -58,9 +58,8 @@ class Handler(http.server.BaseHTTPRequestHandler):
         self.answer(code, 'text/plain; charset=utf-8', (UNREAD.get(code, UNREAD[400]) + '\n').encode())
 
     def answer(self, status, kind, data, nonce=None):
-        # The request may be too broken to have a version.
-        if not hasattr(self, '_headers_buffer'):
-            self._headers_buffer = []
+        # (to a request without a version the library would answer without a status)
+        self.request_version = self.protocol_version
         self.send_response(status)
         for name, value in (('Content-Type', kind), ('Content-Length', str(len(data))), ('Cache-Control', 'no-store'), ('X-Content-Type-Options', 'nosniff'),
                             ('Referrer-Policy', 'no-referrer'), ('Cross-Origin-Resource-Policy', 'same-origin'), ('Cross-Origin-Opener-Policy', 'same-origin'),

@@ -1,6 +1,7 @@
 """What tools/inspect does with its arguments."""
 import os
 import pathlib
+import signal
 import sys
 
 from . import programs, recording, server
@@ -67,6 +68,8 @@ def main(args, usage):
         if len(given[-1]) > server.MOST_BYTES:
             tell('%s has more than %d bytes' % (name, server.MOST_BYTES))
             return 1
+    made = None
+    signal.signal(signal.SIGTERM, signal.default_int_handler)
     try:
         made = programs.make(TOP, unproved, os.environ.get('COARSE_PROGRAMS_DIR'), tell)
         desk = recording.Desk(made)
@@ -79,4 +82,9 @@ def main(args, usage):
         return 1
     except KeyboardInterrupt:
         pass
+    finally:
+        # (whoever is impatient may press it again)
+        signal.signal(signal.SIGINT, signal.SIG_IGN)
+        if made:
+            made.stop()
     return 0

@@ -130,11 +130,12 @@ const follow = async (path, words, go, take) => {
   let after = 0;
   for (;;) {
     const at = state.hovered || state.chosen || { row: 0, tile: 0 };
-    const told = await ask(path, { ...words, row: at.row, tile: at.tile, after });
+    let told;
+    try { told = await ask(path, { ...words, row: at.row, tile: at.tile, after }); } catch (error) { if (go()) throw error; }
     if (!go()) return;
     take(told);
     after = told.next;
-    if (told.failed || (told.done >= told.total && after >= told.runs.length && !told.runs.length) || (told.done >= told.total && told.runs.length < 20000)) return;
+    if (told.failed || (told.done >= told.total && told.runs.length < 20000)) return;
     await new Promise(done => setTimeout(done, 150));
     if (!go()) return;
   }
@@ -508,7 +509,7 @@ const begin = guarded(async () => {
   busy('Asking the programs');
   state.server = await ask('state');
   busy('');
-  $('build').textContent = `Programs: ${state.server.build} (${state.server.version})${state.server.slow ? '. Each question takes some ten seconds' : ''}`;
+  $('build').textContent = `Programs: ${state.server.build}${state.server.version && ` (${state.server.version})`}${state.server.slow ? '. Each question takes ten seconds and more' : ''}`;
   for (const slot of SLOTS) if (state.server.slots[slot]) receive(slot, state.server.slots[slot]);
 });
 begin();

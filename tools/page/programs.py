@@ -27,7 +27,7 @@ class Programs:
         self.is_slow = kind == 'unproved'
         self.turns = threading.BoundedSemaphore(max(2, os.cpu_count() or 2))
         self.closing, self.running = threading.Event(), set()
-        self.version = self.ask('rowlist', ['--version']).strip()
+        self.version = '' if self.is_slow else self.ask('rowlist', ['--version']).strip()
         self.usage = self.ask('rowlist', ['--help'])
         self.refusals = dict((int(n), text) for n, text in re.findall(r'^  (\d+): (.*)$', self.usage, re.M))
 

@@ -59,7 +59,7 @@ class Recording:
             except programs.Failed as error:
                 found[k] = error
 
-        threads = [threading.Thread(target=one, args=(k,)) for k in range(len(asked))]
+        threads = [threading.Thread(target=one, args=(k,), daemon=True) for k in range(len(asked))]
         for it in threads:
             it.start()
         for it in threads:

@@ -10,6 +10,7 @@ FAULTS = (
     ('the last step not painted', 'steps', 'page.js', 'done = steps.slice(0, state.step);', 'done = steps.slice(0, Math.max(state.step - 1, 0));'),
     ('depth fills from the oldest', 'steps', 'steps.js', '[...row.fills].reverse()', '[...row.fills]'),
     ('differences taken for none', 'beside', 'scan.py', "['same' if x == y", "['same' if x[:8] == y[:8]"),
+    ('rows of as many painted letters taken for the same', 'beside', 'scan.py', 'if one == other and', 'if len(one) == len(other) and'),
     ('the words of another refusal', 'refused', 'recording.py', 'self.made.refusals.get(self.refused, ', 'self.made.refusals.get(self.refused + 1, '),
     ('no token is asked for', 'hostile', 'server.py', 'if not hmac.compare_digest(', 'if False and not hmac.compare_digest('),
     ('any origin may ask', 'hostile', 'server.py', "if any(it != 'http://' + own for", "if any(it == own for"),

@@ -112,6 +112,10 @@ class Recording:
             for it in self.marks.values():
                 it.stop()
 
+    def painted(self):
+        """The painted lines of each row, as `rowdump` has them."""
+        return re.findall(r'^painted \d+ pieces \d+\n((?:[pl] .*\n)*)', self.dumped, re.M)
+
     def told(self):
         """What the page is told of the recording."""
         words = self.made.refusals.get(self.refused, '') if self.refused is not None else ''

@@ -113,6 +113,10 @@ class Lists(Scan):
     def __init__(self, a, b):
         super().__init__(max(a.rows, b.rows), max(a.tiles, b.tiles), max(a.tiles, b.tiles, 1) if a.made.is_slow else None)
         self.pair = (a, b)
+        # What a tile receives is what its row paints there (theorem_reason), so rows whose painted lines are the same need no question.
+        for row, (one, other) in enumerate(zip(a.painted(), b.painted())):
+            if one == other and a.tiles == b.tiles and self.left.pop(row, None):
+                self.note(row, 0, ['same'] * a.tiles)
         self.start(1 if a.made.is_slow else WORKERS)
 
     def answer(self, row, first, end):

@@ -131,6 +131,7 @@ class Handler(http.server.BaseHTTPRequestHandler):
                     raise Refused(400, 'a question has no body')
                 routes[rest](self, asked)
             except Refused as error:
+                self.close_connection = True
                 self.answer(error.status, 'text/plain; charset=utf-8', (error.sentence + '\n').encode())
             except programs.Failed as error:
                 self.answer(500, 'text/plain; charset=utf-8', (str(error) + '\n').encode())

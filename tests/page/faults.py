@@ -7,6 +7,7 @@ FAULTS = (
     ('pieces drawn one tile to the right', 'picture', 'picture.js', 'const x = px(Math.max(piece.first, from));\n        drawPiece', 'const x = px(Math.max(piece.first + 1, from));\n        drawPiece'),
     ('hidden tiles marked as shown', 'marks', 'text.js', "reason.startsWith('hidden by') ? 'hidden'", "reason.startsWith('hidden by') ? 'shown'"),
     ('marks of the next row', 'marks', 'scan.py', 'self.runs.append((row, begun, at + 1, number))', 'self.runs.append((row + 1, begun, at + 1, number))'),
+    ('painted tiles off by one', 'smooth', 'scan.py', 'for tile in range(int(first), int(end))}', 'for tile in range(int(first) + 1, int(end) + 1)}'),
     ('the last step not painted', 'steps', 'page.js', 'done = steps.slice(0, state.step);', 'done = steps.slice(0, Math.max(state.step - 1, 0));'),
     ('depth fills from the oldest', 'steps', 'steps.js', '[...row.fills].reverse()', '[...row.fills]'),
     ('differences taken for none', 'beside', 'scan.py', "['same' if x == y", "['same' if x[:8] == y[:8]"),

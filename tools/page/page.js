@@ -236,7 +236,11 @@ const choose = guarded(async (at, isNew = true) => {
   slots.forEach((slot, k) => { state.slots[slot].tile = { ...found[k], row, tile }; });
   $('tile').removeAttribute('aria-busy');
   showTile();
-  say(`${nameOf(state.chosen)}: ${slots.map((slot, k) => `${slots.length > 1 ? `${slot.toUpperCase()} ` : ''}${count(readPieces(found[k].list).length, 'entry').replace('entrys', 'entries')}`).join(', ')}`);
+  const heard = slots.map((slot, k) => {
+    const entries = readPieces(found[k].list), last = entries[entries.length - 1];
+    return `${slots.length > 1 ? `${slot.toUpperCase()}: ` : ''}${entries.length === 1 ? '1 entry' : `${entries.length} entries`}${last ? `, newest ${last.kind} ${last.attribute}` : ''}`;
+  });
+  say(`${nameOf(state.chosen)}: ${heard.join('; ')}`);
 });
 
 const attributeButton = (kind, n) => {

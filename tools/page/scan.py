@@ -88,7 +88,26 @@ class Marks(Scan):
         super().__init__(recording.rows, recording.tiles, max(1, min(room, recording.tiles)) if slow else None)
         self.recording, self.kind, self.number = recording, kind, number
         self.by_stream = slow or recording.attributes <= FEW_ATTRIBUTES
+        if not self.by_stream:
+            self.take_painted()
         self.start(1 if slow else WORKERS)
+
+    def take_painted(self):
+        """Where the attribute is painted it is shown (theorem_reason): these tiles need no question of their own."""
+        piece = re.compile(r'^%s %d (\d+) (\d+) ' % ('p' if self.kind == 'draw' else 'l', self.number), re.M)
+        for row, text in enumerate(self.recording.painted()):
+            painted = {tile for first, end in piece.findall(text) for tile in range(int(first), int(end))}
+            if not painted:
+                continue
+            # Stretches of tiles that are painted or are not, no longer than a chunk.
+            cuts = [t for t in range(self.tiles) if t % CHUNK == 0 or (t in painted) != (t - 1 in painted)] + [self.tiles]
+            stretches = list(zip(cuts, cuts[1:]))
+            self.left[row] = [it for it in stretches if it[0] not in painted]
+            if not self.left[row]:
+                del self.left[row]
+            for first, end in stretches:
+                if first in painted:
+                    self.note(row, first, ['shown'] * (end - first))
 
     def answer(self, row, first, end):
         it = self.recording

@@ -174,7 +174,7 @@ class Handler(http.server.BaseHTTPRequestHandler):
     def found(self, asked):
         found = self.server.desk.find(self.slot(asked), self.number(asked, 'serial'))
         if not found:
-            raise Refused(409, 'that recording is no longer open')
+            raise Refused(409, 'that recording is not open')
         return found
 
     def page(self, _):
@@ -214,7 +214,7 @@ class Handler(http.server.BaseHTTPRequestHandler):
         self.body()
         old = self.server.desk.slots[slot]
         if not old:
-            raise Refused(409, 'that recording is no longer open')
+            raise Refused(409, 'that recording is not open')
         self.tell(self.server.desk.open(slot, old.name, old.data, options).told())
 
     def close_slot(self, asked):

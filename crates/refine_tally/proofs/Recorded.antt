@@ -19,7 +19,7 @@ use Rattle.rules_figures.specs.Recordings.{of-answer, of-sections, of-file}
 use Rattle.rules_figures.specs.RowFigures.{screen-figures}
 use Rattle.rules_figures.specs.Accounted.{Left}
 use Rattle.rules_figures.proofs.Read.{figures-read}
-use Rattle.rules_figures.proofs.Screens.{frame-is}
+use Rattle.rules_figures.proofs.Screens.{same-built, frame-is}
 use Rattle.screen.specs.declared.lent.Lengths.{Lengths}
 use Rattle.screen.specs.Judging.{good-tables, arenas, judged_reset}
 use Rattle.screen.specs.Tables.{Tables, lengths, ScreenLent, screen_lent, reset_to}
@@ -32,6 +32,7 @@ use Rattle.refine_file.specs.Played.{place, Plays, Outcome, unaltered, made}
 use Rattle.refine_file.proofs.Laws.{words-play}
 use Rattle.tally.specs.Parts.{needed-words, cut, at-most}
 use Rattle.tally.specs.Recordings.{screen-of, answered, bucketed, recorded-figures}
+use Rattle.refine_tally.specs.Left.{Leaves}
 use Rattle.refine_tally.specs.Lent.{has-tables, figures-in, lent-figures}
 use Rattle.refine_tally.proofs.Screens.{screen-counted}
 
@@ -82,22 +83,29 @@ module _ (f : File) (q : Setup) (m : ScreenLent) where
         rw (← play-some p old f ss e)
         (file-reads f q m (λ ts i. let k : ts ≡ ss = cc in rw k t))
 
-    left : theirs.number ≡ Done → Refines theirs.value (recorded f q m).value → Left its (history p r) theirs.value
-    left d h =
+    -- where it is played to its end, the words hold the screen that its history builds, ..
+    leaves : good-tables (rows_of its.viewport) (lengths m.tables) ≡ true → theirs.number ≡ Done → Reads theirs.value (recorded f q m).value
+    leaves t d = go (plays t).value
+      where
+        go : Outcome Reads theirs.number old m theirs.value (recorded f q m).value → Reads theirs.value (recorded f q m).value
+        go (unaltered i x y) = never (sym (eq-eqb _ _ d) ∙ i)
+        go (made x) = x
+
+    left : good-tables (rows_of its.viewport) (lengths m.tables) ≡ true → theirs.number ≡ Done → Left its (history p r) theirs.value
+    left t d =
         let b = (records-done p old r d).0 in
-        record { view = rw (frame-is its b) at h.sound.viewport; built = b }
+        record { view = rw (frame-is its b) at (leaves t d).refines.sound.viewport; built = b }
+
+    -- .. and are counted as the rules count it
+    done-counted : good-tables (rows_of its.viewport) (lengths m.tables) ≡ true → theirs.number ≡ Done → screen-of (recorded f q m).value ≡ figures its (history p r) theirs.value
+    done-counted t d = lent-counted theirs.value (recorded f q m).value (leaves t d) ∙ figures-read its (history p r) theirs.value (left t d)
 
     counted : good-tables (rows_of its.viewport) (lengths m.tables) ≡ true → answered (recorded f q m) ≡ of-answer p r theirs
-    counted t = let y = plays t in rw y.number (go y.value (eqb theirs.number Done) refl)
+    counted t = rw (plays t).number (go (eqb theirs.number Done) refl)
       where
-        done : theirs.number ≡ Done → Outcome Reads theirs.number old m theirs.value (recorded f q m).value → screen-of (recorded f q m).value ≡ figures its (history p r) theirs.value
-        done d (unaltered i x y) = never (sym (eq-eqb _ _ d) ∙ i)
-        done d (made x) = lent-counted theirs.value (recorded f q m).value x ∙ figures-read its (history p r) theirs.value (left d x.refines)
-
-        go : Outcome Reads theirs.number old m theirs.value (recorded f q m).value → (b : Bool) → eqb theirs.number Done ≡ b
-            → cond b (screen-of (recorded f q m).value) one-refused ≡ cond b (figures its (history p r) theirs.value) one-refused
-        go o true i = done (eqb-true _ _ i) o
-        go o false i = refl
+        go : (b : Bool) → eqb theirs.number Done ≡ b → cond b (screen-of (recorded f q m).value) one-refused ≡ cond b (figures its (history p r) theirs.value) one-refused
+        go true i = done-counted t (eqb-true _ _ i)
+        go false i = refl
 
     -- without them its reset is refused
     bad-number : (x y : Bool) → eqb (first_of ((x, BadViewport) ∷ (y, BadArena) ∷ (true, BadRecord) ∷ [])) Done ≡ false
@@ -117,6 +125,30 @@ module _ (f : File) (q : Setup) (m : ScreenLent) where
     refused t =
         let z = judged-bad t in
         rw (refused-in (judged_reset its (lengths m.tables)) refl z, z)
+
+    -- An accepted one: its tables are there, it is played to its end, ..
+    module _ (z : (recorded f q m).number ≡ Done) where
+      tabled : good-tables (rows_of its.viewport) (lengths m.tables) ≡ true
+      tabled = go (good-tables (rows_of its.viewport) (lengths m.tables)) refl
+        where
+          go : (b : Bool) → good-tables (rows_of its.viewport) (lengths m.tables) ≡ b → b ≡ true
+          go true t = refl
+          go false t =
+              let j = judged-bad t in
+              let n : judged_reset its (lengths m.tables) ≡ Done = sym (ap (λ (a : Answer ScreenLent). a.number) (refused-in (judged_reset its (lengths m.tables)) refl j)) ∙ z in
+              never (sym (eq-eqb _ _ n) ∙ j)
+
+      ended : theirs.number ≡ Done
+      ended = sym (plays tabled).number ∙ z
+
+      -- .. it leaves the words of the screen that its history builds, ..
+      pub accepted-leaves : Leaves f q m (record { parts = ss; formed = e })
+      accepted-leaves = record { screen = theirs.value; left = left tabled ended; holds = (leaves tabled ended).refines.holds }
+
+      -- .. and its figures are those of its history and of that screen.
+      pub accepted-counted : (u : rule.Screen Row) → Left its (history p r) u → answered (recorded f q m) ≡ figures its (history p r) u
+      accepted-counted u l =
+          counted tabled ∙ rw ended (ap (figures its (history p r)) (same-built (left tabled ended).built l.built))
 
   formless : parsed f ≡ None → answered (recorded f q m) ≡ one-refused
   unfolding recorded

@@ -1,0 +1,2 @@
+mod Recorded
+mod Listed

@@ -1,2 +1,3 @@
 mod Recorded
 mod Listed
+mod Called

@@ -3,6 +3,7 @@
 #![tactic(auto)]
 
 ghost use Rattle.theorem_figures.specs.Recorded.{Asked-plain, Figures-lent, Figures-own, Hidden-dropped, Painted-pieces, Refused-alone, Rows-hold, Screen-left};
+ghost use Rattle.theorem_figures.specs.Called.{Call-kept, Call-told};
 ghost use Rattle.theorem_figures.specs.Listed.{Last-left, Lines-accounted, Lines-small, None-left, One-each, Sums-small};
 
 /// An accepted recording leaves the words of the rules' screen that its history builds, and each of its figures is what the rules say of that history and that
@@ -27,4 +28,11 @@ pub fn lists_of_recordings_add_up()
     ensures small_totals { Sums-small }
     ensures none { None-left }
     ensures last { Last-left }
+{}
+
+/// What the call over a list does: done, the table begins with the lines and the totals, what stood behind them stays, and there are no more recordings than the
+/// numbers have room for; refused, nothing changes.
+pub fn calls_fill_the_table()
+    ensures told { Call-told }
+    ensures kept { Call-kept }
 {}

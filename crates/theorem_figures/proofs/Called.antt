@@ -7,7 +7,8 @@ use Rattle.rules.specs.Setups.{Setup}
 use Rattle.rules.proofs.All.{or_left}
 use Rattle.rules_figures.specs.Figures.{table}
 use Rattle.rules_figures.specs.Accounted.{most-recordings}
-use Rattle.tally.specs.Listed.{Listed, good-ends, files-from, files-in, figures-number, Counted, counted-from, Desk, filled, figured}
+use Rattle.tally.specs.Listed.{Listed, good-ends, files-from, files-in, figures-number, Counted, counted-from, Desk, desk, filled, figured}
+use Rattle.screen.specs.Tables.{ScreenLent}
 use Rattle.theorem_figures.specs.Called.{lines-of, Told, Call-told, Call-kept}
 
 -- a file for each end
@@ -20,51 +21,51 @@ judged-first : (x y : Bool) → first_of ((x, BadRecord) ∷ (y, NoRoom) ∷ [])
 judged-first true y e = absurd (omega arith)
 judged-first false y e = refl
 
-module _ (l : Listed) (q : Setup) (d : Desk) where
+module _ (l : Listed) (q : Setup) (k : ScreenLent) (t : List ℕ) where
   abbrev n : ℕ
-  n = figures-number l (length d.table)
+  n = figures-number l (length t)
 
   abbrev c : Counted
-  c = counted-from q (files-in l) d.lent
+  c = counted-from q (files-in l) k
 
   few : n ≡ Done → length (files-in l) ≤ most-recordings
   unfolding figures-number
   few e =
       let many = ltb most-recordings (length l.ends) in
       let bad = not (good-ends 0 (length l.words) l.ends) in
-      let f = or_left many bad (judged-first (many || bad) (ltb (length d.table) (6 * (length l.ends + 1))) e) in
+      let f = or_left many bad (judged-first (many || bad) (ltb (length t) (6 * (length l.ends + 1))) e) in
       rw (files-long l.edition l.words 0 l.ends) (ltb-false _ _ f)
 
-  done : n ≡ Done → figured l q d ≡ answer Done (filled c d.table)
+  done : n ≡ Done → figured l q k t ≡ answer Done (filled c t)
   unfolding figured
   done e = rw e refl
 
-  kept : eqb n Done ≡ false → figured l q d ≡ answer n d
+  kept : eqb n Done ≡ false → figured l q k t ≡ answer n (desk k.screen t)
   unfolding figured
   kept e = rw e refl
 
-  judged : (figured l q d).number ≡ Done → n ≡ Done
+  judged : (figured l q k t).number ≡ Done → n ≡ Done
   judged z = go (eqb n Done) refl
     where
       go : (b : Bool) → eqb n Done ≡ b → n ≡ Done
       go true e = eqb-true _ _ e
       go false e = sym (ap (λ (a : Answer Desk). a.number) (kept e)) ∙ z
 
-  call_told : (figured l q d).number ≡ Done → Told l q d
+  call_told : (figured l q k t).number ≡ Done → Told l q k t
   call_told z =
       let e = judged z in
-      let ns = table (lines-of l q d) in
+      let ns = table (lines-of l q k) in
       record {
         few = few e;
-        told = rw (done e) (take-append_seam ns (drop (length ns) d.table));
-        rest = rw (done e) (drop-append_seam ns (drop (length ns) d.table));
-        lent = rw (done e) refl;
+        told = rw (done e) (take-append_seam ns (drop (length ns) t));
+        rest = rw (done e) (drop-append_seam ns (drop (length ns) t));
+        screen = rw (done e) refl;
       }
 
-  call_kept : ((figured l q d).number ≡ Done → ⊥) → (figured l q d).value ≡ d
+  call_kept : ((figured l q k t).number ≡ Done → ⊥) → (figured l q k t).value ≡ desk k.screen t
   call_kept z = go (eqb n Done) refl
     where
-      go : (b : Bool) → eqb n Done ≡ b → (figured l q d).value ≡ d
+      go : (b : Bool) → eqb n Done ≡ b → (figured l q k t).value ≡ desk k.screen t
       go true e = absurd (z (ap (λ (a : Answer Desk). a.number) (done (eqb-true _ _ e))))
       go false e = ap (λ (a : Answer Desk). a.value) (kept e)
 

@@ -23,7 +23,7 @@ abbrev pub named : List ℕ → ℕ → List ℕ
 named ws n = ws ++ (32 ∷ digits 20 n)
 
 -- the six figures, and the line feed
-abbrev pub figures-text : Figures → List ℕ
+unfoldable pub figures-text : Figures → List ℕ
 figures-text g =
     named (codes " asked") g.asked
     ++ (named (codes " painted") g.painted

@@ -6,7 +6,7 @@ mod Asked
 mod Counted
 mod Newer
 mod Tiled
-mod Totals
+pub mod Totals
 mod Read
 mod Roomed
 mod Small

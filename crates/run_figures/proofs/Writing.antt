@@ -1,50 +1,18 @@
 -- The lines of recordings, written one after the other, and their totals.
-use Rattle.std.proofs.Common.{◌≡◌, ℕ, zero, suc, ◌+◌, ◌*◌, ◌<◌, ◌≤◌, List, [], ◌∷◌, ◌++◌, append_assoc, append-nil, length, map, take, drop, get_or, take_all, length-take, Option, Result, Ok, Err, OnOk, refl, sym, ap, subst, ◌∙◌, arith}
-use Rattle.std.proofs.Math.Nat.{add_assoc, add-zero, zero-add}
+use Rattle.std.proofs.Common.{◌≡◌, ℕ, zero, suc, ◌+◌, ◌*◌, ◌<◌, ◌≤◌, List, [], ◌∷◌, ◌++◌, append_assoc, append-nil, length, map, take, drop, get_or, take_all, length-take, Option, Result, Ok, Err, OnOk, sym, ap, subst, ◌∙◌, arith}
 use Rattle.std.proofs.lemmas.List.{take_more, drop_more, map-append, length-map, take-append-drop}
 use Rattle.std.specs.Io.KnownBytes.{Appends}
 use Rattle.std.proofs.KnownBytes.{Appends-trans}
 use Rattle.rules.proofs.All.{All, cons}
 use Rattle.rules_figures.specs.Figures as rule
 use Rattle.rules_figures.specs.Figures.{nothing, plus, total}
+use Rattle.rules_figures.proofs.Totals.{total-more}
 use Rattle.rules_figures.specs.Lines.{recording-line, total-line, lines-from, all-lines}
 use Rattle.text_programs.specs.Failures.{Begins}
 use Rattle.text_programs.proofs.Streaming.{begins_after}
 use Rattle.tally.specs.declared.counts.Figures.{Figures}
 use Rattle.tally.specs.Counts.{figures-of, Within}
 use Rattle.run_figures.specs.Counting.{first-figures}
-
--- a total and one more
-total-more : (gs : List rule.Figures) (g : rule.Figures) → total (gs ++ (g ∷ [])) ≡ plus (total gs) g
-unfolding total
-total-more [] g =
-    rw (
-      add-zero g.asked,
-      add-zero g.painted,
-      add-zero g.hidden,
-      add-zero g.commands,
-      add-zero g.fills,
-      add-zero g.refused,
-      zero-add g.asked,
-      zero-add g.painted,
-      zero-add g.hidden,
-      zero-add g.commands,
-      zero-add g.fills,
-      zero-add g.refused,
-    )
-    refl
-total-more (x ∷ gs) g =
-    let t = total gs in
-    rw (
-      total-more gs g,
-      add_assoc x.asked t.asked g.asked,
-      add_assoc x.painted t.painted g.painted,
-      add_assoc x.hidden t.hidden g.hidden,
-      add_assoc x.commands t.commands g.commands,
-      add_assoc x.fills t.fills g.fills,
-      add_assoc x.refused t.refused g.refused,
-    )
-    refl
 
 lines-join : (j n : ℕ) (gs hs : List rule.Figures) → n ≡ j + length gs → lines-from j (gs ++ hs) ≡ lines-from j gs ++ lines-from n hs
 lines-join j n [] hs e =

@@ -93,7 +93,7 @@ fn file_in(list: Recordings<'_>, from: usize, end: usize) -> File<'_>
 
 /// The figures of each recording of a list, bucketed one after the other into the first words of each table, and their totals: six numbers a recording, then six.
 /// BadRecord for more than 65,536 recordings or ends that fall or pass the words, then NoRoom for a table of fewer numbers: nothing changes. A recording that is
-/// refused counts as that alone; the screen and the words are left as the last recording leaves them.
+/// refused counts as that alone. The screen is left as the last recording leaves it, and the words too; what is promised of the words is that a refusal changes none.
 pub fn figures(
     list: Recordings<'_>,
     screen: &mut Screen,

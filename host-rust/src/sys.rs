@@ -375,6 +375,19 @@ extern "C" {
         entries: *mut usize,
     ) -> u32;
 
+    pub fn coarse_figures(
+        state: *mut StateWords,
+        edition: u32,
+        words: *const u32,
+        words_len: usize,
+        ends: *const usize,
+        ends_len: usize,
+        setup: SetupWords,
+        tables: *mut TableWords,
+        table: *mut u64,
+        table_len: usize,
+    ) -> u32;
+
     pub fn coarse_to_edition_two(
         file: *const u32,
         file_len: usize,

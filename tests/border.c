@@ -667,6 +667,7 @@ static void figures(void) {
     coarse_bucketer b;
     coarse_state state;
     coarse_tables short_tables;
+    uint32_t wide[HIDDEN];
     uint64_t table[NUMBERS];
     expect("a screen that has the words for either", COARSE_DONE, coarse_bucketer_new(&b, (coarse_rect){0, 0, 512, 8}, roomy));
     expect("a fill, so that its words are not all 0", COARSE_DONE, coarse_bucketer_generate_fill(&b, paints, 2, segments, 1, &(coarse_draw){.end = 1, .blend = {0, 3}}));
@@ -697,6 +698,14 @@ static void figures(void) {
     expect("a word too few for open layers", COARSE_DONE,
            coarse_figures(&state, COARSE_EDITION_ONE, recorded, HIDDEN, ends, 2, roomy, &short_tables, table, NUMBERS));
     expect_numbers("each is refused", short_of_both, 18, table);
+    coarse_bucketer_free(&b);
+    memcpy(wide, recorded, HIDDEN * sizeof *wide);
+    wide[WORKED + 4] = 12;
+    expect("a screen that has the words for the first alone", COARSE_DONE, coarse_bucketer_new(&b, (coarse_rect){0, 0, 256, 8}, roomy));
+    clear_numbers(table);
+    expect("the second has more rows and more buckets", COARSE_DONE,
+           coarse_figures(&b.state, COARSE_EDITION_ONE, wide, HIDDEN, ends, 2, roomy, &b.tables, table, NUMBERS));
+    expect_numbers("the first's rows, which stand, are not counted for it", short_of_one, 18, table);
     coarse_bucketer_free(&b);
 }
 

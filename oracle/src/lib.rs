@@ -11,6 +11,7 @@ mod compacted;
 pub mod composited;
 pub mod edited;
 pub mod editions;
+pub mod figures;
 pub mod file;
 mod filter;
 pub mod generate;

@@ -1,6 +1,7 @@
 //! Answers of the original Rust, to hold the definitions and the port against.
 
 use oracle::editions::{self, Edition};
+use oracle::figures::Counter;
 use oracle::lists::Lister;
 use oracle::questions::{self, Answerer, Question};
 use oracle::viewport::Mode;
@@ -13,6 +14,7 @@ use std::io::{Read, Write};
 const USAGE: &str = "usage: oracle rowlist [--snap] [--width N] [--edition N] [--first-id N] < FILE
        oracle rowdump [--snap] [--width N] [--edition N] [--panels] [--first-id N] < STREAM
        oracle lines [--snap] [--width N] [--edition N] [--first-id N] < STREAM
+       oracle figures [--snap] [--width N] [--edition N] [--first-id N] < STREAM
        oracle generate SEED COUNT [all|edges|scenes|damaged|snapped|wide|heavy|ids] > STREAM
        oracle names SEED COUNT [KIND]
        oracle edits [--rows|--moved] SEED COUNT > STREAM
@@ -58,6 +60,15 @@ fn main() {
         ["questions", ref given @ ..] => asked(given, width, edition),
         ["rowlist"] => print::rowlist(&mut player, &input()).into_bytes(),
         ["rowdump"] => dump(|bytes| print::rowdump(&mut player, bytes, panels)),
+        ["figures"] => {
+            let mut counter = Counter::new(player);
+            let text = counter.text(&file::stream(&input()));
+            for line in &counter.disagreements {
+                eprintln!("{line}");
+            }
+            agreed = counter.disagreements.is_empty();
+            text.into_bytes()
+        }
         ["generate", seed, count] => generate::stream(&made(seed, count, "all")),
         ["generate", seed, count, kind] => generate::stream(&made(seed, count, kind)),
         ["names", seed, count] => generate::names(&made(seed, count, "all")),
@@ -124,7 +135,9 @@ fn mode(words: &mut Vec<String>) -> Mode {
     if flag(
         words,
         "--snap",
-        &["rowlist", "rowdump", "lines", "why", "tilelist", "editions"],
+        &[
+            "rowlist", "rowdump", "lines", "why", "tilelist", "figures", "editions",
+        ],
     ) {
         Mode::Snapping
     } else {
@@ -157,6 +170,7 @@ fn width(words: &mut Vec<String>) -> u32 {
         "lines",
         "why",
         "tilelist",
+        "figures",
         "questions",
     ];
     last(words, "--width", &takes, 128)
@@ -170,6 +184,7 @@ fn edition(words: &mut Vec<String>) -> u32 {
         "lines",
         "why",
         "tilelist",
+        "figures",
         "questions",
     ];
     last(words, "--edition", &takes, 1)

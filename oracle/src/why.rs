@@ -101,6 +101,27 @@ pub(crate) fn list(
     Ok(look?.list())
 }
 
+/// Of an accepted recording: how many entries plain draw order gives the tiles of its screen, all told, and how many of them came before the newest step that
+/// hides at their tile.
+pub(crate) fn counted(scene: &Scene, width: Width) -> (usize, usize) {
+    let viewport = scene.viewport;
+    let (rows, tiles) = (viewport.height() / 4, viewport.width() / 4);
+    let mut sums = (0, 0);
+    for (row, tile) in (0..rows).flat_map(|row| (0..tiles).map(move |tile| (row, tile))) {
+        let mut look = Look::at(scene, width, row.into(), tile.into()).expect("on the screen");
+        walk(scene, &mut |step| {
+            look.take(&step);
+            Ok(())
+        })
+        .expect("an accepted recording");
+        let (before, listed) = look.split();
+        let given = |entries: &[Entry]| entries.iter().filter(|e| e.missing.is_none()).count();
+        sums.0 += given(before) + given(listed);
+        sums.1 += given(before);
+    }
+    sums
+}
+
 /// The asked tile, the layers that are open, and what each step with an attribute gave so far.
 struct Look<'a> {
     scene: &'a Scene,

@@ -1,4 +1,4 @@
--- On a row in which nothing is forged the words are compacted as the rules compact the row. Assumes nothing.
+-- On a row in which nothing is forged the words are read as the row, and compacted as the rules compact it. Assumes nothing.
 use Rattle.std.proofs.Common.{◌≡◌, refl, sym, ap, ◌∙◌, ℕ, suc, ◌+◌, ◌<◌, arith, true, List, [], ◌∷◌, Option, None, Some, length, get_or, le-leb}
 use Rattle.rules.specs.Attributes.{Attrs}
 use Rattle.rules.specs.Commands.{Command, paint-fill, layer-fill, push-buf, pop-buf, DepthFill}
@@ -13,7 +13,7 @@ use Rattle.paint.specs.Painting.{depth-fill-at, command-at}
 use Rattle.paint.specs.Standing.{Stands}
 use Rattle.paint.proofs.ByRules.{Same}
 use Rattle.compact.specs.Reading.{all-from, good-fill, names-good, good-command, fills-from, commands-from}
-use Rattle.compact.specs.Row.{has-counts, row-read, with-commands, compact-words}
+use Rattle.compact.specs.Row.{has-counts, row-with, row-read, with-commands, compact-words}
 
 -- Attributes that a step cannot tell apart: compacting cannot either.
 module _ (v n : ℕ) (a b : Attrs) (s : Same a b) where
@@ -28,7 +28,7 @@ module _ (v n : ℕ) (a b : Attrs) (s : Same a b) where
   same-command (Some (push-buf t)) = refl
   same-command (Some pop-buf) = refl
 
-  same-newest : (fs : List DepthFill) → newest-ids a n fs ≡ newest-ids b n fs
+  pub same-newest : (fs : List DepthFill) → newest-ids a n fs ≡ newest-ids b n fs
   same-newest [] = refl
   same-newest (f ∷ fs) = rw (same-newest fs, s.paint-ids f.attribute)
 
@@ -92,6 +92,10 @@ module _ (v n : ℕ) (a : Attrs) (r : Row) (w : Words) (g : Stands a n r w.state
         let q = named i h in
         same-command v n b a s (command-at w.render (0 + i)) ∙ rw (z, e, q) refl))
 
+    pub read-by-rules : row-read b n w ≡ Some (row-with r.fills r.commands)
+    unfolding row-read
+    read-by-rules = rw (counts-good, fills-read, commands-read) refl
+
     pub by-rules : compact-words v n b w ≡ answer Done (with-commands (compacted v n a r) w)
-    unfolding compact-words row-read compacted
-    by-rules = rw (counts-good, fills-read, commands-read) (ap (λ (cs : List Command). answer Done (with-commands cs w)) (same-compacted v n b a s r))
+    unfolding compact-words compacted
+    by-rules = rw read-by-rules (ap (λ (cs : List Command). answer Done (with-commands cs w)) (same-compacted v n b a s r))

@@ -1,5 +1,5 @@
 -- A compacted row's words are the words of the row that the rules compact. Assumes nothing.
-use Rattle.std.proofs.Common.{◌≡◌, refl, sym, ap, ◌∙◌, true, List, map, ℕ, ◌*◌, ◌≤◌, ◌<◌, arith, length, get_or, set, take, drop}
+use Rattle.std.proofs.Common.{◌≡◌, refl, sym, ap, ◌∙◌, true, Some, List, map, ℕ, ◌*◌, ◌≤◌, ◌<◌, arith, length, get_or, set, take, drop}
 use lib.Seq.{map-set}
 use borrow.Rule.Slice.PartMut.{put_mid, put_same}
 use Rattle.rules.specs.Lists.{join}
@@ -25,9 +25,9 @@ use Rattle.refine_paint.proofs.Kept.{own-words}
 use Rattle.refine_paint.proofs.Standing.{four, stands}
 use Rattle.paint.proofs.ByRules.{Same}
 use Rattle.compact.specs.Reading.{names-good}
-use Rattle.compact.specs.Row.{with-commands, compact-words}
+use Rattle.compact.specs.Row.{row-with, row-read, with-commands, compact-words}
 use Rattle.compact.specs.Call.{with-closed}
-use Rattle.compact.proofs.ByRules.{by-rules}
+use Rattle.compact.proofs.ByRules.{read-by-rules, by-rules}
 
 -- a fair command names an attribute that is good, if it names one
 fair-named : (a : Attrs) (c : Command) → FairCommand a c → names-good a c ≡ true
@@ -45,6 +45,10 @@ module _ (v n c d : ℕ) (a : Attrs) (r : Row) where
       let long : length (join command_words cs) ≡ 4 * length cs = join-length command_words 4 four cs in
       let m : length (join command_words cs) ≤ 4 * c = let k = less-room v n a r in omega (arith, long, k, h) in
       rw (padded-length (4 * c) (join command_words r.commands), padded-fits (4 * c) (join command_words cs) m, long) refl
+
+  -- what is read of a row's words is the row, as far as compacting reads it
+  pub words-read : n < 65536 → Fitting c d r → Fair v a n r → (b : Attrs) → Same b a → row-read b n (encode c d r) ≡ Some (row-with r.fills r.commands)
+  words-read few f h b s = read-by-rules v n a r (encode c d r) (stands a n c d few r f h) (λ k l. fair-named a _ (all-at h.commands k pop-buf l)) b s
 
   pub words-compacted : n < 65536 → Fitting c d r → Fair v a n r → (b : Attrs) → Same b a → compact-words v n b (encode c d r) ≡ answer Done (encode c d (compact v n a r))
   words-compacted few f h b s =

@@ -171,7 +171,7 @@ module _ (p : Place) (old : Screen Row) (r : Recording) where
       go false e z = never (sym (eq-eqb judge 0 z) ∙ e)
 
   -- where the viewport is refused
-  refused-view : judge ≡ 2 → (play-records (Screen Row) (call Row row-ops) (reset fresh-row) p old r).number ≡ 2
+  pub refused-view : judge ≡ 2 → (play-records (Screen Row) (call Row row-ops) (reset fresh-row) p old r).number ≡ 2
   unfolding play-records
   refused-view e = go (eqb judge Done) (ap (λ (n : ℕ). eqb n Done) e)
     where
@@ -180,7 +180,7 @@ module _ (p : Place) (old : Screen Row) (r : Recording) where
       go false q = e
 
 -- a play depends on the rows allowed and on the arenas by what is judged of them
-same-play : (a b : ℕ) (q : Setup) (x y : Arenas) (old : Screen Row) (r : Recording)
+pub same-play : (a b : ℕ) (q : Setup) (x y : Arenas) (old : Screen Row) (r : Recording)
     → judge-records (record { limit = a; setup = q; arenas = x }) r ≡ judge-records (record { limit = b; setup = q; arenas = y }) r
     → play-records (Screen Row) (call Row row-ops) (reset fresh-row) (record { limit = a; setup = q; arenas = x }) old r
     ≡ play-records (Screen Row) (call Row row-ops) (reset fresh-row) (record { limit = b; setup = q; arenas = y }) old r
@@ -204,6 +204,25 @@ not-shown true n e = lt-ltb 32 n (leb-false n 32 e)
 some_same : {A : Type 0} {x y : A} → Some x ≡ Some y → x ≡ y
 some_same p = cc
 
+module _ (w : File) (ss : List (List (List ℕ))) (e : parsed w ≡ Some ss) where
+  -- the file's viewport stands after its head and its own count
+  abbrev there : ℕ
+  there = length (head w.edition) + 1
+
+  at_words : (recording ss).viewport ≡ box (get_or w.words there 0) (get_or w.words (there + 1) 0) (get_or w.words (there + 2) 0) (get_or w.words (there + 3) 0)
+  unfolding form_of layout
+  at_words =
+      let l = layout w.edition w.words in
+      let y : Ok l ≡ form_of w.edition w.words = rw e in
+      let g = good-form w.edition w.words l y in
+      let x : ss ≡ sections_at l w.words = some_same (sym e ∙ g.same) in
+      rw x (viewport-is l w.words g.fits)
+
+  pub place_view : box-in w ≡ (recording ss).viewport
+  place_view =
+      rw (← add-one (length (head w.edition)))
+      (rw (get_or-drop there w.words 0 0, get_or-drop there w.words 1 0, get_or-drop there w.words 2 0, get_or-drop there w.words 3 0, add-zero there) (sym at_words))
+
 module _ (q : Setup) (u : Usual q) (w : File) (bs : List ℕ) (room : 264256 ≤ length bs) where
   abbrev old : Screen Row
   old = reset fresh-row rules.nothing
@@ -218,24 +237,6 @@ module _ (q : Setup) (u : Usual q) (w : File) (bs : List ℕ) (room : 264256 ≤
 
     abbrev v : Box
     v = f.viewport
-
-    -- the file's viewport stands after its head and its own count
-    abbrev there : ℕ
-    there = length (head w.edition) + 1
-
-    at_words : r.viewport ≡ box (get_or w.words there 0) (get_or w.words (there + 1) 0) (get_or w.words (there + 2) 0) (get_or w.words (there + 3) 0)
-    unfolding form_of layout
-    at_words =
-        let l = layout w.edition w.words in
-        let y : Ok l ≡ form_of w.edition w.words = rw e in
-        let g = good-form w.edition w.words l y in
-        let x : ss ≡ sections_at l w.words = some_same (sym e ∙ g.same) in
-        rw x (viewport-is l w.words g.fits)
-
-    place_view : box-in w ≡ r.viewport
-    place_view =
-        rw (← add-one (length (head w.edition)))
-        (rw (get_or-drop there w.words 0 0, get_or-drop there w.words 1 0, get_or-drop there w.words 2 0, get_or-drop there w.words 3 0, add-zero there) (sym at_words))
 
     refused-there : (good_viewport v && leb (rows_of v) 32) ≡ false → answer-lines (play-records (Screen Row) (call Row row-ops) (reset fresh-row) (rowlist-place q w) old r) ≡ refused 2 ∷ []
     unfolding judge-records
@@ -307,7 +308,7 @@ module _ (q : Setup) (u : Usual q) (w : File) (bs : List ℕ) (room : 264256 ≤
             | Some qs ↦ play-records (Screen Row) (call Row row-ops) (reset fresh-row) (place q given) old (recording qs)
           ])
           e
-          ∙ sym (same-play 32 512 q (needed (frame q (box-in w))) (arenas (lengths t)) old r (judge-at (box-in w) place_view))
+          ∙ sym (same-play 32 512 q (needed (frame q (box-in w))) (arenas (lengths t)) old r (judge-at (box-in w) (place_view w ss e)))
 
       plays : Plays Refines old given theirs (recorded w q given)
       plays =

@@ -18,7 +18,7 @@ use Rattle.rules_figures.specs.Accounted.{Left, Accounted, Small, Files-accounte
 use Rattle.rules_figures.proofs.Asked.{asked-accounted}
 use Rattle.rules_figures.proofs.Small.{figures-small}
 
-refused-accounted : Accounted one-refused × Small one-refused
+pub refused-accounted : Accounted one-refused × Small one-refused
 refused-accounted = (refl, record { asked = omega arith; painted = omega arith; hidden = omega arith; commands = omega arith; fills = omega arith; refused = omega arith })
 
 -- a recording that is judged good has a good viewport, and its rooms are within the limit

@@ -1,13 +1,13 @@
 mod Tallies
-mod Screens
+pub mod Screens
 mod Narrow
 mod Ended
 mod Asked
 mod Counted
 mod Newer
 mod Tiled
-mod Totals
-mod Read
+pub mod Totals
+pub mod Read
 mod Roomed
 mod Small
-mod Files
+pub mod Files

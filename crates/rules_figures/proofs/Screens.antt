@@ -1,4 +1,4 @@
--- A screen that steps have built from its reset has the frame and the rows of that reset.
+-- A screen that steps have built from its reset is the only one, and has the frame and the rows of that reset.
 use Rattle.std.proofs.Common.{◌≡◌, refl, ◌∙◌, ap, List, length}
 use lib.ListN.{length-replicate}
 use Rattle.rules.specs.Boxes.{rows_of}
@@ -10,7 +10,12 @@ use Rattle.rules_picture.specs.Built.{Built, no_step, then}
 use Rattle.rules_picture.proofs.Stepped.{call-done}
 use Rattle.rules_picture.proofs.Picture.{built-frame}
 
--- steps keep how many rows there are
+-- steps build one screen
+pub same-built : {xs : List Step} {s u v : Screen Row} → Built xs s u → Built xs s v → u ≡ v
+same-built no_step no_step = refl
+same-built (then e b) (then d c) = same-built b c
+
+-- .. and keep how many rows there are
 built-rows : {xs : List Step} {s v : Screen Row} → Built xs s v → length v.rows ≡ length s.rows
 unfolding done
 built-rows no_step = refl

@@ -1,5 +1,6 @@
 -- Totals: a figure of a total is the sum of that figure, every tile is accounted for in it, and it stays small.
-use Rattle.std.proofs.Common.{ℕ, ◌+◌, ◌*◌, ◌≤◌, arith, ◌≡◌, refl, ◌∙◌, ap, List, [], ◌∷◌, map, length, get_or}
+use Rattle.std.proofs.Common.{ℕ, ◌+◌, ◌*◌, ◌≤◌, arith, ◌≡◌, refl, ◌∙◌, ap, List, [], ◌∷◌, ◌++◌, map, length, get_or}
+use Rattle.std.proofs.Math.Nat.{add_assoc, add-zero, zero-add}
 use Rattle.rules.proofs.All.{All, nil, cons}
 use Rattle.rules_figures.specs.Figures.{sum-to, sum-of, Figures, nothing, plus, total}
 use Rattle.rules_figures.specs.Accounted.{Totals-accounted, Small, Totals-small}
@@ -43,3 +44,35 @@ totals-small gs n a =
     let h = total-most gs a in
     let ha = h.asked in let hp = h.painted in let hh = h.hidden in let hc = h.commands in let hf = h.fills in let hr = h.refused in
     record { asked = omega arith; painted = omega arith; hidden = omega arith; commands = omega arith; fills = omega arith; refused = omega arith }
+
+-- a total and one more
+pub total-more : (gs : List Figures) (g : Figures) → total (gs ++ (g ∷ [])) ≡ plus (total gs) g
+unfolding total
+total-more [] g =
+    rw (
+      add-zero g.asked,
+      add-zero g.painted,
+      add-zero g.hidden,
+      add-zero g.commands,
+      add-zero g.fills,
+      add-zero g.refused,
+      zero-add g.asked,
+      zero-add g.painted,
+      zero-add g.hidden,
+      zero-add g.commands,
+      zero-add g.fills,
+      zero-add g.refused,
+    )
+    refl
+total-more (x ∷ gs) g =
+    let t = total gs in
+    rw (
+      total-more gs g,
+      add_assoc x.asked t.asked g.asked,
+      add_assoc x.painted t.painted g.painted,
+      add_assoc x.hidden t.hidden g.hidden,
+      add_assoc x.commands t.commands g.commands,
+      add_assoc x.fills t.fills g.fills,
+      add_assoc x.refused t.refused g.refused,
+    )
+    refl

@@ -1,5 +1,6 @@
--- The figures at known points: histories whose tiles are counted by hand, files, and totals.
-use Rattle.std.specs.Prelude.{ℕ, ◌≡◌, List, [], ◌∷◌}
+-- The figures at known points: histories whose tiles are counted by hand, files, totals, and the text of lists of files.
+use Rattle.std.specs.Prelude.{ℕ, ◌≡◌, List, [], ◌∷◌, map, codes}
+use Rattle.sizes.specs.declared.edition.Edition.TheVariants.{One}
 use Rattle.sizes.specs.declared.width.Width.TheVariants.{W128}
 use Rattle.rules.specs.Boxes.{box}
 use Rattle.rules.specs.Rows.{fresh-row}
@@ -10,10 +11,11 @@ use Rattle.rules.specs.Setups.{Setup, exact}
 use Rattle.rules.specs.Lines.{usual, rowlist-place}
 use Rattle.rules.specs.cases.Samples.{solid, alpha, opaque-paint, draw, filter}
 use Rattle.rules.specs.cases.Compacted.{frame, steps, after}
-use Rattle.rules.specs.cases.WorkedExample.{worked-words}
+use Rattle.rules.specs.cases.WorkedExample.{worked-words, worked-bytes}
 use Rattle.rules_figures.specs.Figures.{Figures, one-refused, figures, total, numbers, table}
 use Rattle.rules_figures.specs.Recordings.{of-file}
 use Rattle.rules_figures.specs.RowFigures.{screen-figures}
+use Rattle.rules_figures.specs.Lines.{of-bytes, list-text}
 
 -- two rows of two buckets
 abbrev pub two-rows : Frame
@@ -60,6 +62,10 @@ standard = usual exact W128
 abbrev pub room-for : ℕ → Setup
 room-for n = record { c = n; d = standard.d; mode = standard.mode; width = standard.width }
 
+-- the text of files of edition one, by their bytes
+abbrev pub text : List (List ℕ) → List ℕ
+text fss = list-text (map (of-bytes One standard) fss)
+
 abbrev pub some-figures : Figures
 some-figures = record { asked = 400; painted = 194; hidden = 206; commands = 5; fills = 2; refused = 0 }
 
@@ -81,3 +87,8 @@ pub record FiguresHold : Type 0 where
   pub two : table (some-figures ∷ one-refused ∷ [])
       ≡ 400 ∷ 194 ∷ 206 ∷ 5 ∷ 2 ∷ 0 ∷ 0 ∷ 0 ∷ 0 ∷ 0 ∷ 0 ∷ 1 ∷ 400 ∷ 194 ∷ 206 ∷ 5 ∷ 2 ∷ 1 ∷ []
   pub twice : numbers (total (some-figures ∷ some-figures ∷ [])) ≡ 800 ∷ 388 ∷ 412 ∷ 10 ∷ 4 ∷ 0 ∷ []
+  pub no-text : text [] ≡ codes "total asked 0 painted 0 hidden 0 commands 0 fills 0 refused 0\n"
+  pub worked-text : text (worked-bytes ∷ [])
+      ≡ codes "recording 0 asked 126 painted 126 hidden 0 commands 5 fills 1 refused 0\ntotal asked 126 painted 126 hidden 0 commands 5 fills 1 refused 0\n"
+  pub refused-text : text (worked-bytes ∷ (1 ∷ 2 ∷ 3 ∷ []) ∷ [])
+      ≡ codes "recording 0 asked 126 painted 126 hidden 0 commands 5 fills 1 refused 0\nrecording 1 asked 0 painted 0 hidden 0 commands 0 fills 0 refused 1\ntotal asked 126 painted 126 hidden 0 commands 5 fills 1 refused 1\n"

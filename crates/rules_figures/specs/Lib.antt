@@ -1,5 +1,6 @@
 pub mod Figures
 pub mod Recordings
 pub mod RowFigures
+pub mod Lines
 pub mod Accounted
 pub mod Cases

@@ -8,6 +8,8 @@ mod editions;
 #[cfg(test)]
 mod fakes;
 #[cfg(test)]
+mod figures;
+#[cfg(test)]
 mod programs;
 #[cfg(test)]
 mod runs;

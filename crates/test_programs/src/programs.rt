@@ -41,6 +41,7 @@ pub enum Program {
     Why,
     Tilelist,
     Editions,
+    Figures,
 }
 
 /// How a run ended: done, a file refused, a usage with its first line, or a failure of memory, of reading or of writing.
@@ -94,6 +95,7 @@ pub fn run(
         Program::Rowdump => run_rowdump::run(alloc, given.as_slice(), &mut input, &mut output),
         Program::Why => run_why::run(alloc, given.as_slice(), &mut input, &mut output),
         Program::Tilelist => run_tilelist::run(alloc, given.as_slice(), &mut input, &mut output),
+        Program::Figures => run_figures::run(alloc, given.as_slice(), &mut input, &mut output),
         Program::Editions => {
             match run_editions::run(alloc, given.as_slice(), &mut input, &mut output) {
                 Ok(Outcome::Done) => Ok(()),

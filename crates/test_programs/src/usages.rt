@@ -6,7 +6,7 @@ use std::test::*;
 // Usages: nothing is read or written, and the first line says which word is wrong.
 #[test]
 fn a_usage_names_the_word_that_is_wrong(rt: HostRuntime) -> Result<(), Fail> {
-    let cases: [(Program, &[&str], &str); 38] = [
+    let cases: [(Program, &[&str], &str); 42] = [
         (Program::Rowlist, &["--wdith"], "--wdith is no option"),
         (Program::Rowlist, &["--panels"], "--panels is no option"),
         (
@@ -108,6 +108,18 @@ fn a_usage_names_the_word_that_is_wrong(rt: HostRuntime) -> Result<(), Fail> {
             &["--panels", "3"],
             "--panels is no option",
         ),
+        (Program::Figures, &["--panels"], "--panels is no option"),
+        (
+            Program::Figures,
+            &["--width"],
+            "--width wants a number after it",
+        ),
+        (Program::Figures, &["x"], "x is one argument too many"),
+        (
+            Program::Figures,
+            &["--snap", "--help"],
+            "--help stands alone or not at all",
+        ),
         (Program::Editions, &["--snap"], "new or old is missing"),
         (Program::Editions, &["--stream"], "new or old is missing"),
         (
@@ -163,7 +175,7 @@ fn a_usage_names_the_word_that_is_wrong(rt: HostRuntime) -> Result<(), Fail> {
 
 #[test]
 fn help_prints_the_usage_and_reads_nothing(rt: HostRuntime) -> Result<(), Fail> {
-    let programs: [(Program, &[u8]); 5] = [
+    let programs: [(Program, &[u8]); 6] = [
         (
             Program::Editions,
             b"usage: editions [--snap] new|old < FILE > CONVERTED\n       editions [--snap] --stream new|old < STREAM > CONVERTED\n",
@@ -183,6 +195,10 @@ fn help_prints_the_usage_and_reads_nothing(rt: HostRuntime) -> Result<(), Fail> 
         (
             Program::Tilelist,
             b"usage: tilelist [--snap] [--width N] [--edition N] ROW TILE < FILE\n",
+        ),
+        (
+            Program::Figures,
+            b"usage: figures [--snap] [--width N] [--edition N] < STREAM\n",
         ),
     ];
     for (program, line) in programs {
@@ -210,7 +226,7 @@ fn help_prints_the_usage_and_reads_nothing(rt: HostRuntime) -> Result<(), Fail> 
 // Through short writes; where writing fails, a beginning of the line is there.
 #[test]
 fn version_prints_one_line_and_reads_nothing(rt: HostRuntime) -> Result<(), Fail> {
-    let programs: [(Program, &[u8]); 4] = [
+    let programs: [(Program, &[u8]); 5] = [
         (
             Program::Rowlist,
             b"rowlist 0.3.0 rattle-kit-13f dac8208d650f15bf\n",
@@ -223,6 +239,10 @@ fn version_prints_one_line_and_reads_nothing(rt: HostRuntime) -> Result<(), Fail
         (
             Program::Tilelist,
             b"tilelist 0.3.0 rattle-kit-13f dac8208d650f15bf\n",
+        ),
+        (
+            Program::Figures,
+            b"figures 0.3.0 rattle-kit-13f dac8208d650f15bf\n",
         ),
     ];
     let reads = [Fails(ErrorKind::Other)];

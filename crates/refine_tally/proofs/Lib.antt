@@ -1,0 +1,4 @@
+pub mod Rows
+pub mod Screens
+pub mod Recorded
+pub mod Enough

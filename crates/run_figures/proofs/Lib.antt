@@ -1,0 +1,5 @@
+mod Cut
+mod Reading
+mod Counting
+mod Writing
+mod Printing

@@ -1,0 +1,5 @@
+pub mod Counts
+pub mod Rows
+pub mod Parts
+pub mod Recordings
+pub mod Listed

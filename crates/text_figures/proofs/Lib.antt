@@ -1,0 +1,2 @@
+pub mod Long
+pub mod Counted

@@ -1,0 +1,7 @@
+use Rattle.std.proofs.Common.{arith}
+use Rattle.tally.specs.Counts.{figures-of}
+use Rattle.text_figures.proofs.Long.{total-few}
+use Rattle.text_figures.proofs.total_text.Goals as goal
+
+pub print_first-requires-clause-within : goal.print_first-requires-clause-within
+print_first-requires-clause-within c = omega (arith, total-few (figures-of c.args.figures), c.requires)

@@ -1,0 +1,3 @@
+mod Recorded
+mod Listed
+mod Called

@@ -1,0 +1,3 @@
+pub mod Recorded
+pub mod Listed
+pub mod Called

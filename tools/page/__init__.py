@@ -1,0 +1,1 @@
+"""The parts of tools/inspect: the programs and their text, the recordings that are open, the page and its server."""

@@ -39,5 +39,9 @@ compact-words l = (l.screen, all-held l.rows, l.paint_attrs.now, l.layer_attrs.n
 abbrev pub recording-words : RecordingLent → ScreenLent × File
 recording-words l = (whole l.screen l.lent, file_of l.file)
 
-abbrev pub figures-words : FiguresLent → Desk × Listed
-figures-words l = (desk (whole l.screen l.lent) l.table.now, listed_of l.list)
+abbrev pub figures-words : FiguresLent → Listed × ScreenLent × List ℕ
+figures-words l = (listed_of l.list, whole l.screen l.lent, l.table.now)
+
+-- .. and what the call is known to leave
+abbrev pub figures-left : FiguresLent → Desk
+figures-left l = desk l.screen l.table.now

@@ -3,7 +3,7 @@ ghost use Rattle.std.specs.Prelude.{◌≡◌};
 ghost use Rattle.file.specs.Held.{file_of};
 ghost use Rattle.convert.specs.Placed.{placed};
 ghost use Rattle.tile.specs.Listed.{listed-as};
-ghost use Rattle.theorem_once.specs.Lent.{recording-words, figures-words};
+ghost use Rattle.theorem_once.specs.Lent.{recording-words, figures-words, figures-left};
 
 use crate::Twice;
 use convert::{to_edition_one, to_edition_two};
@@ -48,14 +48,14 @@ pub struct FiguresLent<'a> {
     pub table: &'a mut [u64],
 }
 
-/// Two calls of `figures`.
+/// Two calls of `figures`: the answer, the screen and the numbers.
 pub fn figures_twice(
     a: &mut FiguresLent<'_>,
     b: &mut FiguresLent<'_>,
     setup: Setup,
 ) -> Twice<Result<(), Refusal>>
     ensures { figures-words a.old ≡ figures-words b.old
-        → (result.0 ≡ result.1) × (figures-words a.new ≡ figures-words b.new) }
+        → (result.0 ≡ result.1) × (figures-left a.new ≡ figures-left b.new) }
 {
     (
         figures(a.list, &mut a.screen, setup, &mut a.lent, a.table),

@@ -112,6 +112,10 @@ static inline const char *coarse_answer_text(uint32_t answer) {
 #define COARSE_FILTER_PAINT 4 /* a filter fill's paint, as a paint; its shifts are source_x less x0 and source_y less y0, in pixels */
 #define COARSE_PAINTING 2     /* where a row's painting stands: steps done, and the nesting there */
 
+/* How many numbers coarse_figures gives of a recording, and how many recordings it takes at most. */
+#define COARSE_FIGURES 6
+#define COARSE_MOST_RECORDINGS 65536
+
 /* How many there may be: layers open at once, attributes of each kind, paints of filter fills, buckets of a row, and
  * minima above them. */
 #define COARSE_MOST_LAYERS 16
@@ -334,6 +338,19 @@ uint32_t coarse_why(coarse_state *state, uint32_t edition, const uint32_t *file,
  * refused for a later step. Refused, the list and entries stay; done, the words after the entries do. */
 uint32_t coarse_list_tile(uint32_t edition, const uint32_t *file, size_t file_len, uint32_t mode, uint32_t width, uint32_t row, uint32_t tile,
                           uint32_t *list, size_t list_len, size_t *entries);
+
+/* What does the depth stage save? Recordings, all of a coarse_edition, stand one after the other in `words`; ends: where each ends among them, so
+ * that each begins where the one before it ends. Each is bucketed as by coarse_bucket_recording into the first words of each table, as many as
+ * coarse_sizes gives for it, and counted; where a table has fewer it is handed over as it is, and the recording is refused. COARSE_FIGURES numbers a
+ * recording stand at the start of the table, and after them those of all recordings, summed: tiles asked for, every entry of plain draw order at
+ * every tile of the screen; tiles painted, those of all pieces; tiles hidden, the entries that painting leaves out, so that asked is painted and
+ * hidden together; render commands and depth fills that the rows hold; refused recordings. A refused recording is 0 0 0 0 0 1. With no recording the
+ * totals are 0. No number is 2^47 or more. The state is what the last recording leaves; what the tables hold then is not told. The numbers after the
+ * totals stay. Refused, in this order: by 3 for the edition; 2 for a width that is none; 4 for a mode above 1, for a state that is none, for more
+ * than COARSE_MOST_RECORDINGS recordings, and for ends that fall or pass the words; 14 where the table has fewer than COARSE_FIGURES numbers for each
+ * recording and the totals. Refused, nothing changes. */
+uint32_t coarse_figures(coarse_state *state, uint32_t edition, const uint32_t *words, size_t words_len, const size_t *ends, size_t ends_len,
+                        coarse_setup setup, coarse_tables *tables, uint64_t *table, size_t table_len);
 
 /* A recording of edition one as one of edition two, each panel 0: its words at the start of `out`, and how many they are. They say the same
  * recording: the viewport's numbers stand as they are given, whatever the mode, and so do all others. Nothing is bucketed, but every record is

@@ -635,6 +635,128 @@ static void tile_lists(void) {
         expect("each", i < 7 ? entry[i] : 1000 + i, out[i]);
 }
 
+/* The words of samples/worked.rec, then those of two opaque draws over one row of 4 buckets, then a viewport of 3 numbers. */
+static const uint32_t recorded[] = {
+    1, 0, 0, 256, 8, 1, 1, 1, 0, 0, 2, 0, 0, 10, 64, 0, 0, 1, 0, 8, 0, 2, 0, 0, 1, 0, 0, 3, 0, 0, 1, 2, 0, 0, 3, 0, 1, 0, 1, 2, 0, 3, 1056964608,
+    0, 0, 0, 0, 0, 0, 0, 0, 0, 0, 0, 0, 0, 0, 0, 0, 2, 0, 1, 1, 1, 2, 0, 1, 0, 1,
+    1, 0, 0, 512, 4, 1, 1, 1, 0, 0, 1, 0, 0, 0, 128, 0, 2, 0, 0, 1, 0, 0, 3, 0, 0, 0, 1, 0, 0, 3, 0, 0, 1, 0, 2, 0, 1, 0, 1,
+    1, 0, 0, 256};
+enum { WORKED = 69, HIDDEN = WORKED + 39, CUT = HIDDEN + 4, NUMBERS = 6 * 4 + 3 };
+static const coarse_setup roomy = {64, 64, COARSE_EXACT, COARSE_128};
+
+/* The numbers of a list, and after the totals what stood there. */
+static void expect_numbers(const char *what, const uint64_t *want, size_t count, const uint64_t *table) {
+    size_t i;
+    for (i = 0; i < NUMBERS; i++)
+        expect(what, i < count ? (uint32_t)want[i] : 1000 + (uint32_t)i, (uint32_t)table[i]);
+}
+
+static void clear_numbers(uint64_t *table) {
+    size_t i;
+    for (i = 0; i < NUMBERS; i++)
+        table[i] = 1000 + i;
+}
+
+/* Recordings counted: six numbers each, then those of all. */
+static void figures(void) {
+    static const uint64_t three[] = {126, 126, 0, 5, 1, 0, 256, 128, 128, 0, 2, 0, 0, 0, 0, 0, 0, 1, 382, 254, 128, 5, 3, 1};
+    static const uint64_t short_of_one[] = {126, 126, 0, 5, 1, 0, 0, 0, 0, 0, 0, 1, 126, 126, 0, 5, 1, 1};
+    static const uint64_t short_of_both[] = {0, 0, 0, 0, 0, 1, 0, 0, 0, 0, 0, 1, 0, 0, 0, 0, 0, 2};
+    static const uint64_t none[6] = {0, 0, 0, 0, 0, 0};
+    const size_t ends[] = {WORKED, HIDDEN, CUT};
+    coarse_bucketer b;
+    coarse_state state;
+    coarse_tables short_tables;
+    uint32_t wide[HIDDEN];
+    uint64_t table[NUMBERS];
+    expect("a screen that has the words for either", COARSE_DONE, coarse_bucketer_new(&b, (coarse_rect){0, 0, 512, 8}, roomy));
+    expect("a fill, so that its words are not all 0", COARSE_DONE, coarse_bucketer_generate_fill(&b, paints, 2, segments, 1, &(coarse_draw){.end = 1, .blend = {0, 3}}));
+    state = b.state;
+    clear_numbers(table);
+    expect("none, with no room to point to", COARSE_DONE, coarse_figures(&state, COARSE_EDITION_ONE, NULL, 0, NULL, 0, roomy, &b.tables, table, NUMBERS));
+    expect_numbers("of none", none, 6, table);
+    expect("of none the state stays", 0, (uint32_t)memcmp(&state, &b.state, sizeof state) != 0);
+    clear_numbers(table);
+    expect("three recordings", COARSE_DONE, coarse_figures(&state, COARSE_EDITION_ONE, recorded, CUT, ends, 3, roomy, &b.tables, table, NUMBERS));
+    expect_numbers("of three", three, 24, table);
+    expect("the last that had a screen left it", 512, state.viewport.x1);
+    expect("of its own height", 4, state.viewport.y1);
+    clear_numbers(table);
+    expect("exactly room for one", COARSE_DONE, coarse_figures(&state, COARSE_EDITION_ONE, recorded, WORKED, ends, 1, roomy, &b.tables, table, 12));
+    expect("twice the same six", 126, (uint32_t)table[6]);
+    expect("no more than that", 1012, (uint32_t)table[12]);
+    expect("it left its screen", 256, state.viewport.x1);
+    short_tables = b.tables;
+    short_tables.minima_len = 6;
+    clear_numbers(table);
+    expect("6 minima, and the second recording has 7", COARSE_DONE,
+           coarse_figures(&state, COARSE_EDITION_ONE, recorded, HIDDEN, ends, 2, roomy, &short_tables, table, NUMBERS));
+    expect_numbers("the second is refused", short_of_one, 18, table);
+    expect("the first left its screen", 256, state.viewport.x1);
+    short_tables.layers_len = COARSE_LAYERS - 1;
+    clear_numbers(table);
+    expect("a word too few for open layers", COARSE_DONE,
+           coarse_figures(&state, COARSE_EDITION_ONE, recorded, HIDDEN, ends, 2, roomy, &short_tables, table, NUMBERS));
+    expect_numbers("each is refused", short_of_both, 18, table);
+    coarse_bucketer_free(&b);
+    memcpy(wide, recorded, HIDDEN * sizeof *wide);
+    wide[WORKED + 4] = 12;
+    expect("a screen that has the words for the first alone", COARSE_DONE, coarse_bucketer_new(&b, (coarse_rect){0, 0, 256, 8}, roomy));
+    clear_numbers(table);
+    expect("the second has more rows and more buckets", COARSE_DONE,
+           coarse_figures(&b.state, COARSE_EDITION_ONE, wide, HIDDEN, ends, 2, roomy, &b.tables, table, NUMBERS));
+    expect_numbers("the first's rows, which stand, are not counted for it", short_of_one, 18, table);
+    coarse_bucketer_free(&b);
+}
+
+/* A list that is refused: nothing of what it is lent changes, and which number comes first. */
+static void refused_figures(void) {
+    const size_t ends[] = {WORKED, HIDDEN, CUT}, falling[] = {HIDDEN, WORKED, CUT}, past[] = {WORKED, HIDDEN, CUT + 1}, far[] = {SIZE_MAX};
+    const coarse_setup no_mode = {64, 64, 2, COARSE_128}, neither = {64, 64, 2, 100};
+    size_t *many = calloc(COARSE_MOST_RECORDINGS + 1, sizeof *many);
+    uint64_t *long_table = calloc(COARSE_FIGURES * (COARSE_MOST_RECORDINGS + 2), sizeof *long_table), table[NUMBERS];
+    uint32_t *words;
+    coarse_bucketer b;
+    coarse_state state;
+    size_t i, n;
+    expect("a screen", COARSE_DONE, coarse_bucketer_new(&b, (coarse_rect){0, 0, 512, 8}, roomy));
+    n = (size_t)(b.tables.filter_paints - (int32_t *)b.block) + b.tables.filter_paints_len;
+    words = calloc(n, sizeof *words);
+    if (!many || !long_table || !words)
+        exit(1);
+    for (i = 0; i < n; i++)
+        ((uint32_t *)b.block)[i] = (uint32_t)i;
+    memcpy(words, b.block, n * sizeof *words);
+    clear_numbers(table);
+#define FIGURES(edition, words_len, ends, n, setup, room) coarse_figures(&b.state, edition, recorded, words_len, ends, n, setup, &b.tables, table, room)
+    state = b.state;
+    expect("no edition before no width", COARSE_BAD_FORM, FIGURES(3, CUT, falling, 3, neither, 0));
+    expect("no width before no mode", COARSE_BAD_VIEWPORT, FIGURES(COARSE_EDITION_ONE, CUT, falling, 3, neither, 0));
+    expect("no mode before no room", COARSE_BAD_RECORD, FIGURES(COARSE_EDITION_ONE, CUT, ends, 3, no_mode, 0));
+    expect("an end that falls", COARSE_BAD_RECORD, FIGURES(COARSE_EDITION_ONE, CUT, falling, 3, roomy, NUMBERS));
+    expect("an end that falls before no room", COARSE_BAD_RECORD, FIGURES(COARSE_EDITION_ONE, CUT, falling, 3, roomy, 0));
+    expect("an end past the words", COARSE_BAD_RECORD, FIGURES(COARSE_EDITION_ONE, CUT, past, 3, roomy, NUMBERS));
+    expect("the last of all numbers", COARSE_BAD_RECORD, FIGURES(COARSE_EDITION_ONE, CUT, far, 1, roomy, NUMBERS));
+    expect("a number too few", COARSE_NO_ROOM, FIGURES(COARSE_EDITION_ONE, CUT, ends, 3, roomy, 23));
+    expect("no room for the totals of none", COARSE_NO_ROOM, FIGURES(COARSE_EDITION_ONE, CUT, ends, 0, roomy, 5));
+    expect("too many", COARSE_BAD_RECORD,
+           coarse_figures(&b.state, COARSE_EDITION_ONE, NULL, 0, many, COARSE_MOST_RECORDINGS + 1, roomy, &b.tables, long_table, COARSE_FIGURES * (COARSE_MOST_RECORDINGS + 2)));
+    expect("the state stays", 0, (uint32_t)memcmp(&state, &b.state, sizeof state) != 0);
+    b.state.painting = state.painting = 2;
+    expect("a state that is none before no room", COARSE_BAD_RECORD, FIGURES(COARSE_EDITION_ONE, CUT, ends, 3, roomy, 0));
+    expect("that state stays too", 0, (uint32_t)memcmp(&state, &b.state, sizeof state) != 0);
+    expect("every word stays", 0, (uint32_t)memcmp(words, b.block, n * sizeof *words) != 0);
+    expect_numbers("every number stays", NULL, 0, table);
+    for (i = 0; i < COARSE_FIGURES * (COARSE_MOST_RECORDINGS + 2); i++)
+        expect("the long table stays", 0, (uint32_t)long_table[i]);
+    b.state.painting = 0;
+    expect("as many as there may be", COARSE_DONE,
+           coarse_figures(&b.state, COARSE_EDITION_ONE, NULL, 0, many, COARSE_MOST_RECORDINGS, roomy, &b.tables, long_table, COARSE_FIGURES * (COARSE_MOST_RECORDINGS + 2)));
+    expect("each is refused", COARSE_MOST_RECORDINGS, (uint32_t)long_table[COARSE_FIGURES * COARSE_MOST_RECORDINGS + 5]);
+    coarse_bucketer_free(&b);
+    free(many), free(long_table), free(words);
+}
+
 /* A row of 20 pieces on 2 buckets, which are more than a list holds at first: a depth fill over bucket 0, the fill below it, which shows in bucket 1
  * alone, and 18 fills above it. So many of its steps are painted already. */
 static void row_of_20(coarse_bucketer *b, int steps) {
@@ -1428,6 +1550,8 @@ int main(void) {
     editions();
     conversions();
     tile_lists();
+    figures();
+    refused_figures();
     stored_commands();
     compacted_rows();
     all_attributes();

@@ -17,7 +17,7 @@
 enum { RENDER_CMDS, DEPTH_CMDS, DEPTH, ROWS, PAINTING, LAYERS, OPACITIES, PAINT_ATTRS, LAYER_ATTRS, FILTER_PAINTS, MINIMA, TABLES, STATE = TABLES, LIST, PARTS };
 enum { SCREEN = (1 << (STATE + 1)) - 1, RESULTS = 1 << PARTS, LISTED = 1 << LIST | RESULTS };
 enum { LIST_WORDS = 512, ROOM = 1 << 17, BETWEEN = 3, MOST_SEGMENTS = 24, MOST_DRAWS = 6,
-       FILES = 32, FILE_WORDS = 4096, STATE_WORDS = sizeof(coarse_state) / sizeof(uint32_t) };
+       MOST_FILES = 4, FILES = 32, FILE_WORDS = 4096, STATE_WORDS = sizeof(coarse_state) / sizeof(uint32_t) };
 #define GUARD 0x5eed5eedu
 
 /* Everything that is lent stands in one block, guard words before and after each part; the structs that lend it, and results, beside it. */
@@ -37,6 +37,7 @@ static struct results {
     coarse_row_progress told;
     size_t count;
     uint32_t yes;
+    uint64_t figures[COARSE_FIGURES * (MOST_FILES + 1)];
 } results, held_results;
 
 static uint32_t segments[MOST_SEGMENTS * COARSE_SEGMENT];
@@ -237,6 +238,16 @@ static uint32_t call_why(void) {
     return coarse_why(SCREEN_STATE, edition, file, words, setup, &question, &lent.tables, &results.reason);
 }
 
+/* The recording between recordings of no words; at times one ends anywhere. */
+static uint32_t call_figures(void) {
+    size_t ends[MOST_FILES], n = below(MOST_FILES + 1), before = below((uint32_t)n + 1), k;
+    for (k = 0; k < n; k++)
+        ends[k] = k < before ? 0 : words;
+    if (n > 0 && odd(10))
+        ends[below((uint32_t)n)] = about((uint32_t)words);
+    return coarse_figures(SCREEN_STATE, edition, file, words, ends, n, setup, &lent.tables, results.figures, COARSE_FIGURES * (n + 1) - odd(10));
+}
+
 static uint32_t call_tile_list(void) {
     return coarse_list_tile(edition, file, words, setup.mode, setup.width, about(6), about(200), LENT(LIST), &results.count);
 }
@@ -395,6 +406,7 @@ static struct {
     {"coarse_reset", ready_reset, call_reset, SCREEN, 6, 0, 0},
     {"coarse_bucket_recording", ready_file, call_recording, SCREEN, 3, 0, 0},
     {"coarse_why", ready_file, call_why, SCREEN | RESULTS, 3, 0, 0},
+    {"coarse_figures", ready_file, call_figures, SCREEN | RESULTS, 3, 0, 0},
     {"coarse_list_tile", ready_words, call_tile_list, LISTED, 6, 0, 0},
     {"coarse_to_edition_two", ready_words, call_to_two, LISTED, 3, 0, 0},
     {"coarse_to_edition_one", ready_words, call_to_one, LISTED, 3, 0, 0},

@@ -42,6 +42,16 @@ pub(crate) fn sizes(viewport: Rect, setup: Setup) -> Result<sys::Lengths, Answer
     Ok(sizes)
 }
 
+/// A recording's viewport: it stands after its count, and in edition two after two words more.
+pub(crate) fn viewport_of(edition: Edition, file: &[u32]) -> Option<Rect> {
+    match (edition, file) {
+        (Edition::One, [_, x0, y0, x1, y1, ..]) | (Edition::Two, [_, _, _, x0, y0, x1, y1, ..]) => {
+            Some(Rect::new(*x0, *y0, *x1, *y1))
+        }
+        _ => None,
+    }
+}
+
 /// Rule 7: the parts of an opaque span, the tiles `first` to `end` of a row of the screen, over buckets of a width, from left to right: a regular
 /// piece, whole buckets, a regular piece, without those that are empty.
 ///
@@ -100,7 +110,7 @@ pub(crate) struct Tables {
 
 impl Tables {
     /// The same tables, as they cross.
-    fn lent(&mut self) -> (sys::TableWords, sys::StoredWords, sys::CanvasWords) {
+    pub(crate) fn lent(&mut self) -> (sys::TableWords, sys::StoredWords, sys::CanvasWords) {
         let lent = sys::TableWords {
             render_cmds: sys::Lent::of(&mut self.render_cmds),
             depth_cmds: sys::Lent::of(&mut self.depth_cmds),
@@ -129,7 +139,7 @@ impl Tables {
         (lent, stored, canvas)
     }
 
-    fn new(sizes: sys::Lengths) -> Self {
+    pub(crate) fn new(sizes: sys::Lengths) -> Self {
         Self {
             render_cmds: vec![0; sizes.render_cmds],
             depth_cmds: vec![0; sizes.depth_cmds],
@@ -342,12 +352,7 @@ impl CommandBucketer {
         file: &[u32],
         call: impl FnOnce(&mut sys::StateWords, Setup, &mut sys::TableWords) -> Result<T, Answer>,
     ) -> Result<T, Answer> {
-        // The viewport stands after its count, and in edition two after two words more.
-        let viewport = match (edition, file) {
-            (Edition::One, [_, x0, y0, x1, y1, ..])
-            | (Edition::Two, [_, _, _, x0, y0, x1, y1, ..]) => Rect::new(*x0, *y0, *x1, *y1),
-            _ => return Err(Answer::BadForm),
-        };
+        let viewport = viewport_of(edition, file).ok_or(Answer::BadForm)?;
         match sizes(viewport, self.setup) {
             Ok(sizes) if sizes != self.tables.lens() => {
                 let mut tables = Tables::new(sizes);

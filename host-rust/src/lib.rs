@@ -70,6 +70,7 @@ mod answer;
 mod bucketer;
 mod canvas;
 mod editions;
+mod figures;
 mod fills;
 mod input;
 mod reason;
@@ -83,6 +84,7 @@ pub use answer::{Answer, Stopped};
 pub use bucketer::{split_opaque_span, CommandBucketer};
 pub use canvas::{Canvas, Piece, Runs};
 pub use editions::{to_edition_one, to_edition_two};
+pub use figures::{figures, Figures, ListFigures};
 pub use fills::FillList;
 pub use input::{
     BlendMode, Edition, FilterLayerPlacement, LayerClip, LayerProps, Mode, Paint, RecordedFill,

@@ -112,6 +112,25 @@ pub struct Lengths {
     pub minima: usize,
 }
 
+impl Lengths {
+    /// Of each table the greater of two lengths.
+    pub fn or_more(self, other: Self) -> Self {
+        Self {
+            render_cmds: self.render_cmds.max(other.render_cmds),
+            depth_cmds: self.depth_cmds.max(other.depth_cmds),
+            depth: self.depth.max(other.depth),
+            rows: self.rows.max(other.rows),
+            painting: self.painting.max(other.painting),
+            layers: self.layers.max(other.layers),
+            opacities: self.opacities.max(other.opacities),
+            paint_attrs: self.paint_attrs.max(other.paint_attrs),
+            layer_attrs: self.layer_attrs.max(other.layer_attrs),
+            filter_paints: self.filter_paints.max(other.filter_paints),
+            minima: self.minima.max(other.minima),
+        }
+    }
+}
+
 /// The eleven tables, as they cross: a pointer and a length each.
 #[repr(C)]
 #[derive(Clone, Copy, Debug)]
@@ -373,6 +392,19 @@ extern "C" {
         list: *mut u32,
         list_len: usize,
         entries: *mut usize,
+    ) -> u32;
+
+    pub fn coarse_figures(
+        state: *mut StateWords,
+        edition: u32,
+        words: *const u32,
+        words_len: usize,
+        ends: *const usize,
+        ends_len: usize,
+        setup: SetupWords,
+        tables: *mut TableWords,
+        table: *mut u64,
+        table_len: usize,
     ) -> u32;
 
     pub fn coarse_to_edition_two(

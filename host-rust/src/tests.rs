@@ -1,5 +1,8 @@
 use super::*;
-use crate::bucketer::{sizes, FILTER_PAINT, LAYER_ATTR, MOST_LAYERS, OPEN_LAYER, PAINT_ATTR};
+use crate::bucketer::{
+    sizes, Tables, FILTER_PAINT, LAYER_ATTR, MOST_LAYERS, OPEN_LAYER, PAINT_ATTR,
+};
+use crate::figures::{FIGURES, MOST_RECORDINGS};
 use crate::tile_list::MOST_ATTRS;
 
 const SOLID: BlendMode = BlendMode { mix: 0, compose: 3 };
@@ -108,6 +111,8 @@ fn sizes_by_name() {
         ("MOST_LAYERS", MOST_LAYERS),
         ("MOST_ATTRS", MOST_ATTRS),
         ("LAST_PANEL", LAST_PANEL as usize),
+        ("FIGURES", FIGURES),
+        ("MOST_RECORDINGS", MOST_RECORDINGS),
     ] {
         let line = ["#define", &format!("COARSE_{name}"), &number.to_string()];
         let same = |text: &str| text.split_whitespace().take(3).eq(line);
@@ -282,6 +287,176 @@ fn a_list_without_rows() {
         }][..])
     );
     assert_eq!(hidden(1025), Err(Answer::FullAttrs));
+}
+
+/// Nothing is hidden in the worked example. Beside it a recording that is cut, and one whose viewport is no screen's: each is refused, and counts as that alone.
+#[test]
+fn figures_of_a_list() {
+    let worked = words(include_bytes!("../../samples/worked.rec"));
+    let mut flat = worked.clone();
+    flat[3] = 255;
+    let own = Figures {
+        asked: 126,
+        painted: 126,
+        commands: 5,
+        fills: 1,
+        ..Figures::default()
+    };
+    let refused = Figures {
+        refused: 1,
+        ..Figures::default()
+    };
+    let files = [&worked[..], &worked[1..], &flat, &[], &worked];
+    let list = figures(Edition::One, files, Setup::new(64, 64)).unwrap();
+    assert_eq!(list.each, [own, refused, refused, refused, own]);
+    let total = Figures {
+        asked: 252,
+        painted: 252,
+        hidden: 0,
+        commands: 10,
+        fills: 2,
+        refused: 3,
+    };
+    assert_eq!(list.total, total);
+    assert_eq!(
+        figures(Edition::One, files, Setup::snapping(64, 64))
+            .unwrap()
+            .each,
+        [own, refused, own, refused, own]
+    );
+    // Of edition two there is no such recording, and a row has no room for one command of none.
+    for (edition, setup) in [
+        (Edition::Two, Setup::new(64, 64)),
+        (Edition::One, Setup::new(0, 64)),
+    ] {
+        assert_eq!(figures(edition, files, setup).unwrap().each, [refused; 5]);
+    }
+}
+
+#[test]
+fn figures_of_none_and_of_too_many() {
+    let setup = Setup::new(64, 64);
+    assert_eq!(figures(Edition::One, [], setup), Ok(ListFigures::default()));
+    let empty = |count| figures(Edition::One, core::iter::repeat_n(&[][..], count), setup);
+    let most = empty(MOST_RECORDINGS).unwrap();
+    assert_eq!(most.each.len(), MOST_RECORDINGS);
+    assert_eq!(most.total.refused, 65_536);
+    assert_eq!(empty(MOST_RECORDINGS + 1), Err(Answer::BadRecord));
+}
+
+/// Of each sample, at each width: tiles painted are those of its rows' pieces, commands and depth fills those that its rows hold, and what is asked for is
+/// painted or hidden.
+#[test]
+fn figures_are_what_rows_hold_and_paint() {
+    let folder = concat!(env!("CARGO_MANIFEST_DIR"), "/../samples");
+    let mut files = Vec::new();
+    for entry in std::fs::read_dir(folder).unwrap() {
+        let path = entry.unwrap().path();
+        if path.extension() == Some("rec".as_ref()) {
+            files.push(words(&std::fs::read(&path).unwrap()));
+        }
+    }
+    let mut hidden = 0;
+    for width in [Width::W64, Width::W128, Width::W256] {
+        let setup = Setup {
+            width,
+            ..Setup::new(64, 64)
+        };
+        let list = figures(Edition::One, files.iter().map(Vec::as_slice), setup).unwrap();
+        let mut total = Figures::default();
+        for (file, &told) in files.iter().zip(&list.each) {
+            let mut bucketer = CommandBucketer::from_wh(4, 4, setup).unwrap();
+            let mut own = Figures::default();
+            if bucketer.bucket_commands(Edition::One, file).is_err() {
+                own.refused = 1;
+            } else {
+                for row in bucketer.rows() {
+                    own.commands += row.render_cmds().len() as u64;
+                    own.fills += row.depth_cmds().len() as u64;
+                }
+                bucketer.begin_painting().unwrap();
+                for row in 0..bucketer.rows().len() {
+                    let pieces = painted(&mut bucketer, row);
+                    own.painted += pieces
+                        .iter()
+                        .map(|piece| u64::from(piece.end - piece.first))
+                        .sum::<u64>();
+                }
+                own.hidden = told.hidden;
+                own.asked = own.painted + own.hidden;
+            }
+            assert_eq!(told, own);
+            total = Figures {
+                asked: total.asked + own.asked,
+                painted: total.painted + own.painted,
+                hidden: total.hidden + own.hidden,
+                commands: total.commands + own.commands,
+                fills: total.fills + own.fills,
+                refused: total.refused + own.refused,
+            };
+        }
+        assert_eq!(list.total, total);
+        hidden += total.hidden;
+    }
+    assert!(hidden > 0);
+}
+
+/// The call itself: what is refused changes nothing, 4 for the ends before 14 for the table; with tables that are short the recording is refused, not the list.
+#[test]
+fn refused_figures_change_nothing() {
+    let file = words(include_bytes!("../../samples/worked.rec"));
+    let setup = Setup::new(64, 64);
+    let room = sizes(Rect::new(0, 0, 256, 8), setup).unwrap();
+    let counted = |ends: &[usize], numbers: usize, room: sys::Lengths| {
+        let mut tables = Tables::new(room);
+        tables.rows.fill(7);
+        let mut state = sys::StateWords::default();
+        let mut table = [9; 20];
+        let number = unsafe {
+            sys::coarse_figures(
+                &mut state,
+                1,
+                file.as_ptr(),
+                file.len(),
+                ends.as_ptr(),
+                ends.len(),
+                setup.into(),
+                &mut tables.lent().0,
+                table.as_mut_ptr(),
+                numbers,
+            )
+        };
+        let untouched = state == sys::StateWords::default()
+            && table == [9; 20]
+            && tables.rows.iter().all(|&word| word == 7);
+        (number, untouched, table)
+    };
+    let end = file.len();
+    for (ends, numbers, number) in [
+        (&[end, end - 1][..], 20, 4),
+        (&[end, end - 1], 0, 4),
+        (&[end + 1], 20, 4),
+        (&[usize::MAX], 0, 4),
+        (&[end], 11, 14),
+        (&[end], 0, 14),
+        (&[], 5, 14),
+    ] {
+        let (told, untouched, _) = counted(ends, numbers, room);
+        assert_eq!((told, untouched), (number, true), "{ends:?} {numbers}");
+    }
+    let (told, untouched, table) = counted(&[0, end], 20, room);
+    assert_eq!((told, untouched), (0, false));
+    assert_eq!(table[..6], [0, 0, 0, 0, 0, 1]);
+    assert_eq!(table[6..12], [126, 126, 0, 5, 1, 0]);
+    assert_eq!(table[12..], [126, 126, 0, 5, 1, 1, 9, 9]);
+    let short = sys::Lengths {
+        minima: room.minima - 1,
+        ..room
+    };
+    assert_eq!(
+        counted(&[end], 12, short).2[..12],
+        [0, 0, 0, 0, 0, 1].repeat(2)
+    );
 }
 
 /// The second of two opaque draws over one row hides the first. A draw of edition one has panel 0.

@@ -12,7 +12,7 @@ use Rattle.paint.specs.Painting.{attrs-at}
 use Rattle.paint.specs.Stepping.{Attributes}
 use Rattle.paint.proofs.Kept.{Refused}
 use Rattle.compact.specs.Row.{or-forged, compact-words}
-use Rattle.compact.specs.Call.{compact_number, Stored, stored, closed-in, row-compacted, ended, compacting}
+use Rattle.compact.specs.Call.{compact_number, stored, closed-in, row-compacted, ended, compacting}
 use Rattle.compact.proofs.Call.{compact-kept}
 use Rattle.host.specs.State.{screen-words, screen_of, before_4, refused_at, at_held}
 use Rattle.host.specs.Compacted.{compact-left, compact_call}

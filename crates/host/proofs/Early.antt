@@ -59,7 +59,7 @@ use Rattle.paint.proofs.Kept.{on-done, gone-on}
 use Rattle.paint.proofs.ScreenParts.{part_length, write_within}
 
 -- a number that is 0 or past 3 gives way to the border's 4
-late-4 : (n : ℕ) → Late n → before_4 n ≡ BadRecord
+pub late-4 : (n : ℕ) → Late n → before_4 n ≡ BadRecord
 unfolding before_4
 late-4 n h = by (eqb n Done) (λ y. rw (eqb-true n Done y)) (λ z. rw (le-ltb n BadRecord (h z)) (both-off (ltb 0 n)))
   where

@@ -20,3 +20,4 @@ pub mod Conversions
 pub mod FillLists
 pub mod TileLists
 pub mod Compacted
+pub mod Figured

@@ -16,3 +16,4 @@ pub mod Editions
 pub mod FillLists
 pub mod TileList
 pub mod Compacted
+pub mod Figured

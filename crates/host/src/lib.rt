@@ -7,6 +7,7 @@ mod border;
 pub mod build;
 pub mod compacting;
 pub mod editions;
+pub mod figures;
 pub mod layer;
 pub mod lengths;
 pub mod list;

@@ -32,7 +32,9 @@ use Rattle.paint.specs.DirectRuns.{unset-of, visible-of, write-of, hidden-of-row
 use Rattle.paint.specs.StoredCmds.{lengths-of-row, command-of-row, depth-of-row, progress-of-row}
 use Rattle.host.specs.declared.state.SetupWords.{SetupWords}
 use Rattle.compact.specs.Call.{stored, compacting}
+use Rattle.tally.specs.Listed.{figured}
 use Rattle.host.specs.Compacted.{compact_call}
+use Rattle.host.specs.Figured.{listed-in, figures_call}
 use Rattle.host.specs.Asked.{FileWords}
 use Rattle.host.specs.State.{screen-at, before_4}
 use Rattle.host.specs.Reasons.{asked, why_call}
@@ -62,6 +64,11 @@ WhyKeeps =
     (f : FileWords) (file : File) (w : SetupWords) (q : Setup) (row tile layer attribute : ℕ) (st : List ℕ) (t : Tables) (res : List ℕ)
     → Says f file → Asks w q
     → Keeps st (explained file q row tile (asked layer attribute) (screen_lent (screen-at st) t)).number (why_call f w row tile layer attribute st t res).number
+
+abbrev pub FiguresKeeps : Type 0
+FiguresKeeps =
+    (f : FileWords) (file : File) (es : List ℕ) (w : SetupWords) (q : Setup) (st : List ℕ) (t : Tables) (ns : List ℕ) → Says f file → Asks w q
+    → Keeps st (figured (listed-in file es) q (screen_lent (screen-at st) t) ns).number (figures_call f es w st t ns).number
 
 abbrev pub FillKeeps : Type 0
 FillKeeps =

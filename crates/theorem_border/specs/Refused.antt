@@ -21,6 +21,7 @@ use Rattle.host.specs.Sizes.{size_call}
 use Rattle.host.specs.Compacted.{compact_call}
 use Rattle.host.specs.Reasons.{why_call}
 use Rattle.host.specs.TileList.{tile_list_call}
+use Rattle.host.specs.Figured.{figures_call}
 use Rattle.host.specs.Building.{reset_call, fill_call, push_call, pop_call, filter_call}
 use Rattle.host.specs.Painting.{begin_call, step_call, row_call, unset_call, visible_call, write_call, hidden_call, skip_call, split_call}
 use Rattle.host.specs.Spans.{spans_call}
@@ -128,6 +129,12 @@ abbrev pub ListTileRefused : Type 0
 ListTileRefused =
     (f : FileWords) (mode width row tile : ℕ) (list n : List ℕ) → Refused (tile_list_call f mode width row tile list n)
     → (tile_list_call f mode width row tile list n).value ≡ (list, n)
+
+-- state and numbers; that every word of the tables stays is a clause of the call
+abbrev pub FiguresRefused : Type 0
+FiguresRefused =
+    (f : FileWords) (es : List ℕ) (w : SetupWords) (st : List ℕ) (t : Tables) (ns : List ℕ) → Refused (figures_call f es w st t ns)
+    → (figures_call f es w st t ns).value ≡ (st, ns)
 
 -- the list and the result word
 abbrev pub ToTwoRefused : Type 0

@@ -6,8 +6,8 @@ ghost use Rattle.std.specs.Prelude.{List};
 ghost use Rattle.rules.specs.Plans.{Frame, Step};
 ghost use Rattle.theorem_border.specs.Hosted.{AloneHosted, Host, Hosted};
 ghost use Rattle.theorem_border.specs.Border.{Picture, Clear, Finishes, RecordingAccepted, RecordingRefused, RecordingEarly, ResetAsks};
-ghost use Rattle.theorem_border.specs.Refused.{BeginRefused, CompactRefused, FillRefused, FilterRefused, PopRefused, PushRefused, ResetRefused, RowRefused, LengthsRefused, CmdRefused, DepthRefused, ProgressRefused, SizesRefused, SkipRefused, SpansRefused, SplitRefused, StepRefused, UnsetRefused, VisibleRefused, WhyRefused, WriteRefused, HiddenRefused, ListTileRefused, ToTwoRefused, ToOneRefused};
-ghost use Rattle.theorem_border.specs.Numbers.{BeginKeeps, CompactKeeps, FillKeeps, FilterKeeps, PopKeeps, PushKeeps, RecordingKeeps, ResetKeeps, RowKeeps, SkipKeeps, SpansKeeps, StepKeeps, UnsetKeeps, VisibleKeeps, WhyKeeps, WriteKeeps, HiddenKeeps, LengthsKeeps, CmdKeeps, DepthKeeps, ProgressKeeps};
+ghost use Rattle.theorem_border.specs.Refused.{BeginRefused, CompactRefused, FillRefused, FilterRefused, PopRefused, PushRefused, ResetRefused, RowRefused, LengthsRefused, CmdRefused, DepthRefused, ProgressRefused, SizesRefused, SkipRefused, SpansRefused, SplitRefused, StepRefused, UnsetRefused, VisibleRefused, WhyRefused, WriteRefused, HiddenRefused, ListTileRefused, FiguresRefused, ToTwoRefused, ToOneRefused};
+ghost use Rattle.theorem_border.specs.Numbers.{BeginKeeps, CompactKeeps, FillKeeps, FilterKeeps, PopKeeps, PushKeeps, RecordingKeeps, ResetKeeps, RowKeeps, SkipKeeps, SpansKeeps, StepKeeps, UnsetKeeps, VisibleKeeps, WhyKeeps, FiguresKeeps, WriteKeeps, HiddenKeeps, LengthsKeeps, CmdKeeps, DepthKeeps, ProgressKeeps};
 ghost use Rattle.theorem_border.specs.Summed.{HostedSummed, HostedHidden};
 ghost use Rattle.theorem_border.specs.Words.{ScreenReadBack, SizesFit, WordsWrittenBack};
 ghost use Rattle.theorem_border.specs.FillLists.{FillsHosted};
@@ -92,6 +92,7 @@ pub fn refusals_at_border()
     ensures sizes { SizesRefused }
     ensures why { WhyRefused }
     ensures list_tile { ListTileRefused }
+    ensures figures { FiguresRefused }
     ensures to_edition_two { ToTwoRefused }
     ensures to_edition_one { ToOneRefused }
 {}
@@ -101,6 +102,7 @@ pub fn numbers_at_border()
     ensures reset { ResetKeeps }
     ensures bucket_recording { RecordingKeeps }
     ensures why { WhyKeeps }
+    ensures figures { FiguresKeeps }
     ensures fill { FillKeeps }
     ensures push_layer { PushKeeps }
     ensures pop_layer { PopKeeps }

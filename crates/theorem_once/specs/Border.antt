@@ -15,6 +15,7 @@ use Rattle.host.specs.Held.{words_in, painted_in, reason_in, one}
 use Rattle.host.specs.Lent.{rows_in, pop_in}
 use Rattle.host.specs.Called.{canvas_out, write_out}
 use Rattle.theorem_once.specs.declared.border.building.RecordingHost.{RecordingHost}
+use Rattle.theorem_once.specs.declared.border.building.FiguresHost.{FiguresHost}
 use Rattle.theorem_once.specs.declared.border.building.WhyHost.{WhyHost}
 use Rattle.theorem_once.specs.declared.border.building.TileListHost.{TileListHost}
 use Rattle.theorem_once.specs.declared.border.building.FillHost.{FillHost}
@@ -29,6 +30,14 @@ screen-words w t = (words_in w, tables_in t)
 
 abbrev pub recording-words : RecordingHost → FileWords × List ℕ × Tables
 recording-words h = (told h.edition h.file.now, words_in h.state, tables_in h.tables)
+
+-- a list of recordings: their edition and words, where each ends, and the numbers
+abbrev pub figures-words : FiguresHost → FileWords × List ℕ × List ℕ × Tables × List ℕ
+figures-words h = (told h.edition h.words.now, h.ends.now, words_in h.state, tables_in h.tables, h.table.now)
+
+-- .. and what the call is known to leave
+abbrev pub figures-left : FiguresHost → List ℕ × List ℕ
+figures-left h = (words_in h.state, h.table.now)
 
 -- a conversion: the file, the list, and how many words are written
 abbrev pub conversion-words : List ℕ → List ℕ → ℕ → List ℕ × List ℕ × List ℕ

@@ -13,7 +13,9 @@ use Rattle.theorem_once.specs.declared.building.PushLent.{PushLent}
 use Rattle.theorem_once.specs.declared.building.PopLent.{PopLent}
 use Rattle.theorem_once.specs.declared.building.FilterLent.{FilterLent}
 use Rattle.theorem_once.specs.declared.building.CompactLent.{CompactLent}
+use Rattle.tally.specs.Listed.{Listed, listed_of, Desk, desk}
 use Rattle.theorem_once.specs.declared.recordings.RecordingLent.{RecordingLent}
+use Rattle.theorem_once.specs.declared.recordings.FiguresLent.{FiguresLent}
 
 abbrev pub fill-words : FillLent → Screen × Words × List ℕ × List ℕ × List ℕ
 fill-words l = (l.screen, all-held l.rows, l.paint_attrs.now, l.paints.now, l.segments.now)
@@ -36,3 +38,10 @@ compact-words l = (l.screen, all-held l.rows, l.paint_attrs.now, l.layer_attrs.n
 
 abbrev pub recording-words : RecordingLent → ScreenLent × File
 recording-words l = (whole l.screen l.lent, file_of l.file)
+
+abbrev pub figures-words : FiguresLent → Listed × ScreenLent × List ℕ
+figures-words l = (listed_of l.list, whole l.screen l.lent, l.table.now)
+
+-- .. and what the call is known to leave
+abbrev pub figures-left : FiguresLent → Desk
+figures-left l = desk l.screen l.table.now

@@ -1,9 +1,9 @@
-//! A recording, `why`, a tile's list, and the conversions of a recording's file.
+//! A recording, a list of recordings, `why`, a tile's list, and the conversions of a recording's file.
 ghost use Rattle.std.specs.Prelude.{◌≡◌};
 ghost use Rattle.file.specs.Held.{file_of};
 ghost use Rattle.convert.specs.Placed.{placed};
 ghost use Rattle.tile.specs.Listed.{listed-as};
-ghost use Rattle.theorem_once.specs.Lent.{recording-words};
+ghost use Rattle.theorem_once.specs.Lent.{recording-words, figures-words, figures-left};
 
 use crate::Twice;
 use convert::{to_edition_one, to_edition_two};
@@ -12,6 +12,7 @@ use rect::Mode;
 use screen::{Lent, Screen, Setup};
 use sizes::answers::Refusal;
 use sizes::width::Width;
+use tally::{Recordings, figures};
 use tile::{Asked, Reason, list_tile, why};
 use walk::bucket_recording;
 
@@ -35,6 +36,30 @@ pub fn recording_twice(
     (
         bucket_recording(&mut a.screen, a.file, setup, &mut a.lent),
         bucket_recording(&mut b.screen, b.file, setup, &mut b.lent),
+    )
+}
+
+/// What counting a list of recordings reads and writes.
+#[derive(Drop)]
+pub struct FiguresLent<'a> {
+    pub screen: Screen,
+    pub list: Recordings<'a>,
+    pub lent: Lent<'a>,
+    pub table: &'a mut [u64],
+}
+
+/// Two calls of `figures`: the answer, the screen and the numbers.
+pub fn figures_twice(
+    a: &mut FiguresLent<'_>,
+    b: &mut FiguresLent<'_>,
+    setup: Setup,
+) -> Twice<Result<(), Refusal>>
+    ensures { figures-words a.old ≡ figures-words b.old
+        → (result.0 ≡ result.1) × (figures-left a.new ≡ figures-left b.new) }
+{
+    (
+        figures(a.list, &mut a.screen, setup, &mut a.lent, a.table),
+        figures(b.list, &mut b.screen, setup, &mut b.lent, b.table),
     )
 }
 

@@ -21,7 +21,9 @@ use Rattle.paint.specs.Stepping.{stepped}
 use Rattle.paint.specs.Running.{row-painted}
 use Rattle.paint.specs.DirectRuns.{unset-of, visible-of, write-of, hidden-of-row, skip-of-row}
 use Rattle.compact.specs.Call.{stored, compacting}
+use Rattle.tally.specs.Listed.{figured}
 use Rattle.host.specs.Compacted.{compact-left, compact_call}
+use Rattle.host.specs.Figured.{figures-left, figures_in, figures_asked, listed-in, figures_call}
 use Rattle.host.specs.State.{screen-at, before_4}
 use Rattle.host.specs.Asked.{asked_setup, told_file}
 use Rattle.host.specs.Border.{unasked_number}
@@ -54,6 +56,13 @@ returns-clause-why c = λ f file w q row tile layer attribute st t res y a long.
     (kept_in (asked_setup w) q (unasked_number file) (st, t, res) (λ (q : Setup). why_in file q row tile layer attribute st t res) e.number a
     (sym (ap before_4 (settle-number e.number res (reason-words e.reason)))
     ∙ kept-on (leb layer 1 && eqb (length res) reason-size) st (st, t, res) (λ (s : Screen). why-left res (explained file q row tile z (screen_lent s t))) long))
+
+pub returns-clause-figures : goal.returns-clause-figures
+unfolding figures_call figures_asked figures_in
+returns-clause-figures c = λ f file es w q st t ns y a long. let l = listed-in file es in
+    kept_in (told_file f) file number_of (st, ns) (λ (file : File). figures_asked (listed-in file es) w st t ns) _ y
+    (kept_in (asked_setup w) q number_of (st, ns) (λ (q : Setup). figures_in l q st t ns) _ a
+    (kept-on true st (st, ns) (λ (s : Screen). figures-left (figured l q (screen_lent s t) ns)) long))
 
 pub returns-clause-fill : goal.returns-clause-fill
 unfolding fill_call

@@ -1,5 +1,6 @@
 use Rattle.host.proofs.Refused.{reset-refused, fill-refused, push-refused, pop-refused, filter-refused, begin-refused}
 use Rattle.host.proofs.Compacted.{compact-refused}
+use Rattle.host.proofs.Figured.{figures-refused}
 use Rattle.host.proofs.Kept.{step-refused, row-refused, unset-refused, visible-refused, spans-refused, write-refused, hidden-refused, skip-refused, split-refused}
 use Rattle.host.proofs.Sized.{size-refused}
 use Rattle.theorem_border.proofs.Why.{why-refused}
@@ -76,6 +77,9 @@ returns-clause-why c = why-refused
 
 pub returns-clause-list_tile : goal.returns-clause-list_tile
 returns-clause-list_tile c = list-tile-refused
+
+pub returns-clause-figures : goal.returns-clause-figures
+returns-clause-figures c = figures-refused
 
 pub returns-clause-to_edition_two : goal.returns-clause-to_edition_two
 returns-clause-to_edition_two c = to-two-refused

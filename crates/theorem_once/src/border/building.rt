@@ -3,12 +3,13 @@ ghost use Rattle.std.specs.Prelude.{◌≡◌};
 ghost use Rattle.host.specs.Called.{fill_out, push_out, filter_out, why_out};
 ghost use Rattle.host.specs.FillLists.{list_out};
 ghost use Rattle.host.specs.Sizes.{length-words};
-ghost use Rattle.theorem_once.specs.Border.{screen-words, recording-words, pop-words, pop-left, fill-words, list-words, why-words, tile-list-words, tile-list-left, compact-words, compact-left};
+ghost use Rattle.theorem_once.specs.Border.{screen-words, recording-words, figures-words, figures-left, pop-words, pop-left, fill-words, list-words, why-words, tile-list-words, tile-list-left, compact-words, compact-left};
 
 use crate::Twice;
 use fill::list::Draws;
 use host::build::{DrawWords, coarse_bucket_recording, coarse_fill, coarse_reset};
 use host::compacting::coarse_compact_row;
+use host::figures::coarse_figures;
 use host::layer::{
     FilterWords, PropsWords, coarse_filter_fill, coarse_pop_layer, coarse_push_layer,
 };
@@ -58,6 +59,48 @@ pub fn recording_twice(
     (
         coarse_bucket_recording(&mut a.state, a.edition, a.file, setup, &mut a.tables),
         coarse_bucket_recording(&mut b.state, b.edition, b.file, setup, &mut b.tables),
+    )
+}
+
+/// What counting a list of recordings reads and writes.
+#[derive(Drop)]
+pub struct FiguresHost<'a> {
+    pub state: StateWords,
+    pub tables: Lent<'a>,
+    pub edition: u32,
+    pub words: &'a [u32],
+    pub ends: &'a [usize],
+    pub table: &'a mut [u64],
+}
+
+/// Two calls of `coarse_figures`: the answer, the state and the numbers.
+pub fn figures_twice(
+    a: &mut FiguresHost<'_>,
+    b: &mut FiguresHost<'_>,
+    setup: SetupWords,
+) -> Twice<u32>
+    ensures { figures-words a.old ≡ figures-words b.old
+        → (result.0 ≡ result.1) × (figures-left a.new ≡ figures-left b.new) }
+{
+    (
+        coarse_figures(
+            &mut a.state,
+            a.edition,
+            a.words,
+            a.ends,
+            setup,
+            &mut a.tables,
+            a.table,
+        ),
+        coarse_figures(
+            &mut b.state,
+            b.edition,
+            b.words,
+            b.ends,
+            setup,
+            &mut b.tables,
+            b.table,
+        ),
     )
 }
 

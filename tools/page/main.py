@@ -69,7 +69,9 @@ def main(args, usage):
             tell('%s has more than %d bytes' % (name, server.MOST_BYTES))
             return 1
     made = None
-    signal.signal(signal.SIGTERM, signal.default_int_handler)
+    # Also where it was started in the background, whose children ignore Ctrl-C.
+    for ends in (signal.SIGINT, signal.SIGTERM):
+        signal.signal(ends, signal.default_int_handler)
     try:
         made = programs.make(TOP, unproved, os.environ.get('COARSE_PROGRAMS_DIR'), tell)
         desk = recording.Desk(made)

@@ -427,18 +427,26 @@ const setTheme = theme => {
 };
 darkWanted.addEventListener('change', () => setTheme(state.theme));
 
-// Zoom goes over in a few pictures, or at once where motion is to be reduced.
+// Zoom goes over in a few pictures, or at once where motion is to be reduced; the next zoom ends one that is going on, and so does the whole screen.
+let zooming = null;
 const zoomBy = factor => {
   const picture = pictures[open()[0]];
   if (!picture) return;
   const at = state.chosen ? [GUTTER + (state.chosen.tile + 0.5 - view.x) * view.scale, AXIS + (state.chosen.row + 0.5 - view.y) * picture.rowHeight] : [];
   const middle = at.length && at[0] > GUTTER && at[0] < picture.canvas.clientWidth && at[1] > AXIS && at[1] < picture.canvas.clientHeight ? at : [];
   if (still.matches) { picture.zoom(factor, ...middle); redraw(); return; }
-  let left = 6;
-  const turn = () => { picture.zoom(factor ** (1 / 6), ...middle); redraw(); if (--left) requestAnimationFrame(turn); };
+  if (zooming) picture.zoom(zooming.each ** zooming.left, ...zooming.middle);
+  const own = zooming = { each: factor ** (1 / 6), left: 6, middle };
+  const turn = () => {
+    if (zooming !== own) return;
+    picture.zoom(own.each, ...own.middle);
+    redraw();
+    if (--own.left) requestAnimationFrame(turn);
+    else zooming = null;
+  };
   turn();
 };
-const fit = () => { const picture = pictures[open()[0]]; if (picture) { picture.fit(); redraw(); } };
+const fit = () => { const picture = pictures[open()[0]]; zooming = null; if (picture) { picture.fit(); redraw(); } };
 const toggle = name => { view[name] = !view[name]; $(name).setAttribute('aria-pressed', String(view[name])); showSteps(false); redraw(); };
 const turnColours = () => { view.by = view.by === 'panel' ? 'attribute' : 'panel'; $('colours').firstChild.textContent = `Colours: ${view.by} `; showLegend(); showSteps(false); redraw(); };
 const pan = (tiles, rows) => { const picture = pictures[open()[0]]; if (picture) { picture.move(tiles * Math.max(8, 90 / view.scale), rows); redraw(); } };

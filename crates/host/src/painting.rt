@@ -44,6 +44,7 @@ pub extern "C" fn coarse_begin_painting(state: &mut StateWords, canvas: &mut Can
 }
 
 // Where the one look is not sure.
+#[cold]
 #[inline(never)]
 #[tactic(auto, using(crate::proofs::Unheld::step_unheld))]
 fn judged_step(
@@ -102,6 +103,7 @@ pub extern "C" fn coarse_paint_step(
 }
 
 // Where the one look is not sure.
+#[cold]
 #[inline(never)]
 #[tactic(auto, using(crate::proofs::Unheld::row_unheld))]
 fn judged_row(

@@ -1,5 +1,6 @@
 -- Commands that one look settles, one after the other. Assumes nothing.
-use Rattle.std.proofs.Common.{◌≡◌, refl, sym, ◌∙◌, List, [], ◌∷◌, append_assoc, ℕ, ◌+◌, ◌-◌, ◌*◌, ◌/◌, ◌≤◌, ◌<◌, arith, length, drop, length-drop, drop-drop, lt-ltb, le-ltb}
+use Rattle.std.proofs.Common.{◌≡◌, refl, sym, ◌∙◌, List, [], ◌∷◌, Option, None, Some, append_assoc, ℕ, ◌+◌, ◌-◌, ◌*◌, ◌/◌, ◌≤◌, ◌<◌, arith, length, drop, length-drop, drop-drop, lt-ltb, le-ltb}
+use Rattle.std.specs.Option.{IfSome, MatchOption}
 use Rattle.sizes.specs.Sizes.{piece-size}
 use Rattle.rules.specs.Attributes.{Attrs}
 use Rattle.cmd.specs.Attrs.{words-at}
@@ -10,8 +11,13 @@ use Rattle.paint.specs.Painting.{word, StepOut, next-step, next-minima, painted-
 use Rattle.paint.specs.Running.{one_more, run, own-step}
 use Rattle.cmd.specs.Commands.{cmd_at}
 use Rattle.paint.specs.Kinds.{step-to, Gives, Calm, Place, place, stands, Reaches}
-use Rattle.paint.proofs.WholeRuns.{more}
+use Rattle.paint.proofs.WholeRuns.{more, onward-none, onward-both}
 use Rattle.paint.proofs.Putting.{words-none}
+
+-- what is there gives one fact, and nothing another
+pub given-or-not : (o : Option ℕ) {P R : ℕ → Type 0} {N : Type 0} → IfSome o P → N → ((j : ℕ) → P j → R j) → MatchOption o N R
+given-or-not None h n f = n
+given-or-not (Some j) h n f = f j h
 
 -- any step
 module _ (step : Depths → List ℕ → List ℕ → StepOut) (D : Depths) (d : ℕ) where
@@ -27,6 +33,24 @@ module _ (step : Depths → List ℕ → List ℕ → StepOut) (D : Depths) (d :
 
     pub reach-more : Reaches step D d a b'
     reach-more = record { after = omega (arith, z.after); onward = further; shallow = h; few = g; long = i ∙ z.long }
+
+  -- no step
+  pub reach-none : (a : Place) → a.nesting ≤ 16 → piece-size * a.pieces ≤ length a.list → Reaches step D d a a
+  reach-none a h g =
+      let e : a.at - a.at ≡ 0 = omega arith in
+      record { after = omega arith; onward = rw e (onward-none step _); shallow = h; few = g; long = refl }
+
+  -- one run after the other
+  pub reach-both : (a b c : Place) → Reaches step D d a b → Reaches step D d b c → Reaches step D d a c
+  reach-both a b c y z =
+      let e : c.at - a.at ≡ b.at - a.at + (c.at - b.at) = omega (arith, y.after, z.after) in
+      record {
+        after = omega (arith, y.after, z.after);
+        onward = rw e (onward-both step _ _ _ _ _ y.onward z.onward);
+        shallow = z.shallow;
+        few = z.few;
+        long = z.long ∙ y.long;
+      }
 
 -- the steps of a row's commands
 module _ (v : ℕ) (a : Attrs) (s re fi D M : List ℕ) (c : Calm s re fi) where

@@ -1,5 +1,5 @@
 -- A row's depth fills in one loop: what each writes and lists. Assumes nothing.
-use Rattle.std.proofs.Common.{◌≡◌, refl, sym, ap, ◌∙◌, Bool, true, false, List, [], ◌∷◌, ℕ, zero, suc, ◌+◌, ◌-◌, ◌*◌, ◌/◌, ◌≤◌, ◌<◌, ◌&&◌, add-zero, zero-add, add-one, not-suc-le-zero, le_of_suc-le-suc, arith, le_refl, length, get_or, set, ltb, ltb-true, ltb-false, le-leb, lt-ltb}
+use Rattle.std.proofs.Common.{◌≡◌, refl, sym, ap, ◌∙◌, Bool, true, false, List, [], ◌∷◌, ℕ, zero, suc, ◌+◌, ◌-◌, ◌*◌, ◌≤◌, ◌<◌, add-zero, zero-add, not-suc-le-zero, le_of_suc-le-suc, arith, le_refl, length, get_or, set, ltb, ltb-true, ltb-false, le-leb, lt-ltb}
 use Rattle.std.proofs.lemmas.Bool.{eqb-true, eqb-false}
 use Rattle.std.proofs.Common.{eqb}
 use borrow.Author.Tests.{lt-leb}

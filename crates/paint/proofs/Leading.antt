@@ -1,5 +1,5 @@
 -- A row's depth fills come first, one step each. Assumes nothing.
-use Rattle.std.proofs.Common.{◌≡◌, refl, sym, ap, ◌∙◌, add-zero, take-append-drop, Bool, true, false, List, [], ◌∷◌, ◌++◌, map, Option, None, Some, ℕ, ◌+◌, ◌-◌, ◌*◌, ◌/◌, ◌≤◌, ◌<◌, arith, length, append_assoc, drop, drop-drop, length-drop, option_map, lt-ltb, le-ltb}
+use Rattle.std.proofs.Common.{◌≡◌, refl, sym, ap, ◌∙◌, add-zero, take-append-drop, Bool, true, false, List, [], ◌∷◌, ◌++◌, map, Option, Some, ℕ, ◌+◌, ◌-◌, ◌*◌, ◌/◌, ◌≤◌, ◌<◌, arith, length, append_assoc, drop, drop-drop, length-drop, option_map, lt-ltb, le-ltb}
 use lib.ListN.{length-map}
 use Rattle.sizes.specs.Sizes.{piece-size}
 use Rattle.rules.specs.Lists.{join}

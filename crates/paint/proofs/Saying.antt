@@ -1,5 +1,5 @@
 -- What is said of a command, and what its step then leaves. Assumes nothing.
-use Rattle.std.proofs.Common.{◌≡◌, refl, sym, ap, ◌∙◌, Bool, true, false, ◌&&◌, cond, eqb, List, [], ◌∷◌, ◌++◌, map, ◌⊎◌, inl, inr, Option, None, Some, ℕ, zero, suc, ◌+◌, ◌-◌, ◌*◌, ◌/◌, ◌%◌, ◌≤◌, ◌<◌, arith, length, lt-ltb, le-ltb, le-leb, eqb-true, eq-eqb, ne_eqb}
+use Rattle.std.proofs.Common.{◌≡◌, refl, sym, ap, ◌∙◌, Bool, true, false, ◌&&◌, eqb, List, [], ◌∷◌, ◌++◌, map, ◌⊎◌, inl, inr, Option, None, Some, ℕ, zero, suc, ◌+◌, ◌-◌, ◌*◌, ◌/◌, ◌%◌, ◌≤◌, ◌<◌, arith, length, lt-ltb, le-ltb, le-leb, eqb-true, eq-eqb}
 use lib.ListN.{length-map}
 use Rattle.sizes.specs.Sizes.{piece-size}
 use Rattle.rules.specs.Lists.{join}
@@ -174,8 +174,3 @@ module _ (v : ℕ) (attrs : Attrs) (u : Summary) (D : List ℕ) (m : ℕ) (c : C
           record { layer = true; index = None; same = rw (← e, ← solid c f (rw e)); step = layer-step (rw e at i) None (sym (tag-3 _ _ _ _ true e (solid-word c f (rw e)))) }
       go (inr (inr (inr e))) =
           record { layer = true; index = Some c.alpha; same = rw (← e); step = layer-step (rw e at i) (Some c.alpha) (sym (tag-4 _ _ _ _ true e (alpha-word c f (rw e)))) }
-
--- a fill's attribute is only read where there is a fill
-pub marked : (t : ℕ) (o : Option Mark) (k : Mark) → cond (eqb t 0) None o ≡ Some k → (0 < t) × (o ≡ Some k)
-marked zero o k e = let z : ◌≡◌ {A = ℕ} 0 1 = cc in absurd (omega arith)
-marked (suc t) o k e = (omega arith, rw (ne_eqb (suc t) 0 (λ z. omega arith)) at e)

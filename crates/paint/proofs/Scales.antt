@@ -1,6 +1,6 @@
 -- Tiles and buckets by a shift. Assumes nothing.
-use Rattle.std.proofs.Common.{◌≡◌, sym, ap, ◌∙◌, ℕ, suc, ◌+◌, ◌-◌, ◌*◌, ◌/◌, ◌%◌, ◌≤◌, ◌<◌, arith, suc-mul, mod-lt, div-add-mod'}
-use Rattle.std.proofs.lemmas.Nat.{div-mul-add, div_below}
+use Rattle.std.proofs.Common.{◌≡◌, sym, ap, ◌∙◌, ℕ, suc, ◌+◌, ◌-◌, ◌*◌, ◌/◌, ◌%◌, ◌<◌, arith, suc-mul, mod-lt, div-add-mod'}
+use Rattle.std.proofs.lemmas.Nat.{div-mul-add}
 
 -- the bucket past the last tile's is the end raised to a whole bucket
 pub past_last : (n e : ℕ) → 0 < n → 0 < e → (e - 1) / n + 1 ≡ (e + (n - 1)) / n

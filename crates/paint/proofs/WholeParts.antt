@@ -13,7 +13,7 @@ use Rattle.sizes.specs.Refusals.{number_of}
 use Rattle.sizes.proofs.Refusals.{not_done}
 use Rattle.paint.specs.Answers.{Painted}
 use Rattle.rules.specs.Minima.{minima-room}
-use Rattle.screen.specs.Depths.{Depths, depths}
+use Rattle.screen.specs.Depths.{Depths}
 use Rattle.paint.specs.Painting.{attrs-at, RowLent, words_lent, StepOut, out, listed, refused, left, settled, painted-row}
 use Rattle.paint.proofs.CommandLaws.{same-lengths}
 use Rattle.paint.specs.Judging.{wide}

@@ -1,5 +1,5 @@
 -- A row's steps that were sure, in their place on the screen, and the rest after them. Assumes nothing.
-use Rattle.std.proofs.Common.{◌≡◌, sym, ap, ◌∙◌, true, false, List, ℕ, ◌+◌, ◌-◌, ◌*◌, ◌≤◌, ◌<◌, arith, length, take, drop, length-drop, length-take-le}
+use Rattle.std.proofs.Common.{◌≡◌, sym, ap, ◌∙◌, true, false, List, ℕ, ◌+◌, ◌-◌, ◌*◌, ◌≤◌, arith, length, take, drop, length-drop, length-take-le}
 use borrow.Rule.Slice.PartMut.{put_mid, put_same}
 use Rattle.sizes.specs.Widths.{bucket-tiles}
 use Rattle.rules.specs.Minima.{minima-room}

@@ -1,7 +1,7 @@
 -- The definitions of Kinds and Running, of a row's value.
-use Rattle.std.specs.Prelude.{Option, Some, length, ℕ, ◌-◌, ◌*◌, ◌/◌, ◌≤◌, ◌<◌, ◌≡◌, true, cond, List, leb}
+use Rattle.std.specs.Prelude.{Option, Some, Bool, [], ◌∷◌, length, ℕ, ◌+◌, ◌-◌, ◌*◌, ◌/◌, ◌≤◌, ◌<◌, ◌≡◌, true, cond, List, leb}
 use Rattle.rules.specs.Attributes.{Attrs}
-use Rattle.sizes.specs.Sizes.{piece-size}
+use Rattle.sizes.specs.Sizes.{piece-size, most-layers}
 use Rattle.sizes.specs.Widths.{bucket-tiles}
 use Rattle.screen.specs.Depths.{Depths}
 use Rattle.paint.specs.Summaries.{summary-at}
@@ -41,6 +41,19 @@ count_of p = p.at / piece-size
 abbrev pub Ran : StoredRow → Depths → ℕ → ℕ → Pieces → Reached → Pieces → Type 0
 Ran r D start m p o p' = Reaches (steps_of r) D (word r.state.now 1) (place start (count_of p) m p.list.now) (place o.at (count_of p') o.nesting p'.list.now)
 
+abbrev pub reached : ℕ → ℕ → Reached
+reached a m = record { at = a; nesting = m }
+
+-- the words of a list stay, and as many of them are pieces'
+abbrev pub Stay : Pieces → Pieces → Type 0
+Stay p q = (q.at ≡ p.at) × (q.list.now ≡ p.list.now)
+
+-- its depth fill at place k is its next step, the pieces so far being p, and q after it
+abbrev pub DepthStep : StoredRow → ℕ → Depths → Pieces → Depths → Pieces → Type 0
+DepthStep r k D p E q =
+    let d = word r.state.now 1 in (m : ℕ) → m ≤ most-layers → Onward (steps_of r) 1 (out (listed (count_of p)) D ((d - (k + 1)) ∷ m ∷ []) p.list.now)
+    (out (listed (count_of q)) E ((d - k) ∷ m ∷ []) q.list.now)
+
 -- what a fill's attribute says, a paint's or a layer's by the tag
 abbrev pub mark_in : Attrs → ℕ → ℕ → Option Mark
 mark_in a t i = cond (leb t 2) (paint_mark a i) (layer_mark a i)
@@ -53,6 +66,9 @@ pub record Sure (r : StoredRow) (f : ℕ) (w : Went) (d : Depths) (p l : List �
   pub onward : Onward (steps_of r) w.steps (out (listed 0) d p l) (out (listed w.pieces) d' p' l')
   pub unended : w.ended ≡ true → w.steps < f
   pub ended : w.ended ≡ true → one_more (steps_of r) (out (listed w.pieces) d' p' l') ≡ out (finished_with w.pieces) d' p' l'
+
+abbrev pub went : ℕ → ℕ → Bool → Went
+went s n e = record { steps = s; pieces = n; ended = e }
 
 -- at most f steps in all, after k that gave n pieces
 abbrev pub run_on : StoredRow → ℕ → ℕ → ℕ → Depths → List ℕ → List ℕ → StepOut

@@ -1,6 +1,5 @@
 -- A bucket's width as a shift.
-use Rattle.std.specs.Prelude.{ℕ, ◌*◌, ◌^◌, List, [], ◌∷◌}
-use Rattle.rules.specs.Spans.{Span}
+use Rattle.std.specs.Prelude.{ℕ, ◌^◌}
 use Rattle.paint.specs.declared.whole.scale.Scale.{Scale}
 
 -- how many tiles a bucket has

@@ -17,7 +17,7 @@ ghost use Rattle.paint.specs.Running.{most, row-run, row-run-on, row-painted};
 use crate::canvas::judge::judge_step;
 use crate::canvas::{Canvas, Stepped, Stored};
 use crate::command::{Attributes, StoredRow};
-use crate::whole::run::{Went, run_parts, run_sure};
+use crate::whole::run::{Went, run_parts, run_sure, step_sure};
 use depth::{Depth, minima_room};
 use row::part;
 use screen::Screen;
@@ -85,6 +85,37 @@ fn sure_part(
         painting,
         list,
         limit,
+    )
+}
+
+// The next step of such a row, if one look settles it.
+#[inline(always)]
+fn step_part(
+    read: &StoredRow<'_>,
+    b: usize,
+    row: usize,
+    depth: &mut Depth<'_>,
+    painting: &mut [u32],
+    list: &mut [u32],
+) -> Went
+    requires words { Within b row depth.old.words.now }
+    requires minima { Within (minima-room b) row depth.old.minima.now }
+    requires painting { length painting.old ≡ 2 }
+    ensures same { SameDepth depth.old depth.new }
+    ensures long { (length painting.new ≡ 2) × (length list.new ≡ length list.old) }
+    ensures others { depths_in depth.new ≡ with-depth-part b row (depths_in depth.old) (depth-part b row (depths_in depth.new)) }
+    ensures sure { Sure read.now 1 result (depth-part b row (depths_in depth.old)) painting.old list.old
+        (depth-part b row (depths_in depth.new)) painting.new list.new }
+{
+    let over = minima_room(b);
+    let u = row * b;
+    let m = row * over;
+    step_sure(
+        read,
+        &mut depth.words[u..u + b],
+        &mut depth.minima[m..m + over],
+        painting,
+        list,
     )
 }
 
@@ -219,14 +250,13 @@ pub fn row_step(
 {
     let v = row * 2;
     let read = row_of(screen, row, stored);
-    let went = sure_part(
+    let went = step_part(
         &read,
         b,
         row,
         &mut canvas.depth,
         &mut canvas.painting[v..v + 2],
         list,
-        1,
     );
     if !went.ended && went.steps == 0 {
         return None;

@@ -1,5 +1,5 @@
 //! A row's depth fills, in one loop, as far as each is good. Parts: where a function asks something, its callers have judged it.
-ghost use Rattle.std.specs.Prelude.{◌≡◌, ◌+◌, ◌-◌, ◌*◌, ◌/◌, ◌≤◌, ◌<◌, ℕ, [], ◌∷◌, length, get_or};
+ghost use Rattle.std.specs.Prelude.{◌≡◌, ◌+◌, ◌-◌, ◌*◌, ◌/◌, ◌≤◌, ◌<◌, ℕ, [], ◌∷◌, length, get_or, MatchBool};
 ghost use Rattle.sizes.specs.Sizes.{most-layers, piece-size};
 ghost use Rattle.rules.specs.Lists.{join};
 ghost use Rattle.rules.specs.Depth.{write-runs, written};
@@ -9,7 +9,7 @@ ghost use Rattle.cmd.specs.Attrs.{words-at};
 ghost use Rattle.screen.specs.Depths.{depths};
 ghost use Rattle.paint.specs.Painting.{word, out, listed};
 ghost use Rattle.paint.specs.Kinds.{Onward};
-ghost use Rattle.paint.specs.Rows.{CalmRow, steps_of, count_of};
+ghost use Rattle.paint.specs.Rows.{CalmRow, Stay, DepthStep, steps_of, count_of};
 ghost use Rattle.paint.specs.DepthFills.{MarksRun, depth-words};
 ghost use Rattle.paint.specs.Scales.{tiles_in};
 
@@ -79,6 +79,40 @@ fn put_depth(
     }
 }
 
+/// A row's depth fill at place k, if it is good and the list has room for whatever it may show: it is painted. Else nothing changes.
+#[inline(always)]
+pub fn settle_depth(
+    row: &StoredRow<'_>,
+    depth: &mut [u32],
+    minima: &mut [u32],
+    k: usize,
+    pieces: &mut Pieces<'_>,
+) -> bool
+    requires calm { CalmRow row.now }
+    requires there { k < word row.now.state.now 1 }
+    requires few { length depth.old ≤ 65535 }
+    requires minima { length minima.old ≡ minima-room (length depth.old) }
+    ensures same { pieces.new.list.ghost_name ≡ pieces.old.list.ghost_name }
+    ensures long { (length depth.new ≡ length depth.old) × (length minima.new ≡ length minima.old) × (length pieces.new.list.now ≡ length pieces.old.list.now) }
+    ensures settled { MatchBool result (DepthStep row.now k (depths depth.old minima.old) pieces.old (depths depth.new minima.new) pieces.new)
+        ((depth.new ≡ depth.old) × (minima.new ≡ minima.old) × Stay pieces.old pieces.new) }
+{
+    let words = DepthWords::at(row.depth_cmds, k);
+    let Some(fill) = words.read(depth.len() as u32) else {
+        return false;
+    };
+    let Some(mark) = row.attrs.paint(fill.attrs_idx) else {
+        return false;
+    };
+    let most = (fill.buckets.end - fill.buckets.first + 1) as usize / 2;
+    if pieces.left() < PIECE * most {
+        return false;
+    }
+    let scale = Scale::of(row.width);
+    put_depth(depth, minima, fill, mark, scale, pieces);
+    true
+}
+
 /// How many of a row's last `left` depth fills are painted: at most `limit`, as long as each is good and the list has room for whatever it may show.
 #[inline(always)]
 pub fn run_depths(
@@ -100,25 +134,13 @@ pub fn run_depths(
         (out (listed (count_of pieces.old)) (depths depth.old minima.old) (done ∷ m ∷ []) pieces.old.list.now)
         (out (listed (count_of pieces.new)) (depths depth.new minima.new) ((done + result) ∷ m ∷ []) pieces.new.list.now) }
 {
-    let depth_cmds = row.depth_cmds;
-    let attrs = row.attrs;
-    let scale = Scale::of(row.width);
-    let buckets = depth.len() as u32;
+    let own = *row;
     let stop = left - limit.min(left);
     let mut k = left;
     while stop < k {
-        let words = DepthWords::at(depth_cmds, k - 1);
-        let Some(fill) = words.read(buckets) else {
-            break;
-        };
-        let Some(mark) = attrs.paint(fill.attrs_idx) else {
-            break;
-        };
-        let most = (fill.buckets.end - fill.buckets.first + 1) as usize / 2;
-        if pieces.left() < PIECE * most {
+        if !settle_depth(&own, depth, minima, k - 1, pieces) {
             break;
         }
-        put_depth(depth, minima, fill, mark, scale, pieces);
         k -= 1;
     }
     left - k

@@ -1,4 +1,4 @@
-use Rattle.std.proofs.Common.{◌≡◌, sym, ◌∙◌, arith, le_refl}
+use Rattle.std.proofs.Common.{sym, ◌∙◌, arith, le_refl}
 use Rattle.depth.proofs.Marking.{mark-open}
 use Rattle.paint.proofs.DepthFills.{begun-first, one-more-unset, above_zero}
 use Rattle.paint.proofs.whole.depths.mark_run.Goals as goal

@@ -1,7 +1,7 @@
 -- An unset bucket begins a run: it gets the id up to its end, the minima above it are mended, and it is put.
-use Rattle.std.proofs.Common.{◌≡◌, sym, ap, ◌∙◌, refl, ◌+◌, ◌*◌, ◌≤◌, ◌<◌, arith, ℕ, length}
+use Rattle.std.proofs.Common.{◌∙◌, arith, length}
 use Rattle.span.specs.Spans.{buckets}
-use Rattle.rules.specs.Minima.{half, halvings}
+use Rattle.rules.specs.Minima.{halvings}
 use Rattle.depth.proofs.Groups.{room-of-some}
 use Rattle.depth.proofs.Written.{room-for}
 use Rattle.paint.proofs.DepthFills.{filled-on, filled-run, filled-end, run-room, run-holds, put-room, write-runs-visible}

@@ -1,5 +1,5 @@
 -- So far the depth fills from the last down to k are painted, a step each.
-use Rattle.std.proofs.Common.{◌≡◌, ◌+◌, ◌-◌, ◌≤◌, ℕ, [], ◌∷◌, length}
+use Rattle.std.proofs.Common.{◌≡◌, ◌-◌, ◌≤◌, ℕ, [], ◌∷◌, length}
 use Rattle.sizes.specs.Sizes.{most-layers}
 use Rattle.screen.specs.Depths.{depths}
 use Rattle.paint.specs.Painting.{word, out, listed}

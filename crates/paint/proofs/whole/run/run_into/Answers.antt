@@ -1,10 +1,10 @@
 -- The row's depth fills are done first, then its commands, from where the painting stands.
-use Rattle.std.proofs.Common.{◌≡◌, refl, sym, ap, ◌∙◌, ◌+◌, ◌-◌, ◌≤◌, ◌<◌, true, [], arith, length, length-set, ltb-true}
+use Rattle.std.proofs.Common.{◌≡◌, refl, ◌∙◌, ◌+◌, ◌-◌, ◌≤◌, [], arith, length, length-set, ltb-true}
 use Rattle.std.proofs.lemmas.Bool.{eqb-true}
 use Rattle.screen.specs.Depths.{depths}
 use Rattle.paint.specs.Painting.{word, out, listed}
 use Rattle.paint.specs.Kinds.{Onward, place, stands}
-use Rattle.paint.specs.Rows.{steps_of, count_of, CalmRow}
+use Rattle.paint.specs.Rows.{steps_of, count_of}
 use Rattle.paint.proofs.Two.{two_set, two_same, two_both}
 use Rattle.paint.proofs.Leading.{fills-far, sure-fills, sure-all}
 use Rattle.paint.proofs.WholeRuns.{onward-none}
@@ -17,7 +17,7 @@ returns-then-limit-steps-clause-sure c =
     let p = c.args.painting.now in
     let pieces = c.run_depths-steps.new.pieces in
     let w = fills-far c.args.row.now p _ _ _ _ _ _ _ _ _ (count_of pieces) c.requires.lens.2 (omega (arith, c.if-done-depths.true)) (omega (arith, c.requires.none))
-    (fills.onward (word p 1) (omega (arith, c.if-nesting-gt-MOST_LAYERS.false))) in
+    (fills.onward (word p 1) (c.is_calm.ensures c.if-not-is_calm.false).2) in
     sure-fills c.args.row.now c.args.limit _ p _ _ _ _ _ w fills.few.1 (omega (arith, pieces.few, pieces.whole)) _ _ _
     (rw (c.count.ensures, two_set p (word p 0 + c.run_depths-steps.result) c.requires.lens.2) refl)
 
@@ -31,7 +31,7 @@ led : (c : Joined-done-depths)
     (place at (count_of c.if-done-depths.pieces) (word c.args.painting.now 1) c.if-done-depths.pieces.list.now))
 led c =
     let p = c.args.painting.now in
-    let m : word p 1 ≤ 16 = omega (arith, c.if-nesting-gt-MOST_LAYERS.false) in
+    let m = (c.is_calm.ensures c.if-not-is_calm.false).2 in
     elim c.if-done-depths.branch [
       | then-done-depths+else-limit-steps+else-steps-left w ↦
           let fills = w.run_depths-steps.ensures in
@@ -49,20 +49,12 @@ led c =
           rw (w.depth-is, w.minima-is, w.pieces-is, w.steps-is, here, none) (omega (arith, w.if-done-depths.false), omega arith, rw (← two_same p c.requires.lens.2) (onward-none _ _))
     ]
 
--- the row is as a run of its commands asks
-calm : (c : Joined-done-depths) → CalmRow c.args.row.now
-calm c = record {
-  renders = omega (arith, c.if-row-renders.false);
-  depths = omega (arith, c.if-row-depths.false);
-  summary = sym c.is_good_summary.ensures ∙ c.if-not-is_good_summary.false;
-}
-
 pub returns-then-reached-renders-clause-sure : goal.returns-then-reached-renders-clause-sure
 returns-then-reached-renders-clause-sure c =
     let at = (goal.at.returns-then-reached-renders-clause-sure c).Joined-done-depths in
     let o = led at in
     let go = c.run_commands-reached.ensures in
-    sure-all c.args.row.now (calm at) c.args.limit _ c.args.painting.now _ _ _ _ _ _ o.2 (go.reaches c.if-done-depths.minima) _ _ _
+    sure-all c.args.row.now (c.is_calm.ensures c.if-not-is_calm.false).0 c.args.limit _ c.args.painting.now _ _ _ _ _ _ o.2 (go.reaches c.if-done-depths.minima) _ _ _
     refl (omega (arith, go.at_le_stop, c.min-stop.ensures, o.0, o.1)) c.count-2.ensures (two_both _ _ _ (c.if-done-depths.auto.painting ∙ c.requires.lens.2))
     _ (λ e. (c.if-reached-renders.true, ltb-true _ _ e))
 
@@ -71,7 +63,7 @@ returns-else-reached-renders-clause-sure c =
     let at = (goal.at.returns-else-reached-renders-clause-sure c).Joined-done-depths in
     let o = led at in
     let go = c.run_commands-reached.ensures in
-    sure-all c.args.row.now (calm at) c.args.limit _ c.args.painting.now _ _ _ _ _ _ o.2 (go.reaches c.if-done-depths.minima) _ _ _
+    sure-all c.args.row.now (c.is_calm.ensures c.if-not-is_calm.false).0 c.args.limit _ c.args.painting.now _ _ _ _ _ _ o.2 (go.reaches c.if-done-depths.minima) _ _ _
     refl (omega (arith, go.at_le_stop, c.min-stop.ensures, o.0, o.1)) c.count-2.ensures (two_both _ _ _ (c.if-done-depths.auto.painting ∙ c.requires.lens.2))
     _ (λ e. absurd (c.if-reached-renders.false (eqb-true _ _ e)))
 

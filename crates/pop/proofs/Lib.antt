@@ -7,6 +7,7 @@ pub mod Touched
 pub mod Going
 pub mod Closed
 pub mod Running
+pub mod Few
 pub mod Rooms
 pub mod Clipping
 pub mod Judging

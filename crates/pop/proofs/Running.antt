@@ -105,12 +105,12 @@ module _ (rs : List Words) (x : ℕ) where
   so-far-here : (r m : ℕ) → x ≡ r → so_far rs (r + 1) m x ≡ m
   so-far-here r m e = rw (eq-eqb (x + 1) (r + 1) (omega arith))
 
-  so-far-else : (next m : ℕ) → (x + 1 ≡ next → ⊥) → so_far rs next m x ≡ word 0 (row_of rs x)
+  pub so-far-else : (next m : ℕ) → (x + 1 ≡ next → ⊥) → so_far rs next m x ≡ word 0 (row_of rs x)
   so-far-else next m h = rw (ne_eqb (x + 1) next h)
 
 module _ (c : ℕ) (xs : List ℕ) (rs : List Words) where
   -- every touched row that has cut segments has room for them and for its PopBuf
-  abbrev Fits : ℕ → ℕ → List Cut → Type 0
+  abbrev pub Fits : ℕ → ℕ → List Cut → Type 0
   Fits next m ks = (x : ℕ) → some_of (eqb x) xs ≡ true → 0 < cuts-on x ks → so_far rs next m x + cuts-on x ks + 1 ≤ c
 
   module _ (next m : ℕ) (k : Cut) (ks : List Cut) (lo : All (λ (j : Cut). k.row ≤ j.row) ks) (a : next ≤ k.row + 1) where

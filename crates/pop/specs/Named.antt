@@ -2,6 +2,7 @@
 use Rattle.std.specs.Prelude.{ℕ, ◌+◌, ◌-◌, ◌*◌, ◌≤◌, ◌<◌, ◌≡◌, Bool, true, false, ◌||◌, cond, List, [], ◌∷◌, length, map, None}
 use Rattle.sizes.specs.Widths.{bucket-tiles}
 use Rattle.rules.specs.Lists.{join, range}
+use Rattle.rules.specs.Answers.{Done}
 use Rattle.rules.specs.Boxes.{rows_of}
 use Rattle.rules.specs.Segments.{Segment, Cut, cut_in, good-segment, judge-segments}
 use Rattle.rules.specs.Plans.{Put, on, close, close-puts}
@@ -97,6 +98,12 @@ abbrev pub clip_number : Screen → Range ℕ → Rows → ClipPath → List ℕ
 clip_number s b r p ws =
     late (good_band s b r) (judge-segments false (clip_segments p ws)) s.next_draw_id s.layer_attrs
     (full_by s.c 1 (screen_rows s r) (touched s b r) || overfull s b r (clip_cuts p ws))
+
+-- nothing that a pop with a clip reads of its rows and its list is refused
+pub record ClipSure (s : Screen) (b : Range ℕ) (r : Rows) (p : ClipPath) (ws : List ℕ) : Type 0 where
+  pub rows : good_band s b r ≡ true
+  pub listed : judge-segments false (clip_segments p ws) ≡ Done
+  pub room : (full_by s.c 1 (screen_rows s r) (touched s b r) || overfull s b r (clip_cuts p ws)) ≡ false
 
 -- .. of a screen with a layer open, by its table: 4 for the layer first
 abbrev pub open_number : Screen → Rows → List ℕ → List ℕ → ℕ

@@ -1,6 +1,6 @@
 //! The tests of a pop, in the order of its refusals: what is lent, the innermost layer, the rows of its box and its clip's segments, ids and attributes.
 //! Parts of `pop_layer`: where one asks something, its callers have judged it.
-ghost use Rattle.std.specs.Prelude.{◌≡◌, ◌&&◌, ◌-◌, ◌*◌, ◌≤◌, length, IfOk};
+ghost use Rattle.std.specs.Prelude.{◌≡◌, ◌&&◌, ◌-◌, ◌*◌, ◌≤◌, true, length, IfOk};
 ghost use Rattle.sizes.specs.Sizes.{most-layers, open-layer-table};
 ghost use Rattle.rules.specs.Plans.{clip-box};
 ghost use Rattle.rect.specs.Rects.{box_of};
@@ -9,14 +9,15 @@ ghost use Rattle.segments.specs.Segs.{origin, bounds, Starts};
 ghost use Rattle.sizes.specs.Refusals.{answer_number};
 ghost use Rattle.screen.specs.Layers.{good_layer, good_own_box};
 ghost use Rattle.pop.specs.Pop.{layers-in, good_lengths, number, Closes};
-ghost use Rattle.pop.specs.Named.{WholeRows, InScreen, plain_number, clip_number, open_number, pop_lent_of};
+ghost use Rattle.pop.specs.Named.{WholeRows, InScreen, plain_number, clip_number, open_number, pop_lent_of, ClipSure};
 
 use crate::rows::{ClipPath, is_full_clip, judge_pop_rows};
 use rect::Rect;
 use row::Rows;
+use row::room::Fault;
 use screen::layers::{Layers, OpenLayer, is_good_own_box};
 use screen::{Screen, judge_screen};
-use segments::{judge_segments, scene_of};
+use segments::{judge_segments, scene_of, most_on_a_row};
 use sizes::answers::Refusal;
 use sizes::{LAST_ID, LAYER_TABLE, MOST_ATTRS, OPACITIES, OPEN_TABLE, SEGMENT};
 use std::ops::Range;
@@ -79,7 +80,8 @@ fn judge_plain(screen: Screen, rows: &Rows<'_>, band: &Range<usize>) -> Result<(
 }
 
 // With a clip: BadRecord for the rows of the band or a segment, BadOrder for their order, then Ids, FullAttrs and FullRow.
-fn judge_clip(
+#[inline(never)]
+fn judge_clip_exactly(
     screen: Screen,
     rows: &Rows<'_>,
     list: &[u32],
@@ -106,6 +108,66 @@ fn judge_clip(
     fault.answer()?;
     if is_full_clip(screen, rows, list, clip, band) {
         return Err(Refusal::FullRow);
+    }
+    Ok(())
+}
+
+// Yes only where nothing of the rows of the band, of the clip's segments and of their room is refused: one look at each segment, and room for the most that a row
+// has of them at each touched row.
+#[inline(always)]
+fn is_sure(
+    screen: Screen,
+    rows: &Rows<'_>,
+    list: &[u32],
+    clip: ClipPath,
+    band: &Range<usize>,
+) -> bool
+    requires whole { WholeRows screen rows.now }
+    requires band { InScreen screen band.now }
+    requires some { 1 ≤ screen.layers }
+    requires deep { screen.layers ≤ most-layers }
+    requires ordered { clip.start ≤ clip.«end» }
+    requires listed { 5 * clip.«end» ≤ length list.now }
+    requires starts { Starts (origin clip.scene) (bounds clip.scene) }
+    ensures { result ≡ true → ClipSure screen band.now rows.now clip list.now }
+{
+    let Some(most) = most_on_a_row(list, clip.start, clip.end) else {
+        return false;
+    };
+    if screen.c as usize <= most {
+        return false;
+    }
+    match judge_pop_rows(screen, rows, band, most) {
+        Ok(Fault::Nothing) => true,
+        _ => false,
+    }
+}
+
+// With a clip: as exactly, by one look where that is sure.
+fn judge_clip(
+    screen: Screen,
+    rows: &Rows<'_>,
+    list: &[u32],
+    clip: ClipPath,
+    band: &Range<usize>,
+) -> Result<(), Refusal>
+    requires whole { WholeRows screen rows.now }
+    requires band { InScreen screen band.now }
+    requires some { 1 ≤ screen.layers }
+    requires deep { screen.layers ≤ most-layers }
+    requires ordered { clip.start ≤ clip.«end» }
+    requires listed { 5 * clip.«end» ≤ length list.now }
+    requires starts { Starts (origin clip.scene) (bounds clip.scene) }
+    ensures { answer_number result ≡ clip_number screen band.now rows.now clip list.now }
+{
+    if !is_sure(screen, rows, list, clip, band) {
+        return judge_clip_exactly(screen, rows, list, clip, band);
+    }
+    if LAST_ID < screen.next_draw_id {
+        return Err(Refusal::Ids);
+    }
+    if MOST_ATTRS <= screen.layer_attrs {
+        return Err(Refusal::FullAttrs);
     }
     Ok(())
 }

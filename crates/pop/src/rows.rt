@@ -1,7 +1,7 @@
 //! The rows of a closing layer's box, judged (answers 4 and 10). Parts: each has a `requires`, which its callers have judged. The layer that closes is the
 //! innermost of `screen.layers`. A row is touched if it has that layer's PushBuf.
 ghost use Rattle.std.specs.Prelude.{◌≡◌, true, cond, ◌+◌, ◌*◌, ◌≤◌, ◌<◌, length};
-ghost use Rattle.sizes.specs.Sizes.{most-layers, most-rows, row-size};
+ghost use Rattle.sizes.specs.Sizes.{most-layers, most-room, most-rows, row-size};
 ghost use Rattle.rules.specs.Lists.{range, every};
 ghost use Rattle.rules.specs.Answers.{FullRow};
 ghost use Rattle.rules.specs.Segments.{good-segment};
@@ -86,7 +86,7 @@ fn judge_pop_row(screen: Screen, rows: &Rows<'_>, r: usize) -> bool
 fn count_pop_row(screen: Screen, rows: &[u32], found: Fault, r: usize, more: usize) -> Fault
     requires small { r < most-rows }
     requires there { r * row-size + row-size ≤ length rows.now }
-    requires more { more ≤ 1 }
+    requires more { more ≤ most-room }
     requires found { Found (fault_number found) }
     requires shallow { ShallowRow screen.d screen.layers (record-at rows.now r) }
     ensures { fault_number result ≡ cond (full-pop screen.c screen.layers (more + 1) (record-at rows.now r)) FullRow (fault_number found) }
@@ -117,7 +117,7 @@ pub fn judge_pop_rows(
     requires band { InScreen screen band.now }
     requires some { 1 ≤ screen.layers }
     requires deep { screen.layers ≤ most-layers }
-    requires more { more ≤ 1 }
+    requires more { more ≤ most-room }
     ensures { Told (pops-number screen.c screen.d screen.layers (more + 1) (screen_rows screen rows.now) (range band.now.start band.now.«end»)) result }
 {
     let mut found = Fault::Nothing;

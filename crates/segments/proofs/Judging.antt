@@ -1,5 +1,5 @@
 -- Judging a segment and a list of them.
-use Rattle.std.proofs.Common.{◌≡◌, refl, sym, ap, ◌∙◌, Bool, true, false, ◌&&◌, not, cond, List, [], ◌∷◌, ℕ, ◌+◌, ◌-◌, ◌≤◌, ◌<◌, arith}
+use Rattle.std.proofs.Common.{◌≡◌, refl, sym, ap, ◌∙◌, Bool, true, false, ◌&&◌, ◌||◌, not, cond, List, [], ◌∷◌, ℕ, zero, suc, ◌+◌, ◌-◌, ◌≤◌, ◌<◌, arith, leb, ltb, eqb, le-leb, lt-ltb}
 use Rattle.rules.specs.Lists.{every}
 use Rattle.rules.specs.Answers.{Done, BadRecord, BadOrder}
 use Rattle.rules.specs.Segments.{Segment, good-segment, follows, ordered-after, ordered, judge-segments}
@@ -52,6 +52,23 @@ judging-broken s = refl
 pub judging-rest : (s : Segment) (ss : List Segment) → cond (not (every good-segment ss)) BadRecord BadOrder ≡ judging s false ss
 unfolding judging
 judging-rest s ss = refl
+
+-- it stands before the first segment of a list
+abbrev pub nowhere : Segment
+nowhere = record { kind = 0; row = 0; first = 0; end = 0; alpha = 0 }
+
+pub first-follows : (r x : ℕ) → (ltb 0 r || eqb 0 r && leb 0 x) ≡ true
+first-follows zero x = le-leb 0 x (omega arith)
+first-follows (suc r) x = rw (lt-ltb 0 (suc r) (omega arith))
+
+ordered-first : (ss : List Segment) → ordered-after nowhere ss ≡ ordered ss
+unfolding ordered
+ordered-first [] = refl
+ordered-first (t ∷ ts) = rw (first-follows t.row t.first)
+
+pub none_before : (ss : List Segment) → judging nowhere true ss ≡ judge-segments false ss
+unfolding judging judge-segments
+none_before ss = rw (ordered-first ss)
 
 -- the loop at place i of n, on its way from the start, after the segment s
 pub record AtPlace (ws : List ℕ) (a n : ℕ) (s : Segment) (ok : Bool) (i : ℕ) : Type 0 where

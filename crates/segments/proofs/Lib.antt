@@ -1,3 +1,4 @@
 pub mod Cutting
 pub mod Laws
 pub mod Judging
+pub mod Counting

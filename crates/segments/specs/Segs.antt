@@ -1,8 +1,9 @@
 -- Segments as words, five each, and the code's segments, scenes and cut segments as the rules'.
-use Rattle.std.specs.Prelude.{Option, None, Some, ◌≡◌, List, [], ◌∷◌, ℕ, zero, suc, ◌+◌, ◌*◌, ◌/◌, ◌≤◌, length, get_or}
+use Rattle.std.specs.Prelude.{Option, None, Some, ◌≡◌, false, cond, List, [], ◌∷◌, ℕ, zero, suc, ◌+◌, ◌*◌, ◌/◌, ◌≤◌, length, get_or, eqb}
+use Rattle.rules.specs.Answers.{Done}
 use Rattle.rules.specs.Boxes.{Box, box, scene-tiles}
 use Rattle.rules.specs.Segments as rule
-use Rattle.rules.specs.Segments.{Cut}
+use Rattle.rules.specs.Segments.{Cut, judge-segments}
 use Rattle.span.specs.Spans.{stretch}
 use Rattle.segments.specs.declared.Segment.{Segment}
 use Rattle.segments.specs.declared.Scene.{Scene}
@@ -29,6 +30,16 @@ segs ws i (suc k) = seg-at ws i ∷ segs ws (i + 1) k
 
 abbrev pub segs-of : List ℕ → List rule.Segment
 segs-of ws = segs ws 0 (length ws / 5)
+
+-- how many of some segments stand on row r
+unfoldable pub on-row : ℕ → List rule.Segment → ℕ
+on-row r [] = 0
+on-row r (s ∷ ss) = cond (eqb s.row r) 1 0 + on-row r ss
+
+-- good segments, in order, at most m of them on each row
+pub record AtMost (m : ℕ) (ss : List rule.Segment) : Type 0 where
+  pub judged : judge-segments false ss ≡ Done
+  pub most : (r : ℕ) → on-row r ss ≤ m
 
 -- the viewport's origin, and the clip box in scene tiles
 abbrev pub origin : Scene → Box

@@ -2,13 +2,13 @@
 //! is lent as words, five a segment.
 #![tactic(auto)]
 
-ghost use Rattle.std.specs.Prelude.{◌≡◌, true, false, cond, not, ◌+◌, ◌-◌, ◌*◌, ◌≤◌, length};
+ghost use Rattle.std.specs.Prelude.{◌≡◌, true, false, cond, not, ◌+◌, ◌-◌, ◌*◌, ◌≤◌, length, IfSome};
 ghost use Rattle.rules.specs.Segments.{good-segment, follows, judge-segments, alpha-of, cut_in};
 ghost use Rattle.rules.specs.Answers.{BadRecord, BadOrder};
 ghost use Rattle.rules.specs.Lists.{every};
 ghost use Rattle.sizes.specs.Refusals.{answer_number, number_of};
 ghost use Rattle.rect.specs.Rects.{box_of, Small};
-ghost use Rattle.segments.specs.Segs.{segment-of, seg-at, segs, placed_of, origin, bounds, Starts, SceneOf};
+ghost use Rattle.segments.specs.Segs.{segment-of, seg-at, segs, placed_of, origin, bounds, Starts, SceneOf, AtMost};
 
 use rect::Rect;
 use sizes::answers::Refusal;
@@ -121,6 +121,37 @@ pub fn judge_segments(list: &[u32], start: usize, end: usize) -> Result<(), Refu
         last = next;
     }
     Ok(())
+}
+
+/// The most segments that one row has, of those from start to end of a list, where all are good and in order: one look at each. Without an answer nothing is said of
+/// them. Out of line: its loop shares registers with no other.
+#[inline(never)]
+pub fn most_on_a_row(list: &[u32], start: usize, end: usize) -> Option<usize>
+    requires order { start ≤ «end» }
+    requires within { 5 * «end» ≤ length list.now }
+    ensures { IfSome result (λ m. AtMost m (segs list.now start («end» - start))) }
+{
+    let mut last = NO_SEGMENT;
+    let mut own: usize = 0;
+    let mut most: usize = 0;
+    for k in start..end {
+        let here = segment_at(list, k);
+        if here.row != last.row {
+            if here.row < last.row {
+                return None;
+            }
+            own = 0;
+        } else if here.first < last.end {
+            return None;
+        }
+        if !here.is_good() {
+            return None;
+        }
+        own += 1;
+        most = most.max(own);
+        last = here;
+    }
+    Some(most)
 }
 
 /// x, y: the viewport's origin in pixels. columns, rows: the clip box in tiles of the scene, from left to right and from top to bottom.

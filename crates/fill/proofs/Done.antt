@@ -1,5 +1,5 @@
 -- What a fill's number 0 gives, and what a done fill leaves. Assumes nothing.
-use Rattle.std.proofs.Common.{◌≡◌, refl, sym, ap, ◌∙◌, Bool, true, false, cond, List, [], append-nil, ℕ, ◌+◌, ◌-◌, ◌*◌, ◌≤◌, ◌<◌, arith, ltb, eqb, length, drop, take-append-drop, drop_at, ltb-true, ltb-false}
+use Rattle.std.proofs.Common.{◌≡◌, refl, sym, ap, ◌∙◌, Bool, true, false, cond, List, [], append-nil, ℕ, ◌+◌, ◌-◌, ◌*◌, ◌≤◌, ◌<◌, arith, ltb, eqb, length, drop, take-append-drop, drop_at, ltb-true, ltb-false, ne_eqb}
 use Rattle.std.proofs.lemmas.Bool.Decides.{nat_tests}
 use lib.Seq.{drop-length}
 use Rattle.sizes.specs.Sizes.{paint-attr-size}
@@ -15,7 +15,6 @@ use Rattle.rules.proofs.All.{never}
 use Rattle.rules.specs.Steps as steps
 use Rattle.rules.specs.Steps.{do-puts, done, passes, refusal}
 use Rattle.cmd.specs.Attrs.{words-at, put-paint}
-use Rattle.cmd.specs.declared.attrs.PaintFillAttrs.{PaintFillAttrs}
 use Rattle.row.specs.Words.{Words, word, word-ops}
 use Rattle.row.specs.Arena.{sizes, lay, count-rows}
 use Rattle.row.proofs.RowsLaws.{lay-cut, rows-counted}
@@ -35,7 +34,7 @@ use Rattle.fill.specs.declared.rows.FillJob.{FillJob}
 use Rattle.fill.specs.Named.{job_rows, rows_after}
 use Rattle.inputs.specs.declared.Draw.{Draw}
 use Rattle.inputs.specs.Inputs.{draw-of}
-use Rattle.fill.specs.Fills.{paints-of, job_of, FillLent, fill_lent, fill-plan, first-of-lent, fill_number, fill_done, filled}
+use Rattle.fill.specs.Fills.{paints-of, job_of, attr-of, FillLent, fill_lent, fill-plan, first-of-lent, fill_number, fill_done, filled}
 use Rattle.fill.proofs.Inputs.{GoodDraw, draw-facts}
 use Rattle.fill.proofs.Planned.{state-frame, state-next, plan-layers, plan-next, refused-bad, refused-are, puts-are, rows_are, attrs-same, attrs-more, full-attrs, paints-more, filters-same}
 use Rattle.fill.proofs.Numbers.{passing, long, rowed, good-are}
@@ -44,6 +43,10 @@ module _ (l : FillLent) (ps ss : List ℕ) (d : Draw) where
   -- what is done leaves what the rules' plan says
   pub done-is : {m : FillLent} → 0 ≡ fill_number l ps ss d → m ≡ fill_done l ps ss d → answer 0 m ≡ filled l ps ss d
   done-is e h = rw (← e, h)
+
+  -- what is refused alters nothing
+  pub refused-is : {n : ℕ} → n ≡ fill_number l ps ss d → (n ≡ 0 → ⊥) → answer n l ≡ filled l ps ss d
+  refused-is {n} e h = rw (← e, ne_eqb n 0 h)
 
 -- the number 0
 said-no : (f : ℕ) (g : Bool) (r : ℕ) → cond (eqb f Done) (cond g r BadRecord) f ≡ 0 → (f ≡ 0) × (g ≡ true) × (r ≡ 0)
@@ -123,20 +126,6 @@ module _ (l : FillLent) (ps ss : List ℕ) (d : Draw) where
 no_words : (xs : List ℕ) (at : ℕ) → words-at xs at [] ≡ xs
 no_words xs at = let e : at + 0 ≡ at = omega arith in rw (append-nil, e) (take-append-drop at xs)
 
--- the attribute that the code writes
-abbrev pub attr-of : Screen → Draw → PaintFillAttrs
-attr-of s d =
-    record {
-      paint = d.paint;
-      blend = d.blend;
-      mask = d.mask;
-      draw_id = s.next_draw_id;
-      thread_idx = d.thread;
-      origin_x = s.viewport.x0;
-      origin_y = s.viewport.y0;
-      panel = d.panel;
-    }
-
 module _ (l : FillLent) (ps ss : List ℕ) (d : Draw) (z : Zero l ps ss d) where
   good : GoodDraw ps ss d
   good = draw-facts ps ss d z.draw
@@ -199,3 +188,7 @@ module _ (l : FillLent) (ps ss : List ℕ) (d : Draw) (z : Zero l ps ss d) where
 
     pub rows-asked : {j : FillJob} → j ≡ job_of l.screen ps d → FillReady j (count-rows l.words.state) ss d.start d.end l.words
     rows-asked q = rw (q, rows-counted l.words.state (rows_of (box_of l.screen.viewport)) fine.row_words) z.ready
+
+-- a draw may be split only where no layer is open
+pub splits : (s : Screen) (ps : List ℕ) (d : Draw) (j : FillJob) → j ≡ job_of s ps d → j.eligible ≡ true → j.layers ≡ 0
+splits s ps d j q h = let e = rw q at h in rw q (grind (arith, nat_tests))

@@ -1,5 +1,5 @@
 -- What a fill's puts do to a screen's rows of words. Assumes nothing.
-use Rattle.std.proofs.Common.{◌≡◌, refl, sym, ap, ◌∙◌, Bool, true, false, List, [], ◌∷◌, ◌++◌, Option, None, Some, ℕ, ◌+◌, ◌-◌, ◌≤◌, ◌<◌, arith, length, get_or}
+use Rattle.std.proofs.Common.{◌≡◌, refl, sym, ap, ◌∙◌, Bool, true, false, List, [], ◌∷◌, ◌++◌, Option, None, Some, ℕ, ◌+◌, ◌-◌, ◌*◌, ◌≤◌, ◌<◌, arith, length, get_or}
 use Rattle.rules.specs.Lists.{join, change}
 use Rattle.rules.specs.Segments.{Segment, Cut, good-segment, cut_in}
 use Rattle.rules.specs.Plans.{Put, on, draw-act, draw-puts}
@@ -151,6 +151,21 @@ module _ {j : FillJob} {n : ℕ} {ws : List ℕ} {a b : ℕ} {w₀ : Words} {i :
               };
           all = rw e (sym (done-append j o.layers (one-put j ws i) (puts j ws (i + 1) (b - (i + 1))) (cut (sizes j.c j.d) n w)) ∙ (rw split-puts at v.all));
         }
+
+-- a list of one segment
+module _ {j : FillJob} {n : ℕ} {ws : List ℕ} {i : ℕ} {w : Words} (v : FillReady j n ws i (i + 1) w) where
+  sets-off : Filling j n ws i (i + 1) w i w
+  sets-off = record { rest = v; all = refl }
+
+  pub alone-asks : (5 * i + 5 ≤ length ws) × (good-segment (seg-at ws i) ≡ true)
+  alone-asks = (omega (arith, v.within), good-here sets-off (omega arith))
+
+  pub alone-room : Roomy (one-put j ws i) (cut (sizes j.c j.d) n w) (done j (one-put j ws i) (cut (sizes j.c j.d) n w))
+  alone-room = room-here sets-off (omega arith)
+
+  pub alone-done : (u : Words) → Long (sizes j.c j.d) n u → cut (sizes j.c j.d) n u ≡ done j (one-put j ws i) (cut (sizes j.c j.d) n w)
+      → u ≡ lay (done j (puts j ws i (i + 1 - i)) (cut (sizes j.c j.d) n w))
+  alone-done u l e = filled (again sets-off (omega arith) u l e) (omega arith)
 
 pub long_after : {k : Sizes} {n : ℕ} {w : Words} (x y z : List ℕ) → Long k n w → length x ≡ length w.state → length y ≡ length w.render → length z ≡ length w.fills → Long k n (words x y z)
 long_after x y z l p q r = record { state = p ∙ l.state; render = q ∙ l.render; fills = r ∙ l.fills }

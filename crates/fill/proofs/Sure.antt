@@ -309,6 +309,24 @@ module _ {j : FillJob} {n : ℕ} {rows ws : List ℕ} {a b r f e m i : ℕ} (v :
         (λ h. sym (alpha-good (seg-at ws i) (omega arith) (omega arith) q s (λ u. omega arith)) ∙ le-leb (get_or ws (5 * i + 4) 0) (4294967295 - 16 * (get_or ws (5 * i + 3) 0 - get_or ws (5 * i + 2) 0)) z)
         o (rw t (split-none j.eligible)) (omega arith))
 
+-- one segment by itself, whose row has room
+module _ {j : FillJob} {n : ℕ} {rows : List ℕ} (ws : List ℕ) (i : ℕ) (o : Rowed j n rows) (l : 5 * (i + 1) ≤ length ws) (r : get_or ws (5 * i + 1) 0 < 8192)
+    (q : get_or ws (5 * i + 2) 0 < get_or ws (5 * i + 3) 0) (s : get_or ws (5 * i + 3) 0 ≤ 8192) where
+  begins : Walking j n rows ws i (i + 1) (get_or ws (5 * i + 1) 0) i 0 0 i
+  begins = set_out (get_or ws (5 * i + 1) 0) o (omega arith) l
+
+  by-one : {e k m : ℕ} → Walking j n rows ws i (i + 1) (get_or ws (5 * i + 1) 0) i e m (i + 1) → k ≡ m → RoomAt j rows (get_or ws (5 * i + 1) 0) 1 k
+      → number_in j rows ws i (i + 1) ≡ 0
+  by-one w h p = let e : (i + 1) - i ≡ 1 = omega arith in all-sure w (omega arith) r (rw (e, ← h) p)
+
+  pub solid_alone : {k : ℕ} → k ≡ split_off j.eligible 1 → get_or ws (5 * i) 0 ≡ 0 → get_or ws (5 * i + 4) 0 ≡ 0 → RoomAt j rows (get_or ws (5 * i + 1) 0) 1 k
+      → number_in j rows ws i (i + 1) ≡ 0
+  solid_alone {k} y t z p = by-one (one-solid begins (omega arith) refl (omega arith) q s {w = k} {k = k} y (omega arith) t z) refl p
+
+  pub alpha-alone : get_or ws (5 * i) 0 ≡ 1 → get_or ws (5 * i + 4) 0 ≤ 4294967295 - 16 * (get_or ws (5 * i + 3) 0 - get_or ws (5 * i + 2) 0)
+      → RoomAt j rows (get_or ws (5 * i + 1) 0) 1 0 → number_in j rows ws i (i + 1) ≡ 0
+  alpha-alone t z p = by-one (one-alpha begins (omega arith) refl (omega arith) q s {k = 0} refl t z) refl p
+
 -- a record with room, as the code tests it
 pub room-found : (j : FillJob) (s : List ℕ) (m n : ℕ) → good_row j.c j.d j.layers s ≡ true → get_or s 1 0 + n ≤ j.d → get_or s 0 0 + j.layers + m + n ≤ j.c + get_or s 5 0 → Roomed j s m n
 room-found j s m n g d h = record { good = g; renders = omega (arith, (good-small _ _ _ _ g).levels); depths = d }

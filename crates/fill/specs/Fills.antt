@@ -9,6 +9,7 @@ use Rattle.screen.specs.Attributes.{paint-attr-words}
 use Rattle.rules.specs.Plans.{Plan, eligible, plan-fill}
 use Rattle.rules.specs.Steps.{done}
 use Rattle.cmd.specs.Attrs.{words-at}
+use Rattle.cmd.specs.declared.attrs.PaintFillAttrs.{PaintFillAttrs}
 use Rattle.row.specs.Words.{Words, word-ops}
 use Rattle.row.specs.Arena.{lay}
 use Rattle.row.specs.Building.{screen-at, good_rows, step_number}
@@ -64,6 +65,20 @@ job_of s ps d =
       attr = s.paint_attrs;
       id = s.next_draw_id;
       width = s.width;
+    }
+
+-- the attribute that a fill adds
+abbrev pub attr-of : Screen → Draw → PaintFillAttrs
+attr-of s d =
+    record {
+      paint = d.paint;
+      blend = d.blend;
+      mask = d.mask;
+      draw_id = s.next_draw_id;
+      thread_idx = d.thread;
+      origin_x = s.viewport.x0;
+      origin_y = s.viewport.y0;
+      panel = d.panel;
     }
 
 -- a screen and the words that a fill writes

@@ -1,5 +1,5 @@
 -- A fill's rows and segments, by the code's own values: what the contracts of this crate say in one word.
-use Rattle.std.specs.Prelude.{ℕ, ◌+◌, ◌-◌, ◌*◌, ◌≤◌, ◌≡◌, true, List, length}
+use Rattle.std.specs.Prelude.{ℕ, ◌+◌, ◌-◌, ◌*◌, ◌≤◌, ◌≡◌, Bool, true, List, length}
 use Rattle.rules.specs.Segments.{good-segment}
 use Rattle.rules.specs.Plans.{Put}
 use Rattle.row.specs.Words.{Words}
@@ -64,3 +64,7 @@ draws-of e d = draws_in e d.words.now d.start (asked d)
 -- what a list's fills give
 abbrev pub fills-of : List ℕ → List ℕ → Draws → FillLent → FillsOut
 fills-of ps ss d l = fills_listed ps ss d.words.now d.start d.end l
+
+-- whether the job's solid segments may become depth fills, and then no layer is open
+abbrev pub Splits : FillJob → Bool → Type 0
+Splits j b = (b ≡ j.eligible) × (b ≡ true → j.layers ≡ 0)

@@ -1,5 +1,5 @@
 //! Judging a fill's segments and the rows that they come to (BadRecord, BadOrder, FullRow and FullDepth), in one pass, before anything is done: by a sure look,
-//! and exactly where that look is not sure. LISTED is `fill_one`'s: it changes nothing of what is said.
+//! and exactly where that look is not sure. WAY is `fill_one`'s: it changes nothing of what is said.
 ghost use Rattle.std.specs.Prelude.{◌≡◌, true, ◌≤◌, ◌<◌, length};
 ghost use Rattle.sizes.specs.Sizes.{most-layers, most-room, row-size};
 ghost use Rattle.rules.specs.Segments.{good-segment};
@@ -142,8 +142,8 @@ fn has_room(state: &[u32], job: FillJob, segments: usize, split: usize) -> bool
             <= job.c as usize + state[LEVELS] as usize
 }
 
-// The same of a row of the scene, by its number there; of any other row nothing is asked.
-fn has_room_at(rows: &[u32], job: FillJob, row: u32, segments: usize, split: usize) -> bool
+/// The same of a row of the scene, by its number there; of any other row nothing is asked.
+pub fn has_room_at(rows: &[u32], job: FillJob, row: u32, segments: usize, split: usize) -> bool
     requires rows { RecordsOf job rows.now }
     requires few { Few segments split }
     ensures { result ≡ true → RoomAt job rows.now row segments split }
@@ -157,7 +157,7 @@ fn has_room_at(rows: &[u32], job: FillJob, row: u32, segments: usize, split: usi
 
 // Yes only where the exact number is 0: rows rise, each segment is good and in order, and each row has room for the most that its segments come
 // to, looked at once for all of them.
-fn is_sure<const LISTED: bool>(
+fn is_sure<const WAY: u32>(
     rows: &[u32],
     list: &[u32],
     start: usize,
@@ -213,7 +213,7 @@ fn is_sure<const LISTED: bool>(
 
 /// The segments from start to end of a list: BadRecord for a bad one or for the bad record of a row that gets one, then BadOrder, at once; else what was found
 /// of the rows, whether one passes C, or D.
-pub fn judge_list<const LISTED: bool>(
+pub fn judge_list<const WAY: u32>(
     rows: &[u32],
     list: &[u32],
     start: usize,
@@ -225,7 +225,7 @@ pub fn judge_list<const LISTED: bool>(
     requires list { InList list.now «end» }
     ensures { Listed (number_in job rows.now list.now start «end») result }
 {
-    if start < end && is_sure::<LISTED>(rows, list, start, end, job) {
+    if start < end && is_sure::<WAY>(rows, list, start, end, job) {
         return Ok(Fault::Nothing);
     }
     match judge_each(rows, list, start, end, job)? {

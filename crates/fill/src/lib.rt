@@ -12,7 +12,7 @@ ghost use Rattle.rect.specs.Rects.{box_of};
 ghost use Rattle.row.specs.Rows.{SameRows};
 ghost use Rattle.screen.specs.Screens.{good_screen};
 ghost use Rattle.inputs.specs.Inputs.{draw-of};
-ghost use Rattle.fill.specs.Fills.{paint-at, paints-of, good-draw-at, good-fill-at, job_of, first-of-lent, fill_number, fill_done, filled};
+ghost use Rattle.fill.specs.Fills.{paint-at, paints-of, good-draw-at, good-fill-at, job_of, attr-of, first-of-lent, fill_number, fill_done, filled};
 ghost use Rattle.fill.specs.Named.{fill_lent_of};
 
 use crate::judge::judge_list;
@@ -28,6 +28,7 @@ use sizes::{HANDLE_END, LAST_ID, MOST_ATTRS, MOST_RECORDS, PAINT, PAINT_TABLE, S
 pub mod judge;
 pub mod list;
 pub mod rows;
+pub mod single;
 pub mod turns;
 
 // Whether a paint's opaque flag and handle are in their bounds.
@@ -111,26 +112,9 @@ fn judge_lent(
     Ok(())
 }
 
-// The same, unless they are judged.
-fn judge_first<const LISTED: bool>(
-    screen: Screen,
-    rows: &Rows<'_>,
-    paint_attrs: &[u32],
-    paints: &[u32],
-    segments: &[u32],
-) -> Result<(), Refusal>
-    requires { LISTED ≡ true → first-of-lent (fill_lent_of screen rows.now paint_attrs.now) paints.now segments.now ≡ 0 }
-    ensures { answer_number result ≡ first-of-lent (fill_lent_of screen rows.now paint_attrs.now) paints.now segments.now }
-{
-    if LISTED {
-        return Ok(());
-    }
-    judge_lent(screen, rows, paint_attrs, paints, segments)
-}
-
-// A fill, before anything is done: BadViewport, BadArena, BadRecord, BadOrder, Ids, FullAttrs if there is a segment, FullRow, FullDepth, in this order. It
-// gives what its segments have in common.
-fn judge_fill<const LISTED: bool>(
+// A fill of what `judge_lent` has passed, before anything is done: BadRecord, BadOrder, Ids, FullAttrs if there is a segment, FullRow, FullDepth, in this
+// order. It gives what its segments have in common.
+fn judge_fill<const WAY: u32>(
     screen: Screen,
     rows: &Rows<'_>,
     paint_attrs: &[u32],
@@ -138,17 +122,16 @@ fn judge_fill<const LISTED: bool>(
     segments: &[u32],
     draw: Draw,
 ) -> Result<FillJob, Refusal>
-    requires { LISTED ≡ true → first-of-lent (fill_lent_of screen rows.now paint_attrs.now) paints.now segments.now ≡ 0 }
+    requires { first-of-lent (fill_lent_of screen rows.now paint_attrs.now) paints.now segments.now ≡ 0 }
     ensures job { IfOk result (λ j. j ≡ job_of screen paints.now draw) }
     ensures number { answer_number result
         ≡ fill_number (fill_lent_of screen rows.now paint_attrs.now) paints.now segments.now draw }
 {
-    judge_first::<LISTED>(screen, rows, paint_attrs, paints, segments)?;
     if !is_good_fill(paints, segments, draw) {
         return Err(Refusal::BadRecord);
     }
     let job = job_of(screen, paints, draw);
-    let fault = judge_list::<LISTED>(rows.state, segments, draw.start, draw.end, job)?;
+    let fault = judge_list::<WAY>(rows.state, segments, draw.start, draw.end, job)?;
     if LAST_ID < screen.next_draw_id {
         return Err(Refusal::Ids);
     }
@@ -162,9 +145,25 @@ fn judge_fill<const LISTED: bool>(
     Ok(job)
 }
 
-// A fill, alone or LISTED: one of a list, whose screen, tables and lists are judged before. Each has machine code of its own, in which the loops over segments
-// keep their registers.
-fn fill_one<const LISTED: bool>(
+// The attribute that a fill adds.
+fn attrs_of(screen: Screen, draw: Draw) -> PaintFillAttrs
+    ensures { result ≡ attr-of screen draw }
+{
+    PaintFillAttrs {
+        paint: draw.paint,
+        blend: draw.blend,
+        mask: draw.mask,
+        draw_id: screen.next_draw_id,
+        thread_idx: draw.thread,
+        origin_x: screen.viewport.x0,
+        origin_y: screen.viewport.y0,
+        panel: draw.panel,
+    }
+}
+
+// A fill of what `judge_lent` has passed. WAY changes nothing of what is done: 0 a fill, 1 one of a list, 2 a fill of one segment (`single`). Each has machine
+// code of its own, in which the loops over segments keep their registers.
+fn fill_one<const WAY: u32>(
     screen: &mut Screen,
     rows: &mut Rows<'_>,
     paint_attrs: &mut [u32],
@@ -172,7 +171,7 @@ fn fill_one<const LISTED: bool>(
     segments: &[u32],
     draw: Draw,
 ) -> Result<(), Refusal>
-    requires { LISTED ≡ true → first-of-lent (fill_lent_of screen.old rows.old paint_attrs.old) paints.now segments.now ≡ 0 }
+    requires { first-of-lent (fill_lent_of screen.old rows.old paint_attrs.old) paints.now segments.now ≡ 0 }
     ensures same { SameRows rows.old rows.new }
     ensures refused { answer_number result
         ≡ fill_number (fill_lent_of screen.old rows.old paint_attrs.old) paints.now segments.now draw }
@@ -183,25 +182,40 @@ fn fill_one<const LISTED: bool>(
     ensures filled { answer (answer_number result) (fill_lent_of screen.new rows.new paint_attrs.new)
         ≡ filled (fill_lent_of screen.old rows.old paint_attrs.old) paints.now segments.now draw }
 {
-    let job = judge_fill::<LISTED>(*screen, rows, paint_attrs, paints, segments, draw)?;
+    let job = judge_fill::<WAY>(*screen, rows, paint_attrs, paints, segments, draw)?;
     if draw.start == draw.end {
         screen.take_fill(0);
         return Ok(());
     }
-    let attrs = PaintFillAttrs {
-        paint: draw.paint,
-        blend: draw.blend,
-        mask: draw.mask,
-        draw_id: screen.next_draw_id,
-        thread_idx: draw.thread,
-        origin_x: screen.viewport.x0,
-        origin_y: screen.viewport.y0,
-        panel: draw.panel,
-    };
+    let attrs = attrs_of(*screen, draw);
     put_paint_attrs(paint_attrs, screen.paint_attrs as usize, attrs);
-    fill_rows::<LISTED>(rows, segments, draw.start, draw.end, job);
+    fill_rows::<WAY>(rows, segments, draw.start, draw.end, job);
     screen.take_fill(1);
     Ok(())
+}
+
+/// `fill`, of what its judge of the screen and of all lengths has passed.
+#[inline(never)]
+pub fn fill_judged(
+    screen: &mut Screen,
+    rows: &mut Rows<'_>,
+    paint_attrs: &mut [u32],
+    paints: &[u32],
+    segments: &[u32],
+    draw: Draw,
+) -> Result<(), Refusal>
+    requires judged { first-of-lent (fill_lent_of screen.old rows.old paint_attrs.old) paints.now segments.now ≡ 0 }
+    ensures same { SameRows rows.old rows.new }
+    ensures refused { answer_number result
+        ≡ fill_number (fill_lent_of screen.old rows.old paint_attrs.old) paints.now segments.now draw }
+    ensures unchanged { OnErr result
+        (fill_lent_of screen.new rows.new paint_attrs.new ≡ fill_lent_of screen.old rows.old paint_attrs.old) }
+    ensures done { OnOk result (fill_lent_of screen.new rows.new paint_attrs.new
+        ≡ fill_done (fill_lent_of screen.old rows.old paint_attrs.old) paints.now segments.now draw) }
+    ensures filled { answer (answer_number result) (fill_lent_of screen.new rows.new paint_attrs.new)
+        ≡ filled (fill_lent_of screen.old rows.old paint_attrs.old) paints.now segments.now draw }
+{
+    fill_one::<0>(screen, rows, paint_attrs, paints, segments, draw)
 }
 
 /// Rules 3 to 7. The lists are lent as words, PAINT a paint and SEGMENT a segment. BadViewport, BadArena, BadRecord, BadOrder, Ids, FullAttrs, FullRow or
@@ -225,5 +239,6 @@ pub fn fill(
     ensures filled { answer (answer_number result) (fill_lent_of screen.new rows.new paint_attrs.new)
         ≡ filled (fill_lent_of screen.old rows.old paint_attrs.old) paints.now segments.now draw }
 {
-    fill_one::<false>(screen, rows, paint_attrs, paints, segments, draw)
+    judge_lent(*screen, rows, paint_attrs, paints, segments)?;
+    fill_judged(screen, rows, paint_attrs, paints, segments, draw)
 }

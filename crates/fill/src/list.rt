@@ -74,7 +74,7 @@ pub fn fill_each(
     let mut own = *screen;
     for i in draws.start..draws.end {
         let draw = draw_at(draws.words, edition, edition.draw() * i);
-        if let Err(refusal) = fill_one::<true>(
+        if let Err(refusal) = fill_one::<1>(
             &mut own,
             rows,
             paint_attrs,

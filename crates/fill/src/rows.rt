@@ -1,6 +1,6 @@
 //! The doing half of a fill (rules 3 to 7; bucketer.rs, generate and push_fill), over a whole screen's words. Each function has a `requires`, which `fill` has
-//! judged. LISTED is `fill_one`'s: it changes nothing of what is done.
-ghost use Rattle.std.specs.Prelude.{◌≡◌, ◌≤◌, ◌<◌};
+//! judged. WAY is `fill_one`'s: it changes nothing of what is done.
+ghost use Rattle.std.specs.Prelude.{◌≡◌, ◌≤◌, ◌<◌, ◌+◌, true};
 ghost use Rattle.sizes.specs.Sizes.{most-layers};
 ghost use Rattle.span.specs.Spans.{tiles};
 ghost use Rattle.row.specs.Words.{words};
@@ -8,7 +8,7 @@ ghost use Rattle.row.specs.Rows.{all-held, SameRows};
 ghost use Rattle.row.specs.Cmds.{Short};
 ghost use Rattle.row.specs.Arena.{lay, count-rows};
 ghost use Rattle.fill.specs.Filling.{draws, one-put, done, run_of, OnRow, Fits, FillReady, RunReady};
-ghost use Rattle.fill.specs.Named.{job_rows, held_rows, rows_after, RoomFor, GoodAt, NotSolid};
+ghost use Rattle.fill.specs.Named.{job_rows, held_rows, rows_after, RoomFor, GoodAt, NotSolid, Splits};
 
 use row::act::{RowAct, on_row};
 use row::acts::{ensure_row_layers, is_unsplit, push_fill};
@@ -40,30 +40,29 @@ pub struct SegmentRun {
     pub row: u32,
 }
 
-// What is left of a segment, drawn on its row.
+// What is left of a segment, drawn on its row. SPLIT is the job's `eligible`.
 #[derive(Clone, Copy)]
-struct Stroke<const LISTED: bool> {
+struct Stroke<const WAY: u32, const SPLIT: bool> {
     job: FillJob,
     stretch: Stretch,
 }
 
-impl<const LISTED: bool> RowAct for Stroke<LISTED> {
+impl<const WAY: u32, const SPLIT: bool> RowAct for Stroke<WAY, SPLIT> {
     ghost made = { λ a w. draws a.job (tiles a.stretch.tiles) a.stretch.alpha w };
 
-    ghost Asks = { λ a w. Short (tiles a.stretch.tiles) × (a.job.layers ≤ most-layers) };
+    ghost Asks = { λ a w. Short (tiles a.stretch.tiles) × (a.job.layers ≤ most-layers) × Splits a.job SPLIT };
 
     // What `push_fill` does, with a short way for one command on a row that has its layers.
     fn on(self, row: &mut Row<'_>) {
         let job = self.job;
         let stretch = self.stretch;
-        if row.state[LEVELS] == job.layers && is_unsplit(job.eligible, stretch.alpha) {
+        if is_unsplit(SPLIT, stretch.alpha) && row.state[LEVELS] == job.layers {
             row.push_paint(stretch.tiles, stretch.alpha, job.attr);
             return;
         }
-        push_fill::<LISTED>(
+        push_fill::<WAY, SPLIT>(
             row,
             job.layers,
-            job.eligible,
             stretch,
             job.attr,
             job.id,
@@ -73,7 +72,13 @@ impl<const LISTED: bool> RowAct for Stroke<LISTED> {
 }
 
 // One segment of the list.
-fn fill_segment<const LISTED: bool>(rows: &mut Rows<'_>, segs: &[u32], i: usize, job: FillJob)
+fn fill_segment<const WAY: u32, const SPLIT: bool>(
+    rows: &mut Rows<'_>,
+    segs: &[u32],
+    i: usize,
+    job: FillJob,
+)
+    requires split { Splits job SPLIT }
     requires fits { Fits job (count-rows rows.old.state.now) (all-held rows.old) }
     requires segment { GoodAt segs.now i }
     requires room { RoomFor job (one-put job segs.now i) (held_rows job rows.old) }
@@ -82,7 +87,7 @@ fn fill_segment<const LISTED: bool>(rows: &mut Rows<'_>, segs: &[u32], i: usize,
         ≡ done job (one-put job segs.now i) (held_rows job rows.old) }
 {
     if let Some(placed) = place(segment_at(segs, i), job.scene) {
-        let stroke = Stroke::<LISTED> {
+        let stroke = Stroke::<WAY, SPLIT> {
             job,
             stretch: placed.stretch,
         };
@@ -99,7 +104,7 @@ fn fill_segment<const LISTED: bool>(rows: &mut Rows<'_>, segs: &[u32], i: usize,
 }
 
 // The alpha segments of a run, in a row: a command each, on the row's own words. It gives the first segment after them.
-fn push_run<const LISTED: bool>(
+fn push_run<const WAY: u32, const SPLIT: bool>(
     state: &mut [u32],
     render_cmds: &mut [u32],
     depth_cmds: &mut [u32],
@@ -136,7 +141,7 @@ fn push_run<const LISTED: bool>(
 }
 
 // The same on the whole screen, from a segment that is not solid: its row is found once for all. Where nothing is left of it, it alone.
-fn fill_run<const LISTED: bool>(
+fn fill_run<const WAY: u32, const SPLIT: bool>(
     state: &mut [u32],
     render_cmds: &mut [u32],
     depth_cmds: &mut [u32],
@@ -162,7 +167,7 @@ fn fill_run<const LISTED: bool>(
         end,
         row: first.row,
     };
-    push_run::<LISTED>(
+    push_run::<WAY, SPLIT>(
         &mut state[p.x0..p.x1],
         &mut render_cmds[p.y0..p.y1],
         &mut depth_cmds[p.z0..p.z1],
@@ -172,25 +177,26 @@ fn fill_run<const LISTED: bool>(
     )
 }
 
-/// The segments from start to end of a list that is judged: solid ones one by one, those with alpha in runs.
-pub fn fill_rows<const LISTED: bool>(
+// The segments from start to end of a list that is judged: solid ones one by one, those with alpha in runs.
+fn fill_in<const WAY: u32, const SPLIT: bool>(
     rows: &mut Rows<'_>,
     segs: &[u32],
     start: usize,
     end: usize,
     job: FillJob,
 )
-    requires { FillReady job (count-rows rows.old.state.now) segs.now start «end» (all-held rows.old) }
+    requires split { Splits job SPLIT }
+    requires ready { FillReady job (count-rows rows.old.state.now) segs.now start «end» (all-held rows.old) }
     ensures same { SameRows rows.old rows.new }
     ensures rows { all-held rows.new ≡ lay (rows_after job segs.now start «end» (held_rows job rows.old)) }
 {
     let mut i = start;
     while i < end {
         if segs[SEGMENT * i] == 0 {
-            fill_segment::<LISTED>(rows, segs, i, job);
+            fill_segment::<WAY, SPLIT>(rows, segs, i, job);
             i += 1;
         } else {
-            i = fill_run::<LISTED>(
+            i = fill_run::<WAY, SPLIT>(
                 rows.state,
                 rows.render_cmds,
                 rows.depth_cmds,
@@ -200,5 +206,39 @@ pub fn fill_rows<const LISTED: bool>(
                 job,
             );
         }
+    }
+}
+
+/// The segments from start to end of a list that is judged. A draw that may be split has loops of its own.
+pub fn fill_rows<const WAY: u32>(
+    rows: &mut Rows<'_>,
+    segs: &[u32],
+    start: usize,
+    end: usize,
+    job: FillJob,
+)
+    requires split { job.eligible ≡ true → job.layers ≡ 0 }
+    requires ready { FillReady job (count-rows rows.old.state.now) segs.now start «end» (all-held rows.old) }
+    ensures same { SameRows rows.old rows.new }
+    ensures rows { all-held rows.new ≡ lay (rows_after job segs.now start «end» (held_rows job rows.old)) }
+{
+    if job.eligible {
+        fill_in::<WAY, true>(rows, segs, start, end, job);
+    } else {
+        fill_in::<WAY, false>(rows, segs, start, end, job);
+    }
+}
+
+/// The one segment i of a list that is judged.
+pub fn fill_alone(rows: &mut Rows<'_>, segs: &[u32], i: usize, job: FillJob)
+    requires split { job.eligible ≡ true → job.layers ≡ 0 }
+    requires ready { FillReady job (count-rows rows.old.state.now) segs.now i (i + 1) (all-held rows.old) }
+    ensures same { SameRows rows.old rows.new }
+    ensures rows { all-held rows.new ≡ lay (rows_after job segs.now i (i + 1) (held_rows job rows.old)) }
+{
+    if job.eligible {
+        fill_segment::<2, true>(rows, segs, i, job);
+    } else {
+        fill_segment::<2, false>(rows, segs, i, job);
     }
 }

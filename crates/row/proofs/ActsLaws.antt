@@ -289,6 +289,11 @@ module _ (v n i id : ℕ) (s : Span) (w : Words) (l : length w.state ≡ 54) (k 
   pub drawn-sound : (e : Bool) (a : Option ℕ) → Sound w (drawn v n e s a i id w)
   drawn-sound e a = sound-trans layered (drawn-after e a)
 
+-- a draw that is not eligible puts one command
+pub plain-unsplit : (a : Option ℕ) → unsplit false a ≡ true
+plain-unsplit None = refl
+plain-unsplit (Some a) = refl
+
 -- after the layers, at u, the rest has room
 pub layers-then : (n : ℕ) {u w t : Words} → n ≤ 16 → u ≡ ensured n w → Room w t → Room u t
 layers-then n {u} {w} m e r = rw e (room_after (ensured-sound n w m r.state r.levels) r)

@@ -1,6 +1,6 @@
 //! What a step does to one row (bucketer.rs). Parts: each has a `requires`, which its callers have judged. `n` is the number of open layers. What a pop does is
 //! `Row::pop_buf`.
-ghost use Rattle.std.specs.Prelude.{◌≡◌, ◌≤◌};
+ghost use Rattle.std.specs.Prelude.{◌≡◌, ◌≤◌, true};
 ghost use Rattle.sizes.specs.Sizes.{most-layers};
 ghost use Rattle.rules.specs.Commands.{paint-fill, layer-fill};
 ghost use Rattle.span.specs.Spans.{tiles};
@@ -44,7 +44,7 @@ fn push_edge(row: &mut Row<'_>, edge: Option<TileSpan>, attrs_idx: u32)
 
 // Rule 7: an eligible span, split over buckets. No caller has a span that starts after its end; it would stay whole.
 #[tactic(auto, using(crate::proofs::ActsLaws::whole_is))]
-fn push_opaque<const LISTED: bool>(
+fn push_opaque<const WAY: u32>(
     row: &mut Row<'_>,
     span: TileSpan,
     attrs_idx: u32,
@@ -81,13 +81,12 @@ pub fn is_unsplit(eligible: bool, alpha: Option<u32>) -> bool
     alpha.is_some() || !eligible
 }
 
-/// Rules 5 to 7 (bucketer.rs, push_fill): what is left of a segment, on its row. `eligible` is rule 6's, for the whole draw; tiles are the screen's.
-/// LISTED changes nothing of what is done: a list's fills have machine code of their own (`fill`).
+/// Rules 5 to 7 (bucketer.rs, push_fill): what is left of a segment, on its row. SPLIT is rule 6's, for the whole draw: eligible, so that no layer is open;
+/// tiles are the screen's. WAY changes nothing of what is done: each way of a fill has machine code of its own (`fill`).
 #[tactic(auto, using(crate::proofs::ActsLaws::first_room, crate::proofs::ActsLaws::one_done, crate::proofs::ActsLaws::parts_done))]
-pub fn push_fill<const LISTED: bool>(
+pub fn push_fill<const WAY: u32, const SPLIT: bool>(
     row: &mut Row<'_>,
     n: u32,
-    eligible: bool,
     stretch: Stretch,
     attrs_idx: u32,
     draw_id: u32,
@@ -95,14 +94,19 @@ pub fn push_fill<const LISTED: bool>(
 )
     requires short { Short (tiles stretch.tiles) }
     requires layers { n ≤ most-layers }
-    requires room { Room (held row.old) (drawn (bucket-tiles width) n eligible (tiles stretch.tiles) stretch.alpha attrs_idx draw_id (held row.old)) }
+    requires none { SPLIT ≡ true → n ≡ 0 }
+    requires room { Room (held row.old) (drawn (bucket-tiles width) n SPLIT (tiles stretch.tiles) stretch.alpha attrs_idx draw_id (held row.old)) }
     ensures same { Same row.old row.new }
-    ensures row { held row.new ≡ drawn (bucket-tiles width) n eligible (tiles stretch.tiles) stretch.alpha attrs_idx draw_id (held row.old) }
+    ensures row { held row.new ≡ drawn (bucket-tiles width) n SPLIT (tiles stretch.tiles) stretch.alpha attrs_idx draw_id (held row.old) }
 {
-    ensure_row_layers(row, n);
-    if is_unsplit(eligible, stretch.alpha) {
-        row.push_paint(stretch.tiles, stretch.alpha, attrs_idx);
-    } else {
-        push_opaque::<LISTED>(row, stretch.tiles, attrs_idx, draw_id, width);
+    if SPLIT {
+        if is_unsplit(SPLIT, stretch.alpha) {
+            row.push_paint(stretch.tiles, stretch.alpha, attrs_idx);
+        } else {
+            push_opaque::<WAY>(row, stretch.tiles, attrs_idx, draw_id, width);
+        }
+        return;
     }
+    ensure_row_layers(row, n);
+    row.push_paint(stretch.tiles, stretch.alpha, attrs_idx);
 }

@@ -1,5 +1,5 @@
 //! How wide a depth bucket is, and all arithmetic with it. But for `NARROWEST`, no other source line knows how many tiles a bucket has.
-ghost use Rattle.std.specs.Prelude.{◌≡◌, ◌+◌, ◌-◌, ◌*◌, ◌/◌, ◌%◌, ◌≤◌};
+ghost use Rattle.std.specs.Prelude.{◌≡◌, ◌+◌, ◌-◌, ◌*◌, ◌/◌, ◌%◌, ◌^◌, ◌≤◌};
 ghost use Rattle.sizes.specs.Sizes.{tile-end};
 ghost use Rattle.sizes.specs.Widths.{bucket-tiles, width_of};
 
@@ -29,7 +29,7 @@ impl TryFrom<u32> for Width {
     }
 }
 
-// Each arm has its own constant, so that it is compiled to a shift or a mask.
+// But for the tiles of a bucket, all is by a shift, which loops keep in a register.
 impl Width {
     /// The tiles of one bucket.
     pub fn tiles(self) -> u32
@@ -42,15 +42,22 @@ impl Width {
         }
     }
 
+    // How often a tile's number is halved for its bucket's.
+    fn shift(self) -> u32
+        ensures { (2 ^ result ≡ bucket-tiles self) × (result ≤ 6) }
+    {
+        match self {
+            Width::W64 => 4,
+            Width::W128 => 5,
+            Width::W256 => 6,
+        }
+    }
+
     /// The number of the bucket that a tile lies in.
     pub fn below(self, tile: u32) -> u32
         ensures { result ≡ tile / bucket-tiles self }
     {
-        match self {
-            Width::W64 => tile / 16,
-            Width::W128 => tile / 32,
-            Width::W256 => tile / 64,
-        }
+        tile >> self.shift()
     }
 
     /// The number of the first bucket that starts no earlier than a tile: as an end, the buckets up to a tile. The tiles of any word of pixels keep its
@@ -59,11 +66,8 @@ impl Width {
         requires { tile ≤ 1073741823 }
         ensures { result ≡ (tile + (bucket-tiles self - 1)) / bucket-tiles self }
     {
-        match self {
-            Width::W64 => (tile + 15) / 16,
-            Width::W128 => (tile + 31) / 32,
-            Width::W256 => (tile + 63) / 64,
-        }
+        let k = self.shift();
+        (tile + ((1u32 << k) - 1)) >> k
     }
 
     /// Where a tile stands in its bucket, counted from 0.
@@ -82,10 +86,6 @@ impl Width {
         requires { bucket ≤ tile-end }
         ensures { result ≡ bucket * bucket-tiles self }
     {
-        match self {
-            Width::W64 => bucket * 16,
-            Width::W128 => bucket * 32,
-            Width::W256 => bucket * 64,
-        }
+        bucket << self.shift()
     }
 }

@@ -2,7 +2,7 @@
 use Rattle.std.proofs.Common.{sym, arith}
 use Rattle.screen.proofs.ScreenLaws.{bounds}
 use Rattle.fill.proofs.Numbers.{right-lengths, passing}
-use Rattle.fill.proofs.Done.{zero-says, room-for-attr, done-is, done-empty, done-some, rows-asked}
+use Rattle.fill.proofs.Done.{zero-says, room-for-attr, done-is, done-empty, done-some, rows-asked, splits}
 use Rattle.fill.proofs.fill_one.Goals as goal
 
 pub take_fill-requires : goal.take_fill-requires
@@ -23,7 +23,9 @@ put_paint_attrs-requires g c =
     (room-for-attr _ _ _ _ z c.if-draw.false, (right-lengths _ _ _ z.first).1)
 
 pub fill_rows-requires : goal.fill_rows-requires
-fill_rows-requires g c = rows-asked _ _ _ _ (zero-says _ _ _ _ (sym c.in_ok-job.ensures.number)) c.if-draw.false c.in_ok-job.ensures.job
+fill_rows-requires g c =
+    let z = zero-says _ _ _ _ (sym c.in_ok-job.ensures.number) in
+    record { split = splits c.args.screen.now c.args.paints.now c.args.draw _ c.in_ok-job.ensures.job; ready = rows-asked _ _ _ _ z c.if-draw.false c.in_ok-job.ensures.job }
 
 pub take_fill-requires-2 : goal.take_fill-requires-2
 take_fill-requires-2 g c =
@@ -32,9 +34,9 @@ take_fill-requires-2 g c =
 
 pub returns-clause-done : goal.returns-clause-done
 returns-clause-done g c =
-    done-some _ _ _ _ (zero-says _ _ _ _ (sym c.in_ok-job.ensures.number)) c.if-draw.false c.take_fill-2.ensures c.in_ok-job.ensures.job c.fill_rows.ensures.rows c.put_paint_attrs.ensures
+    done-some _ _ _ _ (zero-says _ _ _ _ (sym c.in_ok-job.ensures.number)) c.if-draw.false c.take_fill-2.ensures c.in_ok-job.ensures.job c.fill_rows.ensures.rows (rw c.attrs_of-attrs.ensures at c.put_paint_attrs.ensures)
 
 pub returns-clause-filled : goal.returns-clause-filled
 returns-clause-filled g c =
     done-is _ _ _ _ c.in_ok-job.ensures.number
-    (done-some _ _ _ _ (zero-says _ _ _ _ (sym c.in_ok-job.ensures.number)) c.if-draw.false c.take_fill-2.ensures c.in_ok-job.ensures.job c.fill_rows.ensures.rows c.put_paint_attrs.ensures)
+    (done-some _ _ _ _ (zero-says _ _ _ _ (sym c.in_ok-job.ensures.number)) c.if-draw.false c.take_fill-2.ensures c.in_ok-job.ensures.job c.fill_rows.ensures.rows (rw c.attrs_of-attrs.ensures at c.put_paint_attrs.ensures))

@@ -2,13 +2,14 @@ use Rattle.std.proofs.Common.{arith, rules}
 use Rattle.row.proofs.RowsLaws.{rows-counted}
 use Rattle.fill.proofs.RowsLaws.{filled, good-here, room-here, again, long_after}
 use Rattle.fill.proofs.Runs.{after_run, kind-read}
-use Rattle.fill.proofs.rows.fill_rows.Goals as goal
+use Rattle.fill.proofs.rows.fill_in.Goals as goal
 
 pub fill_segment-requires : goal.fill_segment-requires
 fill_segment-requires g c =
     let held = c.loop-i.invariant.1 in
     rw (rows-counted _ _ held.rest.fits.arenas.long.state)
     (record {
+      split = c.requires.split;
       fits = held.rest.fits;
       segment = (omega (arith, held.rest.within), good-here held c.loop-i-test.true);
       room = room-here held c.loop-i-test.true;

@@ -29,3 +29,4 @@ pub mod Putting
 pub mod Kept
 pub mod DepthFills
 pub mod Leading
+pub mod InOrder

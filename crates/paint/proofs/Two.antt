@@ -2,7 +2,8 @@
 use Rattle.std.proofs.Common.{◌≡◌, refl, ◌∙◌, List, [], ◌∷◌, ℕ, arith, length, set}
 use Rattle.paint.specs.declared.canvas.stored.RowWords.{RowWords}
 use Rattle.paint.specs.Answers.{word}
-use Rattle.paint.specs.Named.{SameRow}
+use Rattle.paint.specs.declared.canvas.stored.Canvas.{Canvas}
+use Rattle.paint.specs.Named.{SameCanvas, SameRow}
 
 pub same_then : {a b c : RowWords} → SameRow a b → SameRow b c → SameRow a c
 same_then x y =
@@ -29,3 +30,14 @@ two_same [] h = absurd (omega arith)
 two_same (a ∷ []) h = absurd (omega arith)
 two_same (a ∷ b ∷ []) h = refl
 two_same (a ∷ b ∷ c ∷ p) h = absurd (omega arith)
+
+pub canvas_then : {a b c : Canvas} → SameCanvas a b → SameCanvas b c → SameCanvas a c
+canvas_then x y =
+    record {
+      words = y.words ∙ x.words;
+      minima = y.minima ∙ x.minima;
+      painting = y.painting ∙ x.painting;
+      words-long = y.words-long ∙ x.words-long;
+      minima-long = y.minima-long ∙ x.minima-long;
+      painting-long = y.painting-long ∙ x.painting-long;
+    }

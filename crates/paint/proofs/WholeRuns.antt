@@ -22,7 +22,7 @@ settled-few (Some o) ms d p l = go (ltb (length l / piece-size) (length o.pieces
     go true e = rw e (omega arith)
     go false e = rw e (omega (arith, ltb-false (length l / piece-size) (length o.pieces) e))
 
-row-few : (v : ℕ) (a : Attrs) (w : RowLent) → piece-size * (painted-row v a w).answer.pieces ≤ length w.list
+pub row-few : (v : ℕ) (a : Attrs) (w : RowLent) → piece-size * (painted-row v a w).answer.pieces ≤ length w.list
 unfolding painted-row
 row-few v a w = settled-few _ _ _ _ w.list
 

@@ -16,3 +16,4 @@ pub mod Cuts
 pub mod Named
 pub mod StoredCmds
 pub mod DepthFills
+pub mod InOrder

@@ -1,11 +1,12 @@
-//! Painting: a row's commands and depth fills become pieces, one step or a whole row at a call. `begin_painting`, `paint_step`, `paint_row`, the three runs of
-//! a row's depth words, `is_hidden`, `can_skip` and those of `canvas::reading` are public calls; the others are parts of them, and the judges of `screen` are
-//! also a host's.
+//! Painting: a row's commands and depth fills become pieces, one step, a whole row or many rows at a call. `begin_painting`, `paint_step`, `paint_row`,
+//! `paint_rows`, the three runs of a row's depth words, `is_hidden`, `can_skip` and those of `canvas::reading` are public calls; the others are parts of them,
+//! and the judges of `screen` are also a host's.
 #![tactic(auto)]
 
 pub mod canvas;
 pub mod command;
 pub mod pieces;
+pub mod rows;
 pub mod shown;
 pub mod whole;
 
@@ -14,4 +15,5 @@ pub use crate::canvas::{
     render_cmd, row_lengths, row_progress, unset_runs, unset_runs_and_write, visible_runs,
 };
 pub use crate::pieces::Stepped;
+pub use crate::rows::{RowRange, paint_rows};
 pub use crate::whole::{paint_row, paint_step};

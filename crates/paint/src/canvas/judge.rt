@@ -1,10 +1,13 @@
 //! What a call's screen, its lengths and its row say, before anything of the row is read.
-ghost use Rattle.std.specs.Prelude.{◌≡◌, true, length};
+ghost use Rattle.std.specs.Prelude.{◌≡◌, true, cond, length};
 ghost use Rattle.sizes.specs.Refusals.{answer_number};
-ghost use Rattle.paint.specs.Judging.{depth-long, minima-long, depths-long, arenas-long, tables-long, judged, of_row, begin_number, step_number, runs_number, write_number, hidden_number, skip_number};
+ghost use Rattle.rules.specs.Answers.{Done, Open};
+ghost use Rattle.paint.specs.Judging.{depth-long, minima-long, depths-long, arenas-long, tables-long, judged, of_row, begin_number, paints-on, step_number, runs_number, write_number, hidden_number, skip_number};
+ghost use Rattle.paint.specs.InOrder.{rows_number};
 ghost use Rattle.paint.specs.StoredCmds.{stored_words, stored_number, progress_number};
 
 use crate::canvas::stored::Stored;
+use crate::rows::RowRange;
 use depth::minima_room;
 use screen::{Screen, is_good_room};
 use sizes::answers::Refusal;
@@ -103,6 +106,17 @@ pub fn judge_begin(
     Ok(())
 }
 
+// 13 with a layer open or where painting has not begun.
+#[inline(always)]
+fn judge_begun(screen: Screen) -> Result<(), Refusal>
+    ensures { answer_number result ≡ cond (paints-on screen) Done Open }
+{
+    if 0 < screen.layers || !screen.painting {
+        return Err(Refusal::Open);
+    }
+    Ok(())
+}
+
 /// Before a step of a row: 2, 1, 4, 12 for no such row, then 13 with a layer open or where painting has not begun.
 #[tactic(auto, unfolding(crate::specs::Judging::step_number))]
 #[inline(always)]
@@ -121,8 +135,33 @@ pub fn judge_step(
     let arenas = is_arenas(screen, stored, depth, minima);
     let tables = is_tables(screen, stored, painting);
     judge_row(screen, row, arenas, tables)?;
-    if 0 < screen.layers || !screen.painting {
-        return Err(Refusal::Open);
+    judge_begun(screen)
+}
+
+/// Before rows are painted one after the other: 2, 1, 4, 12 for no range of the rows, 13 as before a step, then 14 for fewer ends than rows.
+#[tactic(auto, unfolding(crate::specs::InOrder::rows_number))]
+pub fn judge_rows(
+    screen: Screen,
+    rows: RowRange,
+    stored: &Stored<'_>,
+    depth: usize,
+    minima: usize,
+    painting: usize,
+    ends: usize,
+) -> Result<(), Refusal>
+    ensures { answer_number result ≡ rows_number screen rows
+        (arenas-long screen (length stored.now.render_cmds.now) (length stored.now.depth_cmds.now) depth minima)
+        (tables-long screen (length stored.now.rows.now) painting (length stored.now.paint_attrs.now) (length stored.now.layer_attrs.now)) ends }
+{
+    let arenas = is_arenas(screen, stored, depth, minima);
+    let tables = is_tables(screen, stored, painting);
+    judge(screen, arenas, tables)?;
+    if rows.end < rows.first || screen.rows() < rows.end {
+        return Err(Refusal::BadRun);
+    }
+    judge_begun(screen)?;
+    if ends < rows.asked() {
+        return Err(Refusal::NoRoom);
     }
     Ok(())
 }

@@ -10,7 +10,7 @@ use Rattle.row.specs.Building.{good_row}
 use Rattle.segments.specs.Segs.{seg-at, segs, origin, bounds}
 use Rattle.segments.proofs.Laws.{segs-end, segs-first}
 use Rattle.segments.proofs.Judging as list
-use Rattle.segments.proofs.Judging.{AtPlace, judging}
+use Rattle.segments.proofs.Judging.{AtPlace, judging, nowhere, none_before}
 use Rattle.fill.specs.declared.rows.FillJob.{FillJob}
 use Rattle.fill.proofs.Runs.{at_most_one}
 use Rattle.row.specs.declared.room.Limits.{Limits}
@@ -199,23 +199,6 @@ pub record Passing (j : FillJob) (n : ℕ) (rows ws : List ℕ) (a b : ℕ) (s :
   pub holds : Holds j rows h ok tally
   pub fits : Fits j i tally
   pub rest : verdict (tally_cuts j rows tally (cuts-of j ws i b)) ≡ verdict (tally_cuts j rows none_yet (cuts-of j ws a b))
-
--- every list follows a segment that ends at tile 0 of row 0
-abbrev pub nowhere : Segment
-nowhere = record { kind = 0; row = 0; first = 0; end = 0; alpha = 0 }
-
-pub first-follows : (r x : ℕ) → (ltb 0 r || eqb 0 r && leb 0 x) ≡ true
-first-follows zero x = le-leb 0 x (omega arith)
-first-follows (suc r) x = rw (lt-ltb 0 (suc r) (omega arith))
-
-ordered-first : (ss : List Segment) → ordered-after nowhere ss ≡ ordered ss
-unfolding ordered
-ordered-first [] = refl
-ordered-first (t ∷ ts) = rw (first-follows t.row t.first)
-
-pub none_before : (ss : List Segment) → judging nowhere true ss ≡ judge-segments false ss
-unfolding judging judge-segments
-none_before ss = rw (ordered-first ss)
 
 pub begun : {j : FillJob} {n : ℕ} {rows ws : List ℕ} {a b : ℕ} → Rowed j n rows → a ≤ b → 5 * b ≤ length ws
     → Passing j n rows ws a b nowhere (record { row = 8192; renders = 0; depths = 0; code = 0 }) a

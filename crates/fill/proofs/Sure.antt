@@ -11,14 +11,13 @@ use Rattle.row.proofs.RoomLaws.{good-small}
 use Rattle.segments.specs.Segs.{seg-at, segs, origin, bounds}
 use Rattle.segments.proofs.Laws.{segs-end, segs-first}
 use Rattle.segments.proofs.Judging as list
-use Rattle.segments.proofs.Judging.{AtPlace}
+use Rattle.segments.proofs.Judging.{AtPlace, nowhere, first-follows, none_before}
 use Rattle.fill.specs.declared.rows.FillJob.{FillJob}
 use Rattle.fill.proofs.Runs.{piece, at_most_one}
 use Rattle.fill.specs.Filling.{cuts-of}
 use Rattle.fill.specs.Tallies.{Tally, added, job-adds, known, stored, tallied, tally_cuts, verdict, none_yet, Rowed}
 use Rattle.fill.specs.Sure.{Roomed, RoomAt, number_in}
 use Rattle.fill.proofs.JudgeLaws.{few-commands, few-depths, added-alpha, added-plain, turned, took-none, took-good, tally-more}
-use Rattle.fill.proofs.Hands.{nowhere, first-follows, none_before}
 
 module _ (s : Segment) (k : s.kind ≤ 1) (r : s.row < 8192) (o : s.first < s.end) (e : s.end ≤ 8192) where
   solid-good : s.kind ≡ 0 → eqb s.alpha 0 ≡ good-segment s

@@ -1,16 +1,16 @@
 -- Room for the most segments that a row has is room for what is cut of them. Assumes nothing.
-use Rattle.std.proofs.Common.{◌≡◌, refl, sym, ap, ◌∙◌, Bool, true, false, ◌||◌, ◌&&◌, cond, List, [], ◌∷◌, ◌++◌, Option, None, Some, ℕ, ◌+◌, ◌-◌, ◌/◌, ◌≤◌, arith, ltb, leb, eqb, le-ltb, ltb-false, leb-true}
+use Rattle.std.proofs.Common.{◌≡◌, refl, Bool, true, false, ◌||◌, ◌&&◌, cond, List, [], ◌∷◌, ◌++◌, Option, None, Some, ℕ, ◌+◌, ◌/◌, ◌≤◌, arith, ltb, leb, eqb, le-ltb, ltb-false, leb-true}
 use Rattle.std.proofs.lemmas.Bool.Decides.{nat_tests}
-use Rattle.rules.specs.Lists.{some_of, join}
+use Rattle.rules.specs.Lists.{join}
 use Rattle.rules.specs.Answers.{Done, BadRecord, FullRow}
 use Rattle.rules.specs.Boxes.{Box}
 use Rattle.rules.specs.Spans.{span, Stretch, cut_to}
-use Rattle.rules.specs.Segments.{Segment, ordered, Cut, localised, on_row, cut_in, stretch-of}
-use Rattle.rules.proofs.All.{All, all_map, all_any, none_of, both}
+use Rattle.rules.specs.Segments.{Segment, ordered, Cut, localised, cut_in, stretch-of}
+use Rattle.rules.proofs.All.{all_map, all_any, none_of, both}
 use Rattle.row.specs.Words.{Words, word}
 use Rattle.segments.specs.Segs.{on-row, Starts}
 use Rattle.pop.specs.Closing.{row_of, touched-in, good-pops, full_by, pops-number, runs-full}
-use Rattle.pop.proofs.Running.{cuts-on, cuts-sorted, Sorted, Fits, fit-runs, some-none, at-found, so-far-else}
+use Rattle.pop.proofs.Running.{cuts-on, cuts-sorted, Fits, fit-runs, some-none, at-found, so-far-else}
 
 abbrev one_if : Bool → ℕ
 one_if b = cond b 1 0

@@ -17,7 +17,7 @@ use row::Rows;
 use row::room::Fault;
 use screen::layers::{Layers, OpenLayer, is_good_own_box};
 use screen::{Screen, judge_screen};
-use segments::{judge_segments, scene_of, most_on_a_row};
+use segments::{judge_segments, most_on_a_row, scene_of};
 use sizes::answers::Refusal;
 use sizes::{LAST_ID, LAYER_TABLE, MOST_ATTRS, OPACITIES, OPEN_TABLE, SEGMENT};
 use std::ops::Range;

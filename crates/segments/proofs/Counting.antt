@@ -1,5 +1,5 @@
 -- Counting the segments of each row on the way through a list. Assumes nothing.
-use Rattle.std.proofs.Common.{◌≡◌, refl, sym, ap, ◌∙◌, Bool, true, false, ◌||◌, ◌&&◌, cond, List, [], ◌∷◌, ℕ, zero, suc, ◌+◌, ◌-◌, ◌≤◌, ◌<◌, arith, max, ltb, leb, eqb, eqb-true, ne_eqb}
+use Rattle.std.proofs.Common.{◌≡◌, refl, sym, ◌∙◌, Bool, true, false, cond, List, ℕ, zero, suc, ◌+◌, ◌-◌, ◌≤◌, ◌<◌, arith, eqb, eqb-true, ne_eqb}
 use Rattle.std.proofs.lemmas.Bool.Decides.{nat_tests}
 use Rattle.rules.specs.Segments.{Segment, good-segment, follows}
 use Rattle.segments.specs.Segs.{seg-at, segs, on-row, AtMost}
@@ -68,8 +68,10 @@ module _ {ws : List ℕ} {a n i own most : ℕ} {s : Segment} (v : Counting ws a
       where
         one : (r : ℕ) → one_if (eqb t.row r) ≤ 1
         one r = grind (arith, nat_tests)
+
         other : (r : ℕ) → eqb t.row r ≡ false → one_if (eqb t.row r) ≡ 0
         other r q = rw q
+
         all-rows : (r : ℕ) (b : Bool) → eqb t.row r ≡ b → on-row r (segs ws a (i + 1 - a)) ≤ m
         all-rows r true q = let z = eqb-true t.row r q in omega (arith, more-on r, rw z at c, one r)
         all-rows r false q = omega (arith, more-on r, other r q, v.all r)

@@ -53,7 +53,7 @@ pub judging-rest : (s : Segment) (ss : List Segment) → cond (not (every good-s
 unfolding judging
 judging-rest s ss = refl
 
--- it stands before the first segment of a list
+-- every list follows a segment that ends at tile 0 of row 0
 abbrev pub nowhere : Segment
 nowhere = record { kind = 0; row = 0; first = 0; end = 0; alpha = 0 }
 

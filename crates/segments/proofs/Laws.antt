@@ -2,7 +2,7 @@
 use Rattle.std.proofs.Common.{◌≡◌, refl, sym, ap, ◌∙◌, Bool, true, false, ◌&&◌, ◌||◌, not, cond, List, [], ◌∷◌, Option, None, Some, ℕ, zero, suc, ◌+◌, ◌-◌, ◌*◌, ◌/◌, ◌≤◌, ◌<◌, arith, leb, ltb, eqb, length, take, drop, leb-true, ltb-true}
 use Rattle.rules.specs.Lists.{every, slice}
 use Rattle.rules.specs.Answers.{Done, BadRecord, BadOrder}
-use Rattle.rules.specs.Boxes.{Box, box, width, rows_of, scene-tiles}
+use Rattle.rules.specs.Boxes.{Box, box, scene-tiles}
 use Rattle.rules.specs.Spans.{span, Stretch, moved, shifted, cut_to}
 use Rattle.rules.specs.Segments.{Segment, good-segment, ordered, judge-segments, alpha-of, stretch-of, Cut, localised, on_row, cut_in}
 use Rattle.rules.proofs.All.{both}

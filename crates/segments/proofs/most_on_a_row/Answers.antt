@@ -11,9 +11,9 @@ loop-k-preserved c =
     let good = sym c.is_good.ensures ∙ c.if-not-is_good.false in
     elim c.if-here-last.branch [
       | then-here-last+else-here-last-2 w ↦
-        rw w.own-is (next-row c.loop-k.invariant c.loop-k-test.true c.segment_at-here.ensures good c.max-most.result (omega (arith, w.if-here-last.true, w.if-here-last-2.false)) (omega (arith, c.max-most.ensures)) (omega (arith, c.max-most.ensures, w.own-is)))
+          rw w.own-is (next-row c.loop-k.invariant c.loop-k-test.true c.segment_at-here.ensures good c.max-most.result (omega (arith, w.if-here-last.true, w.if-here-last-2.false)) (omega (arith, c.max-most.ensures)) (omega (arith, c.max-most.ensures, w.own-is)))
       | else-here-last+else-here-last-3 w ↦
-        rw w.own-is (same-row c.loop-k.invariant c.loop-k-test.true c.segment_at-here.ensures good c.max-most.result w.if-here-last.false (omega (arith, w.if-here-last-3.false)) (omega (arith, c.max-most.ensures)) (omega (arith, c.max-most.ensures, w.own-is)))
+          rw w.own-is (same-row c.loop-k.invariant c.loop-k-test.true c.segment_at-here.ensures good c.max-most.result w.if-here-last.false (omega (arith, w.if-here-last-3.false)) (omega (arith, c.max-most.ensures)) (omega (arith, c.max-most.ensures, w.own-is)))
     ]
 
 pub returns : goal.returns

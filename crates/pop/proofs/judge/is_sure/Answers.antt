@@ -1,6 +1,5 @@
 -- The most segments of a row have room on each touched row.
-use Rattle.std.proofs.Common.{sym, ap, ◌∙◌}
-use Rattle.row.specs.Room.{fault_number}
+use Rattle.std.proofs.Common.{sym}
 use Rattle.segments.proofs.Laws.{judged}
 use Rattle.pop.proofs.Few.{pops-none, few-fit}
 use Rattle.pop.proofs.judge.is_sure.Goals as goal

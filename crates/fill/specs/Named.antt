@@ -7,6 +7,7 @@ use Rattle.row.specs.declared.rows.Rows.{Rows}
 use Rattle.row.specs.Rows.{all-held}
 use Rattle.row.specs.Arena.{sizes, cut, count-rows}
 use Rattle.screen.specs.declared.Screen.{Screen}
+use Rattle.screen.specs.Screens.{frame-of, screen-in}
 use Rattle.segments.specs.Segs.{seg-at}
 use Rattle.fill.specs.declared.rows.FillJob.{FillJob}
 use Rattle.fill.specs.Filling.{puts, done, Roomy}
@@ -68,3 +69,8 @@ fills-of ps ss d l = fills_listed ps ss d.words.now d.start d.end l
 -- whether the job's solid segments may become depth fills, and then no layer is open
 abbrev pub Splits : FillJob → Bool → Type 0
 Splits j b = (b ≡ j.eligible) × (b ≡ true → j.layers ≡ 0)
+
+-- t is s but for the next id, the count of paint attributes and whether painting has begun
+abbrev pub OnlyFilled : Screen → Screen → Type 0
+OnlyFilled s t =
+    t ≡ screen-in (frame-of s) s.clip_bbox t.next_draw_id t.paint_attrs s.layer_attrs s.filter_paints s.layers t.painting

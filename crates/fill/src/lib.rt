@@ -13,7 +13,7 @@ ghost use Rattle.row.specs.Rows.{SameRows};
 ghost use Rattle.screen.specs.Screens.{good_screen};
 ghost use Rattle.inputs.specs.Inputs.{draw-of};
 ghost use Rattle.fill.specs.Fills.{paint-at, paints-of, good-draw-at, good-fill-at, job_of, attr-of, first-of-lent, fill_number, fill_done, filled};
-ghost use Rattle.fill.specs.Named.{fill_lent_of};
+ghost use Rattle.fill.specs.Named.{fill_lent_of, OnlyFilled};
 
 use crate::judge::judge_list;
 use crate::rows::{FillJob, fill_rows};
@@ -173,6 +173,7 @@ fn fill_one<const WAY: u32>(
 ) -> Result<(), Refusal>
     requires { first-of-lent (fill_lent_of screen.old rows.old paint_attrs.old) paints.now segments.now ≡ 0 }
     ensures same { SameRows rows.old rows.new }
+    ensures left { OnlyFilled screen.old screen.new }
     ensures refused { answer_number result
         ≡ fill_number (fill_lent_of screen.old rows.old paint_attrs.old) paints.now segments.now draw }
     ensures unchanged { OnErr result
@@ -206,6 +207,7 @@ pub fn fill_judged(
 ) -> Result<(), Refusal>
     requires judged { first-of-lent (fill_lent_of screen.old rows.old paint_attrs.old) paints.now segments.now ≡ 0 }
     ensures same { SameRows rows.old rows.new }
+    ensures left { OnlyFilled screen.old screen.new }
     ensures refused { answer_number result
         ≡ fill_number (fill_lent_of screen.old rows.old paint_attrs.old) paints.now segments.now draw }
     ensures unchanged { OnErr result

@@ -1,8 +1,9 @@
 //! A fill of one segment by itself: one look at all that it reads, then done. Where the look is not sure, nothing is done, and the fill goes its general way.
 ghost use Rattle.std.specs.Prelude.{◌≡◌, ◌+◌, true, false, IfSome};
+ghost use Rattle.rules.specs.Answers.{answer};
 ghost use Rattle.row.specs.Rows.{SameRows};
-ghost use Rattle.fill.specs.Fills.{job_of, first-of-lent, fill_number, fill_done};
-ghost use Rattle.fill.specs.Named.{fill_lent_of, RecordsOf, InList};
+ghost use Rattle.fill.specs.Fills.{job_of, first-of-lent, fill_number, filled};
+ghost use Rattle.fill.specs.Named.{fill_lent_of, RecordsOf, InList, OnlyFilled};
 ghost use Rattle.fill.specs.Sure.{number_in};
 
 use crate::judge::has_room_at;
@@ -78,10 +79,10 @@ pub fn fill_single(
     requires judged { first-of-lent (fill_lent_of screen.old rows.old paint_attrs.old) paints.now segments.now ≡ 0 }
     requires one { draw.start + 1 ≡ draw.«end» }
     ensures same { SameRows rows.old rows.new }
-    ensures sure { result ≡ true → fill_number (fill_lent_of screen.old rows.old paint_attrs.old) paints.now segments.now draw ≡ 0 }
-    ensures done { result ≡ true → fill_lent_of screen.new rows.new paint_attrs.new
-        ≡ fill_done (fill_lent_of screen.old rows.old paint_attrs.old) paints.now segments.now draw }
-    ensures left { result ≡ false → fill_lent_of screen.new rows.new paint_attrs.new ≡ fill_lent_of screen.old rows.old paint_attrs.old }
+    ensures left { OnlyFilled screen.old screen.new }
+    ensures done { result ≡ true → answer 0 (fill_lent_of screen.new rows.new paint_attrs.new)
+        ≡ filled (fill_lent_of screen.old rows.old paint_attrs.old) paints.now segments.now draw }
+    ensures stays { result ≡ false → fill_lent_of screen.new rows.new paint_attrs.new ≡ fill_lent_of screen.old rows.old paint_attrs.old }
 {
     let Some(job) = sure_job(*screen, rows, paint_attrs, paints, segments, draw) else {
         return false;

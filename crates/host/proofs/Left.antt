@@ -3,10 +3,11 @@ use Rattle.std.proofs.Common.{◌≡◌, sym, ap, ◌∙◌, Bool, List, Some, �
 use Rattle.screen.specs.declared.Screen.{Screen}
 use Rattle.layers.specs.Push.{OnlyLayers}
 use Rattle.layers.specs.Filter.{OnlyPaints}
+use Rattle.fill.specs.Named.{OnlyFilled}
 use Rattle.host.specs.declared.state.StateWords.{StateWords}
 use Rattle.host.specs.State.{screen-at, screen_of, width_word}
 use Rattle.host.specs.Held.{words_in}
-use Rattle.host.specs.OneLook.{PushLeaves, FilterLeaves}
+use Rattle.host.specs.OneLook.{PushLeaves, FillLeaves, FilterLeaves}
 use Rattle.host.proofs.Words.{written_back}
 
 -- w stands for a screen
@@ -31,6 +32,22 @@ module _ (w : StateWords) (good : Bool) (h : Some (screen-at (words_in w)) ≡ s
         paints = sym (ap (λ (x : Screen). x.paint_attrs) e);
         layer-attrs = sym (ap (λ (x : Screen). x.layer_attrs) e);
         filters = sym (ap (λ (x : Screen). x.filter_paints) e);
+      }
+
+  pub fill-leaves : (t : Screen) → OnlyFilled s t → FillLeaves w t
+  fill-leaves t e =
+      record {
+        frame =
+            record {
+              viewport = sym (ap (λ (x : Screen). x.viewport) e);
+              c = sym (ap (λ (x : Screen). x.c) e);
+              d = sym (ap (λ (x : Screen). x.d) e);
+              width = wide ∙ sym (ap (λ (x : Screen). width_word x.width) e);
+            };
+        clip = sym (ap (λ (x : Screen). x.clip_bbox) e);
+        layer-attrs = sym (ap (λ (x : Screen). x.layer_attrs) e);
+        filters = sym (ap (λ (x : Screen). x.filter_paints) e);
+        layers = sym (ap (λ (x : Screen). x.layers) e);
       }
 
   pub filter-leaves : (t : Screen) → OnlyPaints s t → FilterLeaves w t

@@ -2,6 +2,9 @@
 use mathlib.Core.Path.{◌≡◌}
 use mathlib.Core.Bool.{true, false, ◌&&◌}
 use Prim.Native.Nat.{ℕ, ◌*◌, ◌-◌}
+use Rattle.std.proofs.Common.{List, sym}
+use Rattle.std.proofs.Math.Path.{subst}
+use Rattle.fill.specs.Fills.{fill_lent, first-of-lent}
 use lib.Dec.{leb, eqb}
 use borrow.Author.Tests.{eqb-true}
 use Rattle.std.specs.Prelude.{Some}
@@ -17,7 +20,10 @@ use Rattle.paint.specs.Judging.{count, wide, arenas-long, tables-long, judged, s
 use Rattle.host.specs.declared.state.StateWords.{StateWords}
 use Rattle.host.specs.State.{screen-at, screen_of}
 use Rattle.host.specs.Held.{words_in}
-use Rattle.host.specs.OneLook.{corner-box, Counted, clip-in, rows-long}
+use Rattle.row.specs.Words.{Words}
+use Rattle.screen.specs.declared.lent.Lent.{Lent}
+use Rattle.host.specs.Called.{fill_out}
+use Rattle.host.specs.OneLook.{corner-box, Counted, clip-in, rows-long, FillSure}
 
 module _ (w : StateWords) where
   abbrev s : Screen
@@ -78,3 +84,10 @@ module _ (w : StateWords) where
   pub stands : leb w.painting 1 ≡ true → leb w.width 2 ≡ true → Some s ≡ screen_of true (words_in w)
   unfolding screen_of
   stands b m = rw (b, m)
+
+-- a fill's look is sure of what has not changed
+pub sure-still : (w w' : StateWords) (t t' : Lent) (ps ss : List ℕ) → fill_out w' t' ≡ fill_out w t → FillSure w t ps ss → FillSure w' t' ps ss
+sure-still w w' t t' ps ss e h =
+    subst
+    (λ (x : List ℕ × Words × List ℕ). (first-of-lent (fill_lent (screen-at x.0) x.1 x.2) ps ss ≡ 0) × (Some (screen-at x.0) ≡ screen_of true x.0))
+    (sym e) h

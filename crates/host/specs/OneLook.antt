@@ -1,5 +1,5 @@
 -- What one look at a host's words sees, of a call that paints and of those that build; and the words that a building call leaves as they were.
-use Rattle.std.specs.Prelude.{ℕ, ◌≡◌, ◌≤◌, ◌<◌, ◌-◌, ◌*◌, Bool, true, ◌&&◌, cond, Some, length, leb, eqb}
+use Rattle.std.specs.Prelude.{ℕ, ◌≡◌, ◌≤◌, ◌<◌, ◌-◌, ◌*◌, Bool, true, ◌&&◌, cond, List, Some, length, leb, eqb}
 use Rattle.sizes.specs.Sizes.{most-attrs, most-filters, most-width, row-size, scene-end}
 use Rattle.rules.specs.Boxes.{Box, box, good_viewport}
 use Rattle.rules.specs.Walk.{good-room}
@@ -8,6 +8,7 @@ use Rattle.screen.specs.declared.Screen.{Screen}
 use Rattle.screen.specs.declared.lent.Lent.{Lent}
 use Rattle.screen.specs.Screens.{in-tiles}
 use Rattle.screen.specs.Judging as screen
+use Rattle.fill.specs.Fills.{fill_lent, first-of-lent}
 use Rattle.layers.specs.Push.{lent-number, push_lent}
 use Rattle.layers.specs.Filter.{first-number, filter_lent}
 use Rattle.paint.specs.declared.canvas.stored.Stored.{Stored}
@@ -84,6 +85,12 @@ FilterSure w t f =
     (first-number (filter_lent (screen-at (words_in w)) (rows_in t) t.paint_attrs.now t.filter_paints.now) ≡ 0)
     × (Some (screen-at (words_in w)) ≡ screen_of (leb f.has_pixmap 1) (words_in w))
 
+-- .. and what a fill is lent, with its lists
+abbrev pub FillSure : StateWords → Lent → List ℕ → List ℕ → Type 0
+FillSure w t ps ss =
+    (first-of-lent (fill_lent (screen-at (words_in w)) (rows_in t) t.paint_attrs.now) ps ss ≡ 0)
+    × (Some (screen-at (words_in w)) ≡ screen_of true (words_in w))
+
 -- what no building step changes of a screen
 pub record Framed (w : StateWords) (s : Screen) : Type 0 where
   pub viewport : rect_of w.viewport ≡ s.viewport
@@ -91,13 +98,20 @@ pub record Framed (w : StateWords) (s : Screen) : Type 0 where
   pub d : w.d ≡ s.d
   pub width : w.width ≡ width_word s.width
 
--- .. nor a push, a filter fill
+-- .. nor a push, a fill, a filter fill
 pub record PushLeaves (w : StateWords) (s : Screen) : Type 0 where
   pub frame : Framed w s
   pub next : w.next_draw_id ≡ s.next_draw_id
   pub paints : w.paint_attrs ≡ s.paint_attrs
   pub layer-attrs : w.layer_attrs ≡ s.layer_attrs
   pub filters : w.filter_paints ≡ s.filter_paints
+
+pub record FillLeaves (w : StateWords) (s : Screen) : Type 0 where
+  pub frame : Framed w s
+  pub clip : rect_of w.clip ≡ s.clip_bbox
+  pub layer-attrs : w.layer_attrs ≡ s.layer_attrs
+  pub filters : w.filter_paints ≡ s.filter_paints
+  pub layers : w.layers ≡ s.layers
 
 pub record FilterLeaves (w : StateWords) (s : Screen) : Type 0 where
   pub frame : Framed w s

@@ -1,5 +1,5 @@
 //! The calls of reset, of the building steps and of a recording. A state has a screen's numbers; `screen::Lent` has the eleven tables.
-ghost use Rattle.std.specs.Prelude.{◌≡◌};
+ghost use Rattle.std.specs.Prelude.{◌≡◌, ◌+◌, true, false};
 ghost use Rattle.rules.specs.Answers.{answer};
 ghost use Rattle.screen.specs.Tables.{Tables};
 ghost use Rattle.screen.specs.Tables.{answer_of};
@@ -8,15 +8,19 @@ ghost use Rattle.host.specs.Asked.{told};
 ghost use Rattle.host.specs.Held.{words_in, rect_of, draw_in, props_of};
 ghost use Rattle.host.specs.Lent.{pop_in, FillKeeps, PushKeeps, PopKeeps, FilterKeeps};
 ghost use Rattle.host.specs.Called.{fill_on, fill_out, push_on, push_out, filter_on, filter_out};
+ghost use Rattle.host.specs.OneLook.{FillSure};
 ghost use Rattle.host.specs.Building.{tables-left, reset_call, recording_call, pop_call, picture};
 
 use crate::border::{refuse_build, refuse_recording, refuse_reset, refuse_setup};
 use crate::editions::read_file;
 use crate::state::{
-    Corners, SetupWords, StateWords, box_of, leave, put_screen, read_setup, screen_of,
+    Corners, SetupWords, StateWords, box_of, leave, leave_fill, put_screen, read_setup, screen_at,
+    screen_of,
 };
+use crate::sure::is_fill_sure;
 use cmd::blend::Blend;
-use fill::fill;
+use fill::single::fill_single;
+use fill::{fill, fill_judged};
 use inputs::{Draw, Filter};
 use layers::{FilterFill, filter_fill, push_layer};
 use pop::pop_layer;
@@ -59,6 +63,13 @@ impl DrawWords {
             mask: self.mask,
             panel: self.panel,
         }
+    }
+
+    // Whether one segment is asked for.
+    fn is_single(&self) -> bool
+        ensures { result ≡ true → self.now.start + 1 ≡ self.now.«end» }
+    {
+        self.start < self.end && self.end - self.start == 1
     }
 }
 
@@ -133,10 +144,11 @@ pub extern "C" fn coarse_bucket_recording(
     leave(state, screen, done)
 }
 
-/// Rules 3 to 7: segments, five words each, painted with a paint of a paint list, four words each. Refused as `fill`.
-#[unsafe(no_mangle)]
+// Where the one look is not sure.
+#[inline(never)]
+#[cold]
 #[tactic(auto, using(crate::proofs::Unheld::fill_unheld))]
-pub extern "C" fn coarse_fill(
+fn judged_fill(
     state: &mut StateWords,
     tables: &mut Lent<'_>,
     paints: &[u32],
@@ -165,4 +177,97 @@ pub extern "C" fn coarse_fill(
         draw,
     );
     leave(state, screen, done)
+}
+
+// Where it is sure.
+#[inline(never)]
+fn sure_fill(
+    state: &mut StateWords,
+    tables: &mut Lent<'_>,
+    paints: &[u32],
+    segments: &[u32],
+    draw: &DrawWords,
+) -> u32
+    requires { FillSure state.old tables.old paints.now segments.now }
+    ensures same { SameLent tables.old tables.new }
+    ensures kept { FillKeeps tables.old tables.new }
+    ensures filled { answer result (fill_out state.new tables.new) ≡ fill_on paints.now segments.now draw.now state.old tables.old }
+{
+    let mut rows = Rows {
+        state: tables.rows,
+        render_cmds: tables.render_cmds,
+        depth_cmds: tables.depth_cmds,
+    };
+    let mut screen = screen_at(state);
+    let draw = draw.asked();
+    let done = fill_judged(
+        &mut screen,
+        &mut rows,
+        tables.paint_attrs,
+        paints,
+        segments,
+        draw,
+    );
+    leave_fill(state, screen, done)
+}
+
+// .. and one segment is asked for: done, or nothing is.
+fn single_fill(
+    state: &mut StateWords,
+    tables: &mut Lent<'_>,
+    paints: &[u32],
+    segments: &[u32],
+    draw: &DrawWords,
+) -> bool
+    requires sure { FillSure state.old tables.old paints.now segments.now }
+    requires one { draw.now.start + 1 ≡ draw.now.«end» }
+    ensures same { SameLent tables.old tables.new }
+    ensures kept { FillKeeps tables.old tables.new }
+    ensures filled { result ≡ true → answer 0 (fill_out state.new tables.new) ≡ fill_on paints.now segments.now draw.now state.old tables.old }
+    ensures left { result ≡ false → fill_out state.new tables.new ≡ fill_out state.old tables.old }
+{
+    let mut rows = Rows {
+        state: tables.rows,
+        render_cmds: tables.render_cmds,
+        depth_cmds: tables.depth_cmds,
+    };
+    let mut screen = screen_at(state);
+    let draw = draw.asked();
+    if !fill_single(
+        &mut screen,
+        &mut rows,
+        tables.paint_attrs,
+        paints,
+        segments,
+        draw,
+    ) {
+        return false;
+    }
+    leave_fill(state, screen, Ok(()));
+    true
+}
+
+/// Rules 3 to 7: segments, five words each, painted with a paint of a paint list, four words each. Refused as `fill`.
+#[unsafe(no_mangle)]
+pub extern "C" fn coarse_fill(
+    state: &mut StateWords,
+    tables: &mut Lent<'_>,
+    paints: &[u32],
+    segments: &[u32],
+    draw: &DrawWords,
+) -> u32
+    ensures same { SameLent tables.old tables.new }
+    ensures kept { FillKeeps tables.old tables.new }
+    ensures filled { answer result (fill_out state.new tables.new) ≡ fill_on paints.now segments.now draw.now state.old tables.old }
+{
+    if !is_fill_sure(state, tables, paints, segments) {
+        return judged_fill(state, tables, paints, segments, draw);
+    }
+    if !draw.is_single() {
+        return sure_fill(state, tables, paints, segments, draw);
+    }
+    if single_fill(state, tables, paints, segments, draw) {
+        return 0;
+    }
+    sure_fill(state, tables, paints, segments, draw)
 }

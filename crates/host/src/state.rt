@@ -4,7 +4,7 @@ ghost use Rattle.sizes.specs.Refusals.{answer_number};
 ghost use Rattle.rect.specs.Rects.{mode_of};
 ghost use Rattle.host.specs.State.{rect, width-at, width_word, screen-words, screen-at, screen_of, before_4};
 ghost use Rattle.host.specs.Held.{words_in, rect_of};
-ghost use Rattle.host.specs.OneLook.{PushLeaves, FilterLeaves};
+ghost use Rattle.host.specs.OneLook.{PushLeaves, FilterLeaves, FillLeaves};
 ghost use Rattle.host.specs.Asked.{mode-at, asked_setup, asked-for};
 
 use rect::{Mode, Rect};
@@ -213,6 +213,17 @@ pub fn leave_filter(state: &mut StateWords, screen: Screen, done: Result<(), Ref
     state.next_draw_id = screen.next_draw_id;
     state.paint_attrs = screen.paint_attrs;
     state.filter_paints = screen.filter_paints;
+    state.painting = u32::from(screen.painting);
+    answer_number(done)
+}
+
+/// .. a fill.
+pub fn leave_fill(state: &mut StateWords, screen: Screen, done: Result<(), Refusal>) -> u32
+    requires { FillLeaves state.old screen }
+    ensures { (result ≡ answer_number done) × (words_in state.new ≡ screen-words screen) }
+{
+    state.next_draw_id = screen.next_draw_id;
+    state.paint_attrs = screen.paint_attrs;
     state.painting = u32::from(screen.painting);
     answer_number(done)
 }

@@ -8,7 +8,7 @@ ghost use Rattle.rules.specs.Boxes.{box};
 ghost use Rattle.rules.specs.Minima.{minima-room};
 ghost use Rattle.rect.specs.Rects.{same-box};
 ghost use Rattle.host.specs.State.{width-at};
-ghost use Rattle.host.specs.OneLook.{corner-box, Side, Viewed, Counted, clip-in, rows-long, Sure, Built, BuiltFor, PushSure, FilterSure};
+ghost use Rattle.host.specs.OneLook.{corner-box, Side, Viewed, Counted, clip-in, rows-long, Sure, Built, BuiltFor, PushSure, FilterSure, FillSure};
 
 use crate::layer::{FilterWords, PropsWords};
 use crate::state::{Corners, StateWords};
@@ -18,7 +18,7 @@ use screen::Lent;
 use sizes::width::Width;
 use sizes::{
     FILTER_TABLE, LAST_ID, LAYER_TABLE, MOST_ATTRS, MOST_FILTERS, MOST_HEIGHT, MOST_LAYERS,
-    MOST_ROOM, MOST_WIDTH, OPACITIES, OPEN_TABLE, PAINT_TABLE, ROW, SCENE_END, TILE_HEIGHT,
+    MOST_ROOM, MOST_WIDTH, OPACITIES, OPEN_TABLE, PAINT, PAINT_TABLE, ROW, SCENE_END, SEGMENT, TILE_HEIGHT,
     TILE_WIDTH,
 };
 
@@ -210,4 +210,16 @@ pub fn is_filter_sure(state: &StateWords, tables: &Lent<'_>, filter: &FilterWord
         & (tables.paint_attrs.len() == PAINT_TABLE)
         & (tables.filter_paints.len() == FILTER_TABLE)
         & (filter.has_pixmap <= 1)
+}
+
+/// .. a fill, by its lists.
+#[inline(always)]
+#[tactic(auto, unfolding(fill::specs::Fills::first_number))]
+pub fn is_fill_sure(state: &StateWords, tables: &Lent<'_>, paints: &[u32], segments: &[u32]) -> bool
+    ensures { result ≡ true → FillSure state.now tables.now paints.now segments.now }
+{
+    is_built(state, tables)
+        & (tables.paint_attrs.len() == PAINT_TABLE)
+        & (paints.len() % PAINT == 0)
+        & (segments.len() % SEGMENT == 0)
 }

@@ -1,8 +1,8 @@
 -- Its number is 0, and it is done as any fill.
-use Rattle.std.proofs.Common.{◌≡◌, ℕ, ◌+◌, arith}
+use Rattle.std.proofs.Common.{◌≡◌, ℕ, ◌+◌, sym, arith}
 use Rattle.screen.proofs.ScreenLaws.{bounds}
 use Rattle.fill.proofs.Numbers.{right-lengths, passing}
-use Rattle.fill.proofs.Done.{zero-says, room-for-attr, done-some, rows-asked, splits}
+use Rattle.fill.proofs.Done.{zero-says, room-for-attr, done-is, done-some, rows-asked, splits}
 use Rattle.fill.proofs.single.fill_single.Goals as goal
 
 -- a segment is there
@@ -30,5 +30,6 @@ take_fill-requires c =
 pub returns-clause-done : goal.returns-clause-done
 returns-clause-done c =
     let z = zero-says _ _ _ _ c.in-Some.ensures.1 in
-    λ e. done-some _ _ _ _ z (some c.requires.one) c.take_fill.ensures c.in-Some.ensures.0 (rw c.requires.one at c.fill_alone.ensures.rows)
-        (rw c.attrs_of-attrs.ensures at c.put_paint_attrs.ensures)
+    λ e. done-is _ _ _ _ (sym c.in-Some.ensures.1)
+        (done-some _ _ _ _ z (some c.requires.one) c.take_fill.ensures c.in-Some.ensures.0 (rw c.requires.one at c.fill_alone.ensures.rows)
+        (rw c.attrs_of-attrs.ensures at c.put_paint_attrs.ensures))

@@ -1,9 +1,4 @@
--- The call's own equation, carried over to the words.
+-- By the exact judge where the look is not sure; else by one segment, or in general.
 use Rattle.std.proofs.Common.{rules}
-use Rattle.host.proofs.Built.{fill_built}
+use Rattle.host.proofs.OneLook.{sure-still}
 use Rattle.host.proofs.build.coarse_fill.Goals as goal
-
-pub returns-clause-filled : goal.returns-clause-filled
-returns-clause-filled c =
-    let e = fill_built _ _ _ _ _ _ c.in-Some.ensures c.leave.ensures.0 c.leave.ensures.1 _ _ _ _ _ _ _ c.fill-done.ensures.filled in
-    search (rules, e)

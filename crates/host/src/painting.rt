@@ -23,8 +23,8 @@ use depth::split_opaque_span;
 use paint::whole::run::Went;
 use paint::whole::{MOST_STEPS, row_rest, row_step, row_sure};
 use paint::{
-    Canvas, Stepped, Stored, begin_painting, can_skip, is_hidden, paint_row, paint_step, unset_runs,
-    unset_runs_and_write, visible_runs,
+    Canvas, Stepped, Stored, begin_painting, can_skip, is_hidden, paint_row, paint_step,
+    unset_runs, unset_runs_and_write, visible_runs,
 };
 use sizes::width::Width;
 use span::{BucketRange, TileSpan};

@@ -1,5 +1,5 @@
 -- Results in lent words of a fixed length.
-use Rattle.std.proofs.Common.{◌≡◌, ap, ◌∙◌, Bool, List, [], Some, Result, Ok, Err, ℕ, length, eqb}
+use Rattle.std.proofs.Common.{◌≡◌, refl, ap, ◌∙◌, Bool, List, [], Some, Result, Ok, Err, ℕ, length, eqb}
 use Rattle.sizes.specs.declared.answers.Refusal.{Refusal}
 use Rattle.rules.specs.Answers.{Answer, answer}
 use Rattle.rules.specs.Spans.{Span}
@@ -24,19 +24,27 @@ listed (Err r) l n n' k e = ap (λ (x : Answer (List ℕ)). answer x.number (l, 
 written : (o : Result ℕ Refusal) (s : Screen) (d : Depths) (l n n' : List ℕ) (k : ℕ) → answer k n' ≡ count_left n (out o []) → answer k (screen-words s, d, l, n') ≡ write-left n (wrote o s l d)
 written o s d l n n' k e = ap (λ (x : Answer (List ℕ × List ℕ)). answer x.number (screen-words s, d, x.value.0, x.value.1)) (listed o l n n' k e)
 
+-- a step's result beside what it leaves
+pub left_beside : (k : ℕ) (p : Painted) (d' : Depths) (p' l' res res' : List ℕ) (o : paint.StepOut) → paint.out p d' p' l' ≡ o → answer k res' ≡ step-result res p
+    → answer k (d', p', l', res') ≡ step_left res o
+left_beside k p d' p' l' res res' o e f = ap (λ (x : Answer (List ℕ)). answer x.number (d', p', l', x.value)) f ∙ ap (step_left res) e
+
 -- at the screen that the words stand for, with a result of the right length
 module _ (st : List ℕ) (s : Screen) where
   pub step_roomed : (r k : ℕ) (a : Attributes) (l : paint.RowLent) (p : Painted) (d' : Depths) (p' l' res res' : List ℕ) → Some s ≡ screen_of (eqb (length res) 2) st
       → paint.out p d' p' l' ≡ stepped s r a l → answer k res' ≡ step-result res p → answer k (d', p', l', res') ≡ step_call r a st l res
   unfolding step_call
-  step_roomed r k a l p d' p' l' res res' q e f =
-      rw (← q) (ap (λ (x : Answer (List ℕ)). answer x.number (d', p', l', x.value)) f ∙ ap (step_left res) e)
+  step_roomed r k a l p d' p' l' res res' q e f = rw (← q) (left_beside k p d' p' l' res res' _ e f)
+
+  -- a row's steps, of which only what they leave is told
+  pub row_left : (r k : ℕ) (a : Attributes) (l : paint.RowLent) (o : paint.StepOut) (x : Depths × List ℕ × List ℕ × List ℕ) (res : List ℕ) → Some s ≡ screen_of (eqb (length res) 2) st
+      → o ≡ row-painted s r a l → answer k x ≡ step_left res o → answer k x ≡ row_call r a st l res
+  unfolding row_call
+  row_left r k a l o x res q e f = rw (← q) (f ∙ ap (step_left res) e)
 
   pub row_roomed : (r k : ℕ) (a : Attributes) (l : paint.RowLent) (p : Painted) (d' : Depths) (p' l' res res' : List ℕ) → Some s ≡ screen_of (eqb (length res) 2) st
       → paint.out p d' p' l' ≡ row-painted s r a l → answer k res' ≡ step-result res p → answer k (d', p', l', res') ≡ row_call r a st l res
-  unfolding row_call
-  row_roomed r k a l p d' p' l' res res' q e f =
-      rw (← q) (ap (λ (x : Answer (List ℕ)). answer x.number (d', p', l', x.value)) f ∙ ap (step_left res) e)
+  row_roomed r k a l p d' p' l' res res' q e f = row_left r k a l (paint.out p d' p' l') _ res q e (left_beside k p d' p' l' res res' _ refl f)
 
   pub unset_roomed : (r k : ℕ) (t : Span) (o : Result ℕ Refusal) (d l l' n n' : List ℕ) → Some s ≡ screen_of (eqb (length n) 1) st → out o l' ≡ unset-of s r d t l
       → answer k n' ≡ count_left n (out o []) → answer k (l', n') ≡ unset_call r t st d l n

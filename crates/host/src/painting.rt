@@ -1,12 +1,17 @@
 //! The calls of painting, of the runs of a row, of `is_hidden`, of `can_skip` and of the split. Each refuses as the call of its name in `paint` or `depth`.
-ghost use Rattle.std.specs.Prelude.{◌≡◌};
+ghost use Rattle.std.specs.Prelude.{◌≡◌, ◌≤◌, ◌-◌, ◌*◌, length};
+ghost use Rattle.sizes.specs.Sizes.{piece-size};
+ghost use Rattle.sizes.specs.Widths.{bucket-tiles};
 ghost use Rattle.rules.specs.Answers.{answer};
 ghost use Rattle.rules.specs.Spans.{span};
-ghost use Rattle.paint.specs.Named.{SameCanvas};
-ghost use Rattle.host.specs.Held.{words_in, one, parts_in};
+ghost use Rattle.paint.specs.Judging.{wide};
+ghost use Rattle.paint.specs.Named.{SameCanvas, RowReady, row_lent, used_attrs};
+ghost use Rattle.paint.specs.Running.{most, row-run-on};
+ghost use Rattle.host.specs.State.{screen-at};
+ghost use Rattle.host.specs.Held.{words_in, one, parts_in, painted_in};
 ghost use Rattle.screen.specs.Depths.{depths_in};
 ghost use Rattle.host.specs.Called.{canvas_out, step_on, row_on, write_out, write_on};
-ghost use Rattle.host.specs.Painting.{begin_call, unset_call, visible_call, hidden_call, skip_call, split_call};
+ghost use Rattle.host.specs.Painting.{begin_call, step_left, unset_call, visible_call, hidden_call, skip_call, split_call};
 
 use crate::border::{
     refuse_begin, refuse_hidden, refuse_runs, refuse_skip, refuse_step, refuse_write,
@@ -15,10 +20,11 @@ use crate::results::{PaintedWords, SplitWords, put_runs, put_split, put_step, pu
 use crate::state::{StateWords, leave, put_screen, screen_at, screen_of};
 use crate::sure::sure_buckets;
 use depth::split_opaque_span;
-use paint::whole::{MOST_STEPS, row_part, row_step};
+use paint::whole::run::Went;
+use paint::whole::{MOST_STEPS, row_rest, row_step, row_sure};
 use paint::{
-    Canvas, Stored, begin_painting, can_skip, is_hidden, paint_row, paint_step, unset_runs,
-    unset_runs_and_write, visible_runs,
+    Canvas, Stepped, Stored, begin_painting, can_skip, is_hidden, paint_row, paint_step,
+    unset_runs, unset_runs_and_write, visible_runs,
 };
 use sizes::width::Width;
 use span::{BucketRange, TileSpan};
@@ -131,6 +137,41 @@ fn judged_row(
     put_step(done, painted)
 }
 
+// The steps of a row after those that were sure.
+#[cold]
+#[inline(never)]
+fn rest_of_row(
+    state: &StateWords,
+    stored: &Stored<'_>,
+    canvas: &mut Canvas<'_>,
+    row: usize,
+    list: &mut [u32],
+    painted: &mut PaintedWords,
+    b: usize,
+    went: Went,
+) -> u32
+    requires pieces { piece-size * went.pieces ≤ length list.old }
+    requires none { went.steps ≡ 0 → went.pieces ≡ 0 }
+    requires wide { b ≡ wide (screen-at (words_in state.now)) }
+    requires ready { RowReady (screen-at (words_in state.now)) row stored.now canvas.old list.old }
+    ensures same { SameCanvas canvas.old canvas.new }
+    ensures rest { let s = screen-at (words_in state.now) in answer result (canvas_out canvas.new list.new painted.new)
+        ≡ step_left (painted_in painted.old) (row-run-on (bucket-tiles s.width) (most - went.steps) went.steps went.pieces (used_attrs s stored.now) (wide s) s.c s.d row
+        (row_lent stored.now canvas.old list.old)) }
+{
+    let done = row_rest(
+        screen_at(state),
+        b,
+        row,
+        stored,
+        canvas,
+        list,
+        MOST_STEPS,
+        went,
+    );
+    put_step(done, painted)
+}
+
 /// A row's steps from where it stands to its end, or up to the first that is refused. painted: 1 if the row has come to its end, else 0; how many
 /// pieces are listed.
 #[unsafe(no_mangle)]
@@ -156,8 +197,15 @@ pub extern "C" fn coarse_paint_row(
     if 64 < b {
         return judged_row(state, stored, canvas, row, list, painted);
     }
-    let done = row_part(screen_at(state), b, row, stored, canvas, list, MOST_STEPS);
-    put_step(done, painted)
+    let went = row_sure(screen_at(state), b, row, stored, canvas, list, MOST_STEPS);
+    if !went.ended {
+        return rest_of_row(state, stored, canvas, row, list, painted, b, went);
+    }
+    let done = Stepped {
+        finished: true,
+        pieces: went.pieces,
+    };
+    put_step(Ok(done), painted)
 }
 
 /// The runs of the tiles first to end whose buckets hold 0, two words each in list; count: how many.

@@ -49,9 +49,12 @@ module _ {s : Screen} {r : ℕ} {t : Stored} {o : StoredRow} (i : IsRowOf s r t 
   in-own x h = ap (put-parts b r lent) (h ∙ rw (i.state, i.render, i.fills, i.attrs, i.width, part-is 2 r p))
 
   -- no step is left, ..
+  pub finished-there : w.ended ≡ true → out (finished_with w.pieces) e back k ≡ all
+  finished-there h =
+      rw (← j) (in-place (finished_with w.pieces) ∙ in-own _ (sure-ended (steps_of o) f _ _ w.steps z.onward _ _ _ w.pieces (z.unended h) (z.ended h)))
+
   pub ended-there : w.ended ≡ true → out (record { number = 0; finished = w.ended; pieces = w.pieces }) e back k ≡ all
-  ended-there h =
-      rw (h, ← j) (in-place (finished_with w.pieces) ∙ in-own _ (sure-ended (steps_of o) f _ _ w.steps z.onward _ _ _ w.pieces (z.unended h) (z.ended h)))
+  ended-there h = rw h (finished-there h)
 
   -- .. or they are as many as are asked for, ..
   pub full-there : w.ended ≡ false → f ≤ w.steps → out (record { number = 0; finished = w.ended; pieces = w.pieces }) e back k ≡ all

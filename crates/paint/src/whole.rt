@@ -1,6 +1,6 @@
 //! A row painted from where it stands: one step, or all of them. `paint_step` and `paint_row` are public calls: they have no `requires`. The
 //! others are their parts.
-ghost use Rattle.std.specs.Prelude.{◌≡◌, ◌≤◌, ◌-◌, ◌*◌, Ok, MatchOption, length};
+ghost use Rattle.std.specs.Prelude.{◌≡◌, ◌≤◌, ◌-◌, ◌*◌, Ok, MatchOption, true, length};
 ghost use Rattle.sizes.specs.Sizes.{piece-size};
 ghost use Rattle.sizes.specs.Widths.{bucket-tiles};
 ghost use Rattle.rules.specs.Minima.{minima-room};
@@ -12,7 +12,7 @@ ghost use Rattle.paint.specs.Judging.{wide};
 ghost use Rattle.paint.specs.Stepping.{Within, depth-part, with-depth-part, put-depth, stepped};
 ghost use Rattle.paint.specs.Rows.{Sure, run_on};
 ghost use Rattle.paint.specs.Named.{SameCanvas, step_out, RowReady, RowStored, IsRowOf, row_lent, row_attrs, used_attrs};
-ghost use Rattle.paint.specs.Running.{most, row-run, row-run-on, row-painted};
+ghost use Rattle.paint.specs.Running.{most, finished_with, row-run, row-run-on, row-painted};
 
 use crate::canvas::judge::judge_step;
 use crate::canvas::{Canvas, Stepped, Stored};
@@ -154,9 +154,9 @@ fn rest_part(
     )
 }
 
-// The rest of at most `limit` steps of a row, after those that were sure.
+/// The rest of at most `limit` steps of such a row, after those that were sure. A part of the calls, and of a host's.
 #[inline(never)]
-fn row_rest(
+pub fn row_rest(
     screen: Screen,
     b: usize,
     row: usize,
@@ -190,6 +190,46 @@ fn row_rest(
     )
 }
 
+/// At most `limit` steps of a row that is there, of `b` buckets, painting having begun, as far as one look settles each: none is left, or `row_rest` does the
+/// others. A part of a host's call.
+#[inline(always)]
+pub fn row_sure(
+    screen: Screen,
+    b: usize,
+    row: usize,
+    stored: &Stored<'_>,
+    canvas: &mut Canvas<'_>,
+    list: &mut [u32],
+    limit: usize,
+) -> Went
+    requires limit { limit ≤ most }
+    requires wide { b ≡ wide screen }
+    requires ready { RowReady screen row stored.now canvas.old list.old }
+    ensures same { SameCanvas canvas.old canvas.new }
+    ensures ready { RowReady screen row stored.now canvas.new list.new }
+    ensures pieces { piece-size * result.pieces ≤ length list.new }
+    ensures none { result.steps ≡ 0 → result.pieces ≡ 0 }
+    ensures ended { result.ended ≡ true → step_out (finished_with result.pieces) canvas.new list.new
+        ≡ row-run (bucket-tiles screen.width) limit (used_attrs screen stored.now) (wide screen) screen.c screen.d row
+        (row_lent stored.now canvas.old list.old) }
+    ensures rest { row-run-on (bucket-tiles screen.width) (limit - result.steps) result.steps result.pieces (used_attrs screen stored.now) (wide screen)
+        screen.c screen.d row (row_lent stored.now canvas.new list.new)
+        ≡ row-run (bucket-tiles screen.width) limit (used_attrs screen stored.now) (wide screen) screen.c screen.d row
+        (row_lent stored.now canvas.old list.old) }
+{
+    let v = row * 2;
+    let read = row_of(screen, row, stored);
+    sure_part(
+        &read,
+        b,
+        row,
+        &mut canvas.depth,
+        &mut canvas.painting[v..v + 2],
+        list,
+        limit,
+    )
+}
+
 /// At most `limit` steps of a row that is there, of `b` buckets, painting having begun: the row's own parts are handed on. A part of the calls, and of those
 /// of a host.
 #[inline(always)]
@@ -210,20 +250,10 @@ pub fn row_part(
         ≡ row-run (bucket-tiles screen.width) limit (used_attrs screen stored.now) (wide screen) screen.c screen.d row
         (row_lent stored.now canvas.old list.old) }
 {
-    let v = row * 2;
-    let read = row_of(screen, row, stored);
-    let went = sure_part(
-        &read,
-        b,
-        row,
-        &mut canvas.depth,
-        &mut canvas.painting[v..v + 2],
-        list,
-        limit,
-    );
-    if went.ended || limit <= went.steps {
+    let went = row_sure(screen, b, row, stored, canvas, list, limit);
+    if went.ended {
         return Ok(Stepped {
-            finished: went.ended,
+            finished: true,
             pieces: went.pieces,
         });
     }

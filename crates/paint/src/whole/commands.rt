@@ -72,12 +72,12 @@ impl<'a> Seen<'a> {
             .hull
             .is_apart(words.span.first(), words.span.end(), cut.mark.id)
         {
-            if pieces.left() < PIECE {
+            if !pieces.has_room(PIECE) {
                 return None;
             }
             pieces.push(cut.whole());
         } else {
-            if pieces.left() < PIECE * most_runs(words.span, cut.scale) {
+            if !pieces.has_room(PIECE * most_runs(words.span, cut.scale)) {
                 return None;
             }
             put_fill(depth, cut, pieces);

@@ -105,7 +105,7 @@ pub fn settle_depth(
         return false;
     };
     let most = (fill.buckets.end - fill.buckets.first + 1) as usize / 2;
-    if pieces.left() < PIECE * most {
+    if !pieces.has_room(PIECE * most) {
         return false;
     }
     let scale = Scale::of(row.width);

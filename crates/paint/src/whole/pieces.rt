@@ -1,5 +1,5 @@
 //! The pieces of a fill, a run each, in a list. Parts: where a function asks something, its callers have judged it.
-ghost use Rattle.std.specs.Prelude.{◌≡◌, ◌+◌, ◌-◌, ◌*◌, ◌/◌, ◌%◌, ◌≤◌, ◌<◌, length};
+ghost use Rattle.std.specs.Prelude.{◌≡◌, ◌+◌, ◌-◌, ◌*◌, ◌/◌, ◌%◌, ◌≤◌, ◌<◌, length, leb};
 ghost use Rattle.sizes.specs.Sizes.{tile-alphas, piece-size};
 ghost use Rattle.rules.specs.Lists.{join};
 ghost use Rattle.rules.specs.Spans.{span};
@@ -44,12 +44,13 @@ impl<'a> Pieces<'a> {
         self.at / PIECE
     }
 
-    /// How many words of the list are left.
+    /// Whether so many words more fit.
     #[inline(always)]
-    pub fn left(&self) -> usize
-        ensures { result + self.now.at ≡ length self.now.list.now }
+    pub fn has_room(&self, words: usize) -> bool
+        requires { words < 68719476736 }
+        ensures { result ≡ leb (self.now.at + words) (length self.now.list.now) }
     {
-        self.list.len() - self.at
+        self.at + words <= self.list.len()
     }
 
     /// One piece more.

@@ -1,5 +1,5 @@
 -- The fill's words are judged, then its attribute, then the room for whatever it may show; it is the row's next step then.
-use Rattle.std.proofs.Common.{◌≡◌, refl, sym, ap, ◌∙◌, ◌+◌, ◌-◌, ◌*◌, ◌≤◌, arith, length}
+use Rattle.std.proofs.Common.{◌≡◌, refl, sym, ap, ◌∙◌, ◌+◌, ◌-◌, ◌*◌, ◌≤◌, arith, length, leb-true}
 use Rattle.sizes.specs.Sizes.{piece-size}
 use Rattle.rules.specs.Depth.{write-runs}
 use Rattle.span.specs.Spans.{buckets}
@@ -15,7 +15,7 @@ use Rattle.paint.proofs.DepthFills.{fill-few, written-long}
 use Rattle.paint.proofs.Leading.{on-fill, depth-words-long}
 use Rattle.paint.proofs.WholeRuns.{onward-none}
 use Rattle.paint.proofs.whole.depths.settle_depth.Goals as goal
-use Rattle.paint.proofs.whole.depths.settle_depth.Goals.{Else-left-most}
+use Rattle.paint.proofs.whole.depths.settle_depth.Goals.{Else-not-has_room}
 
 pub overflow_sub-most : goal.overflow_sub-most
 overflow_sub-most c = (depth_good _ _ _ _ _ (rw c.at-words.ensures at c.read.ensures) c.in-Some.is).0
@@ -31,18 +31,19 @@ put_depth-requires-clause-good c =
     (g.0, g.1, c.requires.few, paint_some (attrs_of c.args.row.now.attrs) c.in-Some.fill.attrs_idx _ (sym c.paint.ensures ∙ c.in-Some-paint.is))
 
 -- the list has room for the fill's pieces
-room : (c : Else-left-most)
+room : (c : Else-not-has_room)
     → c.args.pieces.now.at + piece-size * length (write-runs c.args.depth.now (buckets c.in-Some.fill.buckets)) ≤ length c.args.pieces.now.list.now
 room c =
     let g = depth_good _ _ _ _ _ (rw c.at-words.ensures at c.read.ensures) c.in-Some.is in
-    omega (arith, fill-few c.args.depth.now (buckets c.in-Some.fill.buckets), g.0, c.left.ensures, c.if-left-most.false)
+    let fits = leb-true _ _ (sym c.has_room.ensures ∙ c.if-not-has_room.false) in
+    omega (arith, fill-few c.args.depth.now (buckets c.in-Some.fill.buckets), g.0, fits)
 
 pub put_depth-requires-clause-room : goal.put_depth-requires-clause-room
-put_depth-requires-clause-room c = room (goal.at.put_depth-requires-clause-room c).Else-left-most
+put_depth-requires-clause-room c = room (goal.at.put_depth-requires-clause-room c).Else-not-has_room
 
 pub returns-clause-long : goal.returns-clause-long
 returns-clause-long c =
-    let at = (goal.at.returns-clause-long c).Else-left-most in
+    let at = (goal.at.returns-clause-long c).Else-not-has_room in
     let put = c.put_depth.ensures in
     let fill = c.in-Some.fill in
     let p = c.args.pieces.now in
@@ -54,7 +55,7 @@ returns-clause-long c =
 
 pub returns-clause-settled : goal.returns-clause-settled
 returns-clause-settled c =
-    let at = (goal.at.returns-clause-settled c).Else-left-most in
+    let at = (goal.at.returns-clause-settled c).Else-not-has_room in
     let put = c.put_depth.ensures in
     let row = c.args.row.now in
     let fill = c.in-Some.fill in

@@ -1,5 +1,5 @@
 -- A fill, whole or by its runs.
-use Rattle.std.proofs.Common.{refl, sym, ◌≡◌, ◌∙◌, ◌+◌, ◌*◌, ◌%◌, ◌≤◌, ℕ, List, arith, length}
+use Rattle.std.proofs.Common.{refl, sym, ◌≡◌, ◌∙◌, ◌+◌, ◌*◌, ◌%◌, ◌≤◌, ℕ, List, arith, length, leb-true}
 use Rattle.sizes.specs.Sizes.{piece-size}
 use Rattle.sizes.specs.Widths.{bucket-tiles}
 use Rattle.rules.specs.Lists.{join}
@@ -20,7 +20,9 @@ use Rattle.paint.proofs.whole.commands.Seen.put.Goals as goal
 use Rattle.paint.proofs.whole.commands.Seen.put.Goals.{Else-not-is_fill}
 
 pub put_fill-requires-clause-room : goal.put_fill-requires-clause-room
-put_fill-requires-clause-room c = omega (arith, runs-few, c.most_runs.ensures, c.left-else-is_apart.ensures, c.if-left-most_runs.false)
+put_fill-requires-clause-room c =
+    let fits = leb-true _ _ (sym c.has_room-else-is_apart.ensures ∙ c.if-not-has_room-2.false) in
+    omega (arith, runs-few, c.most_runs.ensures, fits)
 
 -- the fill's step
 step : (c : Else-not-is_fill) → let row = c.args.self.row in
@@ -41,23 +43,23 @@ still c =
     let p = c.args.pieces.now in
     λ ms. reach-none _ _ _ (place c.args.at (count_of p) c.args.cut.nesting p.list.now) c.requires.at.1 (omega (arith, p.few, p.whole))
 
-pub returns-else-left-lt-PIECE-clause-settled : goal.returns-else-left-lt-PIECE-clause-settled
-returns-else-left-lt-PIECE-clause-settled c =
-    let at = (goal.at.returns-else-left-lt-PIECE-clause-settled c).Else-not-is_fill in
+pub returns-else-not-has_room-clause-settled : goal.returns-else-not-has_room-clause-settled
+returns-else-not-has_room-clause-settled c =
+    let at = (goal.at.returns-else-not-has_room-clause-settled c).Else-not-is_fill in
     let seen = c.args.self in
     let p = c.args.pieces.now in
     let words = c.requires.words in
     let fill = c.is_fill.ensures c.if-not-is_fill.false in
     let apart = rw (c.first.ensures, c.end.ensures, seen.summary) at (sym c.is_apart.ensures ∙ c.if-is_apart.true) in
     let gives = gives-whole _ _ _ _ _ _ _ (step at) (whole_shown _ _ _ _ _ fill.0 fill.1 (there at) apart) in
-    let room : p.at + piece-size * 1 ≤ length p.list.now = omega (arith, c.left.ensures, c.if-left-lt-PIECE.false) in
+    let room : p.at + piece-size * 1 ≤ length p.list.now = leb-true _ _ (sym c.has_room.ensures ∙ c.if-not-has_room.false) in
     let list = (rw c.whole.ensures at c.push.ensures.list) in
     λ ms. on_written _ _ _ _ _ _ ms c.requires.calm _ _ p.at _ _ (still at ms) p.whole c.requires.at.0 1 _ _ (rw words at gives) refl
     c.requires.at.1 room _ c.push.ensures.at _ (rw words at list)
 
-pub returns-else-left-most_runs-clause-settled : goal.returns-else-left-most_runs-clause-settled
-returns-else-left-most_runs-clause-settled c =
-    let at = (goal.at.returns-else-left-most_runs-clause-settled c).Else-not-is_fill in
+pub returns-else-not-has_room-2-clause-settled : goal.returns-else-not-has_room-2-clause-settled
+returns-else-not-has_room-2-clause-settled c =
+    let at = (goal.at.returns-else-not-has_room-2-clause-settled c).Else-not-is_fill in
     let seen = c.args.self in
     let cut = c.args.cut in
     let D = c.args.depth.now in
@@ -68,7 +70,8 @@ returns-else-left-most_runs-clause-settled c =
     let gives = gives-runs _ _ _ _ _ _ _ (step at) _ (met_shown _ _ _ _ _ fill.0 fill.1 (there at) met) in
     let rs : List Span = runs-met (tiles_in cut.scale) D cut.mark.id cut.words.span.0 in
     let room : p.at + piece-size * length rs ≤ length p.list.now =
-    omega (arith, runs-few, c.most_runs.ensures, c.left-else-is_apart.ensures, c.if-left-most_runs.false)
+    let fits = leb-true _ _ (sym c.has_room-else-is_apart.ensures ∙ c.if-not-has_room-2.false) in
+    omega (arith, runs-few, c.most_runs.ensures, fits)
     in
     let list : c.put_fill.new.pieces.list.now ≡ words-at p.list.now p.at (join (run-words (tiles_in cut.scale) cut.words cut.nesting cut.mark.panel) rs) =
     c.put_fill.ensures.list

@@ -167,7 +167,7 @@ module _ (s : Screen) (r : RowRange) (a t : Bool) (ends : ℕ) where
 -- One row more. So far i - first rows are done, and what is left gives what all of them do.
 module _ (row : ℕ → Depths → List ℕ → List ℕ → StepOut) where
   -- what rows give depends on how many pieces are listed, and not on how the last row ended
-  from-listed : (f r k : ℕ) (e : List ℕ) (q : Painted) (d : Depths) (p l : List ℕ) → rows_in_order row f r k e (out q d p l) ≡ rows_in_order row f r k e (out (listed q.pieces) d p l)
+  pub from-listed : (f r k : ℕ) (e : List ℕ) (q : Painted) (d : Depths) (p l : List ℕ) → rows_in_order row f r k e (out q d p l) ≡ rows_in_order row f r k e (out (listed q.pieces) d p l)
   unfolding rows_in_order one_more
   from-listed zero r k e q d p l = refl
   from-listed (suc f) r k e q d p l = refl

@@ -468,6 +468,10 @@ impl Brush {
     pub(crate) fn pieces(&mut self) -> &mut Vec<Piece> {
         &mut self.pieces
     }
+
+    pub(crate) fn ends(&mut self) -> &mut Vec<usize> {
+        &mut self.ends
+    }
 }
 
 /// What one thread writes while it paints a screen: depth words with their minima, and how far each row is painted. A [`CommandBucketer`] has one of its own; with

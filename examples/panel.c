@@ -62,11 +62,11 @@ int main(void) {
     size_t done;
     must(coarse_bucketer_generate_fills(&screen, paints, 2, segments, 2, fills, 2, &done));
 
-    /* The row is painted to its end. A piece says which module drew it. */
+    /* All rows are painted to their end by one call: here it is one. A piece says which module drew it. */
     const coarse_piece *pieces;
     size_t count;
     must(coarse_bucketer_begin_painting(&screen));
-    must(coarse_bucketer_paint_row(&screen, 0, &pieces, &count));
+    must(coarse_bucketer_paint_rows(&screen, 0, 1, &count, &pieces));
     for (size_t i = 0; i < count; i++)
         printf("%s on tiles %u to %u, by module %u\n", name_of(&screen, &pieces[i]), pieces[i].first, pieces[i].end, pieces[i].panel);
 

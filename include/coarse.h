@@ -253,6 +253,9 @@ typedef struct coarse_canvas {
 /* What a painting call gives: 1 if no command was left (a step) or the row has come to its end (a row), else 0; how many pieces. */
 typedef struct coarse_painted { uint32_t finished; size_t pieces; } coarse_painted;
 
+/* How far a call for rows came: how many rows are painted to their end; how many pieces are in the list. */
+typedef struct coarse_painted_rows { size_t rows, pieces; } coarse_painted_rows;
+
 /* What is stored of a row: how many render commands and depth fills. */
 typedef struct coarse_row_counts { uint32_t render_cmds, depth_cmds; } coarse_row_counts;
 
@@ -404,6 +407,16 @@ uint32_t coarse_paint_step(const coarse_state *state, const coarse_stored *store
  * then call again with more room. The pieces, in tiles of that row, stand one after the other. */
 uint32_t coarse_paint_row(const coarse_state *state, const coarse_stored *stored, coarse_canvas *canvas, size_t row,
                            uint32_t *list, size_t list_len, coarse_painted *painted);
+
+/* The rows first to end of the screen, one after the other, each from where it stands to its end, as coarse_paint_row: quicker than
+ * a call for each, since the screen is looked at once. The pieces stand one after the other, and ends[k] says how many stand in the
+ * list after row first + k. painted is written on every answer: how many rows are painted to their end, and so have an end, and how
+ * many pieces there are. Refused with nothing painted: COARSE_BAD_RUN for no range of the screen's rows, COARSE_OPEN, and
+ * COARSE_NO_ROOM for fewer ends than rows. A row that is refused stops the call: the rows before it are painted, it keeps what it
+ * did, and those behind it stand as they stood. Stopped by COARSE_NO_ROOM, call again from the row first + painted->rows with
+ * another list: it goes on where it stands, and its pieces follow those that it has given. */
+uint32_t coarse_paint_rows(const coarse_state *state, const coarse_stored *stored, coarse_canvas *canvas, size_t first, size_t end,
+                           uint32_t *list, size_t list_len, size_t *ends, size_t ends_len, coarse_painted_rows *painted);
 
 /* The runs of the tiles first to end of a row of the screen whose buckets are unset, in tiles: two words a run. first and end may
  * lie past the screen, up to 8,192; a run ends with the row's last bucket at the latest. count: how many runs. */

@@ -356,6 +356,30 @@ static inline uint32_t coarse_bucketer_paint_row(coarse_bucketer *b, size_t row,
     return answer;
 }
 
+/* All pieces of the rows first to end of the screen, row after row, each from where it stands to its end; ends, lent for as many
+ * rows: how many pieces there are after each. They stand until the next painting call, done or not. The rows are painted in passes,
+ * and the list grows between them. Where a row is refused, those before it are painted, and the pieces are lost. */
+static inline uint32_t coarse_bucketer_paint_rows(coarse_bucketer *b, size_t first, size_t end, size_t *ends,
+                                                  const coarse_piece **pieces) {
+    size_t asked = first < end ? end - first : 0, done = 0, count = 0, i;
+    uint32_t answer = coarse_bucketer_piece_room(b, coarse_bucketer_buckets(b) + 1);
+    while (answer == COARSE_DONE) {
+        coarse_painted_rows result = {0, 0};
+        answer = coarse_paint_rows(&b->state, &b->stored, &b->canvas, first + done, end, (uint32_t *)(b->pieces + count),
+                                   (b->piece_room - count) * COARSE_PIECE, ends + done, asked - done, &result);
+        for (i = done; i < done + result.rows; i++)
+            ends[i] += count;
+        done += result.rows;
+        count += result.pieces;
+        if (answer == COARSE_DONE)
+            break;
+        if (answer == COARSE_NO_ROOM && b->piece_room < count + coarse_bucketer_buckets(b) + 1)
+            answer = coarse_bucketer_piece_room(b, count + coarse_bucketer_buckets(b) + 1);
+    }
+    *pieces = b->pieces;
+    return answer;
+}
+
 /* How many render commands and depth fills are stored of a row of the screen. */
 static inline uint32_t coarse_bucketer_row_lengths(const coarse_bucketer *b, size_t row, coarse_row_counts *lengths) {
     return coarse_row_lengths(&b->state, &b->stored, row, lengths);

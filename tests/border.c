@@ -1532,7 +1532,103 @@ static void lists(void) {
     coarse_bucketer_free(&list);
 }
 
+/* A screen of 8 rows with fills, a layer and depth fills in each, whose painting has begun. */
+static void eight_rows(coarse_bucketer *b) {
+    const coarse_paint paints[] = {{1, 1, 0, 0}, {0, 2, 0, 0}};
+    coarse_segment segments[16];
+    coarse_layer_props props;
+    uint32_t row, i;
+    memset(&props, 0, sizeof props);
+    props.blend.compose = 3, props.opacity = 1;
+    for (row = 0; row < 8; row++) {
+        coarse_segment solid = {0, row, 7 * row, 120 - row, 0}, wide = {0, row, 10, 90 + row, 0};
+        segments[row] = solid, segments[8 + row] = wide;
+    }
+    expect("a screen of 8 rows", COARSE_DONE, coarse_bucketer_new(b, (coarse_rect){0, 0, 512, 32}, (coarse_setup){64, 64, COARSE_EXACT, COARSE_128}));
+    for (i = 0; i < 6; i++) {
+        coarse_draw draw;
+        memset(&draw, 0, sizeof draw);
+        draw.start = i % 3 == 2 ? 8 : 0, draw.end = i % 3 == 1 ? 6 : draw.start + 8, draw.paint = i % 2, draw.blend.compose = 3, draw.panel = i;
+        if (i == 2)
+            expect("a layer", COARSE_DONE, coarse_bucketer_push_layer(b, &props));
+        expect("a fill of 8 rows", COARSE_DONE, coarse_bucketer_generate_fill(b, paints, 2, segments, 16, &draw));
+        if (i == 3)
+            expect("its end", COARSE_DONE, coarse_bucketer_pop_layer(b, NULL, 0));
+    }
+    expect("painting of 8 rows", COARSE_DONE, coarse_bucketer_begin_painting(b));
+}
+
+/* The call for rows into a list of so many words at a time: it goes on where it was stopped, and gives what calls for each row give. */
+static void rows_in_lists_of(size_t words) {
+    static uint32_t one_by_one[1 << 14], together[1 << 14];
+    size_t n = 0, m = 0, row = 0, ends[8], end_of[8], i;
+    coarse_bucketer single, all;
+    eight_rows(&single), eight_rows(&all);
+    for (i = 0; i < 8; i++) {
+        const coarse_piece *pieces;
+        size_t count;
+        expect("a row by itself", COARSE_DONE, coarse_bucketer_paint_row(&single, i, &pieces, &count));
+        memcpy(one_by_one + COARSE_PIECE * n, pieces, count * sizeof *pieces);
+        end_of[i] = n += count;
+    }
+    for (i = 0; row < 8 && i < 400; i++) {
+        coarse_painted_rows painted = {99, 99};
+        size_t k;
+        uint32_t answer = coarse_paint_rows(&all.state, &all.stored, &all.canvas, row, 8, together + COARSE_PIECE * m, words, ends, 8 - row, &painted);
+        expect("done, or out of room", 1, answer == COARSE_NO_ROOM || (answer == COARSE_DONE && painted.rows == 8 - row));
+        expect("some of it", 1, answer == COARSE_DONE || painted.pieces > 0 || painted.rows > 0 || words < 7);
+        for (k = 0; k < painted.rows; k++)
+            expect("the row's end", (uint32_t)end_of[row + k], (uint32_t)(m + ends[k]));
+        m += painted.pieces, row += painted.rows;
+    }
+    expect("as many pieces", (uint32_t)n, (uint32_t)m);
+    expect("the same pieces", 0, (uint32_t)memcmp(one_by_one, together, n * sizeof(coarse_piece)));
+    expect("the same depth words", 0, (uint32_t)memcmp(single.tables.depth, all.tables.depth, single.sizes.depth * sizeof(uint32_t)));
+    expect("the same minima", 0, (uint32_t)memcmp(single.tables.minima, all.tables.minima, single.sizes.minima * sizeof(uint32_t)));
+    expect("as far", 0, (uint32_t)memcmp(single.tables.painting, all.tables.painting, single.sizes.painting * sizeof(uint32_t)));
+    coarse_bucketer_free(&single), coarse_bucketer_free(&all);
+}
+
+/* Rows by one call: lists that are long and short, ranges, ends, and a row that is refused half way. */
+static void rows_by_one_call(void) {
+    static uint32_t list[1 << 14];
+    coarse_bucketer b;
+    coarse_painted_rows painted = {99, 99};
+    size_t ends[9] = {77, 77, 77, 77, 77, 77, 77, 77, 77}, words, end_before;
+    uint32_t before, *panel;
+    const coarse_piece *pieces;
+    rows_in_lists_of(1 << 13);
+    for (words = 28; words < 120; words += 13)
+        rows_in_lists_of(words);
+    eight_rows(&b);
+    before = sum(&b);
+    expect("past the end", COARSE_BAD_RUN, coarse_paint_rows(&b.state, &b.stored, &b.canvas, 0, 9, list, 1 << 14, ends, 9, &painted));
+    expect("no row, no piece", 0, (uint32_t)(painted.rows + painted.pieces));
+    expect("backwards", COARSE_BAD_RUN, coarse_paint_rows(&b.state, &b.stored, &b.canvas, 3, 2, list, 1 << 14, ends, 9, &painted));
+    expect("far away", COARSE_BAD_RUN, coarse_paint_rows(&b.state, &b.stored, &b.canvas, SIZE_MAX, SIZE_MAX, list, 1 << 14, ends, 9, &painted));
+    expect("few ends", COARSE_NO_ROOM, coarse_paint_rows(&b.state, &b.stored, &b.canvas, 0, 8, list, 1 << 14, ends, 7, &painted));
+    expect("no list", COARSE_NO_ROOM, coarse_paint_rows(&b.state, &b.stored, &b.canvas, 0, 8, list, 6, ends, 8, &painted));
+    expect("no rows", COARSE_DONE, coarse_paint_rows(&b.state, &b.stored, &b.canvas, 8, 8, list, 0, ends, 0, &painted));
+    expect("none then", 0, (uint32_t)(painted.rows + painted.pieces));
+    expect("nothing has changed", before, sum(&b));
+    expect("no end", 77, (uint32_t)ends[0]);
+    /* The last fill has 8 rows: a panel that is none stops the first row that has it, and later calls go on behind those before. */
+    panel = b.tables.paint_attrs + 1 * COARSE_PAINT_ATTR + 8;
+    *panel = 256;
+    expect("rows 6 and 7 have it not", COARSE_DONE, coarse_paint_rows(&b.state, &b.stored, &b.canvas, 6, 8, list, 1 << 14, ends, 2, &painted));
+    expect("both", 2, (uint32_t)painted.rows);
+    end_before = ends[1];
+    expect("each is at its end", COARSE_DONE, coarse_paint_rows(&b.state, &b.stored, &b.canvas, 6, 8, list, 1 << 14, ends, 2, &painted));
+    expect("no piece is left", 1, painted.pieces == 0 && end_before > 0 && ends[1] == 0);
+    expect("row 0 has it", COARSE_BAD_RECORD, coarse_paint_rows(&b.state, &b.stored, &b.canvas, 0, 8, list, 1 << 14, ends, 8, &painted));
+    expect("no row is at its end", 0, (uint32_t)painted.rows);
+    *panel = 1;
+    expect("then it goes on", COARSE_DONE, coarse_bucketer_paint_rows(&b, 0, 8, ends, &pieces));
+    coarse_bucketer_free(&b);
+}
+
 int main(void) {
+    rows_by_one_call();
     null_pointers();
     owned_tables();
     lent_spans();

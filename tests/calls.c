@@ -16,7 +16,7 @@
 /* The eleven tables in the order of coarse_lengths, then what else a call may write. */
 enum { RENDER_CMDS, DEPTH_CMDS, DEPTH, ROWS, PAINTING, LAYERS, OPACITIES, PAINT_ATTRS, LAYER_ATTRS, FILTER_PAINTS, MINIMA, TABLES, STATE = TABLES, LIST, PARTS };
 enum { SCREEN = (1 << (STATE + 1)) - 1, RESULTS = 1 << PARTS, LISTED = 1 << LIST | RESULTS };
-enum { LIST_WORDS = 512, ROOM = 1 << 17, BETWEEN = 3, MOST_SEGMENTS = 24, MOST_DRAWS = 6,
+enum { LIST_WORDS = 512, ROOM = 1 << 17, BETWEEN = 3, MOST_SEGMENTS = 24, MOST_DRAWS = 6, MOST_ENDS = 8,
        MOST_FILES = 4, FILES = 32, FILE_WORDS = 4096, STATE_WORDS = sizeof(coarse_state) / sizeof(uint32_t) };
 #define GUARD 0x5eed5eedu
 
@@ -29,6 +29,8 @@ static struct lent { coarse_tables tables; coarse_stored stored; coarse_canvas c
 static struct results {
     coarse_lengths sizes;
     coarse_painted painted;
+    coarse_painted_rows rows;
+    size_t ends[MOST_ENDS];
     coarse_reason reason;
     coarse_parts parts;
     coarse_row_counts lengths;
@@ -326,6 +328,13 @@ static uint32_t call_step(void) { return coarse_paint_step(SCREEN_STATE, &lent.s
 
 static uint32_t call_row(void) { return coarse_paint_row(SCREEN_STATE, &lent.stored, &lent.canvas, about(8), LENT(LIST), &results.painted); }
 
+/* Rows of the screen, or none; now and then more ends than rows, or fewer. */
+static uint32_t call_rows(void) {
+    size_t first = about(8), end = odd(10) ? about(8) : first + about(3), n = first < end && end - first < MOST_ENDS ? end - first : 0;
+    return coarse_paint_rows(SCREEN_STATE, &lent.stored, &lent.canvas, first, end, LENT(LIST), results.ends, odd(10) ? below(MOST_ENDS + 1) : n,
+                             &results.rows);
+}
+
 /* Tiles of a row, or buckets. */
 static coarse_span some_span(uint32_t first, uint32_t more) {
     coarse_span span = {0, 0};
@@ -419,6 +428,7 @@ static struct {
     {"coarse_begin_painting", ready_none, call_begin, 1 << STATE | 1 << DEPTH | 1 << MINIMA | 1 << PAINTING, 20, 0, 0},
     {"coarse_paint_step", ready_none, call_step, 1 << DEPTH | 1 << MINIMA | 1 << PAINTING | LISTED, 40, 0, 0},
     {"coarse_paint_row", ready_none, call_row, 1 << DEPTH | 1 << MINIMA | 1 << PAINTING | LISTED, 20, 0, 0},
+    {"coarse_paint_rows", ready_none, call_rows, 1 << DEPTH | 1 << MINIMA | 1 << PAINTING | LISTED, 20, 0, 0},
     {"coarse_unset_runs", ready_none, call_unset, LISTED, 6, 0, 0},
     {"coarse_visible_runs", ready_none, call_visible, LISTED, 6, 0, 0},
     {"coarse_visible_spans", ready_none, call_spans, LISTED, 6, 0, 0},
@@ -467,6 +477,9 @@ static void one(unsigned long number, size_t which) {
     /* What the fills before the refused one write, if there are any; how many they are is told on every answer. */
     if (calls[which].make == call_fill_list)
         writes = results.count > 0 ? calls[which].writes : RESULTS;
+    /* A row that stops keeps what it did, and so do those before it; how far they came is told on every answer. */
+    if (calls[which].make == call_rows)
+        writes = answer == COARSE_DONE || answer == COARSE_BAD_RECORD || answer == COARSE_NO_ROOM ? calls[which].writes : RESULTS;
     for (i = 0; i < PARTS; i++) {
         size_t from = writes >> i & 1 ? length[i] : 0;
         const uint32_t *was = held + (part[i] - block);

@@ -8,8 +8,8 @@ mod timing;
 mod widths;
 
 use measured::{
-    original_build, original_paint, original_recording, original_reset, port_build, port_by_steps,
-    port_list, port_paint, port_recording, port_reset,
+    original_build, original_paint, original_recording, original_reset, port_build, port_by_rows,
+    port_by_steps, port_list, port_paint, port_recording, port_reset,
 };
 use oracle::original::Original;
 use oracle::painting::Piece;
@@ -48,7 +48,8 @@ fn race(it: &scenes::Scene, rounds: usize) {
     let steps = steps(&it.draft);
     let mut port = Port::new(&it.draft, it.setup());
     let fills_alone = is_fills_in_order(&steps, it.draft.draws.len());
-    let [mut reset, mut build, mut list, mut paint, mut by_steps] = [(); 5].map(|()| Race::new());
+    let [mut reset, mut build, mut list, mut paint, mut by_rows, mut by_steps] =
+        [(); 6].map(|()| Race::new());
     for _ in 0..rounds {
         if fills_alone {
             port.reset();
@@ -60,6 +61,7 @@ fn race(it: &scenes::Scene, rounds: usize) {
         build.port(|| port_build(&mut port, &steps));
         paint.original(|| original_paint(&mut original));
         paint.port(|| port_paint(&mut port));
+        by_rows.port(|| port_by_rows(&mut port));
         by_steps.port(|| port_by_steps(&mut port));
     }
     reset.line(it.name, "reset");
@@ -68,6 +70,7 @@ fn race(it: &scenes::Scene, rounds: usize) {
         list.against(&build).line(it.name, "list");
     }
     paint.line(it.name, "paint");
+    by_rows.against(&paint).line(it.name, "all rows");
     by_steps.against(&paint).line(it.name, "by steps");
     let pieces = compared(it.name, &mut original, &mut port);
     if fills_alone {
@@ -104,12 +107,13 @@ fn is_fills_in_order(steps: &[Step], draws: usize) -> bool {
 
 /// How many pieces both sides give of the scene that they hold: they must be the same, of the same panels.
 fn compared(scene: &str, original: &mut Original, port: &mut Port) -> usize {
-    let [mut given, mut listed, mut stepped] = [(); 3].map(|()| Vec::<Piece>::new());
+    let [mut given, mut listed, mut together, mut stepped] = [(); 4].map(|()| Vec::<Piece>::new());
     original.paint(|pieces| given.extend(pieces));
     port.paint(|pieces| listed.extend(pieces.iter().map(port::piece)));
+    port.paint_rows(|pieces| together.extend(pieces.iter().map(port::piece)));
     port.paint_by_steps(|pieces| stepped.extend(pieces.iter().map(port::piece)));
     assert!(
-        given == listed && given == stepped,
+        given == listed && given == together && given == stepped,
         "{scene}: the pieces differ"
     );
     given.len()

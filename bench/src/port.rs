@@ -96,6 +96,15 @@ impl Port {
         }
     }
 
+    /// The same by one call for all rows.
+    pub(crate) fn paint_rows(&mut self, mut give: impl FnMut(&[Piece])) {
+        self.bucketer.begin_painting().expect("closed layers");
+        let rows = 0..self.bucketer.rows().len();
+        for pieces in self.bucketer.paint_rows(rows).expect("rows") {
+            give(pieces);
+        }
+    }
+
     /// The same by a call for each step.
     pub(crate) fn paint_by_steps(&mut self, mut give: impl FnMut(&[Piece])) {
         self.bucketer.begin_painting().expect("closed layers");

@@ -55,9 +55,9 @@ fn main() -> Result<(), Box<dyn Error>> {
     };
     screen.generate_fills(&opaque, &segments, &[banner, panel])?;
 
-    // The row is painted to its end. A piece says which module drew it.
+    // All rows are painted to their end by one call: here it is one. A piece says which module drew it.
     screen.begin_painting()?;
-    let pieces = screen.paint_row(0)?.to_vec();
+    let pieces = screen.paint_rows(0..1)?.collect::<Vec<_>>().concat();
     let paints: Vec<u32> = screen.paint_attrs().map(|attrs| attrs.paint).collect();
     for piece in &pieces {
         println!(

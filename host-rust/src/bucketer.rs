@@ -1,7 +1,7 @@
 //! A screen that owns its tables.
 
 use crate::answer::{Answer, Stopped};
-use crate::canvas::{Brush, Canvas, Piece, Runs};
+use crate::canvas::{Brush, Canvas, PaintedRows, Piece, Runs};
 use crate::fills::FillList;
 use crate::input::{
     Edition, FilterLayerPlacement, LayerProps, Paint, RecordedFill, Rect, Segment, Setup, Width,
@@ -591,6 +591,27 @@ impl CommandBucketer {
     /// As [`paint_step`](Self::paint_step).
     pub fn paint_row(&mut self, row: usize) -> Result<&[Piece], Answer> {
         self.brush.paint_row(&self.state, &self.stored, row)
+    }
+
+    /// All pieces of a range of rows of the screen, row after row, each from where it stands to its end: by one call, which judges the screen once.
+    ///
+    /// ```
+    /// use coarse::{CommandBucketer, Paint, RecordedFill, Segment, Setup};
+    ///
+    /// let mut screen = CommandBucketer::from_wh(256, 8, Setup::new(64, 64))?;
+    /// let fill = RecordedFill { start: 0, end: 2, ..RecordedFill::default() };
+    /// let segments = [Segment::solid(0, 2, 8), Segment::solid(1, 4, 6)];
+    /// screen.generate_fill(&[Paint::new(false, 1)], &segments, &fill)?;
+    /// screen.begin_painting()?;
+    /// let first: Vec<u32> = screen.paint_rows(0..2)?.map(|pieces| pieces[0].first).collect();
+    /// assert_eq!(first, [2, 4]);
+    /// # Ok::<(), coarse::Answer>(())
+    /// ```
+    ///
+    /// # Errors
+    /// As [`paint_step`](Self::paint_step); [`Answer::BadRun`] for no range of the screen's rows. Rows before one that is refused are painted.
+    pub fn paint_rows(&mut self, rows: Range<usize>) -> Result<PaintedRows<'_>, Answer> {
+        self.brush.paint_rows(&self.state, &self.stored, rows)
     }
 
     /// How far a row is painted: how many steps are done, and how many layers' buffers are open after them.

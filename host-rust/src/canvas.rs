@@ -7,7 +7,7 @@ use crate::sys;
 use alloc::vec::Vec;
 use core::fmt;
 use core::mem::size_of_val;
-use core::ops::Deref;
+use core::ops::{Deref, Range};
 
 /// What tiles of a row of the screen receive in one painting step.
 #[derive(Debug, Clone, Copy, PartialEq, Eq, Hash, Default)]
@@ -78,6 +78,9 @@ pub(crate) fn words_mut<T: Words>(records: &mut [T]) -> (*mut u32, usize) {
 /// The words of a row's painting: steps done, and nesting.
 const PAINTING: usize = 2;
 
+/// The most rows of a screen.
+const MOST_ROWS: usize = 512;
+
 /// The most runs that a row has: each second of 64 buckets.
 const MOST_RUNS: usize = 32;
 
@@ -136,11 +139,39 @@ fn listed<T: Words>(
     Ok(runs)
 }
 
+/// The pieces of rows that are painted by one call: those of each row, one row after the other.
+#[derive(Debug, Clone)]
+pub struct PaintedRows<'a> {
+    pieces: &'a [Piece],
+    ends: core::slice::Iter<'a, usize>,
+    first: usize,
+}
+
+impl<'a> Iterator for PaintedRows<'a> {
+    type Item = &'a [Piece];
+
+    #[inline]
+    fn next(&mut self) -> Option<&'a [Piece]> {
+        let end = *self.ends.next()?;
+        let pieces = self.pieces.get(self.first..end).unwrap_or_default();
+        self.first = end;
+        Some(pieces)
+    }
+
+    fn size_hint(&self) -> (usize, Option<usize>) {
+        self.ends.size_hint()
+    }
+}
+
+impl ExactSizeIterator for PaintedRows<'_> {}
+
 /// What paints a screen: where the words lie that painting writes, and the list that a call's pieces stand in.
 #[derive(Debug, Clone)]
 pub(crate) struct Brush {
     pub(crate) words: sys::CanvasWords,
     pieces: Vec<Piece>,
+    /// Where the pieces of each row end, in the last call for rows.
+    ends: Vec<usize>,
     /// How many pieces one step has at most: one for each run of a row, and fewer than this.
     step: usize,
     /// What the last painting call gave.
@@ -152,6 +183,7 @@ impl Brush {
         let mut brush = Self {
             words,
             pieces: Vec::new(),
+            ends: Vec::new(),
             step: 0,
             painted: sys::PaintedWords::default(),
         };
@@ -254,6 +286,91 @@ impl Brush {
         Err(Answer::NoRoom)
     }
 
+    /// Rows into the list from piece `at` on, and their ends into the ends from the `done`th on.
+    #[inline]
+    pub(crate) fn paint_rows_on(
+        &mut self,
+        state: &sys::StateWords,
+        stored: &sys::StoredWords,
+        rows: Range<usize>,
+        done: usize,
+        at: usize,
+    ) -> (Result<(), Answer>, sys::PaintedRowsWords) {
+        let (list, list_len) = words_mut(self.pieces.get_mut(at..).unwrap_or_default());
+        let ends = self.ends.get_mut(done..).unwrap_or_default();
+        let mut painted = sys::PaintedRowsWords::default();
+        let answer = Answer::check(unsafe {
+            sys::coarse_paint_rows(
+                state,
+                stored,
+                &mut self.words,
+                rows.start,
+                rows.end,
+                list,
+                list_len,
+                ends.as_mut_ptr(),
+                ends.len(),
+                &mut painted,
+            )
+        });
+        (answer, painted)
+    }
+
+    #[inline]
+    pub(crate) fn paint_rows(
+        &mut self,
+        state: &sys::StateWords,
+        stored: &sys::StoredWords,
+        rows: Range<usize>,
+    ) -> Result<PaintedRows<'_>, Answer> {
+        let asked = rows.len().min(MOST_ROWS);
+        if self.ends.len() < asked {
+            self.ends.resize(asked, 0);
+        }
+        let (answer, painted) = self.paint_rows_on(state, stored, rows.clone(), 0, 0);
+        match answer {
+            Ok(()) => {}
+            Err(Answer::NoRoom) => self.paint_more_rows(state, stored, rows, painted)?,
+            Err(refused) => return Err(refused),
+        }
+        Ok(PaintedRows {
+            pieces: &self.pieces,
+            ends: self.ends.get(..asked).unwrap_or_default().iter(),
+            first: 0,
+        })
+    }
+
+    /// The rest of the rows, in a longer list.
+    #[cold]
+    fn paint_more_rows(
+        &mut self,
+        state: &sys::StateWords,
+        stored: &sys::StoredWords,
+        rows: Range<usize>,
+        so_far: sys::PaintedRowsWords,
+    ) -> Result<(), Answer> {
+        let sys::PaintedRowsWords {
+            rows: mut done,
+            pieces: mut count,
+        } = so_far;
+        // A call that finds room for a step does that step.
+        while self.pieces.len() < count + self.step {
+            self.pieces
+                .resize(2 * (count + self.step), Piece::default());
+            let left = rows.start + done..rows.end;
+            let (answer, painted) = self.paint_rows_on(state, stored, left, done, count);
+            for end in self.ends.iter_mut().skip(done).take(painted.rows) {
+                *end += count;
+            }
+            done += painted.rows;
+            count += painted.pieces;
+            if answer != Err(Answer::NoRoom) {
+                return answer;
+            }
+        }
+        Err(Answer::NoRoom)
+    }
+
     pub(crate) fn progress(&self, state: &sys::StateWords, row: usize) -> Result<Progress, Answer> {
         let mut told = sys::ProgressWords::default();
         Answer::check(unsafe { sys::coarse_progress(state, &self.words, row, &mut told) })?;
@@ -350,6 +467,10 @@ impl Brush {
     #[cfg(test)]
     pub(crate) fn pieces(&mut self) -> &mut Vec<Piece> {
         &mut self.pieces
+    }
+
+    pub(crate) fn ends(&mut self) -> &mut Vec<usize> {
+        &mut self.ends
     }
 }
 
@@ -487,6 +608,19 @@ impl Canvas {
     pub fn paint_row(&mut self, screen: &CommandBucketer, row: usize) -> Result<&[Piece], Answer> {
         self.belongs(screen)?;
         self.brush.paint_row(screen.state(), screen.stored(), row)
+    }
+
+    /// As [`CommandBucketer::paint_rows`], on this canvas.
+    ///
+    /// # Errors
+    /// As [`paint_step`](Self::paint_step); [`Answer::BadRun`] for no range of the screen's rows.
+    pub fn paint_rows(
+        &mut self,
+        screen: &CommandBucketer,
+        rows: Range<usize>,
+    ) -> Result<PaintedRows<'_>, Answer> {
+        self.belongs(screen)?;
+        self.brush.paint_rows(screen.state(), screen.stored(), rows)
     }
 
     /// As [`CommandBucketer::progress`], on this canvas.

@@ -82,7 +82,7 @@ mod version;
 
 pub use answer::{Answer, Stopped};
 pub use bucketer::{split_opaque_span, CommandBucketer};
-pub use canvas::{Canvas, Piece, Runs};
+pub use canvas::{Canvas, PaintedRows, Piece, Runs};
 pub use editions::{to_edition_one, to_edition_two};
 pub use figures::{figures, Figures, ListFigures};
 pub use fills::FillList;

@@ -185,6 +185,14 @@ pub struct PaintedWords {
     pub pieces: usize,
 }
 
+/// How far rows came: how many are painted to their end, and how many pieces are listed.
+#[repr(C)]
+#[derive(Clone, Copy, Debug, Default, PartialEq, Eq)]
+pub struct PaintedRowsWords {
+    pub rows: usize,
+    pub pieces: usize,
+}
+
 /// How many render commands and depth fills a row has.
 #[repr(C)]
 #[derive(Clone, Copy, Debug, Default)]
@@ -487,6 +495,19 @@ extern "C" {
         list: *mut u32,
         list_len: usize,
         painted: *mut PaintedWords,
+    ) -> u32;
+
+    pub fn coarse_paint_rows(
+        state: *const StateWords,
+        stored: *const StoredWords,
+        canvas: *mut CanvasWords,
+        first: usize,
+        end: usize,
+        list: *mut u32,
+        list_len: usize,
+        ends: *mut usize,
+        ends_len: usize,
+        painted: *mut PaintedRowsWords,
     ) -> u32;
 
     pub fn coarse_unset_runs(

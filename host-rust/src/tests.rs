@@ -1454,6 +1454,84 @@ fn a_row_with_little_room() {
     assert!(pieces.len() > by_rows.buckets() + 1);
 }
 
+/// Rows by one call are the rows by a call for each, on the screen and on a canvas, in parts and again.
+#[test]
+fn rows_are_each_row() {
+    let mut by_row = nested();
+    let each: Vec<Vec<Piece>> = (0..2)
+        .map(|row| by_row.paint_row(row).unwrap().to_vec())
+        .collect();
+    let mut by_rows = nested();
+    let mut canvas = by_rows.canvas().unwrap();
+    assert!(canvas.paint_rows(&by_rows, 0..2).unwrap().eq(&each));
+    assert!(canvas.paint_rows(&by_rows, 0..2).unwrap().eq([&[]; 2]));
+    assert_eq!(by_rows.paint_rows(0..2).unwrap().len(), 2);
+    assert_eq!(by_rows.depth_words(), by_row.depth_words());
+    assert_eq!(by_rows.minima(), by_row.minima());
+    assert_eq!(by_rows.parts().1.painting, by_row.parts().1.painting);
+    let mut by_rows = nested();
+    assert!(by_rows.paint_rows(1..2).unwrap().eq(&each[1..]));
+    assert!(by_rows.paint_rows(0..2).unwrap().eq([&each[0], &[][..]]));
+    assert_eq!(by_rows.paint_rows(2..2).unwrap().len(), 0);
+    for range in [0..3, 3..3, usize::MAX..usize::MAX, 0..usize::MAX] {
+        assert_eq!(by_rows.paint_rows(range).err(), Some(Answer::BadRun));
+    }
+    #[allow(clippy::reversed_empty_ranges)]
+    let backwards = by_rows.paint_rows(2..1).err();
+    assert_eq!(backwards, Some(Answer::BadRun));
+    assert_eq!(
+        CommandBucketer::from_wh(256, 8, Setup::new(1, 1))
+            .unwrap()
+            .paint_rows(0..2)
+            .err(),
+        Some(Answer::Open)
+    );
+}
+
+/// A short list stops the rows where it ends, and the next call goes on there.
+#[test]
+fn rows_with_little_room() {
+    let mut by_row = nested();
+    let each: Vec<Vec<Piece>> = (0..2)
+        .map(|row| by_row.paint_row(row).unwrap().to_vec())
+        .collect();
+    let most = each[0].len() + each[1].len();
+    for room in 0..most {
+        let mut by_rows = nested();
+        let stored = *by_rows.stored();
+        let state = *by_rows.parts().0;
+        let brush = by_rows.parts().2;
+        brush.pieces().resize(room, Piece::default());
+        brush.ends().resize(2, 0);
+        let (answer, painted) = brush.paint_rows_on(&state, &stored, 0..2, 0, 0);
+        assert_eq!(answer, Err(Answer::NoRoom));
+        let sys::PaintedRowsWords { rows, pieces } = painted;
+        assert!(rows < 2 && pieces <= room);
+        let so_far = brush.pieces()[..pieces].to_vec();
+        assert_eq!(so_far, each.concat()[..pieces]);
+        assert!(rows == 0 || brush.ends()[0] == each[0].len());
+        // The first of the rows that are left is given from where it stands.
+        let rest: Vec<Piece> = by_rows
+            .paint_rows(rows..2)
+            .unwrap()
+            .flatten()
+            .copied()
+            .collect();
+        assert_eq!([so_far, rest].concat(), each.concat());
+        // The list grows as the rows ask.
+        let mut by_rows = nested();
+        by_rows.parts().2.pieces().truncate(room);
+        assert!(by_rows.paint_rows(0..2).unwrap().eq(&each));
+        // Fewer ends than rows.
+        let mut by_rows = nested();
+        let brush = by_rows.parts().2;
+        brush.ends().resize(1, 0);
+        let (answer, painted) = brush.paint_rows_on(&state, &stored, 0..2, 0, 0);
+        assert_eq!(answer, Err(Answer::NoRoom));
+        assert_eq!(painted, sys::PaintedRowsWords::default());
+    }
+}
+
 #[test]
 fn refusals_change_nothing() {
     assert_eq!(

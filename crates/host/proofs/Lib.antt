@@ -18,6 +18,7 @@ pub mod OneLook
 pub mod Left
 pub mod Conversions
 pub mod FillLists
+pub mod PaintRows
 pub mod TileLists
 pub mod Compacted
 pub mod Figured

@@ -14,6 +14,7 @@ pub mod Called
 pub mod Reading
 pub mod Editions
 pub mod FillLists
+pub mod PaintRows
 pub mod TileList
 pub mod Compacted
 pub mod Figured

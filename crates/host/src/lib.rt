@@ -15,6 +15,7 @@ pub mod painting;
 pub mod reading;
 pub mod reasons;
 pub mod results;
+pub mod rows;
 pub mod spans;
 pub mod state;
 mod sure;

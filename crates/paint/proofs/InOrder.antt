@@ -1,6 +1,6 @@
 -- Rows one after the other: what is judged once holds of each row, a row's call on what is left of a list, and one row more. Assumes nothing.
 use Rattle.std.proofs.Common.{◌≡◌, refl, sym, ap, ◌∙◌, Bool, true, false, ◌&&◌, not, cond, List, [], ◌++◌, Option, None, Some, ℕ, zero, suc, ◌+◌, ◌-◌, ◌*◌, ◌/◌, ◌≤◌, ◌<◌, arith, length, take, drop, slice_set}
-use Rattle.std.proofs.Common.{length-append, length-drop, length-take-le, leb, ltb, eqb, ltb-false, leb-true, eqb-true, eq-eqb, ne_eqb}
+use Rattle.std.proofs.Common.{length-append, length-drop, length-take-le, leb, ltb, eqb, ltb-false, leb-true, leb-false, le-leb, le-ltb, eqb-true, eq-eqb, ne_eqb}
 use borrow.Author.Tests.{eqb-false, lt-leb}
 use borrow.Rule.Slice.PartMut.{put_mid}
 use Rattle.sizes.specs.Sizes.{piece-size}
@@ -24,6 +24,7 @@ use Rattle.paint.specs.declared.canvas.stored.Stored.{Stored}
 use Rattle.paint.specs.declared.canvas.stored.Canvas.{Canvas}
 use Rattle.paint.specs.Named.{SameCanvas}
 use Rattle.paint.specs.InOrder.{RowsReady, asked, rows_number, RowsOut, rows_out, turn, rows_in_order, number-of-rows, rows-in-order, rows-painted}
+use Rattle.paint.proofs.Judged.{past-begun}
 use Rattle.paint.proofs.Spreading.{length-pieces}
 use Rattle.paint.proofs.WholeParts.{row_done}
 use Rattle.paint.proofs.WholeRuns.{row-few, back-after, lent-after}
@@ -166,7 +167,7 @@ module _ (s : Screen) (r : RowRange) (a t : Bool) (ends : ℕ) where
 -- One row more. So far i - first rows are done, and what is left gives what all of them do.
 module _ (row : ℕ → Depths → List ℕ → List ℕ → StepOut) where
   -- what rows give depends on how many pieces are listed, and not on how the last row ended
-  from-listed : (f r k : ℕ) (e : List ℕ) (q : Painted) (d : Depths) (p l : List ℕ) → rows_in_order row f r k e (out q d p l) ≡ rows_in_order row f r k e (out (listed q.pieces) d p l)
+  pub from-listed : (f r k : ℕ) (e : List ℕ) (q : Painted) (d : Depths) (p l : List ℕ) → rows_in_order row f r k e (out q d p l) ≡ rows_in_order row f r k e (out (listed q.pieces) d p l)
   unfolding rows_in_order one_more
   from-listed zero r k e q d p l = refl
   from-listed (suc f) r k e q d p l = refl
@@ -217,3 +218,20 @@ module _ (s : Screen) (r : RowRange) (a : Attributes) (l : RowLent) (e : List �
   pub rows_done : number-of-rows s r a l (length e) ≡ 0 → rows-in-order s r a l e ≡ rows-painted s r a l e
   unfolding rows-painted
   rows_done h = rw h refl
+
+-- what is judged of the last row holds of the range
+pub from_last : (s : Screen) (r : RowRange) (a t : Bool) (ends : ℕ) → r.first < r.end → asked r ≤ ends → step_number s (r.end - 1) a t ≡ 0 → rows_number s r a t ends ≡ 0
+unfolding step_number rows_number
+from_last s r a t ends f room = go (eqb (judged s a t) 0) (leb (count s) (r.end - 1)) (paints-on s) refl refl refl
+  where
+    go : (x y z : Bool) → eqb (judged s a t) 0 ≡ x → leb (count s) (r.end - 1) ≡ y → paints-on s ≡ z
+        → cond (eqb (cond x (cond y 12 0) (judged s a t)) 0) (cond z 0 13) (cond x (cond y 12 0) (judged s a t)) ≡ 0
+        → cond x (cond (not (leb r.first r.end && leb r.end (count s))) 12 (cond (not z) 13 (cond (ltb ends (asked r)) 14 0))) (judged s a t) ≡ 0
+    go true false true x y z h =
+        let u : leb r.first r.end ≡ true = le-leb r.first r.end (omega (arith, f)) in
+        let v : leb r.end (count s) ≡ true = le-leb r.end (count s) (omega (arith, f, leb-false _ _ y)) in
+        let w : ltb ends (asked r) ≡ false = le-ltb ends (asked r) room in
+        rw (u, v, w) refl
+    go true false false x y z h = absurd (omega arith)
+    go true true c x y z h = absurd (omega arith)
+    go false y z x u v h = absurd (eqb-false (judged s a t) 0 x (past-begun (judged s a t) z h))

@@ -30,3 +30,4 @@ pub mod Kept
 pub mod DepthFills
 pub mod Leading
 pub mod InOrder
+pub mod RowTurns

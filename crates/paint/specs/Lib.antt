@@ -17,3 +17,4 @@ pub mod Named
 pub mod StoredCmds
 pub mod DepthFills
 pub mod InOrder
+pub mod RowTurns

@@ -8,6 +8,7 @@ pub mod command;
 pub mod pieces;
 pub mod rows;
 pub mod shown;
+pub mod turns;
 pub mod whole;
 
 pub use crate::canvas::{

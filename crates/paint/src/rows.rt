@@ -114,8 +114,8 @@ fn ask_again(
     }
 }
 
-// A row painted to its end, or as far as it goes.
-#[inline(always)]
+// A row painted to its end, or as far as it goes. Out of line: a row's loops have the registers to themselves.
+#[inline(never)]
 fn turn_row(
     screen: Screen,
     b: usize,

@@ -8,8 +8,8 @@ mod timing;
 mod widths;
 
 use measured::{
-    original_build, original_paint, original_recording, original_reset, port_build, port_by_rows,
-    port_by_steps, port_list, port_paint, port_recording, port_reset,
+    original_build, original_line, original_paint, original_recording, original_reset, port_build,
+    port_by_rows, port_by_steps, port_line, port_list, port_paint, port_recording, port_reset,
 };
 use oracle::original::Original;
 use oracle::painting::Piece;
@@ -48,8 +48,8 @@ fn race(it: &scenes::Scene, rounds: usize) {
     let steps = steps(&it.draft);
     let mut port = Port::new(&it.draft, it.setup());
     let fills_alone = is_fills_in_order(&steps, it.draft.draws.len());
-    let [mut reset, mut build, mut list, mut paint, mut by_rows, mut by_steps] =
-        [(); 6].map(|()| Race::new());
+    let [mut reset, mut build, mut list, mut paint, mut by_rows, mut by_steps, mut line] =
+        [(); 7].map(|()| Race::new());
     for _ in 0..rounds {
         if fills_alone {
             port.reset();
@@ -63,6 +63,10 @@ fn race(it: &scenes::Scene, rounds: usize) {
         paint.port(|| port_paint(&mut port));
         by_rows.port(|| port_by_rows(&mut port));
         by_steps.port(|| port_by_steps(&mut port));
+        if !it.line.is_empty() {
+            line.original(|| original_line(&mut original, &it.line));
+            line.port(|| port_line(&mut port, &it.line));
+        }
     }
     reset.line(it.name, "reset");
     build.line(it.name, "build");
@@ -72,6 +76,9 @@ fn race(it: &scenes::Scene, rounds: usize) {
     paint.line(it.name, "paint");
     by_rows.against(&paint).line(it.name, "all rows");
     by_steps.against(&paint).line(it.name, "by steps");
+    if !it.line.is_empty() {
+        line.line(it.name, "one line");
+    }
     let pieces = compared(it.name, &mut original, &mut port);
     if fills_alone {
         port.reset();

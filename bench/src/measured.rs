@@ -5,6 +5,7 @@ use crate::port::Port;
 use crate::read;
 use oracle::original::Original;
 use oracle::steps::Step;
+use std::ops::Range;
 
 #[inline(never)]
 pub(crate) fn original_reset(original: &mut Original) {
@@ -39,6 +40,16 @@ pub(crate) fn original_paint(original: &mut Original) {
 #[inline(never)]
 pub(crate) fn port_paint(port: &mut Port) {
     port.paint(read);
+}
+
+#[inline(never)]
+pub(crate) fn original_line(original: &mut Original, rows: &Range<usize>) {
+    original.paint_only(rows.clone(), read);
+}
+
+#[inline(never)]
+pub(crate) fn port_line(port: &mut Port, rows: &Range<usize>) {
+    port.paint_only(rows.clone(), read);
 }
 
 #[inline(never)]

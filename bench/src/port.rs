@@ -7,6 +7,7 @@ use coarse::{
 use oracle::generate::draft::Draft;
 use oracle::painting;
 use oracle::steps::Step;
+use std::ops::Range;
 
 /// A scene as the wrapper takes it, and its screen.
 pub(crate) struct Port {
@@ -97,9 +98,13 @@ impl Port {
     }
 
     /// The same by one call for all rows.
-    pub(crate) fn paint_rows(&mut self, mut give: impl FnMut(&[Piece])) {
+    pub(crate) fn paint_rows(&mut self, give: impl FnMut(&[Piece])) {
+        self.paint_only(0..self.bucketer.rows().len(), give);
+    }
+
+    /// Some rows painted to their end, by one call.
+    pub(crate) fn paint_only(&mut self, rows: Range<usize>, mut give: impl FnMut(&[Piece])) {
         self.bucketer.begin_painting().expect("closed layers");
-        let rows = 0..self.bucketer.rows().len();
         for pieces in self.bucketer.paint_rows(rows).expect("rows") {
             give(pieces);
         }

@@ -2,6 +2,7 @@
 
 use coarse::Setup;
 use oracle::generate::draft::{clipped, layer, solid, Draft};
+use std::ops::Range;
 
 pub(crate) struct Scene {
     pub(crate) name: &'static str,
@@ -9,6 +10,8 @@ pub(crate) struct Scene {
     /// Room for commands and for depth fills in a row.
     pub(crate) c: u32,
     pub(crate) d: u32,
+    /// The rows of the one line that is repainted, where a scene has one.
+    pub(crate) line: Range<usize>,
 }
 
 /// The program modules that draw: panels from 1 on.
@@ -24,7 +27,13 @@ impl Scene {
     fn new(name: &'static str, mut draft: Draft, c: u32, d: u32) -> Self {
         draft.draw_panels = panels(draft.draws.len());
         draft.layer_panels = panels(draft.layers.len());
-        Self { name, draft, c, d }
+        Self {
+            name,
+            draft,
+            c,
+            d,
+            line: 0..0,
+        }
     }
 
     /// At 128 pixels a bucket.
@@ -44,12 +53,21 @@ impl Numbers {
 }
 
 pub(crate) fn all() -> Vec<Scene> {
-    vec![banner(), wall(), text(), nested(), status(), small()]
+    vec![
+        banner(),
+        wall(),
+        text(),
+        nested(),
+        status(),
+        small(),
+        pages(),
+        typed(),
+    ]
 }
 
 /// The scenes that are timed at each width of a bucket.
 pub(crate) fn of_widths() -> Vec<Scene> {
-    vec![status(), wall()]
+    vec![status(), wall(), pages()]
 }
 
 /// A status panel of 320 x 64: an opaque page, then 24 times a field of 18 to 41 tiles on four rows, and two lines of text in it.
@@ -160,6 +178,56 @@ fn text() -> Scene {
         draft.draw(range);
     }
     finished("text", draft, 64, 64)
+}
+
+/// The wall screen with four opaque pages one on the other, each over all of it, and 40 panels of its size on the last.
+fn pages() -> Scene {
+    let mut draft = Draft::new(4_096, 2_048);
+    let mut numbers = Numbers(7);
+    for _ in 0..4 {
+        let page: Vec<_> = (0..512).map(|row| solid(row, 0, 1_024)).collect();
+        let range = draft.segments(&page);
+        draft.draw(range);
+    }
+    for _ in 0..40 {
+        let (row, first, width) = (
+            numbers.below(384),
+            numbers.below(400),
+            300 + numbers.below(324),
+        );
+        let list: Vec<_> = (row..row + 128)
+            .map(|row| solid(row, first, first + width))
+            .collect();
+        let range = draft.segments(&list);
+        draft.draw(range);
+    }
+    finished("wall of pages", draft, 64, 64)
+}
+
+/// A page of 1,920 x 1,080 full of text, 135 lines of 60 alpha segments on two rows each, of which the last one typed is repainted.
+fn typed() -> Scene {
+    let mut draft = Draft::new(1_920, 1_080);
+    let mut numbers = Numbers(8);
+    let page: Vec<_> = (0..270).map(|row| solid(row, 0, 480)).collect();
+    let range = draft.segments(&page);
+    draft.draw(range);
+    for line in 0..135 {
+        let mut list = Vec::new();
+        for row in 2 * line..2 * line + 2 {
+            let mut x = numbers.below(8);
+            for _ in 0..30 {
+                let width = 1 + numbers.below(4);
+                list.push([1, row, x, x + width, 16 * numbers.below(1_000_000)]);
+                x += width + numbers.below(12);
+            }
+        }
+        let range = draft.segments(&list);
+        draft.draw(range);
+    }
+    Scene {
+        line: 268..270,
+        ..finished("busy text", draft, 64, 64)
+    }
 }
 
 /// 16 layers, one in the other, each with a clip and two fills.

@@ -10,6 +10,7 @@ use crate::sizes;
 use crate::steps::Step;
 use crate::viewport::Mode;
 use std::mem::size_of;
+use std::ops::Range;
 
 /// The screen of a recording whose viewport is read exactly, and what painting needs beside it.
 pub struct Original {
@@ -74,8 +75,13 @@ impl Original {
     }
 
     /// Every row painted into a list, which is handed to `give`; the search is left out where it can be.
-    pub fn paint(&mut self, mut give: impl FnMut(&[Piece])) {
-        for row in self.bucketer.rows() {
+    pub fn paint(&mut self, give: impl FnMut(&[Piece])) {
+        self.paint_only(0..self.bucketer.rows().len(), give);
+    }
+
+    /// .. some rows.
+    pub fn paint_only(&mut self, rows: Range<usize>, mut give: impl FnMut(&[Piece])) {
+        for row in &self.bucketer.rows()[rows] {
             self.depth.clear();
             self.pieces.clear();
             stage::paint(

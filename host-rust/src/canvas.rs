@@ -469,6 +469,7 @@ impl Brush {
         &mut self.pieces
     }
 
+    #[cfg(test)]
     pub(crate) fn ends(&mut self) -> &mut Vec<usize> {
         &mut self.ends
     }

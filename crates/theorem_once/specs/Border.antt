@@ -20,6 +20,8 @@ use Rattle.theorem_once.specs.declared.border.building.WhyHost.{WhyHost}
 use Rattle.theorem_once.specs.declared.border.building.TileListHost.{TileListHost}
 use Rattle.theorem_once.specs.declared.border.building.FillHost.{FillHost}
 use Rattle.theorem_once.specs.declared.border.painting.PaintHost.{PaintHost}
+use Rattle.host.specs.PaintRows.{RowsLeft, rows_left_in}
+use Rattle.theorem_once.specs.declared.border.painting.RowsHost.{RowsHost}
 use Rattle.theorem_once.specs.declared.border.painting.RunsHost.{RunsHost}
 use Rattle.theorem_once.specs.declared.border.painting.SpansHost.{SpansHost}
 use Rattle.theorem_once.specs.declared.border.painting.HiddenHost.{HiddenHost}
@@ -94,6 +96,25 @@ paint-words h =
       h.list.now,
       painted_in h.painted,
     )
+
+-- .. and for rows, with their ends; how far they come is written on every answer
+abbrev pub rows-words : RowsHost → List ℕ × List ℕ × List ℕ × List ℕ × List ℕ × List ℕ × Depths × List ℕ × List ℕ × List ℕ
+rows-words h =
+    let s = h.stored in (
+      words_in h.state,
+      s.rows.now,
+      s.render_cmds.now,
+      s.depth_cmds.now,
+      s.paint_attrs.now,
+      s.layer_attrs.now,
+      depths_in h.canvas.depth,
+      h.canvas.painting.now,
+      h.list.now,
+      h.ends.now,
+    )
+
+abbrev pub rows-left : RowsHost → RowsLeft
+rows-left h = rows_left_in h.canvas h.list.now h.ends.now h.painted
 
 abbrev pub paint-left : PaintHost → Depths × List ℕ × List ℕ × List ℕ
 paint-left h = canvas_out h.canvas h.list.now h.painted

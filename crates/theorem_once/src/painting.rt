@@ -4,9 +4,10 @@ ghost use Rattle.theorem_once.specs.Painting.{begin-words, paint-words, write-wo
 
 use crate::Twice;
 use depth::Depth;
+use paint::rows::Stopped;
 use paint::{
-    Canvas, Stepped, Stored, begin_painting, can_skip, is_hidden, paint_row, paint_step,
-    unset_runs, unset_runs_and_write, visible_runs,
+    Canvas, RowRange, Stepped, Stored, begin_painting, can_skip, is_hidden, paint_row, paint_rows,
+    paint_step, unset_runs, unset_runs_and_write, visible_runs,
 };
 use screen::Screen;
 use sizes::answers::Refusal;
@@ -67,6 +68,24 @@ pub fn row_twice(
     (
         paint_row(screen, row, &a.stored, &mut a.canvas, a.list),
         paint_row(screen, row, &b.stored, &mut b.canvas, b.list),
+    )
+}
+
+/// Two calls of `paint_rows`.
+pub fn rows_twice(
+    a: &mut PaintLent<'_>,
+    a_ends: &mut [usize],
+    b: &mut PaintLent<'_>,
+    b_ends: &mut [usize],
+    screen: Screen,
+    rows: RowRange,
+) -> Twice<Result<usize, Stopped>>
+    ensures { (paint-words a.old ≡ paint-words b.old) × (a_ends.old ≡ b_ends.old)
+        → (result.0 ≡ result.1) × (paint-words a.new ≡ paint-words b.new) × (a_ends.new ≡ b_ends.new) }
+{
+    (
+        paint_rows(screen, rows, &a.stored, &mut a.canvas, a.list, a_ends),
+        paint_rows(screen, rows, &b.stored, &mut b.canvas, b.list, b_ends),
     )
 }
 

@@ -21,3 +21,4 @@ pub mod Refined
 pub mod Bounded
 pub mod SamePicture
 pub mod WordAt
+pub mod ManyRows

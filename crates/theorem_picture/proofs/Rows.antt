@@ -7,7 +7,7 @@ use Rattle.rules.specs.Answers.{Answer, Done}
 use Rattle.rules.specs.Plans.{Frame, Step}
 use Rattle.rules.specs.Painting as rules
 use Rattle.rules.specs.Painting.{Piece, received}
-use Rattle.rules.specs.Calls.{Canvas, begin-call}
+use Rattle.rules.specs.Calls.{begin-call}
 use Rattle.screen.specs.declared.Screen.{Screen}
 use Rattle.screen.specs.Depths.{Depths}
 use Rattle.screen.specs.Tables.{ScreenLent}
@@ -33,7 +33,7 @@ use Rattle.theorem_picture.proofs.Turns.{turned-words, turns-whole}
 use Rattle.theorem_picture.proofs.Picture.{picture}
 
 -- pieces that stand after n others
-pieces-split : (n m : ℕ) (xs ys : List ℕ) → piece-size * n ≤ length xs → pieces-in (n + m) (take (piece-size * n) xs ++ ys) ≡ pieces-in n xs ++ pieces-in m ys
+pub pieces-split : (n m : ℕ) (xs ys : List ℕ) → piece-size * n ≤ length xs → pieces-in (n + m) (take (piece-size * n) xs ++ ys) ≡ pieces-in n xs ++ pieces-in m ys
 unfolding pieces-in
 pieces-split zero m xs ys h = rw (zero-add m)
 pieces-split (suc n) m xs ys h =

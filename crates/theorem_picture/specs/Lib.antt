@@ -18,3 +18,4 @@ pub mod Kept
 pub mod Apart
 pub mod Bounded
 pub mod Colours
+pub mod ManyRows

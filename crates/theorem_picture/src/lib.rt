@@ -25,6 +25,7 @@ ghost use Rattle.theorem_picture.specs.Apart.{RowApart, StepApart};
 ghost use Rattle.theorem_picture.specs.Bounded.{FrameKept, RowsFew};
 ghost use Rattle.theorem_picture.specs.Refined.{FilePlays, ResetRefined, RowsRefined, StepRefined, StepsAgree, TouchedOwn, WalksAgree, WholeKept};
 ghost use Rattle.theorem_picture.specs.Ends.{RowReached, RowsAreSteps, RowsFinish, RulesFinish, StepsEnough, WordsFinish};
+ghost use Rattle.theorem_picture.specs.ManyRows.{ManyReached, RowsAreCalls};
 ghost use Rattle.theorem_picture.specs.Edited.{LineListed, LinePieces, LineWords};
 ghost use Rattle.theorem_picture.specs.Recorded.{RecordingAccepted, RecordingEarly, RecordingRefused, RecordingRules, RulesPicture, RulesPlayed};
 
@@ -109,7 +110,7 @@ pub fn each_tile_comes_to_draw_order<B>()
     ensures recorded { RecordingSame B }
 {}
 
-/// Every row can be painted to its end, and a row's call is painting steps.
+/// Every row can be painted to its end, a row's call is painting steps, and a call for rows is calls for each.
 pub fn painting_ends()
     ensures by_rules { RulesFinish }
     ensures by_steps { StepsEnough }
@@ -117,6 +118,8 @@ pub fn painting_ends()
     ensures by_rows { RowsFinish }
     ensures turns { RowsAreSteps }
     ensures reached { RowReached }
+    ensures many { RowsAreCalls }
+    ensures many_reached { ManyReached }
 {}
 
 /// Where `can_skip` says yes, nothing of the span is hidden.

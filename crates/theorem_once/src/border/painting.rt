@@ -1,7 +1,7 @@
 //! The calls of painting, of a row's runs, of `is_hidden`, of `can_skip` and of the split.
 ghost use Rattle.std.specs.Prelude.{◌≡◌};
 ghost use Rattle.host.specs.Held.{one, parts_in};
-ghost use Rattle.theorem_once.specs.Border.{begin-words, paint-words, paint-left, runs-words, runs-left, write-words, spans-words, spans-left, hidden-words, skip-words};
+ghost use Rattle.theorem_once.specs.Border.{begin-words, paint-words, paint-left, rows-words, rows-left, runs-words, runs-left, write-words, spans-words, spans-left, hidden-words, skip-words};
 
 use crate::Twice;
 use host::painting::{
@@ -9,6 +9,7 @@ use host::painting::{
     coarse_split_opaque_span, coarse_unset_runs, coarse_unset_runs_and_write, coarse_visible_runs,
 };
 use host::results::{PaintedWords, SplitWords};
+use host::rows::{PaintedRows, coarse_paint_rows};
 use host::spans::coarse_visible_spans;
 use host::state::StateWords;
 use paint::{Canvas, Stored};
@@ -85,6 +86,51 @@ pub fn row_twice(a: &mut PaintHost<'_>, b: &mut PaintHost<'_>, row: usize) -> Tw
             &mut b.canvas,
             row,
             b.list,
+            &mut b.painted,
+        ),
+    )
+}
+
+/// What painting rows by one call reads and writes.
+#[derive(Drop)]
+pub struct RowsHost<'a> {
+    pub state: StateWords,
+    pub stored: Stored<'a>,
+    pub canvas: Canvas<'a>,
+    pub list: &'a mut [u32],
+    pub ends: &'a mut [usize],
+    pub painted: PaintedRows,
+}
+
+/// Two calls of `coarse_paint_rows`.
+pub fn rows_twice(
+    a: &mut RowsHost<'_>,
+    b: &mut RowsHost<'_>,
+    first: usize,
+    end: usize,
+) -> Twice<u32>
+    ensures { rows-words a.old ≡ rows-words b.old
+        → (result.0 ≡ result.1) × (rows-left a.new ≡ rows-left b.new) }
+{
+    (
+        coarse_paint_rows(
+            &a.state,
+            &a.stored,
+            &mut a.canvas,
+            first,
+            end,
+            a.list,
+            a.ends,
+            &mut a.painted,
+        ),
+        coarse_paint_rows(
+            &b.state,
+            &b.stored,
+            &mut b.canvas,
+            first,
+            end,
+            b.list,
+            b.ends,
             &mut b.painted,
         ),
     )

@@ -4,6 +4,7 @@ use Rattle.rules_picture.proofs.Finishes as rules
 use Rattle.theorem_picture.proofs.Finishes.{finishes}
 use Rattle.theorem_picture.proofs.Rows.{row-turns, row_number, calls-turns, row-reached}
 use Rattle.theorem_picture.proofs.RowEnds.{row_ends}
+use Rattle.theorem_picture.proofs.ManyRows.{rows-calls, many-reached}
 use Rattle.theorem_picture.proofs.painting_ends.Goals as goal
 
 pub returns-clause-by_rules : goal.returns-clause-by_rules
@@ -23,3 +24,9 @@ returns-clause-turns c = λ l. record { turns = λ i list. row-turns i l list; n
 
 pub returns-clause-reached : goal.returns-clause-reached
 returns-clause-reached c = λ b f xs l i list h. row-reached i list h
+
+pub returns-clause-many : goal.returns-clause-many
+returns-clause-many c = rows-calls
+
+pub returns-clause-many_reached : goal.returns-clause-many_reached
+returns-clause-many_reached c = λ b f xs l r list ends h. many-reached r list ends h

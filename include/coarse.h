@@ -348,10 +348,10 @@ uint32_t coarse_list_tile(uint32_t edition, const uint32_t *file, size_t file_le
  * recording stand at the start of the table, and after them those of all recordings, summed: tiles asked for, every entry of plain draw order at
  * every tile of the screen; tiles painted, those of all pieces; tiles hidden, the entries that painting leaves out, so that asked is painted and
  * hidden together; render commands and depth fills that the rows hold; refused recordings. A refused recording is 0 0 0 0 0 1. With no recording the
- * totals are 0. No number is 2^47 or more. The state is what the last recording leaves; what the tables hold then is not told. The numbers after the
- * totals stay. Refused, in this order: by 3 for the edition; 2 for a width that is none; 4 for a mode above 1, for a state that is none, for more
- * than COARSE_MOST_RECORDINGS recordings, and for ends that fall or pass the words; 14 where the table has fewer than COARSE_FIGURES numbers for each
- * recording and the totals. Refused, nothing changes. */
+ * totals are 0. No number is 2^47 or more. The state and the tables are what the last recording leaves; the words of a table after those that it is
+ * handed stay, and so do the numbers after the totals. Refused, in this order: by 3 for the edition; 2 for a width that is none; 4 for a mode above
+ * 1, for a state that is none, for more than COARSE_MOST_RECORDINGS recordings, and for ends that fall or pass the words; 14 where the table has fewer
+ * than COARSE_FIGURES numbers for each recording and the totals. Refused, nothing changes. */
 uint32_t coarse_figures(coarse_state *state, uint32_t edition, const uint32_t *words, size_t words_len, const size_t *ends, size_t ends_len,
                         coarse_setup setup, coarse_tables *tables, uint64_t *table, size_t table_len);
 

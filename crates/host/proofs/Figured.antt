@@ -35,11 +35,11 @@ list-late l m =
 
 pub figured-number : (l : Listed) (q : Setup) (k : ScreenLent) (ns : List ℕ) → (figured l q k ns).number ≡ figures-number l (length ns)
 unfolding figured
-figured-number l q k ns = settle-number (figures-number l (length ns)) (desk k.screen ns) (filled (counted-from q (files-in l) k) ns)
+figured-number l q k ns = settle-number (figures-number l (length ns)) (desk k ns) (filled (counted-from q (files-in l) k) ns)
 
-pub figured-kept : (l : Listed) (q : Setup) (k : ScreenLent) (ns : List ℕ) → Refused (figured l q k ns) → (figured l q k ns).value ≡ desk k.screen ns
+pub figured-kept : (l : Listed) (q : Setup) (k : ScreenLent) (ns : List ℕ) → Refused (figured l q k ns) → (figured l q k ns).value ≡ desk k ns
 unfolding figured
-figured-kept l q k ns = unsettled (figures-number l (length ns)) (desk k.screen ns) (filled (counted-from q (files-in l) k) ns)
+figured-kept l q k ns = unsettled (figures-number l (length ns)) (desk k ns) (filled (counted-from q (files-in l) k) ns)
 
 -- what holds where a call is refused holds where its number is not 0
 pub refused-holds : {P : Type 0} (r : Result Unit Refusal) (n : ℕ) → n ≡ answer_number r → (IsErr r → P) → (n ≡ 0 → ⊥) → P
@@ -59,51 +59,51 @@ unfolding before_4
 four-kept = refl
 
 module _ (l : Listed) (q : Setup) (st : List ℕ) (t : Tables) (ns : List ℕ) where
-  abbrev of-screen : Screen → Answer (List ℕ × List ℕ)
+  abbrev of-screen : Screen → Answer (List ℕ × Tables × List ℕ)
   of-screen s = figures-left (figured l q (screen_lent s t) ns)
 
-  pub figures_unheld : None ≡ screen_of true st → answer BadRecord (st, ns) ≡ figures_in l q st t ns
+  pub figures_unheld : None ≡ screen_of true st → answer BadRecord (st, t, ns) ≡ figures_in l q st t ns
   unfolding figures_in
   figures_unheld h =
-      refused-on (screen_of true st) st (st, ns) of-screen (λ (s : Screen). BadRecord) BadRecord h (four-at st)
+      refused-on (screen_of true st) st (st, t, ns) of-screen (λ (s : Screen). BadRecord) BadRecord h (four-at st)
       (λ (s : Screen). sym four-kept ∙ figures-early l q (screen_lent s t) ns)
 
   pub figures_built : (st' : List ℕ) (s s' : Screen) (r n : ℕ) → Some s ≡ screen_of true st → r ≡ n → st' ≡ screen-words s' → (ns' : List ℕ)
-      → answer n (desk s' ns') ≡ figured l q (screen_lent s t) ns → answer r (st', ns') ≡ figures_in l q st t ns
+      → (t' : Tables) → answer n (desk (screen_lent s' t') ns') ≡ figured l q (screen_lent s t) ns → answer r (st', t', ns') ≡ figures_in l q st t ns
   unfolding figures_in
-  figures_built st' s s' r n h rn sw ns' e =
-      rw (rn, sw) (ap figures-left e ∙ ap (λ (x : Option Screen). at_held x st (st, ns) of-screen) h)
+  figures_built st' s s' r n h rn sw ns' t' e =
+      rw (rn, sw) (ap figures-left e ∙ ap (λ (x : Option Screen). at_held x st (st, t, ns) of-screen) h)
 
-  in-refused : Refused (figures_in l q st t ns) → (figures_in l q st t ns).value ≡ (st, ns)
+  in-refused : Refused (figures_in l q st t ns) → (figures_in l q st t ns).value ≡ (st, t, ns)
   unfolding figures_in
-  in-refused = at-screen true st (st, ns) of-screen (λ s e r. rw (figured-kept l q (screen_lent s t) ns r, written_back true st s e))
+  in-refused = at-screen true st (st, t, ns) of-screen (λ s e r. rw (figured-kept l q (screen_lent s t) ns r, written_back true st s e))
 
 module _ (l : Listed) (w : SetupWords) (st : List ℕ) (t : Tables) (ns : List ℕ) where
-  pub figures_unasked : (r : Refusal) → Err r ≡ asked_setup w → answer (number_of r) (st, ns) ≡ figures_asked l w st t ns
+  pub figures_unasked : (r : Refusal) → Err r ≡ asked_setup w → answer (number_of r) (st, t, ns) ≡ figures_asked l w st t ns
   unfolding figures_asked
-  figures_unasked r e = not-asked (asked_setup w) number_of (st, ns) (λ (q : Setup). figures_in l q st t ns) r e
+  figures_unasked r e = not-asked (asked_setup w) number_of (st, t, ns) (λ (q : Setup). figures_in l q st t ns) r e
 
-  pub figures-asked : (q : Setup) → Ok q ≡ asked_setup w → {a : Answer (List ℕ × List ℕ)} → a ≡ figures_in l q st t ns → a ≡ figures_asked l w st t ns
+  pub figures-asked : (q : Setup) → Ok q ≡ asked_setup w → {a : Answer (List ℕ × Tables × List ℕ)} → a ≡ figures_in l q st t ns → a ≡ figures_asked l w st t ns
   unfolding figures_asked
-  figures-asked q e h = h ∙ as-asked (asked_setup w) number_of (st, ns) (λ (q : Setup). figures_in l q st t ns) q e
+  figures-asked q e h = h ∙ as-asked (asked_setup w) number_of (st, t, ns) (λ (q : Setup). figures_in l q st t ns) q e
 
-  asked-refused : Refused (figures_asked l w st t ns) → (figures_asked l w st t ns).value ≡ (st, ns)
+  asked-refused : Refused (figures_asked l w st t ns) → (figures_asked l w st t ns).value ≡ (st, t, ns)
   unfolding figures_asked
-  asked-refused = asked-kept (asked_setup w) number_of (st, ns) (λ (q : Setup). figures_in l q st t ns) (λ q. in-refused l q st t ns)
+  asked-refused = asked-kept (asked_setup w) number_of (st, t, ns) (λ (q : Setup). figures_in l q st t ns) (λ q. in-refused l q st t ns)
 
 module _ (f : FileWords) (es : List ℕ) (w : SetupWords) (st : List ℕ) (t : Tables) (ns : List ℕ) where
-  pub figures_untold : (r : Refusal) → Err r ≡ told_file f → answer (number_of r) (st, ns) ≡ figures_call f es w st t ns
+  pub figures_untold : (r : Refusal) → Err r ≡ told_file f → answer (number_of r) (st, t, ns) ≡ figures_call f es w st t ns
   unfolding figures_call
-  figures_untold r e = not-asked (told_file f) number_of (st, ns) (λ (file : File). figures_asked (listed-in file es) w st t ns) r e
+  figures_untold r e = not-asked (told_file f) number_of (st, t, ns) (λ (file : File). figures_asked (listed-in file es) w st t ns) r e
 
-  pub figures_told : (file : File) → Ok file ≡ told_file f → {a : Answer (List ℕ × List ℕ)}
+  pub figures_told : (file : File) → Ok file ≡ told_file f → {a : Answer (List ℕ × Tables × List ℕ)}
       → a ≡ figures_asked (listed-in file es) w st t ns → a ≡ figures_call f es w st t ns
   unfolding figures_call
-  figures_told file e h = h ∙ as-asked (told_file f) number_of (st, ns) (λ (file : File). figures_asked (listed-in file es) w st t ns) file e
+  figures_told file e h = h ∙ as-asked (told_file f) number_of (st, t, ns) (λ (file : File). figures_asked (listed-in file es) w st t ns) file e
 
   -- refused, it leaves everything as it was
-  pub figures-refused : Refused (figures_call f es w st t ns) → (figures_call f es w st t ns).value ≡ (st, ns)
+  pub figures-refused : Refused (figures_call f es w st t ns) → (figures_call f es w st t ns).value ≡ (st, t, ns)
   unfolding figures_call
   figures-refused =
-      asked-kept (told_file f) number_of (st, ns) (λ (file : File). figures_asked (listed-in file es) w st t ns)
+      asked-kept (told_file f) number_of (st, t, ns) (λ (file : File). figures_asked (listed-in file es) w st t ns)
       (λ file. asked-refused (listed-in file es) w st t ns)

@@ -3,7 +3,6 @@ use Rattle.std.specs.Prelude.{ℕ, ◌≡◌, true, List}
 use Rattle.rules.specs.Answers.{Answer, answer}
 use Rattle.row.specs.Words.{Words}
 use Rattle.screen.specs.declared.lent.Lent.{Lent}
-use Rattle.screen.specs.Depths.{depths_in}
 use Rattle.paint.specs.Stepping.{Attributes, attributes}
 use Rattle.compact.specs.Call.{Stored, stored, compacting}
 use Rattle.host.specs.declared.state.StateWords.{StateWords}
@@ -24,7 +23,8 @@ compact_on r w t = compact_call r (attributes t.paint_attrs.now t.layer_attrs.no
 
 -- what it leaves as it was
 pub record CompactKeeps (a b : Lent) : Type 0 where
-  pub depth : depths_in b.depth ≡ depths_in a.depth
+  pub depth : b.depth.now ≡ a.depth.now
+  pub minima : b.minima.now ≡ a.minima.now
   pub painting : b.painting.now ≡ a.painting.now
   pub layers : b.layers.now ≡ a.layers.now
   pub opacities : b.opacities.now ≡ a.opacities.now

@@ -2,7 +2,6 @@
 use Rattle.std.specs.Prelude.{◌≡◌}
 use Rattle.row.specs.Words.{Words, words}
 use Rattle.screen.specs.declared.lent.Lent.{Lent}
-use Rattle.screen.specs.Depths.{depths_in}
 use Rattle.pop.specs.Pop.{PopLent, pop_lent}
 
 -- what the tables of the rows hold
@@ -15,7 +14,8 @@ pop_in l = pop_lent (rows_in l) l.layers.now l.opacities.now l.layer_attrs.now
 
 -- what a fill leaves as it was
 pub record FillKeeps (a b : Lent) : Type 0 where
-  pub depth : depths_in b.depth ≡ depths_in a.depth
+  pub depth : b.depth.now ≡ a.depth.now
+  pub minima : b.minima.now ≡ a.minima.now
   pub painting : b.painting.now ≡ a.painting.now
   pub layers : b.layers.now ≡ a.layers.now
   pub opacities : b.opacities.now ≡ a.opacities.now
@@ -24,7 +24,8 @@ pub record FillKeeps (a b : Lent) : Type 0 where
 
 -- what a push leaves as it was
 pub record PushKeeps (a b : Lent) : Type 0 where
-  pub depth : depths_in b.depth ≡ depths_in a.depth
+  pub depth : b.depth.now ≡ a.depth.now
+  pub minima : b.minima.now ≡ a.minima.now
   pub painting : b.painting.now ≡ a.painting.now
   pub paint_attrs : b.paint_attrs.now ≡ a.paint_attrs.now
   pub layer_attrs : b.layer_attrs.now ≡ a.layer_attrs.now
@@ -32,14 +33,16 @@ pub record PushKeeps (a b : Lent) : Type 0 where
 
 -- what a pop leaves as it was
 pub record PopKeeps (a b : Lent) : Type 0 where
-  pub depth : depths_in b.depth ≡ depths_in a.depth
+  pub depth : b.depth.now ≡ a.depth.now
+  pub minima : b.minima.now ≡ a.minima.now
   pub painting : b.painting.now ≡ a.painting.now
   pub paint_attrs : b.paint_attrs.now ≡ a.paint_attrs.now
   pub filter_paints : b.filter_paints.now ≡ a.filter_paints.now
 
 -- what a filter fill leaves as it was
 pub record FilterKeeps (a b : Lent) : Type 0 where
-  pub depth : depths_in b.depth ≡ depths_in a.depth
+  pub depth : b.depth.now ≡ a.depth.now
+  pub minima : b.minima.now ≡ a.minima.now
   pub painting : b.painting.now ≡ a.painting.now
   pub layers : b.layers.now ≡ a.layers.now
   pub opacities : b.opacities.now ≡ a.opacities.now

@@ -38,8 +38,8 @@ fn judge_lent(screen: Screen, lent: &Lent<'_>) -> Result<(), Refusal>
         screen.d,
         lent.render_cmds.len(),
         lent.depth_cmds.len(),
-    ) || lent.depth.words.len() != n * b
-        || lent.depth.minima.len() != n * minima_room(b)
+    ) || lent.depth.len() != n * b
+        || lent.minima.len() != n * minima_room(b)
     {
         return Err(Refusal::BadArena);
     }

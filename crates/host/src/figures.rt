@@ -14,7 +14,7 @@ use tally::{Recordings, figures};
 
 /// What the depth stage saves of each recording of a list, and of all of them, as `figures`: their words one after the other, all of an edition, 1 or 2, where
 /// each ends among them, and the table. Another number is refused by 3, and words that ask for no setup by 2 or 4; then comes 4 for a state that is no screen's;
-/// the rest as `figures`. Refused, nothing changes; done, what the tables hold is not told.
+/// the rest as `figures`. Refused, nothing changes.
 #[unsafe(no_mangle)]
 #[tactic(auto, using(crate::proofs::Figured::figures_untold))]
 pub extern "C" fn coarse_figures(
@@ -28,7 +28,7 @@ pub extern "C" fn coarse_figures(
 ) -> u32
     ensures same { SameLent tables.old tables.new }
     ensures refused { (result ≡ 0 → ⊥) → tables_in tables.new ≡ tables_in tables.old }
-    ensures figured { answer result (words_in state.new, table.new)
+    ensures figured { answer result (words_in state.new, tables_in tables.new, table.new)
         ≡ figures_call (told edition words.now) ends.now setup (words_in state.old) (tables_in tables.old) table.old }
 {
     let file = match read_file(edition, words) {

@@ -2,13 +2,13 @@
 use Rattle.std.specs.Prelude.{◌≡◌}
 use Rattle.screen.specs.declared.lent.Lent.{Lent}
 use Rattle.screen.specs.declared.Screen.{Screen}
-use Rattle.screen.specs.Depths.{depths_in}
+use Rattle.screen.specs.Depths.{depths}
 use Rattle.screen.specs.Tables.{Tables, tables, lengths, ScreenLent, screen_lent}
 
 -- what all the slices hold
 abbrev pub tables_in : Lent → Tables
 tables_in l =
-    tables l.render_cmds.now l.depth_cmds.now (depths_in l.depth) l.rows.now l.painting.now l.layers.now l.opacities.now l.paint_attrs.now
+    tables l.render_cmds.now l.depth_cmds.now (depths l.depth.now l.minima.now) l.rows.now l.painting.now l.layers.now l.opacities.now l.paint_attrs.now
     l.layer_attrs.now l.filter_paints.now
 
 -- a screen and what all its slices hold
@@ -19,8 +19,8 @@ whole s l = screen_lent s (tables_in l)
 pub record SameLent (a b : Lent) : Type 0 where
   pub render : b.render_cmds.ghost_name ≡ a.render_cmds.ghost_name
   pub fills : b.depth_cmds.ghost_name ≡ a.depth_cmds.ghost_name
-  pub depth : b.depth.words.ghost_name ≡ a.depth.words.ghost_name
-  pub minima : b.depth.minima.ghost_name ≡ a.depth.minima.ghost_name
+  pub depth : b.depth.ghost_name ≡ a.depth.ghost_name
+  pub minima : b.minima.ghost_name ≡ a.minima.ghost_name
   pub rows : b.rows.ghost_name ≡ a.rows.ghost_name
   pub painting : b.painting.ghost_name ≡ a.painting.ghost_name
   pub layers : b.layers.ghost_name ≡ a.layers.ghost_name

@@ -27,7 +27,8 @@ use sizes::{FILTER_TABLE, LAYER_TABLE, OPACITIES, OPEN_TABLE, PAINT_TABLE, ROW};
 pub struct Lent<'a> {
     pub render_cmds: &'a mut [u32],
     pub depth_cmds: &'a mut [u32],
-    pub depth: Depth<'a>,
+    pub depth: &'a mut [u32],
+    pub minima: &'a mut [u32],
     pub rows: &'a mut [u32],
     pub painting: &'a mut [u32],
     pub layers: &'a mut [u32],
@@ -139,7 +140,7 @@ impl Lent<'_> {
         Lengths {
             render_cmds: self.render_cmds.len(),
             depth_cmds: self.depth_cmds.len(),
-            depth: self.depth.words.len(),
+            depth: self.depth.len(),
             rows: self.rows.len(),
             painting: self.painting.len(),
             layers: self.layers.len(),
@@ -147,7 +148,7 @@ impl Lent<'_> {
             paint_attrs: self.paint_attrs.len(),
             layer_attrs: self.layer_attrs.len(),
             filter_paints: self.filter_paints.len(),
-            minima: self.depth.minima.len(),
+            minima: self.minima.len(),
         }
     }
 
@@ -159,7 +160,7 @@ impl Lent<'_> {
     {
         self.render_cmds.fill(0);
         self.depth_cmds.fill(0);
-        blank_depth(&mut self.depth, screen.rows(), screen.buckets());
+        blank_rows(self.depth, self.minima, screen.rows(), screen.buckets());
         self.rows.fill(0);
         self.painting.fill(0);
         self.layers.fill(0);

@@ -31,6 +31,17 @@ within-more h i = record {
   refused = let a = i.refused in omega arith;
 }
 
+-- nothing is within any number
+pub none-within : {n : ℕ} → Within n rule.nothing
+none-within = record {
+  asked = omega arith;
+  painted = omega arith;
+  hidden = omega arith;
+  commands = omega arith;
+  fills = omega arith;
+  refused = omega arith;
+}
+
 -- What is read is in order and within its limits.
 kind-good : (a : Attrs) (c : Command) → GoodCommand c → GoodKind (kind-of a c)
 kind-good a (paint-fill s x i) g = (g.0.in_order, g.0.in-limit)
@@ -47,7 +58,8 @@ pub look-good : (a : Attrs) (o : Option Command) (d : Kind) → option_map (kind
 look-good a None d e g = let z : ◌≡◌ {A = ℕ} 0 1 = cc in absurd (omega arith)
 look-good a (Some c) d e g = rw (only-some (names-good a c) (kind-of a) c d e) at (kind-good a c (g c refl))
 
-pub depth-good : (w : Width) (a : Attrs) (n : ℕ) (o : Option DepthFill) (d : Kind) → n ≤ 64 → option_map (depth-kind (bucket-tiles w) a) (good-fill a o) ≡ Some d
+pub depth-good : (w : Width) (a : Attrs) (n : ℕ) (o : Option DepthFill) (d : Kind) → n ≤ 64
+    → option_map (depth-kind (bucket-tiles w) a) (good-fill a o) ≡ Some d
     → ((f : DepthFill) → o ≡ Some f → GoodDepthFill n f) → GoodKind d
 depth-good w a n None d h e g = let z : ◌≡◌ {A = ℕ} 0 1 = cc in absurd (omega arith)
 depth-good w a n (Some f) d h e g =
@@ -88,37 +100,58 @@ module _ (w : Width) (bs : List ℕ) where
   with-all kind [] g = g
   with-all kind (x ∷ xs) g = with-all kind xs (with-kind (bucket-tiles w) bs (kind x) g)
 
-  -- What is read at places one after the other, as kinds.
-  module _ {A : Type 0} (f : ℕ → Option A) (kind : A → Kind) where
+  -- What is read at places one after the other, as kinds, and added to what there is at the start.
+  module _ {A : Type 0} (f : ℕ → Option A) (kind : A → Kind) (count : ℕ) (start : rule.Figures) where
     -- with those before place k added, the others are still to be
-    pub record Going (count : ℕ) (xs : List A) (start : rule.Figures) (k : ℕ) (g : rule.Figures) : Type 0 where
+    pub record Going (xs : List A) (k : ℕ) (g : rule.Figures) : Type 0 where
       pub rest : List A
       pub left : all-from f k (count - k) ≡ Some rest
       pub same : with-all kind rest g ≡ with-all kind xs start
 
-    pub at-first : (count : ℕ) (xs : List A) (start : rule.Figures) → all-from f 0 count ≡ Some xs → Going count xs start 0 start
-    at-first count xs start e = let z : count - 0 ≡ count = omega arith in record { rest = xs; left = rw z e; same = refl }
+    at-first : (xs : List A) → all-from f 0 count ≡ Some xs → Going xs 0 start
+    at-first xs e = let z : count - 0 ≡ count = omega arith in record { rest = xs; left = rw z e; same = refl }
 
-    module _ (count : ℕ) (xs : List A) (start : rule.Figures) (k : ℕ) (g : rule.Figures) (r : Option Kind) (e : r ≡ option_map kind (f k)) where
-      pub one-more : Going count xs start k g → k < count → (x : Kind) → r ≡ Some x
-          → Going count xs start (k + 1) (with-kind (bucket-tiles w) bs x g)
-      one-more i h x y =
-          let p = first-read f count k i.rest h i.left in
-          let z : kind p.first ≡ x = (let q = rw p.read at (sym e ∙ y) in cc) in
-          let s : with-all kind p.rest (with-kind (bucket-tiles w) bs (kind p.first) g) ≡ with-all kind xs start =
-          ap (λ (ys : List A). with-all kind ys g) (sym p.whole) ∙ i.same in
-          record { rest = p.rest; left = p.more; same = ap (λ (y : Kind). with-all kind p.rest (with-kind (bucket-tiles w) bs y g)) (sym z) ∙ s }
+    -- .. and at most a span's tiles are added for each, to at most n
+    pub record Added (n k : ℕ) (g : rule.Figures) : Type 0 where
+      pub far : k ≤ count
+      pub few : Within (n + k * tile-end) g
+      pub going : (xs : List A) → all-from f 0 count ≡ Some xs → Going xs k g
 
-      pub none-missing : Going count xs start k g → k < count → r ≡ None → (B : Type 0) → B
-      none-missing i h n B =
-          let p = first-read f count k i.rest h i.left in
-          let z : ◌≡◌ {A = ℕ} 0 1 = (let q = rw p.read at (sym e ∙ n) in cc) in absurd (omega arith)
+    pub added-none : (n : ℕ) → Within n start → Added n 0 start
+    added-none n i = record { far = omega arith; few = within-more (omega arith) i; going = at-first }
 
-    pub at-last : (count : ℕ) (xs : List A) (start : rule.Figures) (k : ℕ) (g : rule.Figures) → Going count xs start k g → count ≤ k
-        → g ≡ with-all kind xs start
-    at-last count xs start k g i h =
-        let z = all-read f count k i.rest h i.left in
-        rw z at i.same
+    module _ {n k : ℕ} {g : rule.Figures} (i : Added n k g) where
+      module _ (h : k < count) {r : Option Kind} (e : r ≡ option_map kind (f k)) where
+        one-more : (x : Kind) → r ≡ Some x → (xs : List A) → Going xs k g → Going xs (k + 1) (with-kind (bucket-tiles w) bs x g)
+        one-more x y xs j =
+            let p = first-read f count k j.rest h j.left in
+            let z : kind p.first ≡ x = (let q = rw p.read at (sym e ∙ y) in cc) in
+            let s : with-all kind p.rest (with-kind (bucket-tiles w) bs (kind p.first) g) ≡ with-all kind xs start =
+            ap (λ (ys : List A). with-all kind ys g) (sym p.whole) ∙ j.same in
+            record { rest = p.rest; left = p.more; same = ap (λ (y : Kind). with-all kind p.rest (with-kind (bucket-tiles w) bs y g)) (sym z) ∙ s }
+
+        none-missing : r ≡ None → (xs : List A) → Going xs k g → {B : Type 0} → B
+        none-missing y xs j =
+            let p = first-read f count k j.rest h j.left in
+            let z : ◌≡◌ {A = ℕ} 0 1 = (let q = rw p.read at (sym e ∙ y) in cc) in absurd (omega arith)
+
+        -- the next is added, where there is one
+        pub added-next : (x : Kind) → r ≡ Some x → GoodKind x → Added n (k + 1) (with-kind (bucket-tiles w) bs x g)
+        added-next x y q =
+            record {
+              far = omega arith;
+              few = within-more (omega arith) (kind-within (n + k * tile-end) x g q i.few);
+              going = λ xs a. one-more x y xs (i.going xs a);
+            }
+
+        pub added-nothing : r ≡ None → Added n (k + 1) g
+        added-nothing y = record { far = omega arith; few = within-more (omega arith) i.few; going = λ xs a. none-missing y xs (i.going xs a) }
+
+      pub added-all : count ≤ k → (xs : List A) → all-from f 0 count ≡ Some xs → g ≡ with-all kind xs start
+      added-all h xs a =
+          let j = i.going xs a in
+          let z = all-read f count k j.rest h j.left in
+          rw z at j.same
 
   pub depths-added : (a : Attrs) (fs : List DepthFill) (g : rule.Figures)
       → with-all (depth-kind (bucket-tiles w) a) fs g ≡ with-fills (bucket-tiles w) bs (depth-fills (bucket-tiles w) a fs) g

@@ -15,10 +15,9 @@ use Rattle.sizes.proofs.Refusals.{not_done}
 use Rattle.rules.proofs.All.{and_left, and_right}
 use Rattle.rules_figures.specs.Figures.{Figures, nothing, plus, total, numbers, table}
 use Rattle.cmd.specs.Attrs.{words-at}
-use Rattle.screen.specs.declared.Screen.{Screen}
 use Rattle.screen.specs.declared.lent.Lent.{Lent}
 use Rattle.screen.specs.Lent.{SameLent}
-use Rattle.screen.specs.Tables.{ScreenLent, screen_lent}
+use Rattle.screen.specs.Tables.{ScreenLent}
 use Rattle.tally.specs.Recordings.{recorded-figures, recorded-left}
 use Rattle.tally.specs.Listed.{Listed, good-ends, files-from, files-in, figures-number, Counted, counted-from, Desk, desk, filled, figured}
 use Rattle.tally.proofs.OneScreen.{plus-plus, plus-nothing, nothing-plus}
@@ -133,42 +132,42 @@ module _ (e : Edition) (ws : List ℕ) (es : List ℕ) (q : Setup) (l : ScreenLe
   abbrev pub whole : Counted
   whole = counted-from q (files-from e ws 0 es) l
 
-  abbrev pub rest-of : ℕ → ℕ → Screen → Counted
-  rest-of k at s = counted-from q (files-from e ws at (drop k es)) (screen_lent s l.tables)
+  abbrev pub rest-of : ℕ → ℕ → ScreenLent → Counted
+  rest-of k at m = counted-from q (files-from e ws at (drop k es)) m
 
-  pub record Going (k at : ℕ) (s : Screen) (sum : Figures) (now : List ℕ) (gs : List Figures) : Type 0 where
+  pub record Going (k at : ℕ) (m : ScreenLent) (sum : Figures) (now : List ℕ) (gs : List Figures) : Type 0 where
     pub count : length gs ≡ k
     pub few : k ≤ length es
     pub good : good-ends at (length ws) (drop k es) ≡ true
-    pub figures : gs ++ (rest-of k at s).figures ≡ whole.figures
-    pub screen : (rest-of k at s).screen ≡ whole.screen
+    pub figures : gs ++ (rest-of k at m).figures ≡ whole.figures
+    pub left : (rest-of k at m).left ≡ whole.left
     pub sum-is : sum ≡ total gs
     pub table-is : now ≡ join numbers gs ++ drop (6 * k) t
 
-  pub at-start : good-ends 0 (length ws) es ≡ true → (sum : Figures) → sum ≡ nothing → Going 0 0 l.screen sum t []
+  pub at-start : good-ends 0 (length ws) es ≡ true → (sum : Figures) → sum ≡ nothing → Going 0 0 l sum t []
   unfolding total
-  at-start g sum n = record { count = refl; few = omega arith; good = g; figures = refl; screen = refl; sum-is = n; table-is = refl }
+  at-start g sum n = record { count = refl; few = omega arith; good = g; figures = refl; left = refl; sum-is = n; table-is = refl }
 
-  pub one-more : {k at : ℕ} {s : Screen} {sum : Figures} {now : List ℕ} {gs : List Figures} → Going k at s sum now gs → k < length es → 6 * (length es + 1) ≤ length t
-      → (g : Figures) → g ≡ recorded-figures (in-edition e (slice at (get_or es k 0) ws)) q (screen_lent s l.tables)
-      → (u : Screen) → u ≡ (recorded-left (in-edition e (slice at (get_or es k 0) ws)) q (screen_lent s l.tables)).screen
+  pub one-more : {k at : ℕ} {m : ScreenLent} {sum : Figures} {now : List ℕ} {gs : List Figures} → Going k at m sum now gs → k < length es → 6 * (length es + 1) ≤ length t
+      → (g : Figures) → g ≡ recorded-figures (in-edition e (slice at (get_or es k 0) ws)) q m
+      → (u : ScreenLent) → u ≡ recorded-left (in-edition e (slice at (get_or es k 0) ws)) q m
       → (more : Figures) → more ≡ plus sum g → (after : List ℕ) → after ≡ words-at now (6 * k) (numbers g)
       → Going (k + 1) (get_or es k 0) u more after (gs ++ (g ∷ []))
   unfolding counted-from files-from
-  one-more {k} {at} {s} {sum} {now} {gs} i h room g ge u ue more me after ae =
+  one-more {k} {at} {m} {sum} {now} {gs} i h room g ge u ue more me after ae =
       let y : k + 1 ≡ suc k = omega arith in
       let x = get_or es k 0 in
       let f = in-edition e (slice at x ws) in
       let d : drop k es ≡ x ∷ drop (suc k) es = drop-cons es k 0 h in
       let c = i.count in
       let p : length (join numbers gs) ≡ 6 * k = rw (sym c) (numbers-long gs) in
-      let step : rest-of k at s ≡ record { figures = g ∷ (rest-of (suc k) x u).figures; screen = (rest-of (suc k) x u).screen } = rw (d, ge, ue) refl in
+      let step : rest-of k at m ≡ record { figures = g ∷ (rest-of (suc k) x u).figures; left = (rest-of (suc k) x u).left } = rw (d, ge, ue) refl in
       record {
         count = length-append gs (g ∷ []) ∙ omega arith;
         few = omega arith;
         good = (end-in (length ws) es k at h i.good).2;
         figures = rw y (append_assoc gs (g ∷ []) (rest-of (suc k) x u).figures ∙ ap (λ (z : Counted). gs ++ z.figures) (sym step) ∙ i.figures);
-        screen = rw y (ap (λ (z : Counted). z.screen) (sym step) ∙ i.screen);
+        left = rw y (ap (λ (z : Counted). z.left) (sym step) ∙ i.left);
         sum-is = me ∙ ap (λ (z : Figures). plus z g) i.sum-is ∙ sym (total-more gs g);
         table-is =
             let z : 6 * k + 6 ≡ 6 * (k + 1) = omega arith in
@@ -178,35 +177,35 @@ module _ (e : Edition) (ws : List ℕ) (es : List ℕ) (q : Setup) (l : ScreenLe
             ∙ rw (z, join-more gs g) refl;
       }
 
-  pub at-end : {k at : ℕ} {s : Screen} {sum : Figures} {now : List ℕ} {gs : List Figures} → Going k at s sum now gs → length es ≤ k → 6 * (length es + 1) ≤ length t
-      → (after : List ℕ) → after ≡ words-at now (6 * length es) (numbers sum) → desk s after ≡ filled whole t
+  pub at-end : {k at : ℕ} {m : ScreenLent} {sum : Figures} {now : List ℕ} {gs : List Figures} → Going k at m sum now gs → length es ≤ k → 6 * (length es + 1) ≤ length t
+      → (after : List ℕ) → after ≡ words-at now (6 * length es) (numbers sum) → desk m after ≡ filled whole t
   unfolding counted-from files-from table
-  at-end {k} {at} {s} {sum} {now} {gs} i h room after ae =
+  at-end {k} {at} {m} {sum} {now} {gs} i h room after ae =
       let few = i.few in
       let k-is : k ≡ length es = omega arith in
       let c = i.count in
       let gone : drop k es ≡ [] = nothing-left (drop k es) (let d = length-drop k es in omega arith) in
-      let end : rest-of k at s ≡ record { figures = []; screen = s } = rw gone refl in
+      let end : rest-of k at m ≡ record { figures = []; left = m } = rw gone refl in
       let figs : gs ≡ whole.figures = sym (append-nil gs) ∙ ap (λ (z : Counted). gs ++ z.figures) (sym end) ∙ i.figures in
-      let scr : s ≡ whole.screen = ap (λ (z : Counted). z.screen) (sym end) ∙ i.screen in
+      let left : m ≡ whole.left = ap (λ (z : Counted). z.left) (sym end) ∙ i.left in
       let p : length (join numbers gs) ≡ 6 * length es = numbers-long gs ∙ omega arith in
       let long : length (join numbers gs ++ numbers (total gs)) ≡ 6 * length es + 6 = length-append (join numbers gs) (numbers (total gs)) ∙ omega arith in
       let tab : after ≡ (join numbers gs ++ numbers (total gs)) ++ drop (6 * length es + 6) t =
       ae
-      ∙ ap (λ (z : List ℕ). words-at z (6 * length es) (numbers sum)) (i.table-is ∙ ap (λ (m : ℕ). join numbers gs ++ drop (6 * m) t) k-is)
+      ∙ ap (λ (z : List ℕ). words-at z (6 * length es) (numbers sum)) (i.table-is ∙ ap (λ (n : ℕ). join numbers gs ++ drop (6 * n) t) k-is)
       ∙ put-behind (join numbers gs) (numbers sum) t (6 * length es) p refl (omega arith)
       ∙ ap (λ (z : Figures). (join numbers gs ++ numbers z) ++ drop (6 * length es + 6) t) i.sum-is in
-      ap (λ (z : List ℕ). desk s z) (tab ∙ ap (λ (m : ℕ). (join numbers gs ++ numbers (total gs)) ++ drop m t) (sym long))
-      ∙ ap (λ (z : Screen). desk z ((join numbers gs ++ numbers (total gs)) ++ drop (length (join numbers gs ++ numbers (total gs))) t)) scr
-      ∙ ap (λ (z : List Figures). desk whole.screen ((join numbers z ++ numbers (total z)) ++ drop (length (join numbers z ++ numbers (total z))) t)) figs
+      ap (λ (z : List ℕ). desk m z) (tab ∙ ap (λ (n : ℕ). (join numbers gs ++ numbers (total gs)) ++ drop n t) (sym long))
+      ∙ ap (λ (z : ScreenLent). desk z ((join numbers gs ++ numbers (total gs)) ++ drop (length (join numbers gs ++ numbers (total gs))) t)) left
+      ∙ ap (λ (z : List Figures). desk whole.left ((join numbers z ++ numbers (total z)) ++ drop (length (join numbers z ++ numbers (total z))) t)) figs
     where
       nothing-left : (xs : List ℕ) → length xs ≡ 0 → xs ≡ []
       nothing-left [] e = refl
       nothing-left (x ∷ xs) e = absurd (omega arith)
 
 -- the table keeps its length
-pub table-long : {e : Edition} {ws es : List ℕ} {q : Setup} {l : ScreenLent} {t : List ℕ} {k at : ℕ} {s : Screen} {sum : Figures} {now : List ℕ} {gs : List Figures}
-    → Going e ws es q l t k at s sum now gs → 6 * (length es + 1) ≤ length t → length now ≡ length t
+pub table-long : {e : Edition} {ws es : List ℕ} {q : Setup} {l : ScreenLent} {t : List ℕ} {k at : ℕ} {m : ScreenLent} {sum : Figures} {now : List ℕ} {gs : List Figures}
+    → Going e ws es q l t k at m sum now gs → 6 * (length es + 1) ≤ length t → length now ≡ length t
 table-long {t = t} {k = k} {gs = gs} i room =
     let c = i.count in
     let few = i.few in
@@ -216,7 +215,7 @@ table-long {t = t} {k = k} {gs = gs} i room =
 
 -- refused and done
 pub refused : (l : Listed) (q : Setup) (k : ScreenLent) (t : List ℕ) (r : Refusal) → number_of r ≡ figures-number l (length t)
-    → answer (number_of r) (desk k.screen t) ≡ figured l q k t
+    → answer (number_of r) (desk k t) ≡ figured l q k t
 unfolding figured
 refused l q k t r e = rw (← e, ne_eqb (number_of r) 0 (not_done r)) refl
 
@@ -228,7 +227,20 @@ done l q k t d e h = rw (← e) (ap (answer Done) h)
 -- the same slices throughout
 pub same-self : (a : Lent) → SameLent a a
 same-self a =
-    record { render = refl; fills = refl; depth = refl; minima = refl; rows = refl; painting = refl; layers = refl; opacities = refl; paint_attrs = refl; layer_attrs = refl; filter_paints = refl; long = refl }
+    record {
+      render = refl;
+      fills = refl;
+      depth = refl;
+      minima = refl;
+      rows = refl;
+      painting = refl;
+      layers = refl;
+      opacities = refl;
+      paint_attrs = refl;
+      layer_attrs = refl;
+      filter_paints = refl;
+      long = refl;
+    }
 
 pub same-again : {a b c : Lent} → SameLent a b → SameLent b c → SameLent a c
 same-again x y =

@@ -1,6 +1,6 @@
 -- How many words of each table a file's screen needs.
-use Rattle.std.proofs.Common.{◌≡◌, refl, sym, ◌∙◌, ap, ℕ, arith, Bool, true, false, List, Option, None, Some, Ok, Err, length, take, min, leb, leb-true, le_refl, take_all}
-use borrow.Author.Tests.{leb-false}
+use Rattle.std.proofs.Common.{◌≡◌, refl, sym, ◌∙◌, ap, ℕ, arith, true, List, Option, None, Some, Ok, Err, length, take, drop, min, le_refl, take_all}
+use Rattle.std.proofs.lemmas.List.{drop_all}
 use Rattle.sizes.specs.declared.answers.Refusal.{Refusal}
 use Rattle.rules.specs.Boxes.{Box, good_viewport}
 use Rattle.rules.specs.Recording.{Recording, File, parsed, recording}
@@ -10,10 +10,11 @@ use Rattle.rect.specs.Rects.{box_of, rect-of, seen}
 use Rattle.rect.proofs.Snapping.{good-seen, bad-seen}
 use Rattle.screen.specs.declared.lent.Lengths.{Lengths}
 use Rattle.screen.specs.Tables.{Tables, lengths, ScreenLent, screen_lent}
+use Rattle.depth.proofs.Places.{by-half}
 use Rattle.file.specs.Held.{recording_of}
 use Rattle.walk.specs.Recorded.{recorded}
-use Rattle.tally.specs.Recordings.{bucketed}
-use Rattle.tally.specs.Parts.{lengths-for, no-words, of-viewport, of-form, needed-words, cut, at-most}
+use Rattle.tally.specs.Recordings.{bucketed, recorded-left}
+use Rattle.tally.specs.Parts.{lengths-for, no-words, of-viewport, of-form, needed-words, cut, put-over, at-most}
 
 pub bad-form : (f : File) (q : Setup) → parsed f ≡ None → no-words ≡ needed-words f q
 unfolding needed-words
@@ -47,35 +48,34 @@ module _ (f : File) (q : Setup) (r : Recording) (g : recording_of (parsed f) ≡
     pub its-words : (n : Lengths) → n ≡ lengths-for (record { viewport = box_of u; c = q.c; d = q.d; width = q.width }) → n ≡ needed-words f q
     its-words n e = e ∙ ap (λ (b : Box). lengths-for (record { viewport = b; c = q.c; d = q.d; width = q.width })) its-box ∙ sym (said ∙ rw seen-as.0 refl)
 
--- as many as there are at most are as many as are asked for
-take-most : {A : Type 0} (n : ℕ) (xs : List A) → take (min n (length xs)) xs ≡ take n xs
-take-most n xs = go (leb n (length xs)) refl
-  where
-    go : (b : Bool) → leb n (length xs) ≡ b → take (min n (length xs)) xs ≡ take n xs
-    go true y = let h = leb-true n (length xs) y in let e : min n (length xs) ≡ n = omega arith in rw e refl
-    go false z =
-        let h = leb-false n (length xs) z in
-        let e : min n (length xs) ≡ length xs = omega arith in
-        rw e (take_all (length xs) xs (le_refl (length xs)) ∙ sym (take_all n xs (omega arith)))
+-- The first words, as many as there are at most, are as many as are asked for; so are the words after them.
+module _ {A : Type 0} (n : ℕ) (xs : List A) where
+  take-most : take (min n (length xs)) xs ≡ take n xs
+  take-most =
+      by-half n (length xs)
+      (λ l. let e : min n (length xs) ≡ n = omega arith in rw e refl)
+      (λ l. let e : min n (length xs) ≡ length xs = omega arith in rw e (take_all (length xs) xs (le_refl (length xs)) ∙ sym (take_all n xs l)))
 
-pub cut-most : (n : Lengths) (t : Tables) → cut (at-most n (lengths t)) t ≡ cut n t
-cut-most n t =
-    rw (
-      take-most n.render_cmds t.render,
-      take-most n.depth_cmds t.fills,
-      take-most n.depth t.depth.words,
-      take-most n.minima t.depth.minima,
-      take-most n.rows t.rows,
-      take-most n.painting t.painting,
-      take-most n.layers t.layers,
-      take-most n.opacities t.opacities,
-      take-most n.paint_attrs t.paint-attrs,
-      take-most n.layer_attrs t.layer-attrs,
-      take-most n.filter_paints t.filter-paints,
-    ) refl
+  drop-most : drop (min n (length xs)) xs ≡ drop n xs
+  drop-most =
+      by-half n (length xs)
+      (λ l. let e : min n (length xs) ≡ n = omega arith in rw e refl)
+      (λ l. let e : min n (length xs) ≡ length xs = omega arith in rw e (drop_all (length xs) xs (le_refl (length xs)) ∙ sym (drop_all n xs l)))
 
--- a recording bucketed into as many words as there are at most
-pub as-bucketed : (f : File) (q : Setup) (l : ScreenLent) (n : Lengths) → n ≡ at-most (needed-words f q) (lengths l.tables)
-    → recorded f q (screen_lent l.screen (cut n l.tables)) ≡ bucketed f q l
-unfolding bucketed
-as-bucketed f q l n e = ap (λ (t : Tables). recorded f q (screen_lent l.screen t)) (ap (λ (m : Lengths). cut m l.tables) e ∙ cut-most (needed-words f q) l.tables)
+cut-most : (n : Lengths) (t : Tables) → cut (at-most n (lengths t)) t ≡ cut n t
+cut-most n t = simp take-most
+
+put-most : (n : Lengths) (u t : Tables) → put-over (at-most n (lengths t)) u t ≡ put-over n u t
+put-most n u t = simp drop-most
+
+-- A recording is bucketed into as many words as there are at most.
+module _ (f : File) (q : Setup) (l : ScreenLent) (n : Lengths) (e : n ≡ at-most (needed-words f q) (lengths l.tables)) where
+  pub as-bucketed : recorded f q (screen_lent l.screen (cut n l.tables)) ≡ bucketed f q l
+  unfolding bucketed
+  as-bucketed = ap (λ (t : Tables). recorded f q (screen_lent l.screen t)) (ap (λ (m : Lengths). cut m l.tables) e ∙ cut-most (needed-words f q) l.tables)
+
+  pub as-left : (m : ScreenLent) → m ≡ (bucketed f q l).value → screen_lent m.screen (put-over n m.tables l.tables) ≡ recorded-left f q l
+  as-left m h =
+      ap (λ (m : ScreenLent). screen_lent m.screen (put-over n m.tables l.tables)) h
+      ∙ ap (screen_lent (bucketed f q l).value.screen)
+      (ap (λ (k : Lengths). put-over k (bucketed f q l).value.tables l.tables) e ∙ put-most (needed-words f q) (bucketed f q l).value.tables l.tables)

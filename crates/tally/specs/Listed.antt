@@ -7,8 +7,7 @@ use Rattle.rules.specs.Recording.{File, in-edition}
 use Rattle.rules.specs.Setups.{Setup}
 use Rattle.rules_figures.specs.Figures.{Figures, table}
 use Rattle.rules_figures.specs.Accounted.{most-recordings}
-use Rattle.screen.specs.declared.Screen.{Screen}
-use Rattle.screen.specs.Tables.{ScreenLent, screen_lent}
+use Rattle.screen.specs.Tables.{ScreenLent}
 use Rattle.tally.specs.declared.list.Recordings.{Recordings}
 use Rattle.tally.specs.Recordings.{recorded-figures, recorded-left}
 
@@ -42,32 +41,31 @@ figures-number l m =
     ∷ (ltb m (6 * (length l.ends + 1)), NoRoom)
     ∷ [])
 
--- The figures of each recording, and the screen that the last has left. Each is played into the words that are lent: since a reset clears them, what they hold
--- decides nothing.
+-- the figures of each recording, and what the last has left
 pub record Counted : Type 0 where
   pub figures : List Figures
-  pub screen : Screen
+  pub left : ScreenLent
 
 unfoldable pub counted-from : Setup → List File → ScreenLent → Counted
-counted-from q [] l = record { figures = []; screen = l.screen }
+counted-from q [] l = record { figures = []; left = l }
 counted-from q (f ∷ fs) l =
-    let more = counted-from q fs (screen_lent (recorded-left f q l).screen l.tables) in
-    record { figures = recorded-figures f q l ∷ more.figures; screen = more.screen }
+    let more = counted-from q fs (recorded-left f q l) in
+    record { figures = recorded-figures f q l ∷ more.figures; left = more.left }
 
--- a screen, and the table
+-- a screen with its words, and the table
 pub record Desk : Type 0 where
-  pub screen : Screen
+  pub left : ScreenLent
   pub table : List ℕ
 
-abbrev pub desk : Screen → List ℕ → Desk
-desk s t = record { screen = s; table = t }
+abbrev pub desk : ScreenLent → List ℕ → Desk
+desk l t = record { left = l; table = t }
 
 -- six numbers a recording and six totals; the numbers after them stay
 abbrev pub filled : Counted → List ℕ → Desk
-filled c t = let ns = table c.figures in desk c.screen (ns ++ drop (length ns) t)
+filled c t = let ns = table c.figures in desk c.left (ns ++ drop (length ns) t)
 
--- the screen and the words, and the table before the call: refused, nothing changes
+-- the screen with its words, and the table before the call: refused, nothing changes
 unfoldable pub figured : Listed → Setup → ScreenLent → List ℕ → Answer Desk
 figured l q k t =
     let n = figures-number l (length t) in
-    cond (eqb n Done) (answer Done (filled (counted-from q (files-in l) k) t)) (answer n (desk k.screen t))
+    cond (eqb n Done) (answer Done (filled (counted-from q (files-in l) k) t)) (answer n (desk k t))

@@ -1,5 +1,5 @@
 -- The first words of each table: as many as a recording's screen needs, or all of them where there are fewer.
-use Rattle.std.specs.Prelude.{Option, None, Some, ℕ, ◌*◌, ◌++◌, cond, List, length, take, drop, min}
+use Rattle.std.specs.Prelude.{Option, None, Some, ℕ, ◌*◌, ◌++◌, cond, List, take, drop, min}
 use Rattle.sizes.specs.Sizes.{row-size, open-layer-table, opacity-count, paint-attr-table, layer-attr-table, filter-paint-table}
 use Rattle.rules.specs.Boxes.{good_viewport, rows_of}
 use Rattle.rules.specs.Minima.{minima-room}
@@ -67,19 +67,23 @@ cut n t =
     (take n.layers t.layers) (take n.opacities t.opacities) (take n.paint_attrs t.paint-attrs) (take n.layer_attrs t.layer-attrs)
     (take n.filter_paints t.filter-paints)
 
--- the words us in the place of as many of ws
-abbrev pub over : {A : Type 0} → List A → List A → List A
-over us ws = us ++ drop (length us) ws
+-- the words us in the place of the first n of ws
+abbrev pub over : {A : Type 0} → ℕ → List A → List A → List A
+over n us ws = us ++ drop n ws
 
-abbrev pub depth-over : Depths → Depths → Depths
-depth-over u d = depths (over u.words d.words) (over u.minima d.minima)
+abbrev pub depth-over : Lengths → Depths → Depths → Depths
+depth-over n u d = depths (over n.depth u.words d.words) (over n.minima u.minima d.minima)
 
 -- tables with other first words
-abbrev pub put-over : Tables → Tables → Tables
-put-over u t =
-    tables (over u.render t.render) (over u.fills t.fills) (depth-over u.depth t.depth) (over u.rows t.rows) (over u.painting t.painting)
-    (over u.layers t.layers) (over u.opacities t.opacities) (over u.paint-attrs t.paint-attrs) (over u.layer-attrs t.layer-attrs)
-    (over u.filter-paints t.filter-paints)
+abbrev pub put-over : Lengths → Tables → Tables → Tables
+put-over n u t =
+    tables (over n.render_cmds u.render t.render) (over n.depth_cmds u.fills t.fills) (depth-over n u.depth t.depth) (over n.rows u.rows t.rows)
+    (over n.painting u.painting t.painting)
+    (over n.layers u.layers t.layers)
+    (over n.opacities u.opacities t.opacities)
+    (over n.paint_attrs u.paint-attrs t.paint-attrs)
+    (over n.layer_attrs u.layer-attrs t.layer-attrs)
+    (over n.filter_paints u.filter-paints t.filter-paints)
 
 -- at most as many as there are
 abbrev pub at-most : Lengths → Lengths → Lengths

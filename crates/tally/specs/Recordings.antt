@@ -29,4 +29,4 @@ abbrev pub recorded-figures : File → Setup → ScreenLent → Figures
 recorded-figures f q l = answered (bucketed f q l)
 
 abbrev pub recorded-left : File → Setup → ScreenLent → ScreenLent
-recorded-left f q l = let a = (bucketed f q l).value in screen_lent a.screen (put-over a.tables l.tables)
+recorded-left f q l = let a = (bucketed f q l).value in screen_lent a.screen (put-over (needed-words f q) a.tables l.tables)

@@ -1,5 +1,5 @@
 //! The six numbers of a recording, or of many.
-ghost use Rattle.std.specs.Prelude.{◌≡◌, ◌+◌, ◌≤◌, ◌<◌, ℕ};
+ghost use Rattle.std.specs.Prelude.{◌≡◌, ◌+◌, ◌^◌, ◌≤◌, ◌<◌, ℕ};
 ghost use Rattle.rules_figures.specs.Figures.{nothing, one-refused, plus};
 ghost use Rattle.tally.specs.Counts.{figures-of, Within};
 
@@ -41,7 +41,7 @@ impl Figures {
 
     /// Of both.
     pub fn plus(self, other: Figures) -> Figures
-        requires { (n m : ℕ) × (n + m < 18446744073709551616) × Within n (figures-of self) × Within m (figures-of other) }
+        requires { (n m : ℕ) × (n + m < 2 ^ 64) × Within n (figures-of self) × Within m (figures-of other) }
         ensures { figures-of result ≡ plus (figures-of self) (figures-of other) }
     {
         Figures {

@@ -1,5 +1,5 @@
 //! A row's fills against the newest ids of its buckets: how many tiles of each are asked for, are painted, are hidden.
-ghost use Rattle.std.specs.Prelude.{◌≡◌, ◌+◌, ◌*◌, ◌≤◌, ◌<◌, Some, ℕ, List, length, get_or, ltb, option_map};
+ghost use Rattle.std.specs.Prelude.{◌≡◌, ◌+◌, ◌*◌, ◌^◌, ◌≤◌, ◌<◌, Some, ℕ, List, length, get_or, ltb, option_map};
 ghost use Rattle.sizes.specs.Sizes.{tile-end, most-room};
 ghost use Rattle.sizes.specs.Widths.{bucket-tiles};
 ghost use Rattle.rules.specs.Commands.{Command, DepthFill};
@@ -30,7 +30,7 @@ fn is_newer(ids: &[u32], bucket: u32, id: u32) -> bool
 // One fill more: bucket by bucket, its tiles in it are hidden where a newer id stands, and painted elsewhere.
 fn add_fill(figures: &mut Figures, ids: &[u32], span: TileSpan, id: u32, width: Width)
     requires span { (span.first ≤ span.«end») × (span.«end» ≤ tile-end) }
-    requires small { (n : ℕ) × (n + tile-end < 18446744073709551616) × Within n (figures-of figures.old) }
+    requires small { (n : ℕ) × (n + tile-end < 2 ^ 64) × Within n (figures-of figures.old) }
     ensures { figures-of figures.new ≡ with-fill (bucket-tiles width) ids.now (a-fill (tiles span) id) (figures-of figures.old) }
 {
     let mut painted: u64 = 0;
@@ -55,7 +55,7 @@ fn add_fill(figures: &mut Figures, ids: &[u32], span: TileSpan, id: u32, width: 
 // .. where what there is is a fill: buffers ask for nothing.
 fn add_kind(figures: &mut Figures, ids: &[u32], kind: Kind, width: Width)
     requires good { GoodKind kind }
-    requires small { (n : ℕ) × (n + tile-end < 18446744073709551616) × Within n (figures-of figures.old) }
+    requires small { (n : ℕ) × (n + tile-end < 2 ^ 64) × Within n (figures-of figures.old) }
     ensures { figures-of figures.new ≡ with-kind (bucket-tiles width) ids.now kind (figures-of figures.old) }
 {
     if let Kind::Fill(span, id) = kind {
@@ -95,7 +95,8 @@ pub fn add_depth_fills(
     requires buckets { length ids.now ≤ 64 }
     requires small { Within most-room (figures-of figures.old) }
     ensures added { (fs : List DepthFill) → fills-from (attrs_of attrs.now) (length ids.now) depth_cmds.now 0 count ≡ Some fs
-        → figures-of figures.new ≡ with-fills (bucket-tiles width) ids.now (depth-fills (bucket-tiles width) (attrs_of attrs.now) fs) (figures-of figures.old) }
+        → figures-of figures.new
+        ≡ with-fills (bucket-tiles width) ids.now (depth-fills (bucket-tiles width) (attrs_of attrs.now) fs) (figures-of figures.old) }
     ensures small { Within (most-room + most-room * tile-end) (figures-of figures.new) }
 {
     let mut k: usize = 0;
@@ -119,7 +120,8 @@ pub fn add_commands(
     requires room { (4 * count ≤ length render_cmds.now) × (count ≤ most-room) }
     requires small { Within (most-room + most-room * tile-end) (figures-of figures.old) }
     ensures added { (cs : List Command) → commands-from (attrs_of attrs.now) render_cmds.now 0 count ≡ Some cs
-        → figures-of figures.new ≡ with-fills (bucket-tiles width) ids.now (command-fills (bucket-tiles width) (attrs_of attrs.now) cs) (figures-of figures.old) }
+        → figures-of figures.new
+        ≡ with-fills (bucket-tiles width) ids.now (command-fills (bucket-tiles width) (attrs_of attrs.now) cs) (figures-of figures.old) }
     ensures small { Within (most-room + 2 * most-room * tile-end) (figures-of figures.new) }
 {
     let mut k: usize = 0;

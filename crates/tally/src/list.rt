@@ -1,10 +1,11 @@
 //! A list of recordings, one after the other in one list of words.
-ghost use Rattle.std.specs.Prelude.{◌≡◌, ◌+◌, ◌*◌, ◌≤◌, ◌<◌, length, IsErr};
+ghost use Rattle.std.specs.Prelude.{◌≡◌, ◌+◌, ◌≤◌, length, IsErr};
 ghost use Rattle.sizes.specs.Refusals.{answer_number};
 ghost use Rattle.rules.specs.Answers.{answer};
 ghost use Rattle.rules.specs.Lists.{slice};
 ghost use Rattle.rules.specs.Recording.{in-edition};
 ghost use Rattle.file.specs.Held.{file_of};
+ghost use Rattle.rules_figures.specs.Accounted.{most-recordings};
 ghost use Rattle.rules_figures.specs.Figures.{numbers};
 ghost use Rattle.cmd.specs.Attrs.{words-at};
 ghost use Rattle.screen.specs.Screens.{setup-of};
@@ -32,6 +33,11 @@ pub struct Recordings<'a> {
     pub words: &'a [u32],
     pub ends: &'a [usize],
 }
+
+// The constant is the number that the rules call by the same name. It does nothing: what it promises is a theorem.
+fn constants_hold()
+    ensures most { MOST_RECORDINGS ≡ most-recordings }
+{}
 
 // No end falls, and none passes the words.
 fn is_good_ends(words: usize, ends: &[usize]) -> bool
@@ -91,9 +97,9 @@ fn file_in(list: Recordings<'_>, from: usize, end: usize) -> File<'_>
     }
 }
 
-/// The figures of each recording of a list, bucketed one after the other into the first words of each table, and their totals: six numbers a recording, then six.
-/// BadRecord for more than 65,536 recordings or ends that fall or pass the words, then NoRoom for a table of fewer numbers: nothing changes. A recording that is
-/// refused counts as that alone. The screen is left as the last recording leaves it, and the words too; what is promised of the words is that a refusal changes none.
+/// The figures of each recording of a list, bucketed one after the other into the first words of each table, and their totals: six numbers a recording, then
+/// six. BadRecord for more than 65,536 recordings or ends that fall or pass the words, then NoRoom for a table of fewer numbers: nothing changes. A recording
+/// that is refused counts as that alone. The screen and every lent word are left as the last recording leaves them.
 pub fn figures(
     list: Recordings<'_>,
     screen: &mut Screen,
@@ -102,7 +108,7 @@ pub fn figures(
     table: &mut [u64],
 ) -> Result<(), Refusal>
     ensures same { SameLent lent.old lent.new }
-    ensures figured { answer (answer_number result) (desk screen.new table.new)
+    ensures figured { answer (answer_number result) (desk (whole screen.new lent.new) table.new)
         ≡ figured (listed_of list.entry) (setup-of setup) (whole screen.old lent.old) table.old }
     ensures refused { IsErr result → tables_in lent.new ≡ tables_in lent.old }
 {

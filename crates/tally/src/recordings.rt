@@ -1,21 +1,21 @@
 //! One recording of a list: bucketed into the first words of each table, and counted.
-ghost use Rattle.std.specs.Prelude.{◌≡◌, ◌≤◌, true, length};
+ghost use Rattle.std.specs.Prelude.{◌≡◌, true};
+ghost use Rattle.rules.specs.Answers.{Answer};
 ghost use Rattle.rules.specs.Boxes.{good_viewport};
 ghost use Rattle.rect.specs.Rects.{box_of};
+ghost use Rattle.screen.specs.Depths.{depths};
 ghost use Rattle.screen.specs.Screens.{setup-of, frame-of};
-ghost use Rattle.screen.specs.Lent.{tables_in, whole, SameLent};
+ghost use Rattle.screen.specs.Tables.{tables, ScreenLent, screen_lent};
+ghost use Rattle.screen.specs.Lent.{whole, SameLent};
 ghost use Rattle.file.specs.Held.{file_of};
-ghost use Rattle.tally.specs.Counts.{figures-of, Within, screen-most};
-ghost use Rattle.depth.specs.Minima.{SameDepth};
-ghost use Rattle.tally.specs.Parts.{lengths-for, no-words, needed-words, at-most, depth-cut};
-ghost use Rattle.screen.specs.Depths.{depths, depths_in};
-ghost use Rattle.screen.specs.Tables.{tables, screen_lent};
 ghost use Rattle.walk.specs.Recorded.{recorded};
+ghost use Rattle.tally.specs.Counts.{figures-of, Within, screen-most};
+ghost use Rattle.tally.specs.Parts.{lengths-for, no-words, needed-words, at-most};
 ghost use Rattle.tally.specs.Recordings.{answered, screen-of, recorded-figures, recorded-left};
 
 use crate::counts::Figures;
 use crate::screens::screen_figures;
-use depth::{Depth, minima_room};
+use depth::minima_room;
 use file::{File, Recording};
 use paint::Stored;
 use screen::{Lengths, Lent, Screen, Setup, fresh};
@@ -94,37 +94,6 @@ fn at_most(n: Lengths, there: Lengths) -> Lengths
     }
 }
 
-// All tables as one value.
-fn join<'a>(
-    render_cmds: &'a mut [u32],
-    depth_cmds: &'a mut [u32],
-    words: &'a mut [u32],
-    minima: &'a mut [u32],
-    rows: &'a mut [u32],
-    painting: &'a mut [u32],
-    layers: &'a mut [u32],
-    opacities: &'a mut [f32],
-    paint_attrs: &'a mut [u32],
-    layer_attrs: &'a mut [u32],
-    filter_paints: &'a mut [i32],
-) -> Lent<'a>
-    ensures { tables_in result ≡ tables render_cmds.old depth_cmds.old (depths words.old minima.old) rows.old painting.old layers.old opacities.old
-        paint_attrs.old layer_attrs.old filter_paints.old }
-{
-    Lent {
-        render_cmds,
-        depth_cmds,
-        depth: Depth { words, minima },
-        rows,
-        painting,
-        layers,
-        opacities,
-        paint_attrs,
-        layer_attrs,
-        filter_paints,
-    }
-}
-
 // The figures of a screen, read off its tables.
 fn lent_figures(screen: Screen, lent: &Lent<'_>) -> Figures
     ensures figures { figures-of result ≡ screen-of (whole screen lent.now) }
@@ -140,14 +109,14 @@ fn lent_figures(screen: Screen, lent: &Lent<'_>) -> Figures
     screen_figures(screen, &stored)
 }
 
-// A recording bucketed into the tables, and counted.
-fn count_parts(
+// A recording bucketed into these tables, and counted. The check covers a struct made of parts of another's slices only where they are passed one by one.
+fn count_in(
     file: File<'_>,
     screen: &mut Screen,
     setup: Setup,
     render_cmds: &mut [u32],
     depth_cmds: &mut [u32],
-    words: &mut [u32],
+    depth: &mut [u32],
     minima: &mut [u32],
     rows: &mut [u32],
     painting: &mut [u32],
@@ -157,16 +126,18 @@ fn count_parts(
     layer_attrs: &mut [u32],
     filter_paints: &mut [i32],
 ) -> Figures
-    ensures figures { figures-of result ≡ answered (recorded (file_of file.entry) (setup-of setup) (screen_lent screen.old (tables render_cmds.old depth_cmds.old (depths words.old minima.old) rows.old painting.old layers.old opacities.old
-        paint_attrs.old layer_attrs.old filter_paints.old))) }
-    ensures left { screen.new ≡ (recorded (file_of file.entry) (setup-of setup) (screen_lent screen.old (tables render_cmds.old depth_cmds.old (depths words.old minima.old) rows.old painting.old layers.old opacities.old
-        paint_attrs.old layer_attrs.old filter_paints.old))).value.screen }
+    ensures counted { (a : Answer ScreenLent)
+        → a ≡ recorded (file_of file.entry) (setup-of setup) (screen_lent screen.old (tables render_cmds.old depth_cmds.old (depths depth.old minima.old)
+            rows.old painting.old layers.old opacities.old paint_attrs.old layer_attrs.old filter_paints.old))
+        → (figures-of result ≡ answered a)
+        × (screen_lent screen.new (tables render_cmds.new depth_cmds.new (depths depth.new minima.new)
+            rows.new painting.new layers.new opacities.new paint_attrs.new layer_attrs.new filter_paints.new) ≡ a.value) }
     ensures small { Within screen-most (figures-of result) }
 {
-    let mut own = join(
+    let mut own = Lent {
         render_cmds,
         depth_cmds,
-        words,
+        depth,
         minima,
         rows,
         painting,
@@ -175,59 +146,16 @@ fn count_parts(
         paint_attrs,
         layer_attrs,
         filter_paints,
-    );
+    };
     if bucket_recording(screen, file, setup, &mut own).is_err() {
         return Figures::one_refused();
     }
     lent_figures(*screen, &own)
 }
 
-// .. into the first depth words and minima.
-fn count_depth(
-    file: File<'_>,
-    screen: &mut Screen,
-    setup: Setup,
-    n: Lengths,
-    depth: &mut Depth<'_>,
-    render_cmds: &mut [u32],
-    depth_cmds: &mut [u32],
-    rows: &mut [u32],
-    painting: &mut [u32],
-    layers: &mut [u32],
-    opacities: &mut [f32],
-    paint_attrs: &mut [u32],
-    layer_attrs: &mut [u32],
-    filter_paints: &mut [i32],
-) -> Figures
-    requires { (n.depth ≤ length depth.old.words.now) × (n.minima ≤ length depth.old.minima.now) }
-    ensures same { SameDepth depth.old depth.new }
-    ensures long { (length depth.new.words.now ≡ length depth.old.words.now) × (length depth.new.minima.now ≡ length depth.old.minima.now) }
-    ensures figures { figures-of result ≡ answered (recorded (file_of file.entry) (setup-of setup) (screen_lent screen.old (tables render_cmds.old depth_cmds.old (depth-cut n (depths_in depth.old)) rows.old painting.old layers.old opacities.old
-        paint_attrs.old layer_attrs.old filter_paints.old))) }
-    ensures left { screen.new ≡ (recorded (file_of file.entry) (setup-of setup) (screen_lent screen.old (tables render_cmds.old depth_cmds.old (depth-cut n (depths_in depth.old)) rows.old painting.old layers.old opacities.old
-        paint_attrs.old layer_attrs.old filter_paints.old))).value.screen }
-    ensures small { Within screen-most (figures-of result) }
-{
-    count_parts(
-        file,
-        screen,
-        setup,
-        render_cmds,
-        depth_cmds,
-        &mut depth.words[..n.depth],
-        &mut depth.minima[..n.minima],
-        rows,
-        painting,
-        layers,
-        opacities,
-        paint_attrs,
-        layer_attrs,
-        filter_paints,
-    )
-}
-
-/// The figures of a recording that is bucketed, as `bucket_recording` does it, into the first words of each table, as many as its screen needs; where a table has
-/// fewer, all of it is handed over. Refused, it counts as that alone.
+/// The figures of a recording that is bucketed, as `bucket_recording` does it, into the first words of each table, as many as its screen needs; where a table
+/// has fewer, all of it is handed over. Refused, it counts as that alone. The screen and those words are left as the call leaves them, the words after them
+/// stay.
 pub fn recording_figures(
     file: File<'_>,
     screen: &mut Screen,
@@ -236,18 +164,18 @@ pub fn recording_figures(
 ) -> Figures
     ensures same { SameLent lent.old lent.new }
     ensures figures { figures-of result ≡ recorded-figures (file_of file.entry) (setup-of setup) (whole screen.old lent.old) }
-    ensures left { screen.new ≡ (recorded-left (file_of file.entry) (setup-of setup) (whole screen.old lent.old)).screen }
+    ensures left { whole screen.new lent.new ≡ recorded-left (file_of file.entry) (setup-of setup) (whole screen.old lent.old) }
     ensures small { Within screen-most (figures-of result) }
 {
     let n = at_most(needed_words(file, setup), lent.lengths());
-    count_depth(
+    count_in(
         file,
         screen,
         setup,
-        n,
-        &mut lent.depth,
         &mut lent.render_cmds[..n.render_cmds],
         &mut lent.depth_cmds[..n.depth_cmds],
+        &mut lent.depth[..n.depth],
+        &mut lent.minima[..n.minima],
         &mut lent.rows[..n.rows],
         &mut lent.painting[..n.painting],
         &mut lent.layers[..n.layers],

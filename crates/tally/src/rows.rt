@@ -30,7 +30,8 @@ fn count_by(
 ) -> Figures
     requires long { length state.now ≡ row-size }
     requires few { (length ids.old ≤ 64) × (length render_cmds.now ≤ 4 * most-room) × (length depth_cmds.now ≤ 2 * most-room) }
-    ensures figures { figures-of result ≡ row-tallied (bucket-tiles width) (length ids.old) (attrs_of attrs.now) (words state.now render_cmds.now depth_cmds.now) }
+    ensures figures { figures-of result
+        ≡ row-tallied (bucket-tiles width) (length ids.old) (attrs_of attrs.now) (words state.now render_cmds.now depth_cmds.now) }
     ensures small { Within row-most (figures-of result) }
 {
     if !is_good_counts(state, render_cmds, depth_cmds) {

@@ -29,11 +29,11 @@ impl Painting {
         let list = &mut marks[..self.room().min(LIST)];
         match self {
             Painting::UnsetRuns { row, tiles, .. } => {
-                let runs = unset_runs(*screen, row, lent.depth.words, tiles, list);
+                let runs = unset_runs(*screen, row, lent.depth, tiles, list);
                 answers.put_runs(runs, list);
             }
             Painting::VisibleRuns { row, id, tiles, .. } => {
-                let runs = visible_runs(*screen, row, lent.depth.words, tiles, id, list);
+                let runs = visible_runs(*screen, row, lent.depth, tiles, id, list);
                 answers.put_runs(runs, list);
             }
             // Done, it ends painting.
@@ -43,14 +43,18 @@ impl Painting {
                 buckets,
                 ..
             } => {
-                let runs = unset_runs_and_write(screen, row, &mut lent.depth, buckets, id, list);
+                let mut depth = Depth {
+                    words: lent.depth,
+                    minima: lent.minima,
+                };
+                let runs = unset_runs_and_write(screen, row, &mut depth, buckets, id, list);
                 answers.put_runs(runs, list);
             }
             Painting::CanSkip { row, tiles, id } => {
                 answers.put_answer(can_skip(*screen, row, lent.rows, tiles, id));
             }
             Painting::IsHidden { row, buckets, id } => {
-                answers.put_answer(is_hidden(*screen, row, lent.depth.minima, buckets, id));
+                answers.put_answer(is_hidden(*screen, row, lent.minima, buckets, id));
             }
         }
     }

@@ -36,9 +36,9 @@ fn show_row(answers: &mut Answers<'_>, i: u32, shape: Shape, lent: &Lent<'_>) {
     );
     answers.put_part(lent.depth_cmds, i * shape.depth_cmds as usize, 2 * depths);
     let buckets = shape.depth as usize;
-    answers.put_part(lent.depth.words, i * buckets, buckets);
+    answers.put_part(lent.depth, i * buckets, buckets);
     let room = shape.minima as usize;
-    answers.put_part(lent.depth.minima, i * room, room);
+    answers.put_part(lent.minima, i * room, room);
     answers.put_part(lent.painting, i * 2, 2);
 }
 

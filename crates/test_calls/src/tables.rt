@@ -2,7 +2,7 @@
 ghost use Rattle.std.specs.Prelude.{◌≤◌};
 ghost use Rattle.sizes.specs.Sizes.{most-room};
 
-use depth::{Depth, minima_room};
+use depth::minima_room;
 use rect::Rect;
 use screen::{Lengths, Lent, Screen};
 use sizes::width::Width;
@@ -167,10 +167,8 @@ impl Tables {
         Lent {
             render_cmds: first(&mut self.render_cmds, n.render_cmds),
             depth_cmds: first(&mut self.depth_cmds, n.depth_cmds),
-            depth: Depth {
-                words: first(&mut self.depth, n.depth),
-                minima: first(&mut self.minima, n.minima),
-            },
+            depth: first(&mut self.depth, n.depth),
+            minima: first(&mut self.minima, n.minima),
             rows: first(&mut self.rows, n.rows),
             painting: first(&mut self.painting, n.painting),
             layers: first(&mut self.layers, n.layers),

@@ -6,7 +6,7 @@ ghost use Rattle.std.specs.Prelude.{◌≡◌, [], ◌∷◌, ◌-◌, ◌≤◌
 ghost use Rattle.rules.specs.Boxes.{rows_of};
 ghost use Rattle.rect.specs.Rects.{box_of};
 ghost use Rattle.screen.specs.Screens.{setup-of};
-ghost use Rattle.screen.specs.Depths.{depths_in};
+ghost use Rattle.screen.specs.Depths.{depths};
 ghost use Rattle.screen.specs.Lent.{tables_in};
 ghost use Rattle.paint.specs.Painting.{words_lent};
 ghost use Rattle.paint.specs.Stepping.{attributes};
@@ -208,14 +208,15 @@ fn painted_text(
     screen: Screen,
     panels: bool,
     own: &StoredWords<'_>,
-    depth: &mut Depth<'_>,
+    words: &mut [u32],
+    minima: &mut [u32],
     painting: &mut [u32],
     list: &mut [u32],
     out: &mut [u8],
 ) -> usize
     ensures out_after { PartWritten result out.new
         (begun-dumped panels screen (rows_of (box_of screen.viewport)) (attributes own.now.paint_attrs.now own.now.layer_attrs.now)
-        (words_lent own.now.rows.now own.now.render_cmds.now own.now.depth_cmds.now (depths_in depth.old) painting.old list.old) out.old) }
+        (words_lent own.now.rows.now own.now.render_cmds.now own.now.depth_cmds.now (depths words.old minima.old) painting.old list.old) out.old) }
     ensures upper_bound { result ≤ length out.old }
 {
     let stored = Stored {
@@ -225,7 +226,7 @@ fn painted_text(
         paint_attrs: own.paint_attrs,
         layer_attrs: own.layer_attrs,
     };
-    let mut canvas = canvas_of(depth.words, depth.minima, painting);
+    let mut canvas = canvas_of(words, minima, painting);
     begun_text(screen, panels, &stored, &mut canvas, list, out)
 }
 
@@ -253,7 +254,8 @@ fn screen_text(
         screen,
         panels,
         &own,
-        &mut lent.depth,
+        lent.depth,
+        lent.minima,
         lent.painting,
         list,
         &mut out[k..],

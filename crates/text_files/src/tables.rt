@@ -8,7 +8,7 @@ ghost use Rattle.text_files.specs.Rooms.{text-room};
 ghost use Rattle.text_files.specs.Tables.{Zeros};
 
 use crate::TEXT_ROOM;
-use depth::{Depth, minima_room};
+use depth::minima_room;
 use screen::Lent;
 use sizes::{
     FILTER_TABLE, LAYER_TABLE, OPACITIES, OPEN_TABLE, PAINT_TABLE, PROGRAM_DEPTH, PROGRAM_DEPTHS,
@@ -72,10 +72,8 @@ impl Tables {
         Lent {
             render_cmds: &mut self.render_cmds[..rows * PROGRAM_RENDERS],
             depth_cmds: &mut self.depth_cmds[..rows * PROGRAM_DEPTHS],
-            depth: Depth {
-                words: &mut self.depth[..rows * buckets],
-                minima: &mut self.minima[..minima_words(rows, buckets)],
-            },
+            depth: &mut self.depth[..rows * buckets],
+            minima: &mut self.minima[..minima_words(rows, buckets)],
             rows: &mut self.rows[..rows * ROW],
             painting: &mut self.painting[..rows * 2],
             layers: &mut self.layers[..],

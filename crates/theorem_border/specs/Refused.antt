@@ -130,11 +130,11 @@ ListTileRefused =
     (f : FileWords) (mode width row tile : ℕ) (list n : List ℕ) → Refused (tile_list_call f mode width row tile list n)
     → (tile_list_call f mode width row tile list n).value ≡ (list, n)
 
--- state and numbers; that every word of the tables stays is a clause of the call
+-- state, tables and numbers
 abbrev pub FiguresRefused : Type 0
 FiguresRefused =
     (f : FileWords) (es : List ℕ) (w : SetupWords) (st : List ℕ) (t : Tables) (ns : List ℕ) → Refused (figures_call f es w st t ns)
-    → (figures_call f es w st t ns).value ≡ (st, ns)
+    → (figures_call f es w st t ns).value ≡ (st, t, ns)
 
 -- the list and the result word
 abbrev pub ToTwoRefused : Type 0

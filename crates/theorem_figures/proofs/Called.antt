@@ -40,7 +40,7 @@ module _ (l : Listed) (q : Setup) (k : ScreenLent) (t : List ℕ) where
   unfolding figured
   done e = rw e refl
 
-  kept : eqb n Done ≡ false → figured l q k t ≡ answer n (desk k.screen t)
+  kept : eqb n Done ≡ false → figured l q k t ≡ answer n (desk k t)
   unfolding figured
   kept e = rw e refl
 
@@ -59,13 +59,13 @@ module _ (l : Listed) (q : Setup) (k : ScreenLent) (t : List ℕ) where
         few = few e;
         told = rw (done e) (take-append_seam ns (drop (length ns) t));
         rest = rw (done e) (drop-append_seam ns (drop (length ns) t));
-        screen = rw (done e) refl;
+        left = rw (done e) refl;
       }
 
-  call_kept : ((figured l q k t).number ≡ Done → ⊥) → (figured l q k t).value ≡ desk k.screen t
+  call_kept : ((figured l q k t).number ≡ Done → ⊥) → (figured l q k t).value ≡ desk k t
   call_kept z = go (eqb n Done) refl
     where
-      go : (b : Bool) → eqb n Done ≡ b → (figured l q k t).value ≡ desk k.screen t
+      go : (b : Bool) → eqb n Done ≡ b → (figured l q k t).value ≡ desk k t
       go true e = absurd (z (ap (λ (a : Answer Desk). a.number) (done (eqb-true _ _ e))))
       go false e = ap (λ (a : Answer Desk). a.value) (kept e)
 

@@ -9,13 +9,13 @@ use Rattle.rules_figures.specs.Accounted.{Accounted, Small}
 use Rattle.rules_figures.proofs.Files.{refused-accounted, files-accounted}
 use Rattle.rules_figures.proofs.Totals.{totals-accounted, totals-small}
 use Rattle.screen.specs.declared.lent.Lengths.{Lengths}
-use Rattle.screen.specs.Tables.{lengths, ScreenLent, screen_lent}
+use Rattle.screen.specs.Tables.{lengths, ScreenLent}
 use Rattle.tally.specs.Parts.{needed-words, at-most}
 use Rattle.tally.specs.Recordings.{recorded-figures, recorded-left}
 use Rattle.tally.specs.Listed.{counted-from}
 use Rattle.refine_tally.specs.Lent.{lent-place, has-tables, figures-in}
 use Rattle.refine_tally.proofs.Recorded.{figures-counted}
-use Rattle.theorem_figures.specs.Listed.{lines, Lines-accounted, Sums-small}
+use Rattle.theorem_figures.specs.Listed.{lines, left-by, Lines-accounted, Sums-small}
 
 one-accounted : (f : File) (q : Setup) (l : ScreenLent) → Accounted (recorded-figures f q l) × Small (recorded-figures f q l)
 unfolding figures-in
@@ -28,32 +28,27 @@ one-accounted f q l =
     go n false = refused-accounted
 
 module _ (q : Setup) where
-  -- the words, with the screen that a recording leaves
-  abbrev on : File → ScreenLent → ScreenLent
-  on f l = screen_lent (recorded-left f q l).screen l.tables
-
   pub one-each : (fs : List File) (l : ScreenLent) → length (lines q fs l) ≡ length fs
   unfolding counted-from
   one-each [] l = refl
-  one-each (f ∷ fs) l = ap (λ (n : ℕ). suc n) (one-each fs (on f l))
+  one-each (f ∷ fs) l = ap (λ (n : ℕ). suc n) (one-each fs (recorded-left f q l))
 
   pub lines-accounted : (fs : List File) (l : ScreenLent) → All Accounted (lines q fs l)
   unfolding counted-from
   lines-accounted [] l = nil
-  lines-accounted (f ∷ fs) l = cons (one-accounted f q l).0 (lines-accounted fs (on f l))
+  lines-accounted (f ∷ fs) l = cons (one-accounted f q l).0 (lines-accounted fs (recorded-left f q l))
 
   pub lines-small : (fs : List File) (l : ScreenLent) → All Small (lines q fs l)
   unfolding counted-from
   lines-small [] l = nil
-  lines-small (f ∷ fs) l = cons (one-accounted f q l).1 (lines-small fs (on f l))
+  lines-small (f ∷ fs) l = cons (one-accounted f q l).1 (lines-small fs (recorded-left f q l))
 
-  pub last-left : (fs : List File) (f : File) (l : ScreenLent)
-      → (counted-from q (fs ++ (f ∷ [])) l).screen ≡ (recorded-left f q (screen_lent (counted-from q fs l).screen l.tables)).screen
+  pub last-left : (fs : List File) (f : File) (l : ScreenLent) → left-by q (fs ++ (f ∷ [])) l ≡ recorded-left f q (left-by q fs l)
   unfolding counted-from
   last-left [] f l = refl
-  last-left (g ∷ fs) f l = last-left fs f (on g l)
+  last-left (g ∷ fs) f l = last-left fs f (recorded-left g q l)
 
-  pub none-left : (l : ScreenLent) → (counted-from q [] l).screen ≡ l.screen
+  pub none-left : (l : ScreenLent) → left-by q [] l ≡ l
   unfolding counted-from
   none-left l = refl
 

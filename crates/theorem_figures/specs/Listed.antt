@@ -1,12 +1,11 @@
--- The figures of a list of recordings, each bucketed on the screen that the one before has left.
+-- The figures of a list of recordings, each bucketed on the screen and into the words that the one before has left.
 use Rattle.std.specs.Prelude.{◌≡◌, ◌≤◌, List, [], ◌∷◌, ◌++◌, length}
 use Rattle.rules.specs.Recording.{File}
 use Rattle.rules.specs.Setups.{Setup}
 use Rattle.rules.proofs.All.{All}
 use Rattle.rules_figures.specs.Figures.{Figures, total}
 use Rattle.rules_figures.specs.Accounted.{Accounted, Small, Small-total, most-recordings}
-use Rattle.screen.specs.declared.Screen.{Screen}
-use Rattle.screen.specs.Tables.{ScreenLent, screen_lent}
+use Rattle.screen.specs.Tables.{ScreenLent}
 use Rattle.tally.specs.Recordings.{recorded-left}
 use Rattle.tally.specs.Listed.{counted-from}
 
@@ -14,9 +13,9 @@ use Rattle.tally.specs.Listed.{counted-from}
 abbrev pub lines : Setup → List File → ScreenLent → List Figures
 lines q fs l = (counted-from q fs l).figures
 
--- the screen that is left afterwards
-abbrev pub screen-by : Setup → List File → ScreenLent → Screen
-screen-by q fs l = (counted-from q fs l).screen
+-- the screen and the words that are left afterwards
+abbrev pub left-by : Setup → List File → ScreenLent → ScreenLent
+left-by q fs l = (counted-from q fs l).left
 
 -- a line for each
 abbrev pub One-each : Type 0
@@ -34,12 +33,10 @@ Lines-small = (q : Setup) (fs : List File) (l : ScreenLent) → All Small (lines
 abbrev pub Sums-small : Type 0
 Sums-small = (q : Setup) (fs : List File) (l : ScreenLent) → length fs ≤ most-recordings → Small-total (total (lines q fs l))
 
--- with no recording the screen is as it was, ..
+-- with no recording the screen and the words are as they were, ..
 abbrev pub None-left : Type 0
-None-left = (q : Setup) (l : ScreenLent) → screen-by q [] l ≡ l.screen
+None-left = (q : Setup) (l : ScreenLent) → left-by q [] l ≡ l
 
 -- .. and else as the last one leaves them
 abbrev pub Last-left : Type 0
-Last-left =
-    (q : Setup) (fs : List File) (f : File) (l : ScreenLent)
-    → screen-by q (fs ++ (f ∷ [])) l ≡ (recorded-left f q (screen_lent (screen-by q fs l) l.tables)).screen
+Last-left = (q : Setup) (fs : List File) (f : File) (l : ScreenLent) → left-by q (fs ++ (f ∷ [])) l ≡ recorded-left f q (left-by q fs l)

@@ -19,8 +19,8 @@ pub fn recordings_are_counted_by_their_history()
     ensures own { Figures-own }
 {}
 
-/// Of every list of recordings, each on the screen that the one before has left: a line for each, every tile accounted for in each line and in the totals, all
-/// numbers small; the screen afterwards is the one that the last has left.
+/// Of every list of recordings, each on the screen and the words that the one before has left: a line for each, every tile accounted for in each line and in the
+/// totals, all numbers small; the screen and the words afterwards are those that the last has left.
 pub fn lists_of_recordings_add_up()
     ensures lines { One-each }
     ensures accounted { Lines-accounted }

@@ -37,9 +37,9 @@ recording-words h = (told h.edition h.file.now, words_in h.state, tables_in h.ta
 abbrev pub figures-words : FiguresHost → FileWords × List ℕ × List ℕ × Tables × List ℕ
 figures-words h = (told h.edition h.words.now, h.ends.now, words_in h.state, tables_in h.tables, h.table.now)
 
--- .. and what the call is known to leave
-abbrev pub figures-left : FiguresHost → List ℕ × List ℕ
-figures-left h = (words_in h.state, h.table.now)
+-- .. and what the call leaves
+abbrev pub figures-left : FiguresHost → List ℕ × Tables × List ℕ
+figures-left h = (words_in h.state, tables_in h.tables, h.table.now)
 
 -- a conversion: the file, the list, and how many words are written
 abbrev pub conversion-words : List ℕ → List ℕ → ℕ → List ℕ × List ℕ × List ℕ

@@ -42,6 +42,6 @@ recording-words l = (whole l.screen l.lent, file_of l.file)
 abbrev pub figures-words : FiguresLent → Listed × ScreenLent × List ℕ
 figures-words l = (listed_of l.list, whole l.screen l.lent, l.table.now)
 
--- .. and what the call is known to leave
+-- .. and what the call leaves
 abbrev pub figures-left : FiguresLent → Desk
-figures-left l = desk l.screen l.table.now
+figures-left l = desk (whole l.screen l.lent) l.table.now

@@ -48,7 +48,7 @@ pub struct FiguresLent<'a> {
     pub table: &'a mut [u64],
 }
 
-/// Two calls of `figures`: the answer, the screen and the numbers.
+/// Two calls of `figures`.
 pub fn figures_twice(
     a: &mut FiguresLent<'_>,
     b: &mut FiguresLent<'_>,

@@ -60,9 +60,9 @@ returns-clause-why c = λ f file w q row tile layer attribute st t res y a long.
 pub returns-clause-figures : goal.returns-clause-figures
 unfolding figures_call figures_asked figures_in
 returns-clause-figures c = λ f file es w q st t ns y a long. let l = listed-in file es in
-    kept_in (told_file f) file number_of (st, ns) (λ (file : File). figures_asked (listed-in file es) w st t ns) _ y
-    (kept_in (asked_setup w) q number_of (st, ns) (λ (q : Setup). figures_in l q st t ns) _ a
-    (kept-on true st (st, ns) (λ (s : Screen). figures-left (figured l q (screen_lent s t) ns)) long))
+    kept_in (told_file f) file number_of (st, t, ns) (λ (file : File). figures_asked (listed-in file es) w st t ns) _ y
+    (kept_in (asked_setup w) q number_of (st, t, ns) (λ (q : Setup). figures_in l q st t ns) _ a
+    (kept-on true st (st, t, ns) (λ (s : Screen). figures-left (figured l q (screen_lent s t) ns)) long))
 
 pub returns-clause-fill : goal.returns-clause-fill
 unfolding fill_call

@@ -73,7 +73,7 @@ pub struct FiguresHost<'a> {
     pub table: &'a mut [u64],
 }
 
-/// Two calls of `coarse_figures`: the answer, the state and the numbers.
+/// Two calls of `coarse_figures`.
 pub fn figures_twice(
     a: &mut FiguresHost<'_>,
     b: &mut FiguresHost<'_>,

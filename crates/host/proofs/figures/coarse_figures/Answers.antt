@@ -25,5 +25,5 @@ returns-clause-figured c =
     let t : Tables = tables_in c.args.tables.now in
     let e = figures_told _ _ _ _ t _ _ c.in-Ok.ensures
     (figures-asked _ _ _ t _ (setup-of c.in-Ok-read_setup.asked) c.in-Ok-read_setup.ensures
-    (figures_built _ _ _ t _ _ _ _ _ _ c.in-Some.ensures c.leave.ensures.0 c.leave.ensures.1 _ c.figures-done.ensures.figured)) in
+    (figures_built _ _ _ t _ _ _ _ _ _ c.in-Some.ensures c.leave.ensures.0 c.leave.ensures.1 _ _ c.figures-done.ensures.figured)) in
     search (rules, e)

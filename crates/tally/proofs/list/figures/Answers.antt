@@ -1,11 +1,10 @@
-use Rattle.std.proofs.Common.{refl, ◌∙◌, ◌*◌, arith, length, []}
+use Rattle.std.proofs.Common.{◌*◌, arith, length, []}
 use Rattle.std.proofs.lemmas.Result.{err_from_is_err_and}
 use Rattle.screen.specs.Screens.{setup-of}
-use Rattle.screen.specs.Lent.{tables_in, whole}
+use Rattle.screen.specs.Lent.{whole}
 use Rattle.tally.specs.Counts.{screen-most}
 use Rattle.tally.specs.Listed.{listed_of}
-use Rattle.tally.proofs.Adding.{within-more}
-use Rattle.tally.proofs.Independent.{same-figures, same-screen}
+use Rattle.tally.proofs.Adding.{none-within, within-more}
 use Rattle.tally.proofs.OneScreen.{within-plus}
 use Rattle.tally.proofs.InList.{passed, at-start, end-in, one-more, at-end, table-long, refused, done, same-self, same-again}
 use Rattle.tally.proofs.list.figures.Goals as goal
@@ -21,9 +20,12 @@ pub loop-k-init : goal.loop-k-init
 loop-k-init c =
     let a = c.args in
     let p = passed (listed_of a.list) (length a.table.now) c.in_ok-judge.ensures in (
-      ([], at-start a.list.edition a.list.words.now a.list.ends.now (setup-of a.setup) (whole a.screen.now a.lent.now) a.table.now p.good _ c.nothing-total.ensures),
-      rw c.nothing-total.ensures (record { asked = omega arith; painted = omega arith; hidden = omega arith; commands = omega arith; fills = omega arith; refused = omega arith }),
-      refl,
+      (
+        [],
+        at-start a.list.edition a.list.words.now a.list.ends.now (setup-of a.setup) (whole a.screen.now a.lent.now) a.table.now p.good _
+            c.nothing-total.ensures,
+      ),
+      rw c.nothing-total.ensures none-within,
       same-self a.lent.now,
     )
 
@@ -55,22 +57,20 @@ loop-k-preserved c =
     let (gs, i) = c.loop-k.invariant.0 in
     let p = passed (listed_of a.list) (length a.table.now) c.in_ok-judge.ensures in
     let own = rw c.file_in.ensures at c.recording_figures-own.ensures.figures in
-    let left = rw c.file_in.ensures at c.recording_figures-own.ensures.left in
-    let same = c.loop-k.invariant.2 in (
+    let left = rw c.file_in.ensures at c.recording_figures-own.ensures.left in (
       (
         _,
         one-more a.list.edition a.list.words.now a.list.ends.now (setup-of a.setup) (whole a.screen.now a.lent.now) a.table.now i c.loop-k-test.true p.room _
-            (own ∙ same-figures _ (setup-of a.setup) c.loop-k.screen (tables_in c.loop-k.lent) (tables_in a.lent.now) same)
+            own
             _
-            (left ∙ same-screen _ (setup-of a.setup) c.loop-k.screen (tables_in c.loop-k.lent) (tables_in a.lent.now) same)
+            left
             _
             c.plus-total.ensures
             _
             c.put.ensures,
       ),
       rw c.plus-total.ensures (within-more (omega arith) (within-plus c.loop-k.invariant.1 c.recording_figures-own.ensures.small)),
-      c.recording_figures-own.ensures.same.long ∙ same,
-      same-again c.loop-k.invariant.3 c.recording_figures-own.ensures.same,
+      same-again c.loop-k.invariant.2 c.recording_figures-own.ensures.same,
     )
 
 pub put-requires-2 : goal.put-requires-2
@@ -87,4 +87,5 @@ returns-clause-figured c =
     let (gs, i) = c.loop-k.invariant.0 in
     let p = passed (listed_of a.list) (length a.table.now) c.in_ok-judge.ensures in
     done (listed_of a.list) (setup-of a.setup) (whole a.screen.now a.lent.now) a.table.now _ c.in_ok-judge.ensures
-    (at-end a.list.edition a.list.words.now a.list.ends.now (setup-of a.setup) (whole a.screen.now a.lent.now) a.table.now i c.loop-k-test.false p.room _ c.put-2.ensures)
+    (at-end a.list.edition a.list.words.now a.list.ends.now (setup-of a.setup) (whole a.screen.now a.lent.now) a.table.now i c.loop-k-test.false p.room _
+    c.put-2.ensures)

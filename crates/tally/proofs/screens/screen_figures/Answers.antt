@@ -3,7 +3,7 @@ use Rattle.paint.specs.Judging.{count}
 use Rattle.paint.specs.StoredCmds.{stored_words}
 use Rattle.tally.specs.Counts.{row-most}
 use Rattle.tally.specs.Rows.{stored-attrs}
-use Rattle.tally.proofs.Adding.{within-more}
+use Rattle.tally.proofs.Adding.{none-within, within-more}
 use Rattle.tally.proofs.OneScreen.{is-whole, no-row, one-row, all-rows, not-countable, counted, within-plus, part-short, part-long}
 use Rattle.tally.proofs.screens.screen_figures.Goals as goal
 
@@ -15,7 +15,7 @@ returns-then-not-is_countable-clause-figures c =
 pub loop-row-init : goal.loop-row-init
 loop-row-init c = (
   omega arith,
-  rw c.nothing-figures.ensures (record { asked = omega arith; painted = omega arith; hidden = omega arith; commands = omega arith; fills = omega arith; refused = omega arith }),
+  rw c.nothing-figures.ensures none-within,
   no-row c.args.screen _ (stored_words c.args.stored.now) (count c.args.screen) _ c.nothing-figures.ensures,
 )
 

@@ -156,8 +156,8 @@ fn rest_of_row(
     requires ready { RowReady (screen-at (words_in state.now)) row stored.now canvas.old list.old }
     ensures same { SameCanvas canvas.old canvas.new }
     ensures rest { let s = screen-at (words_in state.now) in answer result (canvas_out canvas.new list.new painted.new)
-        ≡ step_left (painted_in painted.old) (row-run-on (bucket-tiles s.width) (most - went.steps) went.steps went.pieces (used_attrs s stored.now) (wide s) s.c s.d row
-        (row_lent stored.now canvas.old list.old)) }
+        ≡ step_left (painted_in painted.old) (row-run-on (bucket-tiles s.width) (most - went.steps) went.steps went.pieces (used_attrs s stored.now)
+        (wide s) s.c s.d row (row_lent stored.now canvas.old list.old)) }
 {
     let done = row_rest(
         screen_at(state),

@@ -20,10 +20,7 @@ use Rattle.sizes.specs.declared.answers.Refusal.{Refusal}
 use Rattle.sizes.specs.Refusals.{number_of}
 use Rattle.sizes.proofs.Refusals.{not_done}
 use Rattle.paint.specs.declared.rows.RowRange.{RowRange}
-use Rattle.paint.specs.declared.canvas.stored.Stored.{Stored}
-use Rattle.paint.specs.declared.canvas.stored.Canvas.{Canvas}
-use Rattle.paint.specs.Named.{SameCanvas}
-use Rattle.paint.specs.InOrder.{RowsReady, asked, rows_number, RowsOut, rows_out, turn, rows_in_order, number-of-rows, rows-in-order, rows-painted}
+use Rattle.paint.specs.InOrder.{asked, rows_number, RowsOut, rows_out, turn, rows_in_order, number-of-rows, rows-in-order, rows-painted}
 use Rattle.paint.proofs.Judged.{past-begun}
 use Rattle.paint.proofs.Spreading.{length-pieces}
 use Rattle.paint.proofs.WholeParts.{row_done}
@@ -127,14 +124,6 @@ module _ (s : Screen) (r : ℕ) (a : Attributes) (rs re fi : List ℕ) (d : Dept
       let j : piece-size * q.pieces ≤ length rest = rw i (row-room s r a (words_lent rs re fi d p rest)).1 in
       omega (arith, h, j, length-take-le (length xs - piece-size * n) (drop (piece-size * n) xs) (rw length-drop (omega arith)))
 
--- a call that has come to its end, or is refused, is the turn; one that goes on is not
-module _ (o z : StepOut) (q : Painted) (d : Depths) (p l : List ℕ) (e : out q d p l ≡ o) where
-  pub stays : goes_on q ≡ false → out q d p l ≡ cond (goes_on o.answer) z o
-  stays h = let i : goes_on o.answer ≡ false = ap (λ (x : StepOut). goes_on x.answer) (sym e) ∙ h in rw i e
-
-  pub goes : goes_on q ≡ true → z ≡ cond (goes_on o.answer) z o
-  goes h = let i : goes_on o.answer ≡ true = ap (λ (x : StepOut). goes_on x.answer) (sym e) ∙ h in rw i refl
-
 -- What it says that rows are judged 0.
 pub record Ranged (s : Screen) (r : RowRange) (a t : Bool) (ends : ℕ) : Type 0 where
   pub judged-so : judged s a t ≡ 0
@@ -204,10 +193,6 @@ module _ (row : ℕ → Depths → List ℕ → List ℕ → StepOut) where
       turned_on r n =
           let k : i + 1 - first ≡ i - first + 1 = omega arith in
           rw k (sym (from-listed (last - (i + 1)) (i + 1) (i - first + 1) (slice_set e (i - first) q.pieces) q d p l)) ∙ (rw (eq-eqb q.number 0 n) at one)
-
--- rows are as ready for a canvas of the same lengths
-pub still_ready : (s : Screen) (r : RowRange) (t : Stored) (c c' : Canvas) → SameCanvas c c' → RowsReady s r t c → RowsReady s r t c'
-still_ready s r t c c' e h q f l = rw (e.words-long, e.minima-long, e.painting-long) (h q f l)
 
 -- the call, refused or done
 module _ (s : Screen) (r : RowRange) (a : Attributes) (l : RowLent) (e : List ℕ) where

@@ -13,6 +13,7 @@ pub mod Sized
 pub mod Panel
 pub mod Conversions
 pub mod FillLists
+pub mod ManyRows
 pub mod TileLists
 pub mod Listed
 pub mod ListNumbers

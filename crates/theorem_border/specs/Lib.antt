@@ -11,4 +11,5 @@ pub mod Edited
 pub mod Panel
 pub mod Computing
 pub mod FillLists
+pub mod ManyRows
 pub mod TileLists

@@ -11,6 +11,7 @@ ghost use Rattle.theorem_border.specs.Numbers.{BeginKeeps, CompactKeeps, FillKee
 ghost use Rattle.theorem_border.specs.Summed.{HostedSummed, HostedHidden};
 ghost use Rattle.theorem_border.specs.Words.{ScreenReadBack, SizesFit, WordsWrittenBack};
 ghost use Rattle.theorem_border.specs.FillLists.{FillsHosted};
+ghost use Rattle.theorem_border.specs.ManyRows.{RowsHosted};
 ghost use Rattle.theorem_border.specs.TileLists.{ListReceived, ListRoom, ListNumbers};
 ghost use Rattle.theorem_border.specs.Held.{HostedReached};
 ghost use Rattle.theorem_border.specs.Reading.{AloneHostStands, HostedStands, LengthsRead, CmdsRead, NoCmdRead, DepthsRead, NoDepthRead, ProgressRead};
@@ -131,6 +132,7 @@ pub fn words_at_border()
     ensures reached { HostedReached }
     ensures alone { AloneHosted }
     ensures fills { FillsHosted }
+    ensures rows { RowsHosted }
     ensures sizes { SizesFit }
 {}
 

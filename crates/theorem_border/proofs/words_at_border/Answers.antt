@@ -1,6 +1,7 @@
 use Rattle.host.proofs.Words.{read_back, written_back}
 use Rattle.theorem_border.proofs.Holds.{holds, alone-hosted}
 use Rattle.theorem_border.proofs.FillLists.{fills-hosted}
+use Rattle.theorem_border.proofs.ManyRows.{rows-hosted}
 use Rattle.theorem_border.proofs.Sized.{sizes-fit}
 use Rattle.theorem_border.proofs.words_at_border.Goals as goal
 
@@ -21,3 +22,6 @@ returns-clause-sizes c = sizes-fit
 
 pub returns-clause-fills : goal.returns-clause-fills
 returns-clause-fills c = λ t f xs h ps ss ws a b n r e. fills-hosted ps ss ws a b n r e
+
+pub returns-clause-rows : goal.returns-clause-rows
+returns-clause-rows c = λ t f xs h r list ends k. rows-hosted r list ends k

@@ -18,10 +18,6 @@ pub half-zero : half 0 ≡ 1
 unfolding half size
 half-zero = refl
 
-size-zero : size 0 ≡ 1
-unfolding size
-size-zero = refl
-
 pub group-some : (k n : ℕ) → n ≡ half k → 0 < n
 group-some k n e = let a = half-is k in let b = size-some k in omega arith
 

@@ -6,13 +6,11 @@ use Rattle.rules.specs.Spans.{covers, moved}
 use Rattle.rules.specs.Commands.{Command, paint-fill, layer-fill, push-buf, pop-buf, DepthFill}
 use Rattle.rules.specs.Attributes.{Attrs}
 use Rattle.rules.specs.Rows.{Row, fresh-row}
-use Rattle.rules.specs.Plans.{bucket, buckets-across, Step}
-use Rattle.rules.specs.Steps.{Screen}
+use Rattle.rules.specs.Plans.{bucket, buckets-across}
 use Rattle.rules.specs.Painting.{paint-id, layer-id}
 use Rattle.rules.specs.Plain.{Told, untold}
 use Rattle.rules.proofs.All.{All, cons, never}
 use Rattle.rules.proofs.laws.Widths.{bucket-some}
-use Rattle.rules_picture.specs.Built.{Built, no_step, then}
 use Rattle.rules_picture.specs.Turns.{painted}
 use Rattle.rules_picture.specs.Colours.{Colours, filled, closed, drawn}
 use Rattle.rules_picture.specs.StoredColours.{newest-over, newest-id, depth-drawn, commands-drawn, stored-drawn, SameStored, WordNewest}
@@ -83,11 +81,6 @@ module _ (w : ℕ) (attrs : Attrs) (t : ℕ) where
         ap (λ (i : ℕ). commands-drawn c (paint-id attrs) (layer-id attrs) t i r.commands (drawn c (map entry-told (hider (told-fills w attrs t r.fills))) bs)) (fills-id r.fills a)
         ∙ ap (λ (us : List Told). commands-drawn c (paint-id attrs) (layer-id attrs) t (newest-id (paint-id attrs) ds) r.commands (drawn c (map entry-told us) bs)) (fills-hider r.fills)
         ∙ ap (commands-drawn c (paint-id attrs) (layer-id attrs) t (newest-id (paint-id attrs) ds) r.commands) (depth-entries ds bs)
-
--- a history builds one screen
-pub built_once : {xs : List Step} {s u v : Screen Row} → Built xs s u → Built xs s v → u ≡ v
-built_once no_step no_step = refl
-built_once (then e b) (then h d) = built_once b d
 
 -- ids that are the same
 module _ {B : Type 0} (c : Colours B) (t : ℕ) {p q l m : ℕ → ℕ} (same-paints : (i : ℕ) → p i ≡ q i) (same-layers : (i : ℕ) → l i ≡ m i) where

@@ -1,24 +1,13 @@
--- A span of which every bucket is visible is one visible run; so is a span that can be skipped.
+-- A span of which every bucket is visible is one visible run.
 use Rattle.std.proofs.Common.{ℕ, suc, ◌+◌, ◌-◌, ◌*◌, ◌/◌, ◌≤◌, ◌<◌, min, max, le_refl, div-mul-le_self, suc-add, add-suc, add-one, arith, ◌≡◌, refl, sym, ◌∙◌, ap, Bool, true, List, [], ◌∷◌, length}
 use Rattle.std.proofs.Common.{get_or, drop, length-take, length-drop, get_or-take, get_or-drop, lt-ltb, eq-eqb}
 use Rattle.rules.specs.Lists.{slice}
-use Rattle.rules.specs.Answers.{Done}
-use Rattle.rules.specs.Boxes.{width, rows_of}
 use Rattle.rules.specs.Spans.{Span, span, covers, common}
 use Rattle.rules.specs.Depth.{bucket-runs, runs-in, runs, buckets-met, tiles-of, is-visible, visible-runs}
-use Rattle.rules.specs.Rows.{fresh-row}
-use Rattle.rules.specs.Plans.{Frame, bucket, buckets-across, Step}
-use Rattle.rules.specs.Steps.{reset}
-use Rattle.rules.specs.Calls.{Canvas, begin-call, painter-of, can-skip-call}
+use Rattle.rules.specs.Plans.{bucket}
 use Rattle.rules.proofs.All.{All, nil, cons}
-use Rattle.rules.proofs.laws.Widths.{bucket-some}
-use Rattle.rules_picture.specs.Built.{Built}
-use Rattle.rules_picture.specs.Turns.{Turn, painted}
-use Rattle.rules_picture.specs.Skip.{FillsPainted}
-use Rattle.rules_picture.proofs.Cases.{covers-yes, covers_low, covers_high}
+use Rattle.rules_picture.proofs.Cases.{covers-yes}
 use Rattle.rules_picture.proofs.Buckets.{from-bucket, from-bucket-before, to-bucket, to-bucket-before, touched-end, le-raised}
-use Rattle.rules_picture.proofs.Picture.{built-on}
-use Rattle.rules_picture.proofs.Skip.{skip-tile, skip, words-length}
 
 -- what holds at each place holds of each element
 all-places : (P : ℕ → Type 0) (xs : List ℕ) → ((j : ℕ) → j < length xs → P (get_or xs j 0)) → All P xs
@@ -82,31 +71,3 @@ module _ (w : ℕ) (pos : 0 < w) where
           let lo : max s.first (s.first / w * w) ≡ s.first = let m = div-mul-le_self s.first w in omega arith in
           let hi : min s.end ((s.end + (w - 1)) / w * w) ≡ s.end = let m = le-raised w pos s.end ((s.end + (w - 1)) / w) (le_refl ((s.end + (w - 1)) / w)) in omega arith in
           rw (lo, hi)
-
--- Where can_skip says yes, in a row whose depth fills are painted, every bucket that the span meets is visible.
-pub skip-buckets : (f : Frame) (xs : List Step) (k : Canvas) → Built xs (reset fresh-row f) k.screen → (begin-call k).number ≡ Done
-    → (ts : List Turn) (r : ℕ) → r < rows_of f.viewport → FillsPainted (painted ts k).canvas r
-    → (s : Span) (id : ℕ) → (can-skip-call r s id (painted ts k).canvas).value ≡ true
-    → s.first < s.end → (j : ℕ) → covers (buckets-met (bucket f) s) j ≡ true → j < buckets-across f
-    → is-visible id (get_or (painter-of (painted ts k).canvas r).buckets j 0) ≡ true
-skip-buckets f xs k b e ts r h fp s id can wide j c on =
-    let met = buckets-met (bucket f) s in
-    let (l, u, q) = tile-in (bucket f) (bucket-some f.width) s j wide (covers_low met j c) (covers_high met j c) in
-    let t = max s.first (j * bucket f) in
-    ap (λ (n : ℕ). is-visible id (get_or (painter-of (painted ts k).canvas r).buckets n 0)) (sym q)
-    ∙ skip-tile f xs k b e ts r h fp s id can t (covers-yes s t l u) (rw q on)
-
--- .. and if the span lies on the screen, its visible runs are the whole span
-pub skip_runs : (f : Frame) (xs : List Step) (k : Canvas) → Built xs (reset fresh-row f) k.screen → (begin-call k).number ≡ Done
-    → (ts : List Turn) (r : ℕ) → r < rows_of f.viewport → FillsPainted (painted ts k).canvas r
-    → (s : Span) (id : ℕ) → (can-skip-call r s id (painted ts k).canvas).value ≡ true
-    → s.first < s.end → s.end ≤ width f.viewport / 4
-    → visible-runs (bucket f) (painter-of (painted ts k).canvas r).buckets id s ≡ s ∷ []
-skip_runs f xs k b e ts r h fp s id can wide on =
-    let w = bucket f in
-    let pos = bucket-some f.width in
-    let (v, there) = built-on f xs k.screen b r h in
-    let bs = (painter-of (painted ts k).canvas r).buckets in
-    let l : length bs ≡ buckets-across f = words-length k e ts r there fp ∙ ap buckets-across v in
-    let most : (s.end + (w - 1)) / w ≤ (width f.viewport / 4 + (w - 1)) / w = to-bucket w pos (let m = div-mul-le_self (s.end + (w - 1)) w in omega arith) in
-    all-visible w pos bs id s wide (rw l most) (λ t c. skip f xs k b e ts r h fp s id can t c (let m = covers_high s t c in omega arith))

@@ -16,7 +16,7 @@ ghost use Rattle.fill.specs.Fills.{paint-at, paints-of, good-draw-at, good-fill-
 ghost use Rattle.fill.specs.Named.{fill_lent_of, OnlyFilled};
 
 use crate::judge::judge_list;
-use crate::rows::{FillJob, fill_rows};
+use crate::rows::{ALONE, FillJob, fill_rows};
 use cmd::attrs::{PaintFillAttrs, put_paint_attrs};
 use inputs::Draw;
 use row::Rows;
@@ -161,8 +161,8 @@ fn attrs_of(screen: Screen, draw: Draw) -> PaintFillAttrs
     }
 }
 
-// A fill of what `judge_lent` has passed. WAY changes nothing of what is done: 0 a fill, 1 one of a list, 2 a fill of one segment (`single`). Each has machine
-// code of its own, in which the loops over segments keep their registers.
+// A fill of what `judge_lent` has passed. WAY changes nothing of what is done (`rows`): each way has machine code of its own, in which the loops over segments
+// keep their registers.
 fn fill_one<const WAY: u32>(
     screen: &mut Screen,
     rows: &mut Rows<'_>,
@@ -217,7 +217,7 @@ pub fn fill_judged(
     ensures filled { answer (answer_number result) (fill_lent_of screen.new rows.new paint_attrs.new)
         ≡ filled (fill_lent_of screen.old rows.old paint_attrs.old) paints.now segments.now draw }
 {
-    fill_one::<0>(screen, rows, paint_attrs, paints, segments, draw)
+    fill_one::<ALONE>(screen, rows, paint_attrs, paints, segments, draw)
 }
 
 /// Rules 3 to 7. The lists are lent as words, PAINT a paint and SEGMENT a segment. BadViewport, BadArena, BadRecord, BadOrder, Ids, FullAttrs, FullRow or

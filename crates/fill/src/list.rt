@@ -5,6 +5,7 @@ ghost use Rattle.row.specs.Rows.{SameRows};
 ghost use Rattle.fill.specs.Named.{fill_lent_of, asked, draws-of, fills-of};
 ghost use Rattle.fill.specs.Lists.{fills_in_order, good-draws, told};
 
+use crate::rows::LISTED;
 use crate::{fill_one, judge_lent};
 use inputs::draws::draw_at;
 use row::Rows;
@@ -74,7 +75,7 @@ pub fn fill_each(
     let mut own = *screen;
     for i in draws.start..draws.end {
         let draw = draw_at(draws.words, edition, edition.draw() * i);
-        if let Err(refusal) = fill_one::<1>(
+        if let Err(refusal) = fill_one::<LISTED>(
             &mut own,
             rows,
             paint_attrs,

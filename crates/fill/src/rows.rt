@@ -18,6 +18,15 @@ use sizes::width::Width;
 use sizes::{LEVELS, SEGMENT};
 use span::Stretch;
 
+/// A WAY of a fill: by itself.
+pub const ALONE: u32 = 0;
+
+/// .. one of a list.
+pub const LISTED: u32 = 1;
+
+/// .. of one segment (`single`).
+pub const ONE: u32 = 2;
+
 /// What stays the same over all the segments of a fill: the scene, room for c commands and d depth fills in a row, how many layers are open, whether solid
 /// segments are eligible (rule 6), the place of the attribute, the draw's id, and the width of a depth bucket.
 #[derive(Clone, Copy, Debug, PartialEq, Eq)]
@@ -237,8 +246,8 @@ pub fn fill_alone(rows: &mut Rows<'_>, segs: &[u32], i: usize, job: FillJob)
     ensures rows { all-held rows.new ≡ lay (rows_after job segs.now i (i + 1) (held_rows job rows.old)) }
 {
     if job.eligible {
-        fill_segment::<2, true>(rows, segs, i, job);
+        fill_segment::<ONE, true>(rows, segs, i, job);
     } else {
-        fill_segment::<2, false>(rows, segs, i, job);
+        fill_segment::<ONE, false>(rows, segs, i, job);
     }
 }

@@ -128,10 +128,10 @@ fn count_in(
 ) -> Figures
     ensures counted { (a : Answer ScreenLent)
         → a ≡ recorded (file_of file.entry) (setup-of setup) (screen_lent screen.old (tables render_cmds.old depth_cmds.old (depths depth.old minima.old)
-            rows.old painting.old layers.old opacities.old paint_attrs.old layer_attrs.old filter_paints.old))
+        rows.old painting.old layers.old opacities.old paint_attrs.old layer_attrs.old filter_paints.old))
         → (figures-of result ≡ answered a)
         × (screen_lent screen.new (tables render_cmds.new depth_cmds.new (depths depth.new minima.new)
-            rows.new painting.new layers.new opacities.new paint_attrs.new layer_attrs.new filter_paints.new) ≡ a.value) }
+        rows.new painting.new layers.new opacities.new paint_attrs.new layer_attrs.new filter_paints.new) ≡ a.value) }
     ensures small { Within screen-most (figures-of result) }
 {
     let mut own = Lent {

@@ -29,8 +29,8 @@ loop-k-preserved c =
     elim c.match-look.branch [
       | in-Some w ↦
           rw (w.figures-is, w.add_kind.ensures)
-              (added-next _ _ _ _ _ _ i c.loop-k-test.true look _ w.in-Some.is
-              (look-good a (command-at c.args.render_cmds.now c.loop-k.k) _ (sym look ∙ w.in-Some.is) (λ x e. reads-good _ _ _ _ x e)))
+          (added-next _ _ _ _ _ _ i c.loop-k-test.true look _ w.in-Some.is
+          (look-good a (command-at c.args.render_cmds.now c.loop-k.k) _ (sym look ∙ w.in-Some.is) (λ x e. reads-good _ _ _ _ x e)))
       | in_default w ↦ rw w.figures-is (added-nothing _ _ _ _ _ _ i c.loop-k-test.true look w.in_default.is)
     ]
 

@@ -31,8 +31,8 @@ loop-k-preserved c =
     elim c.match-look_depth.branch [
       | in-Some w ↦
           rw (w.figures-is, w.add_kind.ensures)
-              (added-next _ _ _ _ _ _ i c.loop-k-test.true look _ w.in-Some.is
-              (depth-good c.args.width a _ o _ c.requires.buckets (sym look ∙ w.in-Some.is) (λ x e. depth-reads-good _ _ _ x e)))
+          (added-next _ _ _ _ _ _ i c.loop-k-test.true look _ w.in-Some.is
+          (depth-good c.args.width a _ o _ c.requires.buckets (sym look ∙ w.in-Some.is) (λ x e. depth-reads-good _ _ _ x e)))
       | in_default w ↦ rw w.figures-is (added-nothing _ _ _ _ _ _ i c.loop-k-test.true look w.in_default.is)
     ]
 

@@ -226,7 +226,7 @@ fn typed() -> Scene {
     }
     Scene {
         line: 268..270,
-        ..finished("busy text", draft, 64, 64)
+        ..finished("busy screen", draft, 64, 64)
     }
 }
 

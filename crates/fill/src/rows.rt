@@ -69,14 +69,7 @@ impl<const WAY: u32, const SPLIT: bool> RowAct for Stroke<WAY, SPLIT> {
             row.push_paint(stretch.tiles, stretch.alpha, job.attr);
             return;
         }
-        push_fill::<WAY, SPLIT>(
-            row,
-            job.layers,
-            stretch,
-            job.attr,
-            job.id,
-            job.width,
-        );
+        push_fill::<WAY, SPLIT>(row, job.layers, stretch, job.attr, job.id, job.width);
     }
 }
 

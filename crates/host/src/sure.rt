@@ -18,8 +18,8 @@ use screen::Lent;
 use sizes::width::Width;
 use sizes::{
     FILTER_TABLE, LAST_ID, LAYER_TABLE, MOST_ATTRS, MOST_FILTERS, MOST_HEIGHT, MOST_LAYERS,
-    MOST_ROOM, MOST_WIDTH, OPACITIES, OPEN_TABLE, PAINT, PAINT_TABLE, ROW, SCENE_END, SEGMENT, TILE_HEIGHT,
-    TILE_WIDTH,
+    MOST_ROOM, MOST_WIDTH, OPACITIES, OPEN_TABLE, PAINT, PAINT_TABLE, ROW, SCENE_END, SEGMENT,
+    TILE_HEIGHT, TILE_WIDTH,
 };
 
 // From a start to an end; a large number where the end lies before a start of the scene.

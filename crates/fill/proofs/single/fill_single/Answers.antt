@@ -31,5 +31,5 @@ pub returns-clause-done : goal.returns-clause-done
 returns-clause-done c =
     let z = zero-says _ _ _ _ c.in-Some.ensures.1 in
     λ e. done-is _ _ _ _ (sym c.in-Some.ensures.1)
-        (done-some _ _ _ _ z (some c.requires.one) c.take_fill.ensures c.in-Some.ensures.0 (rw c.requires.one at c.fill_alone.ensures.rows)
-        (rw c.attrs_of-attrs.ensures at c.put_paint_attrs.ensures))
+    (done-some _ _ _ _ z (some c.requires.one) c.take_fill.ensures c.in-Some.ensures.0 (rw c.requires.one at c.fill_alone.ensures.rows)
+    (rw c.attrs_of-attrs.ensures at c.put_paint_attrs.ensures))

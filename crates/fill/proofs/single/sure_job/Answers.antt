@@ -19,7 +19,8 @@ is_sure-requires c =
 
 pub returns : goal.returns
 returns c =
-    let z = rw (c.job_of-job.ensures, c.requires.one) at c.is_sure.ensures c.if-not-is_sure.false in
-    (c.job_of-job.ensures,
-     sym (list-rows _ _ _ _ c.requires.judged (fill-told c.args.paints.now c.args.segments.now c.args.draw c.is_good_fill.ensures c.if-not-is_good_fill.false) (sym z) refl
-     c.if-screen-gt-LAST_ID.false (λ e. omega (arith, c.requires.one, e)) c.if-screen-ge-MOST_ATTRS.false))
+    let z = rw (c.job_of-job.ensures, c.requires.one) at c.is_sure.ensures c.if-not-is_sure.false in (
+      c.job_of-job.ensures,
+      sym (list-rows _ _ _ _ c.requires.judged (fill-told c.args.paints.now c.args.segments.now c.args.draw c.is_good_fill.ensures c.if-not-is_good_fill.false) (sym z) refl
+          c.if-screen-gt-LAST_ID.false (λ e. omega (arith, c.requires.one, e)) c.if-screen-ge-MOST_ATTRS.false),
+    )

@@ -408,8 +408,8 @@ uint32_t coarse_paint_step(const coarse_state *state, const coarse_stored *store
 uint32_t coarse_paint_row(const coarse_state *state, const coarse_stored *stored, coarse_canvas *canvas, size_t row,
                            uint32_t *list, size_t list_len, coarse_painted *painted);
 
-/* The rows first to end of the screen, one after the other, each from where it stands to its end, as coarse_paint_row: quicker than
- * a call for each, since the screen is looked at once. The pieces stand one after the other, and ends[k] says how many stand in the
+/* The rows first to end of the screen, one after the other, each from where it stands to its end, as coarse_paint_row: one call, by
+ * which the screen is looked at once. The pieces stand one after the other, and ends[k] says how many stand in the
  * list after row first + k. painted is written on every answer: how many rows are painted to their end, and so have an end, and how
  * many pieces there are. Refused with nothing painted: COARSE_BAD_RUN for no range of the screen's rows, COARSE_OPEN, and
  * COARSE_NO_ROOM for fewer ends than rows. A row that is refused stops the call: the rows before it are painted, it keeps what it

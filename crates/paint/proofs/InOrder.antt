@@ -1,6 +1,6 @@
 -- Rows one after the other: what is judged once holds of each row, a row's call on what is left of a list, and one row more. Assumes nothing.
 use Rattle.std.proofs.Common.{◌≡◌, refl, sym, ap, ◌∙◌, Bool, true, false, ◌&&◌, not, cond, List, [], ◌++◌, Option, None, Some, ℕ, zero, suc, ◌+◌, ◌-◌, ◌*◌, ◌/◌, ◌≤◌, ◌<◌, arith, length, take, drop, slice_set}
-use Rattle.std.proofs.Common.{length-append, length-drop, length-take-le, leb, ltb, eqb, ltb-false, leb-true, leb-false, le-leb, le-ltb, eqb-true, eq-eqb, ne_eqb}
+use Rattle.std.proofs.Common.{length-append, length-drop, length-take-le, take_all, leb, ltb, eqb, ltb-false, leb-true, leb-false, le-leb, le-ltb, eqb-true, eq-eqb, ne_eqb}
 use borrow.Author.Tests.{eqb-false, lt-leb}
 use borrow.Rule.Slice.PartMut.{put_mid}
 use Rattle.sizes.specs.Sizes.{piece-size}
@@ -14,13 +14,19 @@ use Rattle.screen.specs.Depths.{Depths}
 use Rattle.paint.specs.Answers.{Painted}
 use Rattle.paint.specs.Painting.{RowLent, words_lent, StepOut, out, listed, refused, left, settled, attrs-at, next-step, painted-row}
 use Rattle.paint.specs.Stepping.{Attributes, number, own, row_step, stepped}
-use Rattle.paint.specs.Running.{goes_on, ended, one_more, run, most, standing, call_step, row-run, row-painted}
+use Rattle.paint.specs.Running.{goes_on, ended, one_more, run, most, standing, call_step, row-run, row-run-on, row-painted}
 use Rattle.paint.specs.Judging.{count, wide, judged, paints-on, step_number}
 use Rattle.sizes.specs.declared.answers.Refusal.{Refusal}
 use Rattle.sizes.specs.Refusals.{number_of}
 use Rattle.sizes.proofs.Refusals.{not_done}
 use Rattle.paint.specs.declared.rows.RowRange.{RowRange}
-use Rattle.paint.specs.InOrder.{asked, rows_number, RowsOut, rows_out, turn, rows_in_order, number-of-rows, rows-in-order, rows-painted}
+use Rattle.paint.specs.declared.canvas.stored.Stored.{Stored}
+use Rattle.paint.specs.declared.canvas.stored.Canvas.{Canvas}
+use Rattle.paint.specs.declared.whole.run.Went.{Went}
+use Rattle.paint.specs.Named.{row_attrs, used_attrs, row_lent}
+use Rattle.screen.specs.Depths.{depths_in}
+use Rattle.std.proofs.Math.Seq.{take-append_seam, drop-append_seam}
+use Rattle.paint.specs.InOrder.{asked, rows_number, RowsOut, rows_out, RestOf, row_calls, turn, turn_again, rows_in_order, number-of-rows, rows-in-order, rows-painted}
 use Rattle.paint.proofs.Judged.{past-begun}
 use Rattle.paint.proofs.Spreading.{length-pieces}
 use Rattle.paint.proofs.WholeParts.{row_done}
@@ -123,6 +129,75 @@ module _ (s : Screen) (r : ℕ) (a : Attributes) (rs re fi : List ℕ) (d : Dept
       let i : q.pieces ≡ (row-painted s r a (words_lent rs re fi d p rest)).answer.pieces = ap (λ (o : StepOut). o.answer.pieces) row-call in
       let j : piece-size * q.pieces ≤ length rest = rw i (row-room s r a (words_lent rs re fi d p rest)).1 in
       omega (arith, h, j, length-take-le (length xs - piece-size * n) (drop (piece-size * n) xs) (rw length-drop (omega arith)))
+
+-- A row's call is its turn, or the next call says why it stopped.
+module _ (row : ℕ → Depths → List ℕ → List ℕ → StepOut) (r : ℕ) (g : StepOut) (q : Painted) (d : Depths) (p l : List ℕ) (x : out q d p l ≡ one_more (row r) g) where
+  abbrev told : StepOut → StepOut
+  told o = cond (goes_on o.answer) (turn_again row r o) o
+
+  pub turn-ends : goes_on q ≡ false → out q d p l ≡ turn row r g
+  turn-ends h = let e : told (out q d p l) ≡ out q d p l = rw h refl in sym e ∙ ap told x
+
+  pub turn-goes-on : goes_on q ≡ true → turn_again row r (out q d p l) ≡ turn row r g
+  turn-goes-on h = let e : told (out q d p l) ≡ turn_again row r (out q d p l) = rw h refl in sym e ∙ ap told x
+
+-- a list cut where two were joined
+take-seam : (m : ℕ) (xs ys : List ℕ) → length xs ≡ m → take m (xs ++ ys) ≡ xs
+take-seam m xs ys e = rw (← e) (take-append_seam xs ys)
+
+drop-seam : (m : ℕ) (xs ys : List ℕ) → length xs ≡ m → drop m (xs ++ ys) ≡ ys
+drop-seam m xs ys e = rw (← e) (drop-append_seam xs ys)
+
+-- what code lends of a list from a place on, and what it gets back, are as long
+module _ (m : ℕ) (xs us : List ℕ) (h : m ≤ length xs) (e : length us ≡ length (take (length xs - m) (drop m xs))) where
+  pub rest-long : length us ≡ length xs - m
+  rest-long = e ∙ length-take-le (length xs - m) (drop m xs) (rw length-drop (omega arith))
+
+  pub back-long : length (put_mid m (length xs - m) xs us) ≡ length xs
+  back-long = rw (back-after xs m h us, length-append) (omega (arith, rest-long, length-take-le m xs h))
+
+-- The rest of a row's call comes to the whole call, which stands after the pieces so far.
+module _ (s : Screen) (r : ℕ) (t : Stored) (c : Canvas) (xs : List ℕ) (n : ℕ) (w : Went) (g : StepOut) (so : RestOf s r t c xs n w g) (h : piece-size * n ≤ length xs)
+    (q : Painted) (d : Depths) (p ys : List ℕ)
+    (f : out q d p ys ≡ row-run-on (bucket-tiles s.width) (most - w.steps) w.steps w.pieces (used_attrs s t) (wide s) s.c s.d r
+    (row_lent t c (take (length xs - piece-size * n) (drop (piece-size * n) xs)))) where
+  pub rest-more : out (record { number = q.number; finished = q.finished; pieces = n + q.pieces }) d p (put_mid (piece-size * n) (length xs - piece-size * n) xs ys) ≡ one_more (row_calls s t r) g
+  rest-more = rw (back-after xs (piece-size * n) h ys) (so q d p ys f)
+
+  pub rest-fits : length g.list ≡ length xs → piece-size * g.answer.pieces ≤ length xs → piece-size * (n + q.pieces) ≤ length xs
+  rest-fits a b =
+      let i : n + q.pieces ≡ (one_more (row_calls s t r) g).answer.pieces = ap (λ (o : StepOut). o.answer.pieces) rest-more in
+      let m : Roomy (length xs) (one_more (row_calls s t r) g) =
+      more-room (row_calls s t r) (λ d' p' l'. (row-room s r (row_attrs t) (words_lent t.rows.now t.render_cmds.now t.depth_cmds.now d' p' l')).0)
+      (λ d' p' l'. (row-room s r (row_attrs t) (words_lent t.rows.now t.render_cmds.now t.depth_cmds.now d' p' l')).1) (length xs) g (a, b) in
+      rw i m.1
+
+-- The steps that were sure leave such a rest: the list has their pieces, and its words before them stay.
+module _ (s : Screen) (r : ℕ) (t : Stored) (c0 c1 : Canvas) (xs us : List ℕ) (n : ℕ) (w : Went) (z : number s r (row_attrs t) (row_lent t c0 []) ≡ 0) (h : piece-size * n ≤ length xs)
+    (k : length us ≡ length xs - piece-size * n)
+    (e : row-run-on (bucket-tiles s.width) (most - w.steps) w.steps w.pieces (used_attrs s t) (wide s) s.c s.d r (row_lent t c1 us)
+    ≡ row-run (bucket-tiles s.width) most (used_attrs s t) (wide s) s.c s.d r (row_lent t c0 (take (length xs - piece-size * n) (drop (piece-size * n) xs)))) where
+  before : length (take (piece-size * n) xs) ≡ piece-size * n
+  before = length-take-le (piece-size * n) xs h
+
+  mid : put_mid (piece-size * n) (length xs - piece-size * n) xs us ≡ take (piece-size * n) xs ++ us
+  mid = back-after xs (piece-size * n) h us
+
+  all : length (take (piece-size * n) xs ++ us) - piece-size * n ≡ length us
+  all = rw (length-append, before) (omega arith)
+
+  here : take (length (take (piece-size * n) xs ++ us) - piece-size * n) (drop (piece-size * n) (take (piece-size * n) xs ++ us)) ≡ us
+  here = rw (all, drop-seam (piece-size * n) (take (piece-size * n) xs) us before) (take_all (length us) us (omega arith))
+
+  joined : RestOf s r t c1 (take (piece-size * n) xs ++ us) n w (out (listed n) (depths_in c0.depth) c0.painting.now xs)
+  joined q d p ys f =
+      let own : out q d p ys ≡ row-run-on (bucket-tiles s.width) (most - w.steps) w.steps w.pieces (used_attrs s t) (wide s) s.c s.d r (row_lent t c1 us) = rw here at f in
+      rw (take-seam (piece-size * n) (take (piece-size * n) xs) us before)
+      (rw (back-after xs (piece-size * n) h ys) at
+      (row-more s r (row_attrs t) t.rows.now t.render_cmds.now t.depth_cmds.now (depths_in c0.depth) c0.painting.now xs z n h q d p ys (own ∙ e)))
+
+  pub turn-left : RestOf s r t c1 (put_mid (piece-size * n) (length xs - piece-size * n) xs us) n w (out (listed n) (depths_in c0.depth) c0.painting.now xs)
+  turn-left = rw mid joined
 
 -- What it says that rows are judged 0.
 pub record Ranged (s : Screen) (r : RowRange) (a t : Bool) (ends : ℕ) : Type 0 where

@@ -1,5 +1,7 @@
 -- Rows painted one after the other into one list: each by calls for a row, on what is left of the list.
-use Rattle.std.specs.Prelude.{Result, Ok, Err, ℕ, zero, suc, ◌+◌, ◌-◌, ◌≤◌, ◌<◌, ◌≡◌, Bool, false, true, not, cond, List, [], ◌∷◌, length, slice_set, eqb, ltb}
+use Rattle.std.specs.Prelude.{Result, Ok, Err, ℕ, zero, suc, ◌+◌, ◌-◌, ◌*◌, ◌≤◌, ◌<◌, ◌≡◌, Bool, false, true, not, cond, List, [], ◌∷◌, ◌++◌, length, take, drop, slice_set, eqb, ltb}
+use Rattle.sizes.specs.Sizes.{piece-size}
+use Rattle.sizes.specs.Widths.{bucket-tiles}
 use Rattle.std.specs.Prelude.{Option, None, Some}
 use Rattle.rules.specs.Answers.{first_of, Done, BadRun, Open, NoRoom}
 use Rattle.rules.specs.Spans.{good-range}
@@ -11,12 +13,13 @@ use Rattle.paint.specs.declared.canvas.stored.Canvas.{Canvas}
 use Rattle.paint.specs.declared.rows.RowRange.{RowRange}
 use Rattle.paint.specs.declared.rows.Stopped.{Stopped}
 use Rattle.paint.specs.declared.rows.Turn.{Turn}
+use Rattle.paint.specs.declared.whole.run.Went.{Went}
 use Rattle.paint.specs.Answers.{Painted}
-use Rattle.paint.specs.Judging.{count, arenas-long, tables-long, judged, paints-on}
+use Rattle.paint.specs.Judging.{count, wide, arenas-long, tables-long, judged, paints-on}
 use Rattle.paint.specs.Painting.{RowLent, words_lent, StepOut, out, listed}
 use Rattle.paint.specs.Stepping.{Attributes, number}
-use Rattle.paint.specs.Running.{goes_on, one_more, standing, row-painted}
-use Rattle.paint.specs.Named.{row_attrs, row_lent, step_out}
+use Rattle.paint.specs.Running.{goes_on, one_more, most, standing, row-run-on, row-painted}
+use Rattle.paint.specs.Named.{row_attrs, used_attrs, row_lent, step_out}
 use Rattle.sizes.specs.declared.answers.Refusal.{Refusal}
 
 -- What rows give: the number, how many of them are painted to their end, how many pieces are listed, and the words that they may change.
@@ -101,6 +104,13 @@ rows_told n (Err s) c l e = rows_out (number_of s.refusal) s.done e (step_out (l
 -- calls for the rows of what is lent
 abbrev pub row_calls : Screen → Stored → ℕ → Depths → List ℕ → List ℕ → StepOut
 row_calls s t r d p l = row-painted s r (row_attrs t) (words_lent t.rows.now t.render_cmds.now t.depth_cmds.now d p l)
+
+-- What is left of row r's call after steps that are done, on the list from piece n on, comes to the whole call on g: its pieces after those n.
+abbrev pub RestOf : Screen → ℕ → Stored → Canvas → List ℕ → ℕ → Went → StepOut → Type 0
+RestOf s r t c l n w g =
+    (q : Painted) (d : Depths) (p ys : List ℕ)
+    → out q d p ys ≡ row-run-on (bucket-tiles s.width) (most - w.steps) w.steps w.pieces (used_attrs s t) (wide s) s.c s.d r (row_lent t c (take (length l - piece-size * n) (drop (piece-size * n) l)))
+    → out (record { number = q.number; finished = q.finished; pieces = n + q.pieces }) d p (take (piece-size * n) l ++ ys) ≡ one_more (row_calls s t r) g
 
 -- each row of a range would be painted as far as screen, lengths and row go; so would it with any list
 abbrev pub RowsReady : Screen → RowRange → Stored → Canvas → Type 0

@@ -1,16 +1,17 @@
 //! Rows painted one after the other, into one list. `paint_rows` is a public call; `rows_part` is also a part of a host's, and the others are parts of both.
-ghost use Rattle.std.specs.Prelude.{◌≡◌, ◌-◌, ◌*◌, ◌≤◌, [], length};
+ghost use Rattle.std.specs.Prelude.{◌≡◌, ◌+◌, ◌-◌, ◌*◌, ◌≤◌, [], length};
 ghost use Rattle.sizes.specs.Sizes.{piece-size};
 ghost use Rattle.paint.specs.Judging.{wide};
 ghost use Rattle.paint.specs.Named.{SameCanvas, step_out, row_lent, row_attrs};
-ghost use Rattle.paint.specs.Painting.{listed};
+ghost use Rattle.paint.specs.Painting.{StepOut, listed};
 ghost use Rattle.paint.specs.Stepping.{number};
 ghost use Rattle.paint.specs.Running.{onto, one_more};
-ghost use Rattle.paint.specs.InOrder.{RowsReady, row_calls, turn, turn_again, turn_of, asked, rows_told, in-order-of, painted-rows};
+ghost use Rattle.paint.specs.InOrder.{RowsReady, RestOf, row_calls, turn, turn_again, turn_of, asked, rows_told, in-order-of, painted-rows};
 
 use crate::canvas::judge::judge_rows;
 use crate::canvas::{Canvas, Stepped, Stored};
-use crate::whole::{MOST_STEPS, row_part};
+use crate::whole::run::Went;
+use crate::whole::{MOST_STEPS, row_part, row_rest, row_sure};
 use screen::Screen;
 use sizes::PIECE;
 use sizes::answers::Refusal;
@@ -114,10 +115,62 @@ fn ask_again(
     }
 }
 
-// A row painted to its end, or as far as it goes. Out of line: a row's loops have the registers to themselves.
+// The rest of a row's turn, after the steps that were sure. Cold, and by reference: the screen is copied here, and not for each row.
+#[cold]
+#[inline(never)]
+fn rest_of_turn(
+    screen: &Screen,
+    b: usize,
+    row: usize,
+    stored: &Stored<'_>,
+    canvas: &mut Canvas<'_>,
+    list: &mut [u32],
+    pieces: usize,
+    went: Went,
+) -> Turn
+    requires ready { number screen.now row (row_attrs stored.now) (row_lent stored.now canvas.old []) ≡ 0 }
+    requires wide { b ≡ wide screen.now }
+    requires pieces { piece-size * (pieces + went.pieces) ≤ length list.old }
+    requires none { went.steps ≡ 0 → went.pieces ≡ 0 }
+    requires rest { (g : StepOut) × (length g.list ≡ length list.old) × (piece-size * g.answer.pieces ≤ length list.old)
+        × RestOf screen.now row stored.now canvas.old list.old pieces went g }
+    ensures same { SameCanvas canvas.old canvas.new }
+    ensures painted { (g : StepOut) → RestOf screen.now row stored.now canvas.old list.old pieces went g
+        → step_out (turn_of result) canvas.new list.new ≡ turn (row_calls screen.now stored.now) row g }
+    ensures fits { piece-size * result.pieces ≤ length list.old }
+{
+    let at = PIECE * pieces;
+    match row_rest(
+        *screen,
+        b,
+        row,
+        stored,
+        canvas,
+        &mut list[at..],
+        MOST_STEPS,
+        went,
+    ) {
+        Err(refusal) => Turn {
+            pieces,
+            stop: Some(refusal),
+        },
+        Ok(done) => {
+            let count = pieces + done.pieces;
+            if done.finished {
+                return Turn {
+                    pieces: count,
+                    stop: None,
+                };
+            }
+            ask_again(*screen, b, row, stored, canvas, list, count)
+        }
+    }
+}
+
+// A row painted to its end, or as far as it goes. Out of line, the screen by reference: a row's loops have the registers to themselves.
 #[inline(never)]
 fn turn_row(
-    screen: Screen,
+    screen: &Screen,
     b: usize,
     row: usize,
     stored: &Stored<'_>,
@@ -125,29 +178,23 @@ fn turn_row(
     list: &mut [u32],
     pieces: usize,
 ) -> Turn
-    requires ready { number screen row (row_attrs stored.now) (row_lent stored.now canvas.old []) ≡ 0 }
-    requires wide { b ≡ wide screen }
+    requires ready { number screen.now row (row_attrs stored.now) (row_lent stored.now canvas.old []) ≡ 0 }
+    requires wide { b ≡ wide screen.now }
     requires pieces { piece-size * pieces ≤ length list.old }
     ensures same { SameCanvas canvas.old canvas.new }
     ensures painted { step_out (turn_of result) canvas.new list.new
-        ≡ turn (row_calls screen stored.now) row (step_out (listed pieces) canvas.old list.old) }
+        ≡ turn (row_calls screen.now stored.now) row (step_out (listed pieces) canvas.old list.old) }
     ensures fits { piece-size * result.pieces ≤ length list.old }
 {
-    match row_after(screen, b, row, stored, canvas, list, pieces) {
-        Err(refusal) => Turn {
-            pieces,
-            stop: Some(refusal),
-        },
-        Ok(done) => {
-            if done.finished {
-                return Turn {
-                    pieces: done.pieces,
-                    stop: None,
-                };
-            }
-            ask_again(screen, b, row, stored, canvas, list, done.pieces)
-        }
+    let at = PIECE * pieces;
+    let went = row_sure(*screen, b, row, stored, canvas, &mut list[at..], MOST_STEPS);
+    if went.ended {
+        return Turn {
+            pieces: pieces + went.pieces,
+            stop: None,
+        };
     }
+    rest_of_turn(screen, b, row, stored, canvas, list, pieces, went)
 }
 
 /// Rows that are there, of `b` buckets, one after the other, painting having begun: how many pieces are listed. A part of the call, and of a host's.
@@ -171,7 +218,7 @@ pub fn rows_part(
     let mut pieces = 0;
     for row in rows.first..rows.end {
         let done = row - rows.first;
-        let turn = turn_row(screen, b, row, stored, canvas, list, pieces);
+        let turn = turn_row(&screen, b, row, stored, canvas, list, pieces);
         pieces = turn.pieces;
         if let Some(refusal) = turn.stop {
             return Err(Stopped {

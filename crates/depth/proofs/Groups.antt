@@ -239,6 +239,9 @@ unfolding size
 size-grows i zero = simp add-zero (le_refl (size i))
 size-grows i (suc d) = let h = size-grows i d in simp add-suc (omega arith)
 
+pub size-more : (i j : ℕ) → i ≤ j → size i ≤ size j
+size-more i j h = let e : i + (j - i) ≡ j = omega arith in rw e at (size-grows i (j - i))
+
 next-smaller : (j n : ℕ) → size j / 2 < n → (i : ℕ) → i < j → size i < n
 unfolding size
 next-smaller zero n h i l = absurd (omega arith)

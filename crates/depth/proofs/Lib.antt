@@ -4,6 +4,7 @@ pub mod Marking
 pub mod Groups
 pub mod Places
 pub mod Lifting
+pub mod Sharing
 pub mod Mending
 pub mod Written
 pub mod Asking

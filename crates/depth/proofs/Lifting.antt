@@ -1,11 +1,11 @@
 -- The groups above a bucket are worked out again from its own word up. Assumes nothing.
-use Rattle.std.proofs.Common.{◌≡◌, refl, sym, ap, ◌∙◌, cond, List, [], ◌∷◌, ◌++◌, ℕ, zero, suc, ◌+◌, ◌-◌, ◌*◌, ◌/◌, ◌%◌, min, ◌≤◌, ◌<◌, arith, length, get_or, set, take, drop, length-set, length-append, length-take-le, length-drop, leb, ltb, le-leb, lt-ltb, le-ltb, not-suc-le-zero}
+use Rattle.std.proofs.Common.{◌≡◌, refl, sym, ap, ◌∙◌, List, [], ◌∷◌, ◌++◌, ℕ, zero, suc, ◌+◌, ◌-◌, ◌*◌, ◌/◌, ◌%◌, min, ◌≤◌, ◌<◌, arith, length, get_or, set, take, drop, length-set, length-append, length-take-le, length-drop, le-leb, lt-ltb, le-ltb, ne_eqb, not-suc-le-zero}
 use Rattle.std.proofs.lemmas.List.{take-append-drop, get_or_append_left, get_or-append-add, get_or-set_same, set-append_left, set-append_right}
 use borrow.Author.Tests.{lt-leb}
-use Rattle.rules.specs.Minima.{size, half, top, left-half, right-half}
+use Rattle.rules.specs.Minima.{size, half, top}
 use Rattle.rules.proofs.laws.Minima.{size-some, half-is, half-next, left-of, right-of}
-use Rattle.depth.specs.Minima.{leaf-place, lifted}
-use Rattle.depth.proofs.Groups.{group-some, top-is}
+use Rattle.depth.specs.Minima.{leaf-place, lifted, lifted-above, above-place, beside-place, CanRaise, LiftedTo}
+use Rattle.depth.proofs.Groups.{group-some, top-is, size-more}
 use Rattle.depth.proofs.Places.{by-half, group-place, group-number, whole-place, place-low, place-high, place-within, leaf-is, number-first, number-half, turn, leaf-within, leaf-low, leaf-high}
 
 -- a group's words: its top, and those of its halves
@@ -139,14 +139,6 @@ pub own-at : (k : ℕ) (ws : List ℕ) (a b at : ℕ) → length ws ≡ half k �
     → get_or (lifted k ws b) at 0 ≡ get_or ws at 0
 own-at k ws a b at e g h q = rw q (own-stays k ws a b e g h)
 
--- .. the groups above the one of 2 ^ j alone are worked out again
-unfoldable pub lifted-above : ℕ → ℕ → List ℕ → ℕ → List ℕ
-lifted-above zero j ws b = ws
-lifted-above (suc k) j ws b =
-    cond (leb (suc k) j) ws (cond (ltb b (size k))
-    (topped (lifted-above k j (left-half k ws) b) (right-half k ws))
-    (topped (left-half k ws) (lifted-above k j (right-half k ws) (b - size k))))
-
 -- none above the whole group
 pub above-none : (k j : ℕ) (ws : List ℕ) (b : ℕ) → k ≤ j → lifted-above k j ws b ≡ ws
 unfolding lifted-above
@@ -155,13 +147,35 @@ above-none (suc k) j ws b h = rw (le-leb (suc k) j h)
 
 -- in the half that has the bucket, and the top
 module _ (k j : ℕ) (s : j ≤ k) (t : ℕ) (l r : List ℕ) (b : ℕ) (a : length l ≡ half k) where
-  above-low : b < size k → lifted-above (suc k) j (t ∷ l ++ r) b ≡ topped (lifted-above k j l b) r
+  pub above-low : b < size k → lifted-above (suc k) j (t ∷ l ++ r) b ≡ topped (lifted-above k j l b) r
   unfolding lifted-above
   above-low h = rw (lt-leb (suc k) j (omega arith), lt-ltb b (size k) h, left-of k l r t a, right-of k l r t a)
 
-  above-high : size k ≤ b → lifted-above (suc k) j (t ∷ l ++ r) b ≡ topped l (lifted-above k j r (b - size k))
+  pub above-high : size k ≤ b → lifted-above (suc k) j (t ∷ l ++ r) b ≡ topped l (lifted-above k j r (b - size k))
   unfolding lifted-above
   above-high h = rw (lt-leb (suc k) j (omega arith), le-ltb b (size k) h, left-of k l r t a, right-of k l r t a)
+
+-- as many words stay
+pub above-long : (k j : ℕ) (ws : List ℕ) (b : ℕ) → length ws ≡ half k → b < size k → length (lifted-above k j ws b) ≡ half k
+unfolding size
+above-long zero j ws b e h = ap length (above-none 0 j ws b (omega arith)) ∙ e
+above-long (suc k) j ws b e h =
+    let w = halves-of k ws e in
+    let n = half-next k in
+    let a = w.left-long in
+    let c = w.right-long in
+    by-half j (suc k)
+    (λ s.
+    rw w.words (by-half b (size k)
+    (λ low.
+    let i = above-long k j w.left b w.left-long low in
+    let l = length-append (lifted-above k j w.left b) w.right in
+    rw (above-low k j (omega arith) w.first w.left w.right b w.left-long low) (omega arith))
+    (λ high.
+    let i = above-long k j w.right (b - size k) w.right-long (omega arith) in
+    let l = length-append w.left (lifted-above k j w.right (b - size k)) in
+    rw (above-high k j (omega arith) w.first w.left w.right b w.left-long high) (omega arith))))
+    (λ s. ap length (above-none (suc k) j ws b s) ∙ e)
 
 -- those above its own word are all
 pub above-all : (k : ℕ) (ws : List ℕ) (b : ℕ) → length ws ≡ half k → b < size k → lifted-above k 0 ws b ≡ lifted k ws b
@@ -277,11 +291,19 @@ module _ (k : ℕ) (old : List ℕ) (b at number large least : ℕ) (now : List 
       by-half 0 (group-number k m.level b % 2) (λ o. let q = t.odd o in absurd (omega arith)) (λ o. let q = t.even (omega arith) in absurd (omega arith)))
       (λ d. sym (above-none k m.level now b d) ∙ m.rest)
 
-  module _ (some : 0 < at) where
-    -- there is one
-    further : m.level < k
-    further = by-half m.level k (λ d. d) (λ d. let w = whole-place k m.level b d in let p = m.place in absurd (omega arith))
+  -- before its place there is one more
+  pub not-whole : 0 < at → m.level < k
+  not-whole some = by-half m.level k (λ d. d) (λ d. let w = whole-place k m.level b d in let p = m.place in absurd (omega arith))
 
+  -- .. and while the next is smaller than the whole
+  pub not-large : (most : ℕ) → most < size k → large ≤ most → m.level < k
+  not-large most f g = by-half m.level k (λ d. d) (λ d. let s = size-more k (suc m.level) (omega arith) in let l = m.large-is in absurd (omega arith))
+
+  -- those of so many buckets are worked out
+  pub lift-up-to : (most : ℕ) → most < large → LiftedTo k old b most now
+  lift-up-to most f = record { level = m.level; within = m.within; up-to = let l = m.large-is in omega arith; long = m.long; rest = m.rest }
+
+  module _ (further : m.level < k) where
     -- where the group above stands
     abbrev above : ℕ
     above = group-place k (suc m.level) b
@@ -330,7 +352,7 @@ module _ (k : ℕ) (old : List ℕ) (b at number large least : ℕ) (now : List 
         }
 
     -- the turn from a left half, and from a right one
-    pub step-left : number % 2 ≡ 0 → Step k old b at number large least now (at - 1) (at + (large - 1))
+    step-left : number % 2 ≡ 0 → Step k old b at number large least now (at - 1) (at + (large - 1))
     step-left e =
         let z = sizes in
         let a = z.next-within in
@@ -353,10 +375,10 @@ module _ (k : ℕ) (old : List ℕ) (b at number large least : ℕ) (now : List 
     right-place e =
         m.place ∙ (turn k m.level b further h).odd (let w = m.which in rw w at (by-half 0 (number % 2) (λ d. d) (λ d. absurd (e (omega arith)))))
 
-    pub right-behind : (number % 2 ≡ 0 → ⊥) → large ≤ at
+    right-behind : (number % 2 ≡ 0 → ⊥) → large ≤ at
     right-behind e = let z = sizes in let c = z.large-of in let i = right-place e in omega arith
 
-    pub step-right : (number % 2 ≡ 0 → ⊥) → Step k old b at number large least now (at - large) (at - (large - 1))
+    step-right : (number % 2 ≡ 0 → ⊥) → Step k old b at number large least now (at - large) (at - (large - 1))
     step-right e =
         let z = sizes in
         let a = z.next-within in
@@ -370,4 +392,27 @@ module _ (k : ℕ) (old : List ℕ) (b at number large least : ℕ) (now : List 
           up-within = omega arith;
           beside-within = omega arith;
           next = λ v q. step (at - large) v (omega arith) (let r = rw (m.holds, j, i) at q in omega arith);
+        }
+
+    -- the turn from either
+    pub step-up : Step k old b at number large least now (above-place at number large) (beside-place at number large)
+    step-up =
+        by-half 0 (number % 2)
+        (λ o. rw (ne_eqb (number % 2) 0 (λ e. omega arith)) (step-right (λ e. omega arith)))
+        (λ o. let e : number % 2 ≡ 0 = omega arith in rw e (step-left e))
+
+    -- .. whose words are there
+    pub can-raise : CanRaise (length now) at number large
+    can-raise =
+        let w = place-within k m.level b m.within h in
+        let z = sizes in
+        let o = z.half-some in
+        let p = m.place in
+        let l = m.long in
+        let f = fit in
+        record {
+          some = f.some-large;
+          within = omega arith;
+          left = λ e. (let s = step-left e in let c = s.smaller in omega arith, (step-left e).beside-within);
+          right = right-behind;
         }

@@ -139,11 +139,11 @@ module _ (k j b : ℕ) (s : j ≤ k) where
   unfolding group-place
   place-high h = rw (lt-leb (suc k) j (omega arith), le-ltb b (size k) h)
 
-  number-low : b < size k → group-number (suc k) j b ≡ group-number k j b
+  pub number-low : b < size k → group-number (suc k) j b ≡ group-number k j b
   unfolding group-number
   number-low h = rw (lt-leb (suc k) j (omega arith), lt-ltb b (size k) h)
 
-  number-high : size k ≤ b → group-number (suc k) j b ≡ group-number k j (b - size k) + size (k - j)
+  pub number-high : size k ≤ b → group-number (suc k) j b ≡ group-number k j (b - size k) + size (k - j)
   unfolding group-number
   number-high h = rw (lt-leb (suc k) j (omega arith), le-ltb b (size k) h)
 
@@ -164,6 +164,23 @@ number-first (suc k) b h =
     by-half b (size k)
     (λ l. number-low k 0 b (omega arith) l ∙ number-first k b l)
     (λ g. let n = number-high k 0 b (omega arith) g in let i = number-first k (b - size k) (omega arith) in let z = ap size (sub-zero k) in omega arith)
+
+-- .. of as many as there are
+pub number-within : (k j b : ℕ) → j ≤ k → b < size k → group-number k j b < size (k - j)
+unfolding size
+number-within zero j b s h = let w = whole-number 0 j b (omega arith) in let o = size-some (0 - j) in omega arith
+number-within (suc k) j b s h =
+    by-half k j
+    (λ l. let w = whole-number (suc k) j b l in let o = size-some (suc k - j) in omega arith)
+    (λ l.
+    by-half j (suc k)
+    (λ d.
+    let q : suc k - j ≡ suc (k - j) = omega arith in
+    let z : size (suc k - j) ≡ size (k - j) + size (k - j) = ap size q in
+    by-half b (size k)
+    (λ c. let n = number-low k j b (omega arith) c in let i = number-within k j b (omega arith) c in omega arith)
+    (λ c. let n = number-high k j b (omega arith) c in let i = number-within k j (b - size k) (omega arith) (omega arith) in omega arith))
+    (λ d. absurd (omega arith)))
 
 -- the groups' words are all within the group
 pub place-within : (k j b : ℕ) → j ≤ k → b < size k → group-place k j b + half j ≤ half k

@@ -1,13 +1,13 @@
 //! The minima above one row's depth words: the smallest id of the whole row, of each half, of each quarter, down to one bucket. A group of 2 ^ k buckets has its
 //! own minimum first, then the words of its left half, then those of its right half. A place past the row's last bucket counts as 4,294,967,295.
-ghost use Rattle.std.specs.Prelude.{◌≡◌, ◌≤◌, ◌<◌, ◌^◌, ◌+◌, ◌*◌, ◌++◌, ℕ, List, length, get_or, eqb};
+ghost use Rattle.std.specs.Prelude.{◌≡◌, ◌≤◌, ◌<◌, ◌^◌, ◌+◌, ◌*◌, ◌++◌, ℕ, List, length, get_or, set, min, eqb};
 ghost use Rattle.rules.specs.Spans.{Span};
 ghost use Rattle.rules.specs.Minima.{size, half, minima-room, summary, hidden-in, mended, mended-runs};
 ghost use Rattle.rules.specs.Minima as rules;
 ghost use Rattle.span.specs.Spans as spans;
 ghost use Rattle.depth.specs.Answers.{hidden_of};
 ghost use Rattle.depth.specs.Listing.{numbers};
-ghost use Rattle.depth.specs.Minima.{IsGroup, Holds, leaf-place, lifted, hidden-asked};
+ghost use Rattle.depth.specs.Minima.{IsGroup, Holds, leaf-place, lifted, above-place, beside-place, CanRaise, LiftedTo, hidden-asked};
 
 use sizes::answers::Refusal;
 use span::BucketRange;
@@ -79,6 +79,24 @@ fn place_of(room: usize, bucket: usize) -> usize
     2 * bucket - bucket.count_ones() as usize + (room.count_ones() as usize - 1)
 }
 
+// The group above the one at `at`, which is the number-th of size / 2 buckets and whose minimum is given, is worked out again: where it stands, and its minimum.
+#[inline(always)]
+fn raise(minima: &mut [u32], at: usize, number: usize, size: usize, least: u32) -> (usize, u32)
+    requires { CanRaise (length minima.old) at number size }
+    ensures above { result.0 ≡ above-place at number size }
+    ensures least { result.1 ≡ min least (get_or minima.old (beside-place at number size) 0) }
+    ensures minima { minima.new ≡ set minima.old result.0 result.1 }
+{
+    let (up, beside) = if number % 2 == 0 {
+        (at - 1, at + (size - 1))
+    } else {
+        (at - size, at - (size - 1))
+    };
+    let smaller = least.min(minima[beside]);
+    minima[up] = smaller;
+    (up, smaller)
+}
+
 // The groups that have a bucket are worked out again from its own word up, which stands at `place` and holds the id.
 #[inline(always)]
 fn lift(minima: &mut [u32], place: usize, bucket: usize, id: u32)
@@ -91,14 +109,25 @@ fn lift(minima: &mut [u32], place: usize, bucket: usize, id: u32)
     let mut size: usize = 2;
     let mut least = id;
     while 0 < at {
-        let (up, beside) = if number % 2 == 0 {
-            (at - 1, at + (size - 1))
-        } else {
-            (at - size, at - (size - 1))
-        };
-        at = up;
-        least = least.min(minima[beside]);
-        minima[at] = least;
+        (at, least) = raise(minima, at, number, size, least);
+        number /= 2;
+        size *= 2;
+    }
+}
+
+// .. those of at most `most` buckets.
+#[inline(always)]
+fn lift_to(minima: &mut [u32], place: usize, bucket: usize, id: u32, most: usize)
+    requires group { (k : ℕ) × (length minima.old ≡ half k) × (bucket < size k) × (place ≡ leaf-place k bucket) × (most < size k) }
+    requires holds { get_or minima.old place 0 ≡ id }
+    ensures { (k : ℕ) → length minima.old ≡ half k → LiftedTo k minima.old bucket most minima.new }
+{
+    let mut at = place;
+    let mut number = bucket;
+    let mut size: usize = 2;
+    let mut least = id;
+    while size <= most {
+        (at, least) = raise(minima, at, number, size, least);
         number /= 2;
         size *= 2;
     }
@@ -106,7 +135,8 @@ fn lift(minima: &mut [u32], place: usize, bucket: usize, id: u32)
 
 /// A row's minima after its buckets from `first` to `end`, at least one, got the id: the groups that have one of these are worked out again. The words from
 /// the first bucket's own to the last's are those of groups that begin in the range: all of a group that the range has whole, and the tops of those that pass
-/// its end, which are worked out after it, as all that begin before it.
+/// its end, which are worked out after it, as all that begin before it. Above the last bucket those that do not have the first suffice: the first's are all
+/// worked out.
 pub fn mend(minima: &mut [u32], first: usize, end: usize, id: u32)
     requires group { IsGroup minima.old }
     requires range { (first < «end») × (2 * «end» ≤ length minima.old + 1) }
@@ -118,7 +148,7 @@ pub fn mend(minima: &mut [u32], first: usize, end: usize, id: u32)
     let to = place_of(room, last);
     minima[from..=to].fill(id);
     if first < last {
-        lift(minima, to, last, id);
+        lift_to(minima, to, last, id, first ^ last);
     }
     lift(minima, from, first, id);
 }

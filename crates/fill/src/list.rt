@@ -49,7 +49,8 @@ pub struct Stopped {
 }
 
 // The fills of draws that are in the list, in order, up to the first that is refused. The screen, the tables and the lists' lengths are judged once: a done fill
-// leaves them good. WAY is `fill_one`'s.
+// leaves them good. WAY is `fill_one`'s. Out of line, and the edition behind a reference: known when compiled, it costs the loops over segments registers.
+#[inline(never)]
 fn fill_turns<const WAY: u32>(
     screen: &mut Screen,
     rows: &mut Rows<'_>,
@@ -57,14 +58,14 @@ fn fill_turns<const WAY: u32>(
     paints: &[u32],
     segments: &[u32],
     draws: Draws<'_>,
-    edition: Edition,
+    edition: &Edition,
 ) -> Result<(), Stopped>
     requires order { draws.start ≤ draws.«end» }
-    requires within { draw-size edition * draws.«end» ≤ length draws.words.now }
-    requires known { WAY ≡ KNOWN → KnownDraws paints.now segments.now edition draws }
+    requires within { draw-size edition.now * draws.«end» ≤ length draws.words.now }
+    requires known { WAY ≡ KNOWN → KnownDraws paints.now segments.now edition.now draws }
     ensures same { SameRows rows.old rows.new }
     ensures filled { told (asked draws.entry) result (fill_lent_of screen.new rows.new paint_attrs.new)
-        ≡ fills_in_order paints.now segments.now (draws-of edition draws.entry) (fill_lent_of screen.old rows.old paint_attrs.old) }
+        ≡ fills_in_order paints.now segments.now (draws-of edition.now draws.entry) (fill_lent_of screen.old rows.old paint_attrs.old) }
 {
     if draws.start == draws.end {
         return Ok(());
@@ -75,7 +76,7 @@ fn fill_turns<const WAY: u32>(
     // A copy, whose numbers the loop keeps in registers.
     let mut own = *screen;
     for i in draws.start..draws.end {
-        let draw = draw_at(draws.words, edition, edition.draw() * i);
+        let draw = draw_at(draws.words, *edition, edition.draw() * i);
         if let Err(refusal) = fill_one::<WAY>(
             &mut own,
             rows,
@@ -97,7 +98,6 @@ fn fill_turns<const WAY: u32>(
 
 /// The fills of draws that are in the list, in order, up to the first that is refused. The screen, the tables and the lists are judged once: a done fill
 /// leaves them good.
-#[inline(never)]
 pub fn fill_each(
     screen: &mut Screen,
     rows: &mut Rows<'_>,
@@ -120,7 +120,7 @@ pub fn fill_each(
         paints,
         segments,
         draws,
-        edition,
+        &edition,
     )
 }
 
@@ -148,7 +148,7 @@ pub fn fill_known(
         paints,
         segments,
         draws,
-        edition,
+        &edition,
     )
 }
 

@@ -77,14 +77,7 @@ fn fill_turns<const WAY: u32>(
     let mut own = *screen;
     for i in draws.start..draws.end {
         let draw = draw_at(draws.words, *edition, edition.draw() * i);
-        if let Err(refusal) = fill_one::<WAY>(
-            &mut own,
-            rows,
-            paint_attrs,
-            paints,
-            segments,
-            draw,
-        ) {
+        if let Err(refusal) = fill_one::<WAY>(&mut own, rows, paint_attrs, paints, segments, draw) {
             *screen = own;
             return Err(Stopped {
                 done: i - draws.start,
@@ -113,15 +106,7 @@ pub fn fill_each(
     ensures filled { told (asked draws.entry) result (fill_lent_of screen.new rows.new paint_attrs.new)
         ≡ fills_in_order paints.now segments.now (draws-of edition draws.entry) (fill_lent_of screen.old rows.old paint_attrs.old) }
 {
-    fill_turns::<LISTED>(
-        screen,
-        rows,
-        paint_attrs,
-        paints,
-        segments,
-        draws,
-        &edition,
-    )
+    fill_turns::<LISTED>(screen, rows, paint_attrs, paints, segments, draws, &edition)
 }
 
 /// The same, where each draw is known to be good, and its segments good and in order, as in a judged recording: only room is looked for, and ids and attributes.
@@ -141,15 +126,7 @@ pub fn fill_known(
     ensures filled { told (asked draws.entry) result (fill_lent_of screen.new rows.new paint_attrs.new)
         ≡ fills_in_order paints.now segments.now (draws-of edition draws.entry) (fill_lent_of screen.old rows.old paint_attrs.old) }
 {
-    fill_turns::<KNOWN>(
-        screen,
-        rows,
-        paint_attrs,
-        paints,
-        segments,
-        draws,
-        &edition,
-    )
+    fill_turns::<KNOWN>(screen, rows, paint_attrs, paints, segments, draws, &edition)
 }
 
 /// Rules 3 to 7 for each of a range of draws, eight words each, in order. BadRecord, with nothing judged or done, where the words are no whole draws or the

@@ -46,12 +46,14 @@ module _ (r : Recording) (e : Edition) (ws ps ss : List ℕ) (k : Lent r ps ss)
         let o = both (every (λ (d : rule.Draw). ordered (draw-segments r.segments d)) r.draws) (every (good-clip-order r) r.layers) order in
         rw q (every-getD (λ (d : rule.Draw). ordered (draw-segments r.segments d)) r.draws i some-draw h o.0)
 
+    draw-good : (i : ℕ) {d : rule.Draw} → i < length r.draws → d ≡ get_or r.draws i some-draw → good-fill r.paints r.segments d ≡ true
+    draw-good i h q = rw (q, le-leb (length r.paints) 4096 few) (good-draw-at r good i some-draw h)
+
     pub known : (i : ℕ) → i < length r.draws → KnownDraw ps ss (draw_at e ws (draw-size e * i))
     known i h =
         let x = draw_at e ws (draw-size e * i) in
         let q = there i some-draw h in
-        let f : good-fill (paints-of ps) (segs-of ss) (draw-of x) ≡ true =
-        rw (paints-lent r ps k.paints k.paints-long, k.segments, q, le-leb (length r.paints) 4096 few) (good-draw-at r good i some-draw h) in
+        let f : good-fill (paints-of ps) (segs-of ss) (draw-of x) ≡ true = rw (paints-lent r ps k.paints k.paints-long, k.segments) (draw-good i h q) in
         let y = draw-facts ps ss x f in
         let g : good-range x.start x.end (length ss / 5) ≡ true = rw (le-leb x.start x.end y.range, le-leb x.end (length ss / 5) y.ends) refl in
         let s : every good-segment (segs-of ss) ≡ true = rw k.segments (record-facts r good).segments in

@@ -4,8 +4,13 @@ use Rattle.rules.specs.Recording.{good-records, good-order}
 use Rattle.file.specs.Held.{held, FitsIn}
 use Rattle.file.specs.declared.recording.Recording.{Recording}
 
--- the form is good, and so is every record, and every list is in order
+-- the form is good, and so is every record
 pub record ReadyIn (r : Recording) : Type 0 where
+  pub fits : FitsIn r
+  pub good : good-records (held r) ≡ true
+
+-- .. and every list is in order
+pub record JudgedIn (r : Recording) : Type 0 where
   pub fits : FitsIn r
   pub good : good-records (held r) ≡ true
   pub order : good-order (held r) ≡ true

@@ -12,7 +12,7 @@ ghost use Rattle.inputs.specs.Inputs.{filter-of};
 ghost use Rattle.file.specs.Records.{layer-of};
 ghost use Rattle.file.specs.Held.{held, FitsIn};
 ghost use Rattle.layers.specs.Filter.{given, given_of};
-ghost use Rattle.walk.specs.Ready.{ReadyIn};
+ghost use Rattle.walk.specs.Ready.{JudgedIn};
 ghost use Rattle.walk.specs.Reading.{props_in};
 ghost use Rattle.walk.specs.Steps.{filter_in, call_at, filter_step, draws-walked};
 
@@ -47,7 +47,7 @@ pub fn walk_draws(
     b: usize,
     lent: &mut Lent<'_>,
 ) -> Result<(), Refusal>
-    requires ready { ReadyIn file.now }
+    requires ready { JudgedIn file.now }
     requires order { a ≤ b }
     requires ends { b ≤ length (held file.now).draws }
     ensures same { SameLent lent.old lent.new }

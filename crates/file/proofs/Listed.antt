@@ -1,10 +1,7 @@
 -- A file's segment section as a list of its own, and its lists' order.
 use Rattle.std.proofs.Common.{ℕ, zero, suc, ◌+◌, ◌-◌, ◌*◌, ◌/◌, ◌≤◌, ◌<◌, add-zero, add_assoc, mul-zero, arith, ◌≡◌, refl, sym, ap, ◌∙◌, Bool, true, false, not, cond, List, [], ◌∷◌, length, get_or}
-use Rattle.std.proofs.Common.{take, drop, length-take, length-drop, get_or-take, get_or-drop, leb, eqb, leb-true, ne_eqb, Result, Ok, Err}
-use Rattle.std.specs.Result.{is_ok}
-use Rattle.sizes.specs.declared.answers.Refusal.{Refusal}
-use Rattle.sizes.specs.Refusals.{number_of, answer_number}
-use Rattle.sizes.proofs.Refusals.{not_done}
+use Rattle.std.proofs.Common.{take, drop, length-take, length-drop, get_or-take, get_or-drop, leb, eqb, leb-true, eqb-true}
+use borrow.Author.Tests.{eqb-false}
 use Rattle.std.specs.List.{list_all, range_with_len}
 use Rattle.rules.specs.Lists.{every, slice}
 use Rattle.rules.specs.Segments.{Segment, good-segment, ordered, judge-segments}
@@ -88,10 +85,20 @@ module _ {A : Type 0} (test : A → Bool) where
       let h = both (test x) (every test xs) q in
       rw h.0 (every_take n xs h.1)
 
--- what an `Ok` says of its answer
-pub fine : {T : Type 0} (r : Result T Refusal) → is_ok r ≡ eqb (answer_number r) 0
-fine (Ok x) = refl
-fine (Err r) = sym (ne_eqb (number_of r) 0 (not_done r))
+-- a broken order is no number 0
+pub four-or-five : (t : Bool) → false ≡ eqb (cond t 4 5) 0
+four-or-five true = refl
+four-or-five false = refl
+
+-- each of a list of good segments
+good-there : (ws : List ℕ) (i k n : ℕ) → every good-segment (segs ws i k) ≡ true → i ≤ n → n < i + k → good-segment (seg-at ws n) ≡ true
+unfolding segs
+good-there ws i zero n q l h = absurd (omega arith)
+good-there ws i (suc k) n q l h = go (eqb i n) refl (good-there ws (i + 1) k n (both (good-segment (seg-at ws i)) (every good-segment (segs ws (i + 1) k)) q).1)
+  where
+    go : (t : Bool) → eqb i n ≡ t → (i + 1 ≤ n → n < i + 1 + k → good-segment (seg-at ws n) ≡ true) → good-segment (seg-at ws n) ≡ true
+    go true e m = let z = eqb-true i n e in rw z at (both (good-segment (seg-at ws i)) (every good-segment (segs ws (i + 1) k)) q).0
+    go false e m = let z = eqb-false i n e in m (omega arith) (omega arith)
 
 only-order : (t : Bool) → eqb (cond (not t) 5 0) 0 ≡ t
 only-order true = refl
@@ -103,11 +110,14 @@ judged-good ss q = rw q (only-order (ordered ss))
 
 -- a range of a list of good segments: only its order is left to be judged
 module _ (ws : List ℕ) (a b : ℕ) (g : good-range a b (length ws / 5) ≡ true) where
-  range-order : a ≤ b
+  pub range-order : a ≤ b
   range-order = leb-true a b (both (leb a b) (leb b (length ws / 5)) g).0
 
   range-end : b ≤ length ws / 5
   range-end = leb-true b (length ws / 5) (both (leb a b) (leb b (length ws / 5)) g).1
+
+  pub range-good : every good-segment (segs-of ws) ≡ true → (i : ℕ) → i < b → {s : Segment} → s ≡ seg-at ws i → good-segment s ≡ true
+  range-good q i h e = rw e (good-there ws 0 (length ws / 5) i q (omega arith) (omega (arith, range-end)))
 
   pub range-judged : every good-segment (segs-of ws) ≡ true
       → eqb (judge-segments false (segs ws a (b - a))) 0 ≡ ordered (slice a b (segs-of ws))

@@ -18,7 +18,7 @@ use crate::form::{Layout, Section};
 use crate::records::{Layer, layer_at, node_at, root_at};
 use inputs::draws::draw_at;
 use inputs::is_good_range;
-use segments::{judge_segments, segment_at};
+use segments::{NO_SEGMENT, segment_at};
 use sizes::answers::Refusal;
 use sizes::{HANDLE_END, NODE, PAINT, SEGMENT};
 
@@ -102,7 +102,15 @@ fn is_ordered(list: &[u32], start: usize, end: usize) -> bool
     requires good { every good-segment (segs-of list.now) ≡ true }
     ensures { result ≡ ordered (slice start «end» (segs-of list.now)) }
 {
-    judge_segments(list, start, end).is_ok()
+    let mut last = NO_SEGMENT;
+    for i in start..end {
+        let next = segment_at(list, i);
+        if !last.precedes(next) {
+            return false;
+        }
+        last = next;
+    }
+    true
 }
 
 // The segments of a layer's clip stand in order, if there is a clip.

@@ -57,7 +57,7 @@ module _ (ps ss : List ℕ) (d : Draw) where
   paint_at true y z w false e = refl
   paint_at false y z w false e = refl
 
-  fill_at : good-fill-at ps ss d ≡ good-fill (paints-of ps) (segs-of ss) (draw-of d)
+  pub fill_at : good-fill-at ps ss d ≡ good-fill (paints-of ps) (segs-of ss) (draw-of d)
   unfolding draw_fields
   fill_at =
       rw (paints-count ps, segs-count ss)

@@ -11,6 +11,7 @@ pub mod Running
 pub mod Rising
 pub mod Judged
 pub mod Sure
+pub mod Rooms
 pub mod InOrder
 pub mod Still
 pub mod DoneOnes

@@ -142,7 +142,7 @@ module _ (ws : List ℕ) where
   segs-one : (i : ℕ) → segs ws i (i + 1 - i) ≡ seg-at ws i ∷ []
   segs-one i = segs-first ws i (i + 1) (omega arith) ∙ ap (λ (t : List Segment). seg-at ws i ∷ t) (segs-end ws (i + 1) (i + 1) (omega arith))
 
-  good-each : (k a b : ℕ) → b ≤ a + k → every good-segment (segs ws a (b - a)) ≡ true → (i : ℕ) → a ≤ i → i < b → good-segment (seg-at ws i) ≡ true
+  pub good-each : (k a b : ℕ) → b ≤ a + k → every good-segment (segs ws a (b - a)) ≡ true → (i : ℕ) → a ≤ i → i < b → good-segment (seg-at ws i) ≡ true
   good-each zero a b h g i p q = absurd (omega arith)
   good-each (suc k) a b h g i p q = go (eqb a i) refl (λ z. good-each k (a + 1) b (omega arith) (good-rest ws a b (omega arith) g) i (omega (arith, z)) q)
     where

@@ -278,7 +278,7 @@ module _ {j : FillJob} {n : ℕ} {rows ws : List ℕ} {a b r f e m i : ℕ} (v :
   all-sure l h o = let w = v.walk h in surely (still-sure w.sure r w.rises w.ran v.before o) l
 
   -- one more segment
-  goes_on : (k : ℕ) → i < b → (seg-at ws i).row ≡ r → (r < 8192 → good-segment (seg-at ws i) ≡ true) → e ≤ (seg-at ws i).first
+  pub goes_on : (k : ℕ) → i < b → (seg-at ws i).row ≡ r → (r < 8192 → good-segment (seg-at ws i) ≡ true) → e ≤ (seg-at ws i).first
       → k ≡ split_off j.eligible (1 - (seg-at ws i).kind) → k ≤ 1 → Walking j n rows ws a b r f (seg-at ws i).end (m + k) (i + 1)
   goes_on k l p g o q s =
       record {

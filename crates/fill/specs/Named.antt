@@ -1,6 +1,9 @@
 -- A fill's rows and segments, by the code's own values: what the contracts of this crate say in one word.
-use Rattle.std.specs.Prelude.{ℕ, ◌+◌, ◌-◌, ◌*◌, ◌≤◌, ◌≡◌, Bool, true, List, length}
-use Rattle.rules.specs.Segments.{good-segment}
+use Rattle.std.specs.Prelude.{ℕ, ◌+◌, ◌-◌, ◌*◌, ◌≤◌, ◌<◌, ◌≡◌, Bool, true, false, List, length}
+use Rattle.sizes.specs.Editions.{draw-size}
+use Rattle.rules.specs.Answers.{Done}
+use Rattle.rules.specs.Segments.{good-segment, judge-segments}
+use Rattle.rules.specs.Inputs.{good-fill}
 use Rattle.rules.specs.Plans.{Put}
 use Rattle.row.specs.Words.{Words}
 use Rattle.row.specs.declared.rows.Rows.{Rows}
@@ -8,13 +11,15 @@ use Rattle.row.specs.Rows.{all-held}
 use Rattle.row.specs.Arena.{sizes, cut, count-rows}
 use Rattle.screen.specs.declared.Screen.{Screen}
 use Rattle.screen.specs.Screens.{frame-of, screen-in}
-use Rattle.segments.specs.Segs.{seg-at}
+use Rattle.segments.specs.Segs.{seg-at, segs, segs-of}
 use Rattle.fill.specs.declared.rows.FillJob.{FillJob}
 use Rattle.fill.specs.Filling.{puts, done, Roomy}
-use Rattle.fill.specs.Fills.{FillLent, fill_lent}
+use Rattle.fill.specs.Fills.{FillLent, fill_lent, paints-of}
 use Rattle.fill.specs.Tallies.{Rowed}
 use Rattle.sizes.specs.declared.edition.Edition.{Edition}
 use Rattle.inputs.specs.declared.Draw.{Draw}
+use Rattle.inputs.specs.Inputs.{draw-of}
+use Rattle.inputs.specs.Draws.{draw_at}
 use Rattle.fill.specs.declared.list.Draws.{Draws}
 use Rattle.fill.specs.Lists.{FillsOut, draws_in, fills_listed}
 
@@ -61,6 +66,15 @@ asked d = d.end - d.start
 -- .. and which, in an edition
 abbrev pub draws-of : Edition → Draws → List Draw
 draws-of e d = draws_in e d.words.now d.start (asked d)
+
+-- a draw that passes the tests of a fill, and whose segments pass theirs and stand in order
+pub record KnownDraw (ps ss : List ℕ) (d : Draw) : Type 0 where
+  pub fill : good-fill (paints-of ps) (segs-of ss) (draw-of d) ≡ true
+  pub list : judge-segments false (segs ss d.start (d.end - d.start)) ≡ Done
+
+-- .. each of a range of draws, in an edition
+abbrev pub KnownDraws : List ℕ → List ℕ → Edition → Draws → Type 0
+KnownDraws ps ss e ds = (i : ℕ) → ds.start ≤ i → i < ds.end → KnownDraw ps ss (draw_at e ds.words.now (draw-size e * i))
 
 -- what a list's fills give
 abbrev pub fills-of : List ℕ → List ℕ → Draws → FillLent → FillsOut

@@ -1,12 +1,13 @@
 //! Judging a fill's segments and the rows that they come to (BadRecord, BadOrder, FullRow and FullDepth), in one pass, before anything is done: by a sure look,
 //! and exactly where that look is not sure. WAY is `fill_one`'s: it changes nothing of what is said.
-ghost use Rattle.std.specs.Prelude.{◌≡◌, true, ◌≤◌, ◌<◌, length};
+ghost use Rattle.std.specs.Prelude.{◌≡◌, true, false, cond, ◌-◌, ◌≤◌, ◌<◌, length};
 ghost use Rattle.sizes.specs.Sizes.{most-layers, most-room, row-size};
-ghost use Rattle.rules.specs.Segments.{good-segment};
+ghost use Rattle.rules.specs.Answers.{Done};
+ghost use Rattle.rules.specs.Segments.{good-segment, judge-segments};
 ghost use Rattle.span.specs.Spans.{tiles};
 ghost use Rattle.sizes.specs.Widths.{bucket-tiles};
 ghost use Rattle.row.specs.Counts.{counts};
-ghost use Rattle.segments.specs.Segs.{segment-of};
+ghost use Rattle.segments.specs.Segs.{segment-of, segs};
 ghost use Rattle.row.specs.Cmds.{Short};
 ghost use Rattle.row.specs.Room.{at-hand, Low, Told};
 ghost use Rattle.fill.specs.Tallies.{edge_count, added, marked_by, limits_of, hand_cuts, Took, Listed};
@@ -14,7 +15,7 @@ ghost use Rattle.fill.specs.Filling.{cut_for};
 ghost use Rattle.fill.specs.Named.{RecordsOf, InList};
 ghost use Rattle.fill.specs.Sure.{Few, Roomed, RoomAt, number_in};
 
-use crate::rows::FillJob;
+use crate::rows::{FillJob, KNOWN};
 use row::acts::is_unsplit;
 use row::judge::is_good_row;
 use row::part;
@@ -211,6 +212,62 @@ fn is_sure<const WAY: u32>(
     row < TILE_END && has_room_at(rows, job, row, i - from, split)
 }
 
+// The same of a run of so many segments on one row, whatever they are: each may be split, if any may.
+fn has_room_for(rows: &[u32], job: FillJob, row: u32, segments: usize) -> bool
+    requires rows { RecordsOf job rows.now }
+    requires few { segments ≤ 4611686018427387904 }
+    ensures { result ≡ true → RoomAt job rows.now row segments (cond job.eligible segments 0) }
+{
+    let split = if job.eligible { segments } else { 0 };
+    has_room_at(rows, job, row, segments, split)
+}
+
+// Of a list that is good and in order, yes only where the number is 0: each row has room for the most that its segments come to, looked at once for all of them.
+fn has_rooms(rows: &[u32], list: &[u32], start: usize, end: usize, job: FillJob) -> bool
+    requires rows { RecordsOf job rows.now }
+    requires range { start < «end» }
+    requires list { InList list.now «end» }
+    requires judged { judge-segments false (segs list.now start («end» - start)) ≡ Done }
+    ensures { result ≡ true → number_in job rows.now list.now start «end» ≡ 0 }
+{
+    let mut row = list[SEGMENT * start + 1];
+    let mut from = start;
+    let mut i = start + 1;
+    while i < end {
+        let here = list[SEGMENT * i + 1];
+        if here != row {
+            if !has_room_for(rows, job, row, i - from) {
+                return false;
+            }
+            row = here;
+            from = i;
+        }
+        i += 1;
+    }
+    has_room_for(rows, job, row, i - from)
+}
+
+// The sure look of a WAY: at all that is not known of its list.
+fn is_sure_by<const WAY: u32>(
+    rows: &[u32],
+    list: &[u32],
+    start: usize,
+    end: usize,
+    job: FillJob,
+) -> bool
+    requires rows { RecordsOf job rows.now }
+    requires range { start < «end» }
+    requires list { InList list.now «end» }
+    requires known { WAY ≡ KNOWN → judge-segments false (segs list.now start («end» - start)) ≡ Done }
+    ensures { result ≡ true → number_in job rows.now list.now start «end» ≡ 0 }
+{
+    if WAY == KNOWN {
+        has_rooms(rows, list, start, end, job)
+    } else {
+        is_sure::<WAY>(rows, list, start, end, job)
+    }
+}
+
 /// The segments from start to end of a list: BadRecord for a bad one or for the bad record of a row that gets one, then BadOrder, at once; else what was found
 /// of the rows, whether one passes C, or D.
 pub fn judge_list<const WAY: u32>(
@@ -223,9 +280,10 @@ pub fn judge_list<const WAY: u32>(
     requires rows { RecordsOf job rows.now }
     requires range { start ≤ «end» }
     requires list { InList list.now «end» }
+    requires known { WAY ≡ KNOWN → judge-segments false (segs list.now start («end» - start)) ≡ Done }
     ensures { Listed (number_in job rows.now list.now start «end») result }
 {
-    if start < end && is_sure::<WAY>(rows, list, start, end, job) {
+    if start < end && is_sure_by::<WAY>(rows, list, start, end, job) {
         return Ok(Fault::Nothing);
     }
     match judge_each(rows, list, start, end, job)? {

@@ -13,10 +13,10 @@ ghost use Rattle.row.specs.Rows.{SameRows};
 ghost use Rattle.screen.specs.Screens.{good_screen};
 ghost use Rattle.inputs.specs.Inputs.{draw-of};
 ghost use Rattle.fill.specs.Fills.{paint-at, paints-of, good-draw-at, good-fill-at, job_of, attr-of, first-of-lent, fill_number, fill_done, filled};
-ghost use Rattle.fill.specs.Named.{fill_lent_of, OnlyFilled};
+ghost use Rattle.fill.specs.Named.{fill_lent_of, KnownDraw, OnlyFilled};
 
 use crate::judge::judge_list;
-use crate::rows::{ALONE, FillJob, fill_rows};
+use crate::rows::{ALONE, FillJob, KNOWN, fill_rows};
 use cmd::attrs::{PaintFillAttrs, put_paint_attrs};
 use inputs::Draw;
 use row::Rows;
@@ -53,6 +53,14 @@ fn is_good_fill(paints: &[u32], segments: &[u32], draw: Draw) -> bool
     ensures { result ≡ good-fill-at paints.now segments.now draw }
 {
     paints.len() / PAINT <= MOST_RECORDS && is_good_draw(paints, segments, draw)
+}
+
+// The same, without a look where it is known.
+fn is_good_by<const WAY: u32>(paints: &[u32], segments: &[u32], draw: Draw) -> bool
+    requires known { WAY ≡ KNOWN → KnownDraw paints.now segments.now draw }
+    ensures { result ≡ good-fill-at paints.now segments.now draw }
+{
+    WAY == KNOWN || is_good_fill(paints, segments, draw)
 }
 
 /// Rule 6: whether the solid segments of a draw may become depth fills. No layer is open, the blend is the default, there is no mask, and the paint is opaque.
@@ -122,12 +130,13 @@ fn judge_fill<const WAY: u32>(
     segments: &[u32],
     draw: Draw,
 ) -> Result<FillJob, Refusal>
-    requires { first-of-lent (fill_lent_of screen rows.now paint_attrs.now) paints.now segments.now ≡ 0 }
+    requires judged { first-of-lent (fill_lent_of screen rows.now paint_attrs.now) paints.now segments.now ≡ 0 }
+    requires known { WAY ≡ KNOWN → KnownDraw paints.now segments.now draw }
     ensures job { IfOk result (λ j. j ≡ job_of screen paints.now draw) }
     ensures number { answer_number result
         ≡ fill_number (fill_lent_of screen rows.now paint_attrs.now) paints.now segments.now draw }
 {
-    if !is_good_fill(paints, segments, draw) {
+    if !is_good_by::<WAY>(paints, segments, draw) {
         return Err(Refusal::BadRecord);
     }
     let job = job_of(screen, paints, draw);
@@ -171,7 +180,8 @@ fn fill_one<const WAY: u32>(
     segments: &[u32],
     draw: Draw,
 ) -> Result<(), Refusal>
-    requires { first-of-lent (fill_lent_of screen.old rows.old paint_attrs.old) paints.now segments.now ≡ 0 }
+    requires judged { first-of-lent (fill_lent_of screen.old rows.old paint_attrs.old) paints.now segments.now ≡ 0 }
+    requires known { WAY ≡ KNOWN → KnownDraw paints.now segments.now draw }
     ensures same { SameRows rows.old rows.new }
     ensures left { OnlyFilled screen.old screen.new }
     ensures refused { answer_number result

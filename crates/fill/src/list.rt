@@ -2,10 +2,10 @@
 ghost use Rattle.std.specs.Prelude.{◌≡◌, ◌-◌, ◌*◌, ◌≤◌, length};
 ghost use Rattle.sizes.specs.Editions.{draw-size};
 ghost use Rattle.row.specs.Rows.{SameRows};
-ghost use Rattle.fill.specs.Named.{fill_lent_of, asked, draws-of, fills-of};
+ghost use Rattle.fill.specs.Named.{fill_lent_of, asked, draws-of, fills-of, KnownDraws};
 ghost use Rattle.fill.specs.Lists.{fills_in_order, good-draws, told};
 
-use crate::rows::LISTED;
+use crate::rows::{KNOWN, LISTED};
 use crate::{fill_one, judge_lent};
 use inputs::draws::draw_at;
 use row::Rows;
@@ -48,6 +48,47 @@ pub struct Stopped {
     pub refusal: Refusal,
 }
 
+// The fills of draws that are in the list, in order, up to the first that is refused. The screen, the tables and the lists' lengths are judged once: a done fill
+// leaves them good. WAY is `fill_one`'s. Out of line, and the edition behind a reference: known when compiled, it costs the loops over segments registers.
+#[inline(never)]
+fn fill_turns<const WAY: u32>(
+    screen: &mut Screen,
+    rows: &mut Rows<'_>,
+    paint_attrs: &mut [u32],
+    paints: &[u32],
+    segments: &[u32],
+    draws: Draws<'_>,
+    edition: &Edition,
+) -> Result<(), Stopped>
+    requires order { draws.start ≤ draws.«end» }
+    requires within { draw-size edition.now * draws.«end» ≤ length draws.words.now }
+    requires known { WAY ≡ KNOWN → KnownDraws paints.now segments.now edition.now draws }
+    ensures same { SameRows rows.old rows.new }
+    ensures filled { told (asked draws.entry) result (fill_lent_of screen.new rows.new paint_attrs.new)
+        ≡ fills_in_order paints.now segments.now (draws-of edition.now draws.entry) (fill_lent_of screen.old rows.old paint_attrs.old) }
+{
+    if draws.start == draws.end {
+        return Ok(());
+    }
+    if let Err(refusal) = judge_lent(*screen, rows, paint_attrs, paints, segments) {
+        return Err(Stopped { done: 0, refusal });
+    }
+    // A copy, whose numbers the loop keeps in registers.
+    let mut own = *screen;
+    for i in draws.start..draws.end {
+        let draw = draw_at(draws.words, *edition, edition.draw() * i);
+        if let Err(refusal) = fill_one::<WAY>(&mut own, rows, paint_attrs, paints, segments, draw) {
+            *screen = own;
+            return Err(Stopped {
+                done: i - draws.start,
+                refusal,
+            });
+        }
+    }
+    *screen = own;
+    Ok(())
+}
+
 /// The fills of draws that are in the list, in order, up to the first that is refused. The screen, the tables and the lists are judged once: a done fill
 /// leaves them good.
 pub fn fill_each(
@@ -65,33 +106,27 @@ pub fn fill_each(
     ensures filled { told (asked draws.entry) result (fill_lent_of screen.new rows.new paint_attrs.new)
         ≡ fills_in_order paints.now segments.now (draws-of edition draws.entry) (fill_lent_of screen.old rows.old paint_attrs.old) }
 {
-    if draws.start == draws.end {
-        return Ok(());
-    }
-    if let Err(refusal) = judge_lent(*screen, rows, paint_attrs, paints, segments) {
-        return Err(Stopped { done: 0, refusal });
-    }
-    // A copy, whose numbers the loop keeps in registers.
-    let mut own = *screen;
-    for i in draws.start..draws.end {
-        let draw = draw_at(draws.words, edition, edition.draw() * i);
-        if let Err(refusal) = fill_one::<LISTED>(
-            &mut own,
-            rows,
-            paint_attrs,
-            paints,
-            segments,
-            draw,
-        ) {
-            *screen = own;
-            return Err(Stopped {
-                done: i - draws.start,
-                refusal,
-            });
-        }
-    }
-    *screen = own;
-    Ok(())
+    fill_turns::<LISTED>(screen, rows, paint_attrs, paints, segments, draws, &edition)
+}
+
+/// The same, where each draw is known to be good, and its segments good and in order, as in a judged recording: only room is looked for, and ids and attributes.
+pub fn fill_known(
+    screen: &mut Screen,
+    rows: &mut Rows<'_>,
+    paint_attrs: &mut [u32],
+    paints: &[u32],
+    segments: &[u32],
+    draws: Draws<'_>,
+    edition: Edition,
+) -> Result<(), Stopped>
+    requires order { draws.start ≤ draws.«end» }
+    requires within { draw-size edition * draws.«end» ≤ length draws.words.now }
+    requires known { KnownDraws paints.now segments.now edition draws }
+    ensures same { SameRows rows.old rows.new }
+    ensures filled { told (asked draws.entry) result (fill_lent_of screen.new rows.new paint_attrs.new)
+        ≡ fills_in_order paints.now segments.now (draws-of edition draws.entry) (fill_lent_of screen.old rows.old paint_attrs.old) }
+{
+    fill_turns::<KNOWN>(screen, rows, paint_attrs, paints, segments, draws, &edition)
 }
 
 /// Rules 3 to 7 for each of a range of draws, eight words each, in order. BadRecord, with nothing judged or done, where the words are no whole draws or the

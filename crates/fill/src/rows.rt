@@ -27,6 +27,12 @@ pub const LISTED: u32 = 1;
 /// .. of one segment (`single`).
 pub const ONE: u32 = 2;
 
+/// .. one of a list whose draws are known to be good and in order (`KnownDraw`).
+pub const KNOWN: u32 = 3;
+
+/// .. of one segment, in such a list.
+pub const KNOWN_ONE: u32 = 4;
+
 /// What stays the same over all the segments of a fill: the scene, room for c commands and d depth fills in a row, how many layers are open, whether solid
 /// segments are eligible (rule 6), the place of the attribute, the draw's id, and the width of a depth bucket.
 #[derive(Clone, Copy, Debug, PartialEq, Eq)]
@@ -211,7 +217,7 @@ fn fill_in<const WAY: u32, const SPLIT: bool>(
     }
 }
 
-/// The segments from start to end of a list that is judged. A draw that may be split has loops of its own.
+/// The segments from start to end of a list that is judged. A draw that may be split has loops of its own; a known draw of one segment has none.
 pub fn fill_rows<const WAY: u32>(
     rows: &mut Rows<'_>,
     segs: &[u32],
@@ -224,6 +230,10 @@ pub fn fill_rows<const WAY: u32>(
     ensures same { SameRows rows.old rows.new }
     ensures rows { all-held rows.new ≡ lay (rows_after job segs.now start «end» (held_rows job rows.old)) }
 {
+    if WAY == KNOWN && start + 1 == end {
+        fill_alone::<KNOWN_ONE>(rows, segs, start, job);
+        return;
+    }
     if job.eligible {
         fill_in::<WAY, true>(rows, segs, start, end, job);
     } else {
@@ -232,15 +242,15 @@ pub fn fill_rows<const WAY: u32>(
 }
 
 /// The one segment i of a list that is judged.
-pub fn fill_alone(rows: &mut Rows<'_>, segs: &[u32], i: usize, job: FillJob)
+pub fn fill_alone<const WAY: u32>(rows: &mut Rows<'_>, segs: &[u32], i: usize, job: FillJob)
     requires split { job.eligible ≡ true → job.layers ≡ 0 }
     requires ready { FillReady job (count-rows rows.old.state.now) segs.now i (i + 1) (all-held rows.old) }
     ensures same { SameRows rows.old rows.new }
     ensures rows { all-held rows.new ≡ lay (rows_after job segs.now i (i + 1) (held_rows job rows.old)) }
 {
     if job.eligible {
-        fill_segment::<ONE, true>(rows, segs, i, job);
+        fill_segment::<WAY, true>(rows, segs, i, job);
     } else {
-        fill_segment::<ONE, false>(rows, segs, i, job);
+        fill_segment::<WAY, false>(rows, segs, i, job);
     }
 }

@@ -7,7 +7,7 @@ ghost use Rattle.fill.specs.Named.{fill_lent_of, RecordsOf, InList, OnlyFilled};
 ghost use Rattle.fill.specs.Sure.{number_in};
 
 use crate::judge::has_room_at;
-use crate::rows::{FillJob, fill_alone};
+use crate::rows::{FillJob, ONE, fill_alone};
 use crate::{attrs_of, is_good_fill, job_of};
 use cmd::attrs::put_paint_attrs;
 use inputs::Draw;
@@ -89,7 +89,7 @@ pub fn fill_single(
     };
     let attrs = attrs_of(*screen, draw);
     put_paint_attrs(paint_attrs, screen.paint_attrs as usize, attrs);
-    fill_alone(rows, segments, draw.start, job);
+    fill_alone::<ONE>(rows, segments, draw.start, job);
     screen.take_fill(1);
     true
 }

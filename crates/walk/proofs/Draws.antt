@@ -1,23 +1,33 @@
 -- A run of draws: a list of fills on a part of what is lent is the run on the whole.
-use Rattle.std.proofs.Common.{ℕ, zero, suc, ◌+◌, ◌-◌, ◌*◌, ◌≤◌, ◌<◌, ◌≡◌, refl, sym, ap, ◌∙◌, arith, Bool, true, false, cond, List, [], length, get_or, eqb, eqb-true, eq-eqb}
+use Rattle.std.proofs.Common.{ℕ, zero, suc, ◌+◌, ◌-◌, ◌*◌, ◌/◌, ◌≤◌, ◌<◌, ◌≡◌, refl, sym, ap, ◌∙◌, arith, Bool, true, false, cond, List, [], length, get_or, eqb, eqb-true, eq-eqb, le-leb}
 use Rattle.sizes.specs.declared.edition.Edition.{Edition}
 use Rattle.sizes.specs.Editions.{draw-size}
-use Rattle.rules.specs.Lists.{slice}
+use Rattle.rules.specs.Lists.{slice, every}
+use Rattle.rules.specs.Spans.{good-range}
+use Rattle.rules.specs.Segments.{good-segment, ordered, judge-segments}
+use Rattle.rules.proofs.All.{both}
 use Rattle.rules.specs.Answers.{Answer, answer}
 use Rattle.rules.specs.Inputs as rule
-use Rattle.rules.specs.Recording.{Recording, draw-rec}
+use Rattle.rules.specs.Inputs.{draw-segments, good-fill}
+use Rattle.rules.specs.Recording.{Recording, draw-rec, good-records, good-order, good-clip-order}
+use Rattle.segments.specs.Segs.{segs, segs-of}
+use Rattle.file.proofs.Laws.{record-facts, good-draw-at}
+use Rattle.file.proofs.Counted.{every-getD}
+use Rattle.file.proofs.Listed.{range-judged}
 use Rattle.rules.specs.Walk.{◌then◌, each, go_on}
 use Rattle.screen.specs.Tables.{ScreenLent}
 use Rattle.inputs.specs.declared.Draw.{Draw}
 use Rattle.inputs.specs.Inputs.{draw-of}
 use Rattle.inputs.specs.Draws.{draw_at}
-use Rattle.fill.specs.Fills.{FillLent, filled}
+use Rattle.fill.specs.Fills.{FillLent, filled, paints-of}
+use Rattle.fill.specs.Named.{KnownDraw}
+use Rattle.fill.proofs.Inputs.{draw-facts}
 use Rattle.fill.specs.Lists.{FillsOut, draws_in, fills_in_order}
 use Rattle.fill.proofs.DoneOnes.{in-order-each}
 use Rattle.walk.specs.Reading.{draw_in}
 use Rattle.walk.specs.Steps.{fill-part, fill-into, with_value, draw_step}
 use Rattle.walk.proofs.Calls.{fill_step}
-use Rattle.walk.proofs.Lists.{Lent, same_filled}
+use Rattle.walk.proofs.Lists.{Lent, paints-lent, same_filled}
 use Rattle.walk.proofs.Runs.{ended, refused, turned}
 
 abbrev pub some-draw : rule.Draw
@@ -27,6 +37,28 @@ module _ (r : Recording) (e : Edition) (ws ps ss : List ℕ) (k : Lent r ps ss)
     (there : (i : ℕ) (d : rule.Draw) → i < length r.draws → draw-of (draw_at e ws (draw-size e * i)) ≡ get_or r.draws i d) where
   abbrev one : Draw → FillLent → Answer FillLent
   one d x = filled x ps ss d
+
+  -- of a recording whose records are good and whose lists are in order each draw is known
+  module _ (few : length r.paints ≤ 4096) (good : good-records r ≡ true) (order : good-order r ≡ true) where
+    draw-order : (i : ℕ) {d : rule.Draw} → i < length r.draws → d ≡ get_or r.draws i some-draw → ordered (draw-segments r.segments d) ≡ true
+    unfolding good-order
+    draw-order i h q =
+        let o = both (every (λ (d : rule.Draw). ordered (draw-segments r.segments d)) r.draws) (every (good-clip-order r) r.layers) order in
+        rw q (every-getD (λ (d : rule.Draw). ordered (draw-segments r.segments d)) r.draws i some-draw h o.0)
+
+    draw-good : (i : ℕ) {d : rule.Draw} → i < length r.draws → d ≡ get_or r.draws i some-draw → good-fill r.paints r.segments d ≡ true
+    draw-good i h q = rw (q, le-leb (length r.paints) 4096 few) (good-draw-at r good i some-draw h)
+
+    pub known : (i : ℕ) → i < length r.draws → KnownDraw ps ss (draw_at e ws (draw-size e * i))
+    known i h =
+        let x = draw_at e ws (draw-size e * i) in
+        let q = there i some-draw h in
+        let f : good-fill (paints-of ps) (segs-of ss) (draw-of x) ≡ true = rw (paints-lent r ps k.paints k.paints-long, k.segments) (draw-good i h q) in
+        let y = draw-facts ps ss x f in
+        let g : good-range x.start x.end (length ss / 5) ≡ true = rw (le-leb x.start x.end y.range, le-leb x.end (length ss / 5) y.ends) refl in
+        let s : every good-segment (segs-of ss) ≡ true = rw k.segments (record-facts r good).segments in
+        let o : ordered (slice x.start x.end (segs-of ss)) ≡ true = rw k.segments (draw-order i h q) in
+        record { fill = f; list = eqb-true (judge-segments false (segs ss x.start (x.end - x.start))) 0 (range-judged ss x.start x.end g s ∙ o) }
 
   -- the fill of draw i is the recording's step
   one-step : (i : ℕ) (l : ScreenLent) → i < length r.draws

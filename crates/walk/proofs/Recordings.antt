@@ -5,7 +5,7 @@ use Rattle.rules.specs.Answers.{Answer, answer}
 use Rattle.rules.specs.Boxes.{Box}
 use Rattle.rules.specs.Plans.{Frame}
 use Rattle.rules.specs.Setups.{Setup, frame}
-use Rattle.rules.specs.Recording.{Recording, recording, File, parsed, good-records}
+use Rattle.rules.specs.Recording.{Recording, recording, File, parsed, good-records, good-order}
 use Rattle.rules.specs.Walk.{◌then◌, walk-all, walk-nodes, walk-layer}
 use Rattle.rect.specs.declared.Rect.{Rect}
 use Rattle.rect.specs.Rects.{box_of}
@@ -28,6 +28,9 @@ module _ (r : Recording) (n : ℕ) (e : n ≡ judged r) where
   module _ (z : n ≡ 0) where
     pub good : good-records r ≡ true
     good = (sound r (sym e ∙ z)).records
+
+    pub in-order : good-order r ≡ true
+    in-order = (sound r (sym e ∙ z)).order
 
     pub root : (r.start ≤ r.end) × (r.end ≤ length r.nodes)
     root = root-range r good

@@ -1,6 +1,6 @@
 -- What the walk goes by.
 use Rattle.std.specs.Prelude.{◌≡◌, true}
-use Rattle.rules.specs.Recording.{good-records}
+use Rattle.rules.specs.Recording.{good-records, good-order}
 use Rattle.file.specs.Held.{held, FitsIn}
 use Rattle.file.specs.declared.recording.Recording.{Recording}
 
@@ -8,3 +8,9 @@ use Rattle.file.specs.declared.recording.Recording.{Recording}
 pub record ReadyIn (r : Recording) : Type 0 where
   pub fits : FitsIn r
   pub good : good-records (held r) ≡ true
+
+-- .. and every list is in order
+pub record JudgedIn (r : Recording) : Type 0 where
+  pub fits : FitsIn r
+  pub good : good-records (held r) ≡ true
+  pub order : good-order (held r) ≡ true

@@ -6,7 +6,7 @@ ghost use Rattle.rules.specs.Answers.{answer};
 ghost use Rattle.screen.specs.Lent.{whole, SameLent};
 ghost use Rattle.walk.specs.Steps.{nodes-walked, layer-walked};
 ghost use Rattle.file.specs.Held.{held};
-ghost use Rattle.walk.specs.Ready.{ReadyIn};
+ghost use Rattle.walk.specs.Ready.{JudgedIn};
 
 use crate::read::to_props;
 use crate::steps::{pop_at, push_at, walk_draws, walk_filter};
@@ -24,7 +24,7 @@ pub fn walk_nodes(
     b: usize,
     lent: &mut Lent<'_>,
 ) -> Result<(), Refusal>
-    requires ready { ReadyIn file.now }
+    requires ready { JudgedIn file.now }
     requires order { a ≤ b }
     requires ends { b ≤ length (held file.now).nodes }
     ensures same { SameLent lent.old lent.new }
@@ -49,7 +49,7 @@ pub fn walk_layer(
     layer: u32,
     lent: &mut Lent<'_>,
 ) -> Result<(), Refusal>
-    requires ready { ReadyIn file.now }
+    requires ready { JudgedIn file.now }
     requires named { layer ≤ length (held file.now).layers }
     ensures same { SameLent lent.old lent.new }
     ensures walked { answer (answer_number result) (whole screen.new lent.new)

@@ -12,12 +12,13 @@ ghost use Rattle.inputs.specs.Inputs.{filter-of};
 ghost use Rattle.file.specs.Records.{layer-of};
 ghost use Rattle.file.specs.Held.{held, FitsIn};
 ghost use Rattle.layers.specs.Filter.{given, given_of};
+ghost use Rattle.walk.specs.Ready.{JudgedIn};
 ghost use Rattle.walk.specs.Reading.{props_in};
 ghost use Rattle.walk.specs.Steps.{filter_in, call_at, filter_step, draws-walked};
 
 use crate::read::{needs_buffer, to_props};
 use file::{Layer, Recording};
-use fill::list::{Draws, fill_each};
+use fill::list::{Draws, fill_known};
 use inputs::Filter;
 use layers::{FilterFill, filter_fill, push_layer};
 use pop::pop_layer;
@@ -46,7 +47,7 @@ pub fn walk_draws(
     b: usize,
     lent: &mut Lent<'_>,
 ) -> Result<(), Refusal>
-    requires fits { FitsIn file.now }
+    requires ready { JudgedIn file.now }
     requires order { a ≤ b }
     requires ends { b ≤ length (held file.now).draws }
     ensures same { SameLent lent.old lent.new }
@@ -63,7 +64,7 @@ pub fn walk_draws(
         start: a,
         end: b,
     };
-    let done = fill_each(
+    let done = fill_known(
         screen,
         &mut rows,
         lent.paint_attrs,

@@ -58,7 +58,7 @@ walk_layer-returns-clause-walked t c =
 pub walk_nodes-walk_draws-requires : goal.walk_nodes-walk_draws-requires
 walk_nodes-walk_draws-requires t c =
     let r = node-range (held c.args.file.now) c.requires.ready.good c.loop-i.i (omega arith) (c.node-node.ensures _) in
-    record { fits = c.requires.ready.fits; order = r.0; ends = r.1.0 }
+    record { ready = c.requires.ready; order = r.0; ends = r.1.0 }
 
 pub walk_nodes-returns-in_err-walk_draws-clause-walked : goal.walk_nodes-returns-in_err-walk_draws-clause-walked
 walk_nodes-returns-in_err-walk_draws-clause-walked t c =

@@ -1,14 +1,15 @@
 -- Room for the most segments that a row has is room for what is cut of them. Assumes nothing.
-use Rattle.std.proofs.Common.{◌≡◌, refl, Bool, true, false, ◌||◌, ◌&&◌, cond, List, [], ◌∷◌, ◌++◌, Option, None, Some, ℕ, ◌+◌, ◌/◌, ◌≤◌, arith, ltb, leb, eqb, le-ltb, ltb-false, leb-true}
+use Rattle.std.proofs.Common.{◌≡◌, refl, Bool, true, false, ◌||◌, ◌&&◌, cond, List, [], ◌∷◌, ◌++◌, Option, None, Some, ℕ, ◌+◌, ◌-◌, ◌/◌, ◌≤◌, arith, length, ltb, leb, eqb, le-ltb, ltb-false, leb-true}
 use Rattle.std.proofs.lemmas.Bool.Decides.{nat_tests}
 use Rattle.rules.specs.Lists.{join}
 use Rattle.rules.specs.Answers.{Done, BadRecord, FullRow}
 use Rattle.rules.specs.Boxes.{Box}
 use Rattle.rules.specs.Spans.{span, Stretch, cut_to}
-use Rattle.rules.specs.Segments.{Segment, ordered, Cut, localised, cut_in, stretch-of}
+use Rattle.rules.specs.Segments.{Segment, ordered, Cut, judge-segments, localised, cut_in, stretch-of}
 use Rattle.rules.proofs.All.{all_map, all_any, none_of, both}
 use Rattle.row.specs.Words.{Words, word}
-use Rattle.segments.specs.Segs.{on-row, Starts}
+use Rattle.segments.specs.Segs.{segs, on-row, AtMost, Starts}
+use Rattle.segments.proofs.Laws.{segs-length}
 use Rattle.pop.specs.Closing.{row_of, touched-in, good-pops, full_by, pops-number, runs-full}
 use Rattle.pop.proofs.Running.{cuts-on, cuts-sorted, Fits, fit-runs, some-none, at-found, so-far-else}
 
@@ -39,6 +40,22 @@ module _ (v b : Box) (t : Starts v b) (x : ℕ) where
   unfolding cuts-on on-row
   few-cuts [] = omega arith
   few-cuts (s ∷ ss) = omega (arith, cuts-append x (cut_in v b s) (join (cut_in v b) ss), one-cut s, few-cuts ss)
+
+-- no row has more of some segments than all of them
+on-some : (r : ℕ) (ss : List Segment) → on-row r ss ≤ length ss
+unfolding on-row
+on-some r [] = omega arith
+on-some r (s ∷ ss) = omega (arith, on-some r ss, one (eqb s.row r))
+  where
+    one : (b : Bool) → one_if b ≤ 1
+    one true = omega arith
+    one false = omega arith
+
+-- .. of a range that is good and in order, which is from a to b
+pub all-most : (ws : List ℕ) (a b i j : ℕ) → judge-segments false (segs ws i (j - i)) ≡ 0 → i ≡ a → j ≡ b → AtMost (b - a) (segs ws a (b - a))
+all-most ws a b i j h p q =
+    let k : judge-segments false (segs ws a (b - a)) ≡ 0 = rw (p, q) at h in
+    record { judged = k; most = λ r. omega (arith, on-some r (segs ws a (b - a)), segs-length ws a (b - a)) }
 
 -- rows with room for m commands and a PopBuf, of which none gets more than m segments
 pub few-fit : (c m : ℕ) (xs : List ℕ) (rs : List Words) (v b : Box) (ss : List Segment) → Starts v b → ordered ss ≡ true → ((r : ℕ) → on-row r ss ≤ m)

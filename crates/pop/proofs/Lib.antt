@@ -10,4 +10,5 @@ pub mod Running
 pub mod Few
 pub mod Rooms
 pub mod Clipping
+pub mod Banded
 pub mod Judging

@@ -45,7 +45,7 @@ module _ (v b : Box) where
   local-row row None = nil
   local-row row (Some k) = cons refl nil
 
-  cut-row : (s : Segment) → All (λ (k : Cut). k.row ≡ s.row - v.y0 / 4) (cut_in v b s)
+  pub cut-row : (s : Segment) → All (λ (k : Cut). k.row ≡ s.row - v.y0 / 4) (cut_in v b s)
   unfolding cut_in
   cut-row s = local-row s.row (on_row b s (cut_to (span b.x0 b.x1) (stretch-of s)))
 

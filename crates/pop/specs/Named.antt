@@ -1,5 +1,5 @@
 -- A closing layer's rows and its clip, by the code's own values: what the contracts of this crate say in one word.
-use Rattle.std.specs.Prelude.{ℕ, ◌+◌, ◌-◌, ◌*◌, ◌≤◌, ◌<◌, ◌≡◌, Bool, true, false, ◌||◌, cond, List, [], ◌∷◌, length, map, None}
+use Rattle.std.specs.Prelude.{ℕ, ◌+◌, ◌-◌, ◌*◌, ◌≤◌, ◌<◌, ◌≡◌, ◌/◌, Bool, true, false, ◌||◌, ◌&&◌, cond, List, [], ◌∷◌, length, map, leb, ltb, Option, None, IfSome}
 use Rattle.sizes.specs.Widths.{bucket-tiles}
 use Rattle.rules.specs.Lists.{join, range}
 use Rattle.rules.specs.Answers.{Done}
@@ -22,6 +22,7 @@ use Rattle.segments.specs.Segs.{seg-at, segs, origin, bounds}
 use Rattle.std.specs.declared.ops.Range.{Range}
 use Rattle.layers.specs.Band.{screen_rows}
 use Rattle.pop.specs.declared.rows.ClipPath.{ClipPath}
+use Rattle.pop.specs.declared.judge.Known.{Known}
 use Rattle.pop.specs.Closing.{touched-in, good-pops, full_by, done-puts, runs-full, clip-puts, Clips, Roomy, Fillable, Each}
 use Rattle.pop.specs.Pop.{PopLent, PopOut, pop_lent, out, good-open, late, number-after}
 
@@ -98,6 +99,31 @@ abbrev pub clip_number : Screen → Range ℕ → Rows → ClipPath → List ℕ
 clip_number s b r p ws =
     late (good_band s b r) (judge-segments false (clip_segments p ws)) s.next_draw_id s.layer_attrs
     (full_by s.c 1 (screen_rows s r) (touched s b r) || overfull s b r (clip_cuts p ws))
+
+-- segments that are known to be good and in order
+abbrev pub IsKnown : List ℕ → Known → Type 0
+IsKnown ws k = judge-segments false (segs ws k.start (k.«end» - k.start)) ≡ Done
+
+abbrev pub KnownGood : List ℕ → Option Known → Type 0
+KnownGood ws k = IfSome k (IsKnown ws)
+
+-- scene row r lies in the scene e, and in the band b of local rows
+abbrev pub in-scene : Scene → ℕ → Bool
+in-scene e r = leb e.rows.first r && ltb r e.rows.end
+
+abbrev pub in-band : Scene → Range ℕ → ℕ → Bool
+in-band e b r = leb b.start (r - e.y / 4) && ltb (r - e.y / 4) b.end
+
+-- all the scene's rows are the band's
+abbrev pub Among : Scene → Range ℕ → Type 0
+Among e b = (r : ℕ) → in-scene e r ≡ true → in-band e b r ≡ true
+
+-- the scene u is e, of whose rows it has the band's alone
+pub record OfBand (e : Scene) (b : Range ℕ) (u : Scene) : Type 0 where
+  pub corner : origin u ≡ origin e
+  pub columns : u.columns ≡ e.columns
+  pub top : e.rows.first ≤ u.rows.first
+  pub rows : (r : ℕ) → e.y / 4 ≤ e.rows.first → in-scene u r ≡ (in-scene e r && in-band e b r)
 
 -- nothing that a pop with a clip reads of its rows and its list is refused
 pub record ClipSure (s : Screen) (b : Range ℕ) (r : Rows) (p : ClipPath) (ws : List ℕ) : Type 0 where

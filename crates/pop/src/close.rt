@@ -1,22 +1,23 @@
 //! The rows of a closing layer's box, closed (rules 9 and 10): the closing LayerFills, the PopBufs. Parts: each has a `requires`, which its callers have
 //! judged. The layer that closes is the innermost of `screen.layers`.
-ghost use Rattle.std.specs.Prelude.{◌≡◌, map};
+ghost use Rattle.std.specs.Prelude.{◌≡◌, ◌*◌, ◌≤◌, ◌<◌, length, map};
+ghost use Rattle.sizes.specs.Sizes.{most-rows, row-size};
 ghost use Rattle.rules.specs.Plans.{on, pop};
 ghost use Rattle.span.specs.Spans.{tiles};
 ghost use Rattle.segments.specs.Segs.{origin, bounds, Starts};
 ghost use Rattle.row.specs.Cmds.{Short};
 ghost use Rattle.row.specs.Rows.{SameRows};
-ghost use Rattle.pop.specs.Closing.{Poppable, Each};
+ghost use Rattle.pop.specs.Closing.{Poppable, Each, touched-word};
 ghost use Rattle.layers.specs.Band.{screen_rows};
-ghost use Rattle.pop.specs.Named.{touched, if_touched, closed_by, WholeRows, InScreen, RowOf, GoodAt, ClipReady, clip_puts, segment_puts, span_puts, RoomFor, FillableAt};
+ghost use Rattle.pop.specs.Named.{touched, if_touched, closed_by, WholeRows, InScreen, RowOf, GoodAt, ClipReady, clip_puts, segment_puts, span_puts, RoomFor, FillableAt, OfBand, Among};
 
-use crate::rows::{ClipPath, is_touched};
+use crate::rows::ClipPath;
 use cmd::command::Fill;
 use row::Rows;
 use row::act::{Close, Pop, on_row};
 use screen::Screen;
 use segments::{Scene, place, segment_at};
-use sizes::{LEVELS, ROW};
+use sizes::{LEVELS, ROW, TILE_HEIGHT};
 use span::TileSpan;
 use std::ops::Range;
 
@@ -66,6 +67,7 @@ pub fn close_spans(screen: Screen, rows: &mut Rows<'_>, band: &Range<usize>, spa
 }
 
 // A PopBuf on row r, if it is touched.
+#[inline(always)]
 fn pop_row(screen: Screen, rows: &mut Rows<'_>, r: usize)
     requires whole { WholeRows screen rows.old }
     requires row { RowOf screen r }
@@ -89,6 +91,7 @@ fn pop_row(screen: Screen, rows: &mut Rows<'_>, r: usize)
 }
 
 /// Rule 10: a PopBuf on each touched row of the band.
+#[inline(always)]
 pub fn pop_rows(screen: Screen, rows: &mut Rows<'_>, band: &Range<usize>)
     requires whole { WholeRows screen rows.old }
     requires band { InScreen screen band.now }
@@ -102,7 +105,37 @@ pub fn pop_rows(screen: Screen, rows: &mut Rows<'_>, band: &Range<usize>)
     }
 }
 
-// With a clip: the LayerFill of segment i, if it is cut to something in a touched row.
+// The scene with those of its rows alone that are the band's.
+#[inline(always)]
+fn scene_in(scene: Scene, band: &Range<usize>) -> Scene
+    requires small { band.now.«end» ≤ most-rows }
+    ensures { OfBand scene band.now result }
+{
+    let top = scene.y / TILE_HEIGHT;
+    let start = band.start.min(band.end) as u32;
+    Scene {
+        x: scene.x,
+        y: scene.y,
+        columns: scene.columns,
+        rows: TileSpan {
+            first: scene.rows.first.max(top + start),
+            end: scene.rows.end.min(top + band.end as u32),
+        },
+    }
+}
+
+// Row r, one of the band, has the innermost layer's PushBuf.
+fn is_touched_row(rows: &Rows<'_>, r: usize, band: &Range<usize>, open: u32) -> bool
+    requires small { band.now.«end» ≤ most-rows }
+    requires there { band.now.«end» * row-size ≤ length rows.now.state.now }
+    requires among { (band.now.start ≤ r) × (r < band.now.«end») }
+    ensures { result ≡ touched-word band.now.start band.now.«end» «open» rows.now.state.now r }
+{
+    rows.state[r * ROW + LEVELS] == open
+}
+
+// With a clip: the LayerFill of segment i, if it is cut to something in a touched row. The scene's rows are the band's.
+#[inline(always)]
 fn close_segment(
     screen: Screen,
     rows: &mut Rows<'_>,
@@ -113,6 +146,7 @@ fn close_segment(
 )
     requires whole { WholeRows screen rows.old }
     requires band { InScreen screen band.now }
+    requires among { Among scene band.now }
     requires segment { GoodAt list.now i }
     requires starts { Starts (origin scene) (bounds scene) }
     requires room { RoomFor screen (segment_puts screen band.now scene list.now i rows.old) (screen_rows screen rows.old) }
@@ -124,7 +158,7 @@ fn close_segment(
         return;
     };
     let r = placed.row as usize;
-    if !is_touched(rows, r, band, screen.layers) {
+    if !is_touched_row(rows, r, band, screen.layers) {
         return;
     }
     let fill = Fill {
@@ -143,7 +177,28 @@ fn close_segment(
     );
 }
 
+// With a clip whose scene's rows are the band's: the LayerFills of its segments.
+#[inline(always)]
+fn close_list(
+    screen: Screen,
+    rows: &mut Rows<'_>,
+    list: &[u32],
+    clip: ClipPath,
+    band: &Range<usize>,
+)
+    requires ready { ClipReady screen band.now clip list.now rows.old }
+    requires among { Among clip.scene band.now }
+    ensures same { SameRows rows.old rows.new }
+    ensures rows { screen_rows screen rows.new
+        ≡ closed_by screen (clip_puts screen band.now clip list.now rows.old) (screen_rows screen rows.old) }
+{
+    for i in clip.start..clip.end {
+        close_segment(screen, rows, list, i, clip.scene, band);
+    }
+}
+
 /// Rule 9 with a clip: the LayerFills of the clip's segments, cut to the parent's box, in touched rows of the band.
+#[inline(always)]
 pub fn close_segments(
     screen: Screen,
     rows: &mut Rows<'_>,
@@ -156,7 +211,10 @@ pub fn close_segments(
     ensures rows { screen_rows screen rows.new
         ≡ closed_by screen (clip_puts screen band.now clip list.now rows.old) (screen_rows screen rows.old) }
 {
-    for i in clip.start..clip.end {
-        close_segment(screen, rows, list, i, clip.scene, band);
-    }
+    let own = ClipPath {
+        start: clip.start,
+        end: clip.end,
+        scene: scene_in(clip.scene, band),
+    };
+    close_list(screen, rows, list, own, band);
 }

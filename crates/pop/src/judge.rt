@@ -5,11 +5,11 @@ ghost use Rattle.sizes.specs.Sizes.{most-layers, open-layer-table};
 ghost use Rattle.rules.specs.Plans.{clip-box};
 ghost use Rattle.rect.specs.Rects.{box_of};
 ghost use Rattle.screen.specs.Judging.{judged};
-ghost use Rattle.segments.specs.Segs.{origin, bounds, Starts};
+ghost use Rattle.segments.specs.Segs.{origin, bounds, Starts, AtMost};
 ghost use Rattle.sizes.specs.Refusals.{answer_number};
 ghost use Rattle.screen.specs.Layers.{good_layer, good_own_box};
 ghost use Rattle.pop.specs.Pop.{layers-in, good_lengths, number, Closes};
-ghost use Rattle.pop.specs.Named.{WholeRows, InScreen, plain_number, clip_number, open_number, pop_lent_of, ClipSure};
+ghost use Rattle.pop.specs.Named.{WholeRows, InScreen, plain_number, clip_number, open_number, pop_lent_of, clip_segments, ClipSure, KnownGood};
 
 use crate::rows::{ClipPath, is_full_clip, judge_pop_rows};
 use rect::Rect;
@@ -112,28 +112,32 @@ fn judge_clip_exactly(
     Ok(())
 }
 
-// Yes only where nothing of the rows of the band, of the clip's segments and of their room is refused: one look at each segment, and room for the most that a row
-// has of them at each touched row.
-#[inline(always)]
-fn is_sure(
+/// Segments of a list, from start to end, which have been judged: they are good, and in order.
+#[derive(Clone, Copy, Debug, PartialEq, Eq)]
+pub struct Known {
+    pub start: usize,
+    pub end: usize,
+}
+
+// Where a clip's segments are good and in order, and a row has at most so many of them: yes only where each touched row of the band is good, and has room for
+// those and for its PopBuf. Out of line: its loop shares registers with no other.
+#[inline(never)]
+fn is_roomy(
     screen: Screen,
     rows: &Rows<'_>,
     list: &[u32],
     clip: ClipPath,
     band: &Range<usize>,
+    most: usize,
 ) -> bool
     requires whole { WholeRows screen rows.now }
     requires band { InScreen screen band.now }
     requires some { 1 ≤ screen.layers }
     requires deep { screen.layers ≤ most-layers }
-    requires ordered { clip.start ≤ clip.«end» }
-    requires listed { 5 * clip.«end» ≤ length list.now }
     requires starts { Starts (origin clip.scene) (bounds clip.scene) }
+    requires few { AtMost most (clip_segments clip list.now) }
     ensures { result ≡ true → ClipSure screen band.now rows.now clip list.now }
 {
-    let Some(most) = most_on_a_row(list, clip.start, clip.end) else {
-        return false;
-    };
     if screen.c as usize <= most {
         return false;
     }
@@ -143,14 +147,75 @@ fn is_sure(
     }
 }
 
-// With a clip: as exactly, by one look where that is sure.
+// A clip's segments are those that have been judged, of which no row has more than all: yes as above.
+#[inline(always)]
+fn is_known_sure(
+    screen: Screen,
+    rows: &Rows<'_>,
+    list: &[u32],
+    known: Option<Known>,
+    clip: ClipPath,
+    band: &Range<usize>,
+) -> bool
+    requires known { KnownGood list.now known }
+    requires whole { WholeRows screen rows.now }
+    requires band { InScreen screen band.now }
+    requires some { 1 ≤ screen.layers }
+    requires deep { screen.layers ≤ most-layers }
+    requires ordered { clip.start ≤ clip.«end» }
+    requires starts { Starts (origin clip.scene) (bounds clip.scene) }
+    ensures { result ≡ true → ClipSure screen band.now rows.now clip list.now }
+{
+    let Some(known) = known else {
+        return false;
+    };
+    if known.start != clip.start || known.end != clip.end {
+        return false;
+    }
+    is_roomy(screen, rows, list, clip, band, clip.end - clip.start)
+}
+
+// Yes only where nothing of the rows of the band, of the clip's segments and of their room is refused: they have been judged, or one look at each segment, and
+// room for the most that a row has of them at each touched row.
+#[inline(always)]
+fn is_sure(
+    screen: Screen,
+    rows: &Rows<'_>,
+    list: &[u32],
+    known: Option<Known>,
+    clip: ClipPath,
+    band: &Range<usize>,
+) -> bool
+    requires known { KnownGood list.now known }
+    requires whole { WholeRows screen rows.now }
+    requires band { InScreen screen band.now }
+    requires some { 1 ≤ screen.layers }
+    requires deep { screen.layers ≤ most-layers }
+    requires ordered { clip.start ≤ clip.«end» }
+    requires listed { 5 * clip.«end» ≤ length list.now }
+    requires starts { Starts (origin clip.scene) (bounds clip.scene) }
+    ensures { result ≡ true → ClipSure screen band.now rows.now clip list.now }
+{
+    if is_known_sure(screen, rows, list, known, clip, band) {
+        return true;
+    }
+    let Some(most) = most_on_a_row(list, clip.start, clip.end) else {
+        return false;
+    };
+    is_roomy(screen, rows, list, clip, band, most)
+}
+
+// With a clip: as exactly, told which segments have been judged, by one look where that is sure.
+#[inline(always)]
 fn judge_clip(
     screen: Screen,
     rows: &Rows<'_>,
     list: &[u32],
+    known: Option<Known>,
     clip: ClipPath,
     band: &Range<usize>,
 ) -> Result<(), Refusal>
+    requires known { KnownGood list.now known }
     requires whole { WholeRows screen rows.now }
     requires band { InScreen screen band.now }
     requires some { 1 ≤ screen.layers }
@@ -160,7 +225,7 @@ fn judge_clip(
     requires starts { Starts (origin clip.scene) (bounds clip.scene) }
     ensures { answer_number result ≡ clip_number screen band.now rows.now clip list.now }
 {
-    if !is_sure(screen, rows, list, clip, band) {
+    if !is_sure(screen, rows, list, known, clip, band) {
         return judge_clip_exactly(screen, rows, list, clip, band);
     }
     if LAST_ID < screen.next_draw_id {
@@ -173,12 +238,15 @@ fn judge_clip(
 }
 
 // With a layer open: BadRecord for it, then what its rows and its list say. It gives how the layer closes.
+#[inline(always)]
 fn judge_open(
     screen: Screen,
     rows: &Rows<'_>,
     layers: &Layers<'_>,
     list: &[u32],
+    known: Option<Known>,
 ) -> Result<Closing, Refusal>
+    requires known { KnownGood list.now known }
     requires screen { judged screen (length rows.now.state.now) (length rows.now.render_cmds.now) (length rows.now.depth_cmds.now) ≡ 0 }
     requires table { length layers.now.table.now ≡ open-layer-table }
     requires some { 1 ≤ screen.layers }
@@ -208,7 +276,7 @@ fn judge_open(
         end: layer.end as usize,
         scene: scene_of(screen.viewport, parent),
     };
-    judge_clip(screen, rows, list, clip, &band)?;
+    judge_clip(screen, rows, list, known, clip, &band)?;
     Ok(Closing {
         layer,
         parent,
@@ -217,14 +285,17 @@ fn judge_open(
     })
 }
 
-/// A pop, before anything is done: BadViewport, BadArena, BadRecord for the lengths, NoLayer with none open, and then as above.
+/// A pop, before anything is done, told which segments have been judged: BadViewport, BadArena, BadRecord for the lengths, NoLayer with none open, and then as above.
+#[inline(always)]
 pub fn judge_pop(
     screen: Screen,
     rows: &Rows<'_>,
     layers: &Layers<'_>,
     layer_attrs: &[u32],
     list: &[u32],
+    known: Option<Known>,
 ) -> Result<Closing, Refusal>
+    requires known { KnownGood list.now known }
     ensures closing { IfOk result (Closes screen layers.now.table.now) }
     ensures number { answer_number result ≡ number screen (pop_lent_of rows.now layers.now layer_attrs.now) list.now }
 {
@@ -245,5 +316,5 @@ pub fn judge_pop(
     if screen.layers == 0 {
         return Err(Refusal::NoLayer);
     }
-    judge_open(screen, rows, layers, list)
+    judge_open(screen, rows, layers, list, known)
 }

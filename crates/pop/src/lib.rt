@@ -10,10 +10,10 @@ ghost use Rattle.sizes.specs.Refusals.{answer_number};
 ghost use Rattle.screen.specs.Layers.{open_at};
 ghost use Rattle.pop.specs.Pop.{out, number, after, popped, Judged, closing-puts, words-after, attr_by, tables_after, Closes};
 ghost use Rattle.layers.specs.Band.{screen_rows};
-ghost use Rattle.pop.specs.Named.{closed_by, pop_lent_of, tables_of, standing};
+ghost use Rattle.pop.specs.Named.{closed_by, pop_lent_of, tables_of, standing, IsKnown, KnownGood};
 
 use crate::close::{close_segments, close_spans, pop_rows};
-use crate::judge::{Closing, judge_pop};
+use crate::judge::{Closing, Known, judge_pop};
 use cmd::attrs::{LayerFillAttrs, put_layer_attrs};
 use row::Rows;
 use screen::Screen;
@@ -25,6 +25,7 @@ pub mod judge;
 pub mod rows;
 
 // Rule 9: the closing LayerFills.
+#[inline(always)]
 fn close_rows(
     screen: Screen,
     rows: &mut Rows<'_>,
@@ -46,6 +47,7 @@ fn close_rows(
 }
 
 // Rules 9 and 10: the closing LayerFills, then the PopBufs.
+#[inline(always)]
 fn do_rows(
     screen: Screen,
     rows: &mut Rows<'_>,
@@ -86,6 +88,7 @@ fn attr_of(screen: Screen, layer: OpenLayer, opacity: f32) -> LayerFillAttrs
 }
 
 // The layer's attribute is stored, with its opacity; then nothing stands in the layer's place.
+#[inline(always)]
 fn do_tables(screen: Screen, layers: &mut Layers<'_>, layer: OpenLayer, layer_attrs: &mut [u32])
     requires layer { layer ≡ open_at layers.old.table.now (screen.layers - 1) }
     requires table { length layers.old.table.now ≡ open-layer-table }
@@ -109,8 +112,67 @@ fn do_tables(screen: Screen, layers: &mut Layers<'_>, layer: OpenLayer, layer_at
     layers.drop_at(k);
 }
 
+// A pop, told which segments of the list have been judged.
+#[inline(always)]
+fn pop_told(
+    screen: &mut Screen,
+    rows: &mut Rows<'_>,
+    layers: &mut Layers<'_>,
+    layer_attrs: &mut [u32],
+    list: &[u32],
+    known: Option<Known>,
+) -> Result<(), Refusal>
+    requires known { KnownGood list.now known }
+    ensures same_rows { SameRows rows.old rows.new }
+    ensures same_layers { SameLayers layers.old layers.new }
+    ensures popped { out (answer_number result) screen.new (pop_lent_of rows.new layers.new layer_attrs.new)
+        ≡ popped screen.old (pop_lent_of rows.old layers.old layer_attrs.old) list.now }
+    ensures refused { answer_number result ≡ number screen.old (pop_lent_of rows.old layers.old layer_attrs.old) list.now }
+    ensures unchanged { OnErr result (standing screen.new (pop_lent_of rows.new layers.new layer_attrs.new)
+        ≡ standing screen.old (pop_lent_of rows.old layers.old layer_attrs.old)) }
+    ensures done { OnOk result (standing screen.new (pop_lent_of rows.new layers.new layer_attrs.new)
+        ≡ after screen.old (pop_lent_of rows.old layers.old layer_attrs.old) list.now) }
+{
+    // Rows by value: behind a reference their slices are loaded again for each segment.
+    let mut own = Rows {
+        state: rows.state,
+        render_cmds: rows.render_cmds,
+        depth_cmds: rows.depth_cmds,
+    };
+    let closing = judge_pop(*screen, &own, layers, layer_attrs, list, known)?;
+    do_rows(*screen, &mut own, layers, &closing, list);
+    do_tables(*screen, layers, closing.layer, layer_attrs);
+    screen.close_layer(closing.parent);
+    Ok(())
+}
+
+/// `pop_layer` where the segments of a range of the list are known to be good and in order: they are not judged again where they are the clip's.
+#[inline(never)]
+pub fn pop_known(
+    screen: &mut Screen,
+    rows: &mut Rows<'_>,
+    layers: &mut Layers<'_>,
+    layer_attrs: &mut [u32],
+    list: &[u32],
+    known: Known,
+) -> Result<(), Refusal>
+    requires { IsKnown list.now known }
+    ensures same_rows { SameRows rows.old rows.new }
+    ensures same_layers { SameLayers layers.old layers.new }
+    ensures popped { out (answer_number result) screen.new (pop_lent_of rows.new layers.new layer_attrs.new)
+        ≡ popped screen.old (pop_lent_of rows.old layers.old layer_attrs.old) list.now }
+    ensures refused { answer_number result ≡ number screen.old (pop_lent_of rows.old layers.old layer_attrs.old) list.now }
+    ensures unchanged { OnErr result (standing screen.new (pop_lent_of rows.new layers.new layer_attrs.new)
+        ≡ standing screen.old (pop_lent_of rows.old layers.old layer_attrs.old)) }
+    ensures done { OnOk result (standing screen.new (pop_lent_of rows.new layers.new layer_attrs.new)
+        ≡ after screen.old (pop_lent_of rows.old layers.old layer_attrs.old) list.now) }
+{
+    pop_told(screen, rows, layers, layer_attrs, list, Some(known))
+}
+
 /// Rules 9 and 10: the innermost layer closes. The list has the segments of its clip, five words each. BadViewport, BadArena, BadRecord, BadOrder, NoLayer,
 /// Ids, FullAttrs or FullRow: refused, the screen and every lent word stay.
+#[inline(never)]
 pub fn pop_layer(
     screen: &mut Screen,
     rows: &mut Rows<'_>,
@@ -128,15 +190,5 @@ pub fn pop_layer(
     ensures done { OnOk result (standing screen.new (pop_lent_of rows.new layers.new layer_attrs.new)
         ≡ after screen.old (pop_lent_of rows.old layers.old layer_attrs.old) list.now) }
 {
-    // Rows by value: behind a reference their slices are loaded again for each segment.
-    let mut own = Rows {
-        state: rows.state,
-        render_cmds: rows.render_cmds,
-        depth_cmds: rows.depth_cmds,
-    };
-    let closing = judge_pop(*screen, &own, layers, layer_attrs, list)?;
-    do_rows(*screen, &mut own, layers, &closing, list);
-    do_tables(*screen, layers, closing.layer, layer_attrs);
-    screen.close_layer(closing.parent);
-    Ok(())
+    pop_told(screen, rows, layers, layer_attrs, list, None)
 }

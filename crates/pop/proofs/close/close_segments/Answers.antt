@@ -1,17 +1,10 @@
-use Rattle.std.proofs.Common.{arith, rules}
-use Rattle.pop.proofs.Clipping.{clipping-done, good-here, room-here, clipping-on}
-use Rattle.pop.proofs.Rooms.{long_after}
+-- The band's rows alone are those that are touched.
+use Rattle.std.proofs.Common.{[]}
+use Rattle.pop.proofs.Banded.{among, own-ready, same-puts}
 use Rattle.pop.proofs.close.close_segments.Goals as goal
 
-pub close_segment-requires : goal.close_segment-requires
-close_segment-requires c = record { whole = c.loop-i.invariant.1.rest.whole; band = c.loop-i.invariant.1.rest.bottom; segment = (omega arith, good-here c.loop-i.invariant.1 c.loop-i-test.true); starts = c.loop-i.invariant.1.rest.starts; room = room-here c.loop-i.invariant.1 c.loop-i-test.true }
+pub close_list-requires : goal.close_list-requires
+close_list-requires c = record { ready = own-ready c.requires c.scene_in.ensures; among = among c.scene_in.ensures c.requires.starts.top 0 [] 0 }
 
-pub loop-i-preserved : goal.loop-i-preserved
-loop-i-preserved c = (
-  search rules,
-  clipping-on c.loop-i.invariant.1 c.loop-i-test.true _ (long_after _ _ _ c.loop-i.invariant.1.rest.whole (search rules) (search rules) (search rules))
-      c.close_segment.ensures.rows,
-)
-
-pub returns : goal.returns
-returns c = record { same = c.loop-i.invariant.0; rows = clipping-done c.loop-i.invariant.1 c.loop-i-test.false }
+pub returns-clause-rows : goal.returns-clause-rows
+returns-clause-rows c = rw (same-puts c.scene_in.ensures c.requires.starts.top _ _ _ _) at c.close_list.ensures.rows

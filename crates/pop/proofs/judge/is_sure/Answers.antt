@@ -1,12 +1,16 @@
--- The most segments of a row have room on each touched row.
-use Rattle.std.proofs.Common.{sym}
-use Rattle.segments.proofs.Laws.{judged}
-use Rattle.pop.proofs.Few.{pops-none, few-fit}
+-- The segments are known to be good, or one look at each has counted the most of a row.
 use Rattle.pop.proofs.judge.is_sure.Goals as goal
 
-pub returns-in-Ok-Nothing : goal.returns-in-Ok-Nothing
-returns-in-Ok-Nothing c =
-    let told = rw (c.in-Ok-Nothing.is, c.in-Ok-Nothing.field-0-is) at c.judge_pop_rows.ensures in
-    let z = pops-none _ _ _ _ _ _ (sym told) in
-    let m = rw c.in-Some.is at c.most_on_a_row.ensures in
-    λ e. record { rows = z.0; listed = m.judged; room = few-fit _ _ _ _ _ _ _ c.requires.starts (judged _ m.judged).order m.most z.1 }
+pub returns-then-is_known_sure : goal.returns-then-is_known_sure
+returns-then-is_known_sure c = λ e. c.is_known_sure.ensures c.if-is_known_sure.true
+
+pub is_roomy-requires : goal.is_roomy-requires
+is_roomy-requires c =
+    record {
+      whole = c.requires.whole;
+      band = c.requires.band;
+      some = c.requires.some;
+      deep = c.requires.deep;
+      starts = c.requires.starts;
+      few = rw c.in-Some.is at c.most_on_a_row.ensures;
+    }

@@ -62,7 +62,7 @@ judge_clip-requires c =
     let e = c.open_at-layer.ensures in
     let p = c.parent_box-parent.ensures in
     let good = ap not c.if-not-is_good_open.false in
-    let ordered = open-range _ (all-held c.args.rows.now) _ c.args.list.now c.requires.some o _ e _ p c.is_good_open.ensures good in record { whole = passed-whole _ _ o; band = open-bottom _ (all-held c.args.rows.now) _ c.args.list.now c.requires.some o _ e _ p c.is_good_open.ensures good c.rows-band.ensures.first c.rows-band.ensures.last; some = c.requires.some; deep = (bounds _ o.screen).deep; ordered = omega arith; listed = omega arith; starts = open-scene _ (all-held c.args.rows.now) _ c.args.list.now c.requires.some o _ e _ p c.is_good_open.ensures good _ c.scene_of.ensures }
+    let ordered = open-range _ (all-held c.args.rows.now) _ c.args.list.now c.requires.some o _ e _ p c.is_good_open.ensures good in record { known = c.requires.known; whole = passed-whole _ _ o; band = open-bottom _ (all-held c.args.rows.now) _ c.args.list.now c.requires.some o _ e _ p c.is_good_open.ensures good c.rows-band.ensures.first c.rows-band.ensures.last; some = c.requires.some; deep = (bounds _ o.screen).deep; ordered = omega arith; listed = omega arith; starts = open-scene _ (all-held c.args.rows.now) _ c.args.list.now c.requires.some o _ e _ p c.is_good_open.ensures good _ c.scene_of.ensures }
 
 pub returns-in_err-judge_clip-clause-number : goal.returns-in_err-judge_clip-clause-number
 returns-in_err-judge_clip-clause-number c =

@@ -27,6 +27,7 @@ returns-then-screen-eq0-clause-number c =
 pub judge_open-requires : goal.judge_open-requires
 judge_open-requires c =
     record {
+      known = c.requires.known;
       screen = sym c.in_ok-judge_screen.ensures;
       table = (lengths-facts _ _ _ _ (sym c.is_good_lengths.ensures ∙ c.if-not-is_good_lengths.false)).0;
       some = omega (arith, c.if-screen-eq0.false);

@@ -2,7 +2,7 @@
 use Rattle.screen.specs.Screens.{frame-of}
 use Rattle.row.specs.Rows.{all-held, SameRows}
 use Rattle.pop.proofs.Clipping.{Clipping}
-use Rattle.pop.proofs.close.close_segments.Given as goal
+use Rattle.pop.proofs.close.close_list.Given as goal
 
 abbrev pub invariant-loop-i : goal.invariant-loop-i
 invariant-loop-i l =

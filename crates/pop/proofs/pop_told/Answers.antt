@@ -7,7 +7,7 @@ use Rattle.pop.specs.Named.{pop_lent_of}
 use Rattle.pop.proofs.Numbers.{zero-judged, zero-lengths}
 use Rattle.pop.proofs.Doing.{deep, ready}
 use Rattle.pop.proofs.Popping.{screen-is, pop-out, done-out, refused-out}
-use Rattle.pop.proofs.pop_layer.Goals as goal
+use Rattle.pop.proofs.pop_told.Goals as goal
 
 pub returns-in_err-closing-clause-popped : goal.returns-in_err-closing-clause-popped
 returns-in_err-closing-clause-popped c =

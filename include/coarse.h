@@ -408,11 +408,11 @@ uint32_t coarse_paint_step(const coarse_state *state, const coarse_stored *store
 uint32_t coarse_paint_row(const coarse_state *state, const coarse_stored *stored, coarse_canvas *canvas, size_t row,
                            uint32_t *list, size_t list_len, coarse_painted *painted);
 
-/* As coarse_paint_row, of one row whose own words are all that is lent: stored has its record, its commands and its depth fills, a screen's of
- * each divided by its rows, and the tables of attributes whole; canvas its depth words, its minima and its COARSE_PAINTING words. The
- * state is the whole screen's. Threads may paint rows of one canvas side by side so, each with a list of its own: no word that one
- * writes is lent to another. Refused, every word staying: COARSE_BAD_ARENA for another number of commands, depth fills, depth words
- * or minima, COARSE_BAD_RECORD for another number of other words, and never COARSE_BAD_RUN. */
+/* As coarse_paint_row, of one row whose own words are all that is lent: stored has its record, its commands and its depth fills, of
+ * each a screen's divided by its rows, and the tables of attributes whole; canvas its depth words, its minima and its
+ * COARSE_PAINTING words. The state is the whole screen's. Threads may paint rows of one canvas side by side so, each with a list of
+ * its own: no word that one writes is lent to another. Refused, every word staying: COARSE_BAD_ARENA for another number of commands,
+ * depth fills, depth words or minima, COARSE_BAD_RECORD for another number of other words, and never COARSE_BAD_RUN. */
 uint32_t coarse_paint_own_row(const coarse_state *state, const coarse_stored *stored, coarse_canvas *canvas, uint32_t *list,
                               size_t list_len, coarse_painted *painted);
 

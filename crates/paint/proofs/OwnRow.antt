@@ -1,5 +1,5 @@
 -- A row's own words are those of a screen of one row, and those of a row's place in its screen. Assumes nothing.
-use Rattle.std.proofs.Common.{◌≡◌, refl, sym, ap, ◌∙◌, Bool, true, false, ◌&&◌, cond, List, ◌++◌, append-nil, ℕ, ◌+◌, ◌*◌, ◌≤◌, ◌<◌, arith, length, take, drop, take_all, leb, eqb, eqb-true, eq-eqb, ne_eqb}
+use Rattle.std.proofs.Common.{◌≡◌, refl, sym, ap, ◌∙◌, Bool, true, false, ◌&&◌, cond, List, append-nil, ℕ, ◌*◌, ◌≤◌, ◌<◌, arith, length, take_all, eqb, eqb-true, eq-eqb, ne_eqb}
 use lib.Seq.{drop-length}
 use borrow.Author.Tests.{lt-leb}
 use borrow.Rule.Slice.PartMut.{put_same}
@@ -13,11 +13,10 @@ use Rattle.rules.specs.Minima.{minima-room}
 use Rattle.row.proofs.RowsLaws.{part-0, put-0, part-long}
 use Rattle.screen.proofs.Blanks.{few-minima}
 use Rattle.screen.specs.declared.Screen.{Screen}
-use Rattle.screen.specs.Depths.{Depths}
-use Rattle.paint.specs.Painting.{attrs-at, RowLent, words_lent, StepOut, out, listed, refused}
+use Rattle.paint.specs.Painting.{attrs-at, RowLent, StepOut, out, refused}
 use Rattle.paint.specs.Judging.{count, wide, arenas-long, tables-long, judged, paints-on, step_number}
 use Rattle.paint.specs.Stepping.{part, with_part, Within, Attributes, own-parts, put-parts, own, in_place, number, StepReady, stepped}
-use Rattle.paint.specs.Running.{goes_on, one_more, run, most, standing, own-step, call_step, row-run, row-run-on, row-painted}
+use Rattle.paint.specs.Running.{goes_on, one_more, most, standing, call_step, row-run, row-run-on, row-painted}
 use Rattle.paint.specs.OwnRow.{own-arenas-long, own-tables-long, own_number, own-number, own-run, own-row-painted, OwnIsRow, Beside}
 use Rattle.paint.proofs.Judged.{Passed, passed, past-begun}
 use Rattle.paint.proofs.ScreenParts.{few-attrs}

@@ -408,6 +408,14 @@ uint32_t coarse_paint_step(const coarse_state *state, const coarse_stored *store
 uint32_t coarse_paint_row(const coarse_state *state, const coarse_stored *stored, coarse_canvas *canvas, size_t row,
                            uint32_t *list, size_t list_len, coarse_painted *painted);
 
+/* As coarse_paint_row, of one row whose own words are all that is lent: stored has its record, its commands and its depth fills, of
+ * each a screen's divided by its rows, and the tables of attributes whole; canvas its depth words, its minima and its
+ * COARSE_PAINTING words. The state is the whole screen's. Threads may paint rows of one canvas side by side so, each with a list of
+ * its own: no word that one writes is lent to another. Refused, every word staying: COARSE_BAD_ARENA for another number of commands,
+ * depth fills, depth words or minima, COARSE_BAD_RECORD for another number of other words, and never COARSE_BAD_RUN. */
+uint32_t coarse_paint_own_row(const coarse_state *state, const coarse_stored *stored, coarse_canvas *canvas, uint32_t *list,
+                              size_t list_len, coarse_painted *painted);
+
 /* The rows first to end of the screen, one after the other, each from where it stands to its end, as coarse_paint_row: one call, by
  * which the screen is looked at once. The pieces stand one after the other, and ends[k] says how many stand in the
  * list after row first + k. painted is written on every answer: how many rows are painted to their end, and so have an end, and how

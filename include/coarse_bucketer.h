@@ -405,6 +405,23 @@ static inline uint32_t coarse_bucketer_progress(const coarse_bucketer *b, size_t
 static inline const coarse_state *coarse_bucketer_state(const coarse_bucketer *b) { return &b->state; }
 static inline const coarse_stored *coarse_bucketer_stored(const coarse_bucketer *b) { return &b->stored; }
 
+/* The words of one row of the screen alone, of what is stored and of a canvas of it: what coarse_paint_own_row is lent. The words of
+ * two rows lie apart. COARSE_BAD_RUN for no such row, or a canvas of another screen. */
+static inline uint32_t coarse_bucketer_own_row(const coarse_bucketer *b, const coarse_canvas *canvas, size_t row,
+                                               coarse_stored *own, coarse_canvas *words) {
+    size_t rows = coarse_bucketer_rows(b);
+    if (rows <= row || canvas->depth_len != b->sizes.depth || canvas->minima_len != b->sizes.minima || canvas->painting_len != b->sizes.painting)
+        return COARSE_BAD_RUN;
+    *own = b->stored;
+    own->rows_len /= rows, own->rows += row * own->rows_len;
+    own->render_cmds_len /= rows, own->render_cmds += row * own->render_cmds_len;
+    own->depth_cmds_len /= rows, own->depth_cmds += row * own->depth_cmds_len;
+    words->depth_len = canvas->depth_len / rows, words->depth = canvas->depth + row * words->depth_len;
+    words->minima_len = canvas->minima_len / rows, words->minima = canvas->minima + row * words->minima_len;
+    words->painting_len = COARSE_PAINTING, words->painting = canvas->painting + row * COARSE_PAINTING;
+    return COARSE_DONE;
+}
+
 /* A canvas beside the screen's own, at the first step of every row. COARSE_OPEN where painting has not begun: then, and without memory,
  * there is nothing to free. Several threads may paint one screen so, each with a canvas, while none changes the screen. */
 static inline uint32_t coarse_bucketer_canvas(const coarse_bucketer *b, coarse_canvas *canvas) {

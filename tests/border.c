@@ -1627,7 +1627,54 @@ static void rows_by_one_call(void) {
     coarse_bucketer_free(&b);
 }
 
+/* Rows by their own words: each length short and long, the numbers of refusals, a short list, and what the row's call gives. */
+static void rows_by_own_words(void) {
+    static uint32_t list[1 << 14], single_list[1 << 14];
+    coarse_bucketer b, single;
+    size_t row, k;
+    eight_rows(&b), eight_rows(&single);
+    for (row = 8; row-- > 0;) {
+        coarse_stored own, bad_own;
+        coarse_canvas words, bad;
+        coarse_painted painted = {99, 99}, alone = {0, 0};
+        coarse_state state = b.state;
+        uint32_t before = sum(&b);
+        expect("a row of the screen", COARSE_DONE, coarse_bucketer_own_row(&b, &b.canvas, row, &own, &words));
+        for (k = 0; k < 16; k++) {
+            const size_t by = k % 2 ? 1 : (size_t)-1;
+            bad_own = own, bad = words;
+            *(size_t *[]){&bad_own.render_cmds_len, &bad_own.depth_cmds_len, &bad.depth_len, &bad.minima_len, &bad_own.rows_len, &bad.painting_len,
+                          &bad_own.paint_attrs_len, &bad_own.layer_attrs_len}[k / 2] += by;
+            expect("a length", k / 2 < 4 ? COARSE_BAD_ARENA : COARSE_BAD_RECORD, coarse_paint_own_row(&state, &bad_own, &bad, list, 1 << 14, &painted));
+        }
+        state.layers = 1;
+        expect("an open layer", COARSE_OPEN, coarse_paint_own_row(&state, &own, &words, list, 1 << 14, &painted));
+        state = b.state, state.painting = 0;
+        expect("not begun", COARSE_OPEN, coarse_paint_own_row(&state, &own, &words, list, 1 << 14, &painted));
+        state = b.state, state.width = 3;
+        expect("no width", COARSE_BAD_RECORD, coarse_paint_own_row(&state, &own, &words, list, 1 << 14, &painted));
+        state = b.state, state.viewport.x1 += 1;
+        expect("no viewport", COARSE_BAD_VIEWPORT, coarse_paint_own_row(&state, &own, &words, list, 1 << 14, &painted));
+        expect("nothing has changed", 1, before == sum(&b) && painted.finished == 99 && painted.pieces == 99);
+        expect("the row", COARSE_DONE, coarse_paint_own_row(&b.state, &own, &words, list, 1 << 14, &painted));
+        expect("by its number", COARSE_DONE, coarse_paint_row(&single.state, &single.stored, &single.canvas, row, single_list, 1 << 14, &alone));
+        expect("as many pieces", (uint32_t)alone.pieces, (uint32_t)painted.pieces);
+        expect("to the end", 1, painted.finished == 1 && alone.finished == 1);
+        expect("the same pieces", 0, (uint32_t)memcmp(list, single_list, alone.pieces * sizeof(coarse_piece)));
+    }
+    expect("the same depth words", 0, (uint32_t)memcmp(single.tables.depth, b.tables.depth, b.sizes.depth * sizeof(uint32_t)));
+    expect("the same minima", 0, (uint32_t)memcmp(single.tables.minima, b.tables.minima, b.sizes.minima * sizeof(uint32_t)));
+    expect("as far", 0, (uint32_t)memcmp(single.tables.painting, b.tables.painting, b.sizes.painting * sizeof(uint32_t)));
+    {
+        coarse_stored own;
+        coarse_canvas words;
+        expect("no such row", COARSE_BAD_RUN, coarse_bucketer_own_row(&b, &b.canvas, 8, &own, &words));
+    }
+    coarse_bucketer_free(&single), coarse_bucketer_free(&b);
+}
+
 int main(void) {
+    rows_by_own_words();
     rows_by_one_call();
     null_pointers();
     owned_tables();

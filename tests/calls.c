@@ -328,6 +328,22 @@ static uint32_t call_step(void) { return coarse_paint_step(SCREEN_STATE, &lent.s
 
 static uint32_t call_row(void) { return coarse_paint_row(SCREEN_STATE, &lent.stored, &lent.canvas, about(8), LENT(LIST), &results.painted); }
 
+/* A row on its own words, now and then on those of another screen's row. */
+static uint32_t call_own_row(void) {
+    coarse_stored own = lent.stored;
+    coarse_canvas words = lent.canvas;
+    size_t rows = words.painting_len / 2 + (odd(20) ? 1 : 0), row = rows ? below((uint32_t)rows) : 0;
+    if (rows) {
+        own.rows_len /= rows, own.rows += row * own.rows_len;
+        own.render_cmds_len /= rows, own.render_cmds += row * own.render_cmds_len;
+        own.depth_cmds_len /= rows, own.depth_cmds += row * own.depth_cmds_len;
+        words.depth_len /= rows, words.depth += row * words.depth_len;
+        words.minima_len /= rows, words.minima += row * words.minima_len;
+        words.painting_len /= rows, words.painting += row * words.painting_len;
+    }
+    return coarse_paint_own_row(SCREEN_STATE, &own, &words, LENT(LIST), &results.painted);
+}
+
 /* Rows of the screen, or none; now and then more ends than rows, or fewer. */
 static uint32_t call_rows(void) {
     size_t first = about(8), end = odd(10) ? about(8) : first + about(3), n = first < end && end - first < MOST_ENDS ? end - first : 0;
@@ -428,6 +444,7 @@ static struct {
     {"coarse_begin_painting", ready_none, call_begin, 1 << STATE | 1 << DEPTH | 1 << MINIMA | 1 << PAINTING, 20, 0, 0},
     {"coarse_paint_step", ready_none, call_step, 1 << DEPTH | 1 << MINIMA | 1 << PAINTING | LISTED, 40, 0, 0},
     {"coarse_paint_row", ready_none, call_row, 1 << DEPTH | 1 << MINIMA | 1 << PAINTING | LISTED, 20, 0, 0},
+    {"coarse_paint_own_row", ready_none, call_own_row, 1 << DEPTH | 1 << MINIMA | 1 << PAINTING | LISTED, 20, 0, 0},
     {"coarse_paint_rows", ready_none, call_rows, 1 << DEPTH | 1 << MINIMA | 1 << PAINTING | LISTED, 20, 0, 0},
     {"coarse_unset_runs", ready_none, call_unset, LISTED, 6, 0, 0},
     {"coarse_visible_runs", ready_none, call_visible, LISTED, 6, 0, 0},

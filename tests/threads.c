@@ -1,5 +1,5 @@
-/* Threads: four, each with a screen of its own, and four that paint one screen, each with depth and painting words of its own. All of them get the pieces
- * that one thread gets. Built with -fsanitize=thread it shows besides that no two touch the same word (of what C does: the archive is not instrumented).
+/* Threads: four, each with a screen of its own, four that paint one screen, each with depth and painting words of its own, and four that paint the rows of one
+ * canvas side by side. All of them get the pieces that one thread gets. Built with -fsanitize=thread it shows besides that no two touch the same word (of what C does: the archive is not instrumented).
  * Prints each thing that does not hold; the status is 1 if anything does not. Wants coarse_bucketer.h on the include path, and -pthread. */
 #include "coarse_bucketer.h"
 #include <pthread.h>
@@ -114,6 +114,65 @@ static void four(void *(*kind)(void *), const coarse_bucketer *screen, const job
     }
 }
 
+/* Every fourth row of one canvas, by its own words, each into a part of the list that is the row's alone. */
+enum { ROW_ROOM = ROOM / ROWS };
+
+typedef struct {
+    const job *on;
+    size_t first;
+    size_t *words;
+    int done;
+} share;
+
+static void *paint_own(void *given) {
+    share *s = (share *)given;
+    const coarse_bucketer *b = s->on->screen;
+    size_t row;
+    for (row = s->first; row < ROWS; row += THREADS) {
+        coarse_stored own;
+        coarse_canvas words;
+        coarse_painted painted = {0, 0};
+        if (coarse_bucketer_own_row(b, &s->on->canvas, row, &own, &words) != COARSE_DONE ||
+            coarse_paint_own_row(coarse_bucketer_state(b), &own, &words, s->on->pieces + row * ROW_ROOM, ROW_ROOM, &painted) != COARSE_DONE ||
+            painted.finished != 1)
+            return NULL;
+        s->words[row] = painted.pieces * COARSE_PIECE;
+    }
+    s->done = 1;
+    return NULL;
+}
+
+static int same(const uint32_t *a, const uint32_t *b, size_t words) {
+    return memcmp(a, b, words * sizeof *a) == 0;
+}
+
+static void side_by_side(const coarse_bucketer *screen, const job *alone) {
+    pthread_t threads[THREADS];
+    job on = job_on(screen);
+    share shares[THREADS];
+    size_t words[ROWS] = {0}, row, at = 0;
+    int i;
+    for (i = 0; i < THREADS; i++) {
+        share one = {NULL, (size_t)i, words, 0};
+        shares[i] = one, shares[i].on = &on;
+        if (pthread_create(&threads[i], NULL, paint_own, &shares[i]) != 0)
+            exit(2);
+    }
+    for (i = 0; i < THREADS; i++) {
+        pthread_join(threads[i], NULL);
+        hold(shares[i].done, "a thread paints its rows");
+    }
+    for (row = 0; row < ROWS; row++) {
+        hold(at + words[row] <= alone->words && same(on.pieces + row * ROW_ROOM, alone->pieces + at, words[row]), "side by side: other pieces than alone");
+        at += words[row];
+    }
+    hold(at == alone->words, "side by side: as many pieces as alone");
+    hold(same(on.canvas.depth, alone->canvas.depth, on.canvas.depth_len) && same(on.canvas.minima, alone->canvas.minima, on.canvas.minima_len) &&
+             same(on.canvas.painting, alone->canvas.painting, on.canvas.painting_len),
+         "side by side: other words than alone");
+    let_go(&on);
+}
+
 int main(void) {
     coarse_bucketer screen;
     job alone;
@@ -124,6 +183,7 @@ int main(void) {
     hold(alone.done && alone.words > 0, "one thread paints it");
     four(paint, &screen, &alone, "four on one screen: other pieces than alone");
     four(draw_and_paint, &screen, &alone, "four on screens of their own: other pieces than alone");
+    side_by_side(&screen, &alone);
     printf("%lu pieces by each of %d threads; %d things do not hold\n", (unsigned long)(alone.words / COARSE_PIECE), 2 * THREADS, wrong);
     let_go(&alone);
     coarse_bucketer_free(&screen);

@@ -9,7 +9,8 @@ mod widths;
 
 use measured::{
     original_build, original_line, original_paint, original_recording, original_reset, port_build,
-    port_by_rows, port_by_steps, port_line, port_list, port_paint, port_recording, port_reset,
+    port_by_rows, port_by_steps, port_line, port_list, port_own_rows, port_paint, port_recording,
+    port_reset,
 };
 use oracle::original::Original;
 use oracle::painting::Piece;
@@ -48,8 +49,8 @@ fn race(it: &scenes::Scene, rounds: usize) {
     let steps = steps(&it.draft);
     let mut port = Port::new(&it.draft, it.setup());
     let fills_alone = is_fills_in_order(&steps, it.draft.draws.len());
-    let [mut reset, mut build, mut list, mut paint, mut by_rows, mut by_steps, mut line] =
-        [(); 7].map(|()| Race::new());
+    let [mut reset, mut build, mut list, mut paint, mut by_rows, mut own_rows, mut by_steps, mut line] =
+        [(); 8].map(|()| Race::new());
     for _ in 0..rounds {
         if fills_alone {
             port.reset();
@@ -62,6 +63,7 @@ fn race(it: &scenes::Scene, rounds: usize) {
         paint.original(|| original_paint(&mut original));
         paint.port(|| port_paint(&mut port));
         by_rows.port(|| port_by_rows(&mut port));
+        own_rows.port(|| port_own_rows(&mut port));
         by_steps.port(|| port_by_steps(&mut port));
         if !it.line.is_empty() {
             line.original(|| original_line(&mut original, &it.line));
@@ -75,6 +77,7 @@ fn race(it: &scenes::Scene, rounds: usize) {
     }
     paint.line(it.name, "paint");
     by_rows.against(&paint).line(it.name, "all rows");
+    own_rows.against(&paint).line(it.name, "own rows");
     by_steps.against(&paint).line(it.name, "by steps");
     if !it.line.is_empty() {
         line.line(it.name, "one line");
@@ -114,13 +117,15 @@ fn is_fills_in_order(steps: &[Step], draws: usize) -> bool {
 
 /// How many pieces both sides give of the scene that they hold: they must be the same, of the same panels.
 fn compared(scene: &str, original: &mut Original, port: &mut Port) -> usize {
-    let [mut given, mut listed, mut together, mut stepped] = [(); 4].map(|()| Vec::<Piece>::new());
+    let [mut given, mut listed, mut together, mut apart, mut stepped] =
+        [(); 5].map(|()| Vec::<Piece>::new());
     original.paint(|pieces| given.extend(pieces));
     port.paint(|pieces| listed.extend(pieces.iter().map(port::piece)));
     port.paint_rows(|pieces| together.extend(pieces.iter().map(port::piece)));
+    port.paint_own_rows(|pieces| apart.extend(pieces.iter().map(port::piece)));
     port.paint_by_steps(|pieces| stepped.extend(pieces.iter().map(port::piece)));
     assert!(
-        given == listed && given == together && given == stepped,
+        given == listed && given == together && given == apart && given == stepped,
         "{scene}: the pieces differ"
     );
     given.len()

@@ -58,6 +58,11 @@ pub(crate) fn port_by_rows(port: &mut Port) {
 }
 
 #[inline(never)]
+pub(crate) fn port_own_rows(port: &mut Port) {
+    port.paint_own_rows(read);
+}
+
+#[inline(never)]
 pub(crate) fn port_by_steps(port: &mut Port) {
     port.paint_by_steps(read);
 }

@@ -18,6 +18,8 @@ pub(crate) struct Port {
     list: FillList,
     layers: Vec<LayerProps>,
     bucketer: CommandBucketer,
+    /// The pieces of a row that is painted on its own words.
+    pieces: Vec<Piece>,
 }
 
 impl Port {
@@ -42,6 +44,7 @@ impl Port {
                 .map(|(i, words)| layer(words, draft.layer_panel(i)))
                 .collect(),
             bucketer: CommandBucketer::new(viewport, setup).expect("a good viewport"),
+            pieces: Vec::new(),
         }
     }
 
@@ -107,6 +110,14 @@ impl Port {
         self.bucketer.begin_painting().expect("closed layers");
         for pieces in self.bucketer.paint_rows(rows).expect("rows") {
             give(pieces);
+        }
+    }
+
+    /// The same by a call for each on its own words.
+    pub(crate) fn paint_own_rows(&mut self, mut give: impl FnMut(&[Piece])) {
+        self.bucketer.begin_painting().expect("closed layers");
+        for mut row in self.bucketer.own_rows().expect("rows") {
+            give(row.paint(&mut self.pieces).expect("a row"));
         }
     }
 

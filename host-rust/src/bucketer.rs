@@ -6,6 +6,7 @@ use crate::fills::FillList;
 use crate::input::{
     Edition, FilterLayerPlacement, LayerProps, Paint, RecordedFill, Rect, Segment, Setup, Width,
 };
+use crate::own::OwnRows;
 use crate::reason::{Attribute, Reason};
 use crate::stored::{
     BucketRange, DepthSegment, FilterPaint, LayerFillAttrs, OpenLayer, PaintFillAttrs, Progress,
@@ -614,6 +615,19 @@ impl CommandBucketer {
         self.brush.paint_rows(&self.state, &self.stored, rows)
     }
 
+    /// The rows of the screen, from the top, each with its own words alone: to be painted side by side, by threads, without a canvas for each.
+    ///
+    /// # Errors
+    /// [`Answer::Open`] where painting has not begun.
+    pub fn own_rows(&mut self) -> Result<OwnRows<'_>, Answer> {
+        if !self.is_painting() {
+            return Err(Answer::Open);
+        }
+        let rows = self.height_in_rows();
+        // The words are the screen's own, which the rows borrow whole.
+        Ok(unsafe { OwnRows::of(&self.state, &self.tables, self.brush.words, rows) })
+    }
+
     /// How far a row is painted: how many steps are done, and how many layers' buffers are open after them.
     ///
     /// # Errors
@@ -865,6 +879,10 @@ impl CommandBucketer {
 
     pub(crate) fn stored(&self) -> &sys::StoredWords {
         &self.stored
+    }
+
+    pub(crate) fn tables(&self) -> &Tables {
+        &self.tables
     }
 
     pub(crate) fn begun(&self) -> u64 {

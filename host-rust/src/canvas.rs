@@ -2,6 +2,7 @@
 
 use crate::answer::Answer;
 use crate::bucketer::CommandBucketer;
+use crate::own::OwnRows;
 use crate::stored::{BucketRange, Progress, TileSpan};
 use crate::sys;
 use alloc::vec::Vec;
@@ -622,6 +623,17 @@ impl Canvas {
     ) -> Result<PaintedRows<'_>, Answer> {
         self.belongs(screen)?;
         self.brush.paint_rows(screen.state(), screen.stored(), rows)
+    }
+
+    /// As [`CommandBucketer::own_rows`], on this canvas.
+    ///
+    /// # Errors
+    /// [`Answer::Open`] where the screen has changed since the canvas was begun, or it is another's.
+    pub fn own_rows<'a>(&'a mut self, screen: &'a CommandBucketer) -> Result<OwnRows<'a>, Answer> {
+        self.belongs(screen)?;
+        let rows = screen.rows().len();
+        // The words are the canvas' own, which the rows borrow whole.
+        Ok(unsafe { OwnRows::of(screen.state(), screen.tables(), self.brush.words, rows) })
     }
 
     /// As [`CommandBucketer::progress`], on this canvas.

@@ -73,6 +73,7 @@ mod editions;
 mod figures;
 mod fills;
 mod input;
+mod own;
 mod reason;
 mod recorder;
 mod stored;
@@ -90,6 +91,7 @@ pub use input::{
     BlendMode, Edition, FilterLayerPlacement, LayerClip, LayerProps, Mode, Paint, RecordedFill,
     Rect, Segment, Setup, Width, LAST_PANEL,
 };
+pub use own::{OwnRow, OwnRows};
 pub use reason::{Attribute, Reason};
 pub use recorder::Recorder;
 pub use stored::{

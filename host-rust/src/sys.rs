@@ -497,6 +497,15 @@ extern "C" {
         painted: *mut PaintedWords,
     ) -> u32;
 
+    pub fn coarse_paint_own_row(
+        state: *const StateWords,
+        stored: *const StoredWords,
+        canvas: *mut CanvasWords,
+        list: *mut u32,
+        list_len: usize,
+        painted: *mut PaintedWords,
+    ) -> u32;
+
     pub fn coarse_paint_rows(
         state: *const StateWords,
         stored: *const StoredWords,

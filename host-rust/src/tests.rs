@@ -1532,6 +1532,204 @@ fn rows_with_little_room() {
     }
 }
 
+/// The words of one row, as a host lends them, and a list of so many pieces.
+#[derive(Clone, Debug, PartialEq)]
+struct OwnWords {
+    record: Vec<u32>,
+    render_cmds: Vec<u32>,
+    depth_cmds: Vec<u32>,
+    paint_attrs: Vec<u32>,
+    layer_attrs: Vec<u32>,
+    depth: Vec<u32>,
+    minima: Vec<u32>,
+    painting: Vec<u32>,
+    list: Vec<Piece>,
+}
+
+impl OwnWords {
+    fn of(bucketer: &mut CommandBucketer, row: usize, room: usize) -> Self {
+        let rows = bucketer.rows().len();
+        let tables = bucketer.parts().1;
+        let own = |words: &[u32]| {
+            let each = words.len() / rows;
+            words[row * each..(row + 1) * each].to_vec()
+        };
+        Self {
+            record: own(&tables.rows),
+            render_cmds: own(&tables.render_cmds),
+            depth_cmds: own(&tables.depth_cmds),
+            paint_attrs: tables.paint_attrs.clone(),
+            layer_attrs: tables.layer_attrs.clone(),
+            depth: own(&tables.depth),
+            minima: own(&tables.minima),
+            painting: own(&tables.painting),
+            list: vec![Piece::default(); room],
+        }
+    }
+
+    /// Each of them by its number, those of BadArena first.
+    fn lent(&mut self) -> [&mut Vec<u32>; 8] {
+        [
+            &mut self.render_cmds,
+            &mut self.depth_cmds,
+            &mut self.depth,
+            &mut self.minima,
+            &mut self.record,
+            &mut self.painting,
+            &mut self.paint_attrs,
+            &mut self.layer_attrs,
+        ]
+    }
+
+    /// Painted: whether the row is at its end, and how many pieces.
+    fn paint(&mut self, state: &sys::StateWords) -> Result<(bool, usize), Answer> {
+        let own = sys::StoredWords {
+            rows: sys::Read::of(&self.record),
+            render_cmds: sys::Read::of(&self.render_cmds),
+            depth_cmds: sys::Read::of(&self.depth_cmds),
+            paint_attrs: sys::Read::of(&self.paint_attrs),
+            layer_attrs: sys::Read::of(&self.layer_attrs),
+        };
+        let mut canvas = sys::CanvasWords {
+            depth: sys::Lent::of(&mut self.depth),
+            minima: sys::Lent::of(&mut self.minima),
+            painting: sys::Lent::of(&mut self.painting),
+        };
+        let (list, list_len) = crate::canvas::words_mut(&mut self.list);
+        let mut painted = sys::PaintedWords {
+            finished: 7,
+            pieces: 7,
+        };
+        let done = Answer::check(unsafe {
+            sys::coarse_paint_own_row(state, &own, &mut canvas, list, list_len, &mut painted)
+        });
+        if done.is_err() {
+            assert_eq!((painted.finished, painted.pieces), (7, 7));
+        }
+        done.map(|()| (painted.finished == 1, painted.pieces))
+    }
+}
+
+/// A refused row leaves its words as they were.
+#[test]
+fn an_own_row_is_refused() {
+    let mut bucketer = nested();
+    let state = *bucketer.parts().0;
+    let good = OwnWords::of(&mut bucketer, 0, 64);
+    let refused = |own: &OwnWords, state: &sys::StateWords, answer: Answer| {
+        let mut left = own.clone();
+        assert_eq!(left.paint(state), Err(answer));
+        assert_eq!(left, *own);
+    };
+
+    // Each length, one short and one long.
+    for k in 0..8 {
+        let answer = if k < 4 {
+            Answer::BadArena
+        } else {
+            Answer::BadRecord
+        };
+        let mut short = good.clone();
+        short.lent()[k].pop();
+        refused(&short, &state, answer);
+        let mut long = good.clone();
+        long.lent()[k].push(0);
+        refused(&long, &state, answer);
+        // What comes before it.
+        let wide = sys::StateWords {
+            viewport: Rect::new(0, 0, 513, 8).into(),
+            ..state
+        };
+        refused(&long, &wide, Answer::BadViewport);
+        long.lent()[0].clear();
+        refused(&long, &state, Answer::BadArena);
+    }
+    for (c, d) in [(0, 64), (64, 0), (1_025, 64), (64, 1_025)] {
+        refused(&good, &sys::StateWords { c, d, ..state }, Answer::BadArena);
+    }
+
+    // The screen's own numbers, a layer that is open, and painting that has not begun.
+    for bad in [
+        sys::StateWords { width: 3, ..state },
+        sys::StateWords {
+            painting: 2,
+            ..state
+        },
+        sys::StateWords {
+            layers: 17,
+            ..state
+        },
+        sys::StateWords {
+            next_draw_id: 0,
+            ..state
+        },
+    ] {
+        refused(&good, &bad, Answer::BadRecord);
+    }
+    for shut in [
+        sys::StateWords { layers: 1, ..state },
+        sys::StateWords {
+            painting: 0,
+            ..state
+        },
+    ] {
+        refused(&good, &shut, Answer::Open);
+    }
+
+    // Words that are no row's.
+    for (forge, word) in [(0, 65), (1, 65)] {
+        let mut forged = good.clone();
+        forged.record[forge] = word;
+        refused(&forged, &state, Answer::BadRecord);
+    }
+    let mut forged = good.clone();
+    forged.painting[1] = 17;
+    refused(&forged, &state, Answer::BadRecord);
+    let mut full = good.clone();
+    full.list.clear();
+    refused(&full, &state, Answer::NoRoom);
+}
+
+/// A short list stops an own row where it ends, and the next call goes on there.
+#[test]
+fn an_own_row_with_little_room() {
+    for row in 0..2 {
+        let mut by_row = nested();
+        let each = by_row.paint_row(row).unwrap().to_vec();
+        let after = OwnWords::of(&mut by_row, row, 64);
+        let mut bucketer = nested();
+        let state = *bucketer.parts().0;
+        for room in 0..=each.len() {
+            let mut own = OwnWords::of(&mut bucketer, row, room);
+            let mut given = Vec::new();
+            let at_end = loop {
+                match own.paint(&state) {
+                    Ok((true, count)) => {
+                        given.extend_from_slice(&own.list[..count]);
+                        break true;
+                    }
+                    Ok((false, count)) => given.extend_from_slice(&own.list[..count]),
+                    Err(refused) => {
+                        assert_eq!(refused, Answer::NoRoom);
+                        break false;
+                    }
+                }
+            };
+            assert_eq!(given, each[..given.len()]);
+            if !at_end {
+                own.list.resize(64, Piece::default());
+                let (finished, count) = own.paint(&state).unwrap();
+                assert!(finished);
+                given.extend_from_slice(&own.list[..count]);
+            }
+            assert_eq!(given, each);
+            own.list.clone_from(&after.list);
+            assert_eq!(own, after);
+            assert_eq!(own.paint(&state), Ok((true, 0)));
+        }
+    }
+}
+
 #[test]
 fn refusals_change_nothing() {
     assert_eq!(

@@ -50,7 +50,8 @@ use Rattle.rules.specs.Minima.{minima-room, hidden_answer}
 use Rattle.paint.specs.Beginning.{Canvas, beginning}
 use Rattle.paint.specs.Stepping.{Attributes, part, depth-part, own, number, row_step, stepped}
 use Rattle.paint.specs.DirectRuns.{Wrote, or-runs, write-in-place, record-skip, unset-of, visible-of, write-of, hidden-of-row, skip-of-row}
-use Rattle.paint.specs.Running.{goes_on, one_more, run, standing, call_step, row-painted}
+use Rattle.paint.specs.Running.{goes_on, one_more, run, standing, own-step, call_step, row-painted}
+use Rattle.paint.specs.OwnRow.{own-number, own-run, own-row-painted}
 use Rattle.depth.specs.Listing.{listing, writing}
 use Rattle.paint.specs.Summaries.{good-summary}
 use Rattle.host.specs.State.{before_4}
@@ -184,6 +185,25 @@ row_number s r a l =
 
 pub row-is-early : (s : Screen) (r : ℕ) (a : Attributes) (l : paint.RowLent) → before_4 (number s r a l) ≡ before_4 (row-painted s r a l).answer.number
 row-is-early s r a l = step-is-early s r a l ∙ ap before_4 (row_number s r a l)
+
+-- .. and so has the call on a row's own words
+own-run-number : (s : Screen) (a : Attributes) (l : paint.RowLent)
+    → (paint.painted-row (bucket-tiles s.width) (paint.attrs-at a.paints s.paint_attrs a.layers s.layer_attrs) l).answer.number ≡ (own-run s a l).answer.number
+own-run-number s a l =
+    let step = own-step (bucket-tiles s.width) (paint.attrs-at a.paints s.paint_attrs a.layers s.layer_attrs) l.state l.render l.fills in
+    first-number step l.depth l.painting l.list ∙ run-number step l.depth l.painting l.list 2048
+
+own-late : (s : Screen) (a : Attributes) (l : paint.RowLent) → Late (own-run s a l).answer.number
+unfolding paint.painted-row
+own-late s a l =
+    let attrs = paint.attrs-at a.paints s.paint_attrs a.layers s.layer_attrs in
+    rw (← own-run-number s a l) (row-late (paint.next-step (bucket-tiles s.width) attrs l) (paint.next-minima attrs l) l.depth l.painting l.list)
+
+pub own-is-early : (s : Screen) (a : Attributes) (l : paint.RowLent) → before_4 (own-number s a l) ≡ before_4 (own-row-painted s a l).answer.number
+unfolding own-row-painted
+own-is-early s a l =
+    after (own-number s a l) (own-run s a l).answer.number (own-late s a l)
+    ∙ ap before_4 (out-number (eqb (own-number s a l) Done) (own-number s a l) (own-run s a l) (paint.out (paint.refused (own-number s a l)) l.depth l.painting l.list) refl)
 
 -- Runs.
 listed-late : (bad : Bool) (n : ℕ) (rs : List Span) → Late (listed bad n rs).number

@@ -11,10 +11,11 @@ use Rattle.paint.specs.Answers.{Painted}
 use Rattle.paint.specs.Painting as paint
 use Rattle.paint.specs.Stepping.{Attributes, stepped}
 use Rattle.paint.specs.Running.{row-painted}
+use Rattle.paint.specs.OwnRow.{own-row-painted}
 use Rattle.paint.specs.DirectRuns.{wrote, unset-of, visible-of, write-of, hidden-of-row, skip-of-row}
 use Rattle.host.specs.State.{screen-words, screen_of}
 use Rattle.host.specs.Results.{step-result, count_left, skip-left}
-use Rattle.host.specs.Painting.{step_left, step_call, row_call, runs-left, unset_call, visible_call, write-left, write_call, hidden_call, skip_call}
+use Rattle.host.specs.Painting.{step_left, step_call, row_call, own_row_call, runs-left, unset_call, visible_call, write-left, write_call, hidden_call, skip_call}
 
 -- the count of some runs, and their list
 listed : (o : Result ℕ Refusal) (l n n' : List ℕ) (k : ℕ) → answer k n' ≡ count_left n (out o []) → answer k (l, n') ≡ runs-left n (out o l)
@@ -45,6 +46,11 @@ module _ (st : List ℕ) (s : Screen) where
   pub row_roomed : (r k : ℕ) (a : Attributes) (l : paint.RowLent) (p : Painted) (d' : Depths) (p' l' res res' : List ℕ) → Some s ≡ screen_of (eqb (length res) 2) st
       → paint.out p d' p' l' ≡ row-painted s r a l → answer k res' ≡ step-result res p → answer k (d', p', l', res') ≡ row_call r a st l res
   row_roomed r k a l p d' p' l' res res' q e f = row_left r k a l (paint.out p d' p' l') _ res q e (left_beside k p d' p' l' res res' _ refl f)
+
+  pub own_roomed : (k : ℕ) (a : Attributes) (l : paint.RowLent) (p : Painted) (d' : Depths) (p' l' res res' : List ℕ) → Some s ≡ screen_of (eqb (length res) 2) st
+      → paint.out p d' p' l' ≡ own-row-painted s a l → answer k res' ≡ step-result res p → answer k (d', p', l', res') ≡ own_row_call a st l res
+  unfolding own_row_call
+  own_roomed k a l p d' p' l' res res' q e f = rw (← q) (left_beside k p d' p' l' res res' _ e f)
 
   pub unset_roomed : (r k : ℕ) (t : Span) (o : Result ℕ Refusal) (d l l' n n' : List ℕ) → Some s ≡ screen_of (eqb (length n) 1) st → out o l' ≡ unset-of s r d t l
       → answer k n' ≡ count_left n (out o []) → answer k (l', n') ≡ unset_call r t st d l n

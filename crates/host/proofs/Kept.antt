@@ -14,12 +14,13 @@ use Rattle.screen.specs.Depths.{Depths}
 use Rattle.paint.specs.Painting as paint
 use Rattle.paint.specs.Stepping.{Attributes, stepped}
 use Rattle.paint.specs.Running.{row-painted}
+use Rattle.paint.specs.OwnRow.{own-row-painted}
 use Rattle.paint.specs.DirectRuns.{unset-of, visible-of, write-of, hidden-of-row, skip-of-row}
-use Rattle.paint.proofs.Kept.{Refused, Bare, bare-visible, AsLent, unset-kept, visible-kept, write-kept, step-kept, row-kept}
+use Rattle.paint.proofs.Kept.{Refused, Bare, bare-visible, AsLent, unset-kept, visible-kept, write-kept, step-kept, row-kept, own-kept}
 use Rattle.host.specs.State.{screen_of, at_held, on}
 use Rattle.host.proofs.Words.{written_back}
 use Rattle.host.specs.Results.{skip-left, split-left}
-use Rattle.host.specs.Painting.{with-room, step_left, step_call, row_call, runs-left, unset_call, visible_call, write-left, write_call, hidden_call, skip_call, split_at, split_call}
+use Rattle.host.specs.Painting.{with-room, step_left, step_call, row_call, own_row_call, runs-left, unset_call, visible_call, write-left, write_call, hidden_call, skip_call, split_at, split_call}
 use Rattle.host.specs.Spans.{runs_of, spans-left, spans_call}
 
 -- result words of another length, or a call that keeps t where it is refused
@@ -95,6 +96,13 @@ split-refused pixels s parts = go (width_of pixels)
 left-kept : (o : paint.StepOut) (d : Depths) (p l res : List ℕ) → ((o.answer.number ≡ 0 → ⊥) → AsLent o d p l) → Refused (step_left res o)
     → (step_left res o).value ≡ (d, p, l, res)
 left-kept o d p l res k q = let z = k q in rw (z.0, z.1, z.2, ne_eqb _ _ q)
+
+pub own-row-refused : (a : Attributes) (st : List ℕ) (l : paint.RowLent) (res : List ℕ) → Refused (own_row_call a st l res)
+    → (own_row_call a st l res).value ≡ (l.depth, l.painting, l.list, res)
+unfolding own_row_call
+own-row-refused a st l res =
+    at-screen (eqb (length res) 2) st (l.depth, l.painting, l.list, res) (λ (s : Screen). step_left res (own-row-painted s a l))
+    (λ s e. left-kept (own-row-painted s a l) l.depth l.painting l.list res (own-kept s a l))
 
 module _ (r : ℕ) (a : Attributes) (st : List ℕ) (l : paint.RowLent) (res : List ℕ) where
   abbrev same : Depths × List ℕ × List ℕ × List ℕ

@@ -29,13 +29,14 @@ use Rattle.paint.specs.Beginning.{canvas, beginning}
 use Rattle.paint.specs.Stepping.{Attributes, number, stepped}
 use Rattle.paint.specs.DirectRuns.{unset-of, visible-of, write-of, hidden-of-row, skip-of-row}
 use Rattle.paint.specs.Running.{row-painted}
+use Rattle.paint.specs.OwnRow.{own-number, own-row-painted}
 use Rattle.host.specs.State.{screen_of, refused_at}
 use Rattle.host.proofs.Words.{refused-on}
 use Rattle.host.specs.Border.{arenas_number, file_number}
 use Rattle.host.specs.Building.{tables-left, reset_in, recording_in, fill-left, fill_call, push-left, push_call, pop-left, pop_call, filter-left, filter_call}
 use Rattle.host.specs.Results.{skip-left}
-use Rattle.host.specs.Painting.{begin-left, begin_call, step_left, step_call, row_call, runs-left, unset_call, visible_call, write-left, write_call, hidden_call, skip_call}
-use Rattle.host.proofs.Early.{fill-early, push-early, filter-early, pop-early, begin-early, step-is-early, row-is-early, unset-early, visible-early, write-early, hidden-early, skip-early, reset-early, recorded-is-early}
+use Rattle.host.specs.Painting.{begin-left, begin_call, step_left, step_call, row_call, own_row_call, runs-left, unset_call, visible_call, write-left, write_call, hidden_call, skip_call}
+use Rattle.host.proofs.Early.{fill-early, push-early, filter-early, pop-early, begin-early, step-is-early, row-is-early, own-is-early, unset-early, visible-early, write-early, hidden-early, skip-early, reset-early, recorded-is-early}
 
 module _ (st : List ℕ) (n : ℕ) where
   pub reset_unheld : (v : Rect) (q : Setup) (t : Tables) → None ≡ screen_of true st
@@ -88,6 +89,13 @@ module _ (st : List ℕ) (n : ℕ) where
       refused-on (screen_of true st) st (st, d, p) (λ (s : Screen). begin-left (beginning (canvas s d p)))
       (λ (s : Screen). begin_number s (length d.words) (length d.minima) (length p)) n h q
       (λ (s : Screen). begin-early (canvas s d p))
+
+  pub own_unheld : (a : Attributes) (l : paint.RowLent) (res : List ℕ) → None ≡ screen_of (eqb (length res) 2) st → n ≡ refused_at st (λ (s : Screen). own-number s a l)
+      → answer n (l.depth, l.painting, l.list, res) ≡ own_row_call a st l res
+  unfolding own_row_call
+  own_unheld a l res h q =
+      refused-on (screen_of (eqb (length res) 2) st) st (l.depth, l.painting, l.list, res) (λ (s : Screen). step_left res (own-row-painted s a l)) (λ (s : Screen). own-number s a l) n h q
+      (λ (s : Screen). own-is-early s a l)
 
   module _ (r : ℕ) where
     pub step_unheld : (a : Attributes) (l : paint.RowLent) (res : List ℕ) → None ≡ screen_of (eqb (length res) 2) st → n ≡ refused_at st (λ (s : Screen). number s r a l)

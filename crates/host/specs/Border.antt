@@ -15,6 +15,7 @@ use Rattle.screen.specs.declared.Screen.{Screen}
 use Rattle.screen.specs.Judging.{arenas, judged}
 use Rattle.paint.specs.declared.canvas.stored.Stored.{Stored}
 use Rattle.paint.specs.Judging.{arenas-long, tables-long, step_number}
+use Rattle.paint.specs.OwnRow.{own-arenas-long, own-tables-long, own_number}
 use Rattle.screen.specs.Lent.{tables_in}
 use Rattle.screen.specs.Tables.{lengths}
 
@@ -49,3 +50,9 @@ abbrev pub step-judged : Stored → ℕ → ℕ → ℕ → ℕ → Screen → �
 step-judged t row depth minima painting s =
     step_number s row (arenas-long s (length t.render_cmds.now) (length t.depth_cmds.now) depth minima)
     (tables-long s (length t.rows.now) painting (length t.paint_attrs.now) (length t.layer_attrs.now))
+
+-- .. and of a row painted on its own words
+abbrev pub own-judged : Stored → ℕ → ℕ → ℕ → Screen → ℕ
+own-judged t depth minima painting s =
+    own_number s (own-arenas-long s (length t.render_cmds.now) (length t.depth_cmds.now) depth minima)
+    (own-tables-long (length t.rows.now) painting (length t.paint_attrs.now) (length t.layer_attrs.now))

@@ -24,7 +24,7 @@ use Rattle.host.specs.Held.{words_in, draw_in, props_of, filter_of, painted_in, 
 use Rattle.host.specs.Lent.{rows_in}
 use Rattle.host.specs.Asked.{FileWords}
 use Rattle.host.specs.Building.{fill_call, push_call, filter_call}
-use Rattle.host.specs.Painting.{step_call, row_call, write_call}
+use Rattle.host.specs.Painting.{step_call, row_call, own_row_call, write_call}
 use Rattle.host.specs.Reasons.{why_asked, why_call}
 
 -- a fill: the state, the rows and the paint attributes
@@ -67,6 +67,9 @@ step_on row w s c l p = step_call row (row_attrs s) (words_in w) (row_lent s c l
 
 abbrev pub row_on : ℕ → StateWords → Stored → Canvas → List ℕ → PaintedWords → Answer (Depths × List ℕ × List ℕ × List ℕ)
 row_on row w s c l p = row_call row (row_attrs s) (words_in w) (row_lent s c l) (painted_in p)
+
+abbrev pub own_row_on : StateWords → Stored → Canvas → List ℕ → PaintedWords → Answer (Depths × List ℕ × List ℕ × List ℕ)
+own_row_on w s c l p = own_row_call (row_attrs s) (words_in w) (row_lent s c l) (painted_in p)
 
 -- runs that are written: the state, the depth words with their minima, the list and the count
 abbrev pub write_out : StateWords → Canvas → List ℕ → ℕ → List ℕ × Depths × List ℕ × List ℕ

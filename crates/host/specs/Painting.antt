@@ -16,6 +16,7 @@ use Rattle.paint.specs.Stepping.{Attributes, stepped}
 use Rattle.screen.specs.Depths.{Depths}
 use Rattle.paint.specs.DirectRuns.{Wrote, unset-of, visible-of, write-of, hidden-of-row, skip-of-row}
 use Rattle.paint.specs.Running.{row-painted}
+use Rattle.paint.specs.OwnRow.{own-row-painted}
 use Rattle.host.specs.State.{screen-words, on}
 use Rattle.host.specs.Results.{step-result, count_left, skip-left, split-left}
 
@@ -44,6 +45,12 @@ unfoldable pub row_call : ℕ → Attributes → List ℕ → paint.RowLent → 
 row_call r a st l res =
     on (eqb (length res) 2) st (l.depth, l.painting, l.list, res)
     (λ s. step_left res (row-painted s r a l))
+
+-- .. of a row whose own words are all that is lent
+unfoldable pub own_row_call : Attributes → List ℕ → paint.RowLent → List ℕ → Answer (Depths × List ℕ × List ℕ × List ℕ)
+own_row_call a st l res =
+    on (eqb (length res) 2) st (l.depth, l.painting, l.list, res)
+    (λ s. step_left res (own-row-painted s a l))
 
 -- how many runs are listed, and the list
 abbrev pub runs-left : List ℕ → RunsOut → Answer (List ℕ × List ℕ)

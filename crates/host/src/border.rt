@@ -10,14 +10,14 @@ ghost use Rattle.paint.specs.Judging.{begin_number, runs_number, write_number, h
 ghost use Rattle.file.specs.Held.{file_of};
 ghost use Rattle.host.specs.State.{refused_at};
 ghost use Rattle.host.specs.Held.{words_in};
-ghost use Rattle.host.specs.Border.{arenas-in, arenas_number, file_number, unasked_number, rows-judged, step-judged};
+ghost use Rattle.host.specs.Border.{arenas-in, arenas_number, file_number, unasked_number, rows-judged, step-judged, own-judged};
 
 use crate::state::{StateWords, before_4, screen_at};
 use depth::minima_room;
 use file::{File, Recording};
 use paint::Stored;
 use paint::canvas::judge::{
-    judge_begin, judge_hidden, judge_runs, judge_skip, judge_step, judge_write,
+    judge_begin, judge_hidden, judge_own, judge_runs, judge_skip, judge_step, judge_write,
 };
 use rect::Rect;
 use row::Rows;
@@ -122,6 +122,20 @@ pub fn refuse_step(
     ensures { result ≡ refused_at (words_in state.now) (step-judged stored.now row depth minima painting) }
 {
     before_4(judge_step(screen_at(state), row, stored, depth, minima, painting))
+}
+
+/// The number of a row painted on its own words: 2 or 1 as it would answer, else 4.
+#[tactic(auto, unfolding(crate::specs::State::refused_at))]
+pub fn refuse_own(
+    state: &StateWords,
+    stored: &Stored<'_>,
+    depth: usize,
+    minima: usize,
+    painting: usize,
+) -> u32
+    ensures { result ≡ refused_at (words_in state.now) (own-judged stored.now depth minima painting) }
+{
+    before_4(judge_own(screen_at(state), stored, depth, minima, painting))
 }
 
 /// The number of a call that reads the runs of a row: 2 or 1 as it would answer, else 4.

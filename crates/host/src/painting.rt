@@ -10,11 +10,11 @@ ghost use Rattle.paint.specs.Running.{most, row-run-on};
 ghost use Rattle.host.specs.State.{screen-at};
 ghost use Rattle.host.specs.Held.{words_in, one, parts_in, painted_in};
 ghost use Rattle.screen.specs.Depths.{depths_in};
-ghost use Rattle.host.specs.Called.{canvas_out, step_on, row_on, write_out, write_on};
+ghost use Rattle.host.specs.Called.{canvas_out, step_on, row_on, own_row_on, write_out, write_on};
 ghost use Rattle.host.specs.Painting.{begin_call, step_left, unset_call, visible_call, hidden_call, skip_call, split_call};
 
 use crate::border::{
-    refuse_begin, refuse_hidden, refuse_runs, refuse_skip, refuse_step, refuse_write,
+    refuse_begin, refuse_hidden, refuse_own, refuse_runs, refuse_skip, refuse_step, refuse_write,
 };
 use crate::results::{PaintedWords, SplitWords, put_runs, put_split, put_step, put_yes};
 use crate::state::{StateWords, leave, put_screen, screen_at, screen_of};
@@ -23,8 +23,8 @@ use depth::split_opaque_span;
 use paint::whole::run::Went;
 use paint::whole::{MOST_STEPS, row_rest, row_step, row_sure};
 use paint::{
-    Canvas, Stepped, Stored, begin_painting, can_skip, is_hidden, paint_row, paint_step,
-    unset_runs, unset_runs_and_write, visible_runs,
+    Canvas, Stepped, Stored, begin_painting, can_skip, is_hidden, paint_own_row, paint_row,
+    paint_step, unset_runs, unset_runs_and_write, visible_runs,
 };
 use sizes::width::Width;
 use span::{BucketRange, TileSpan};
@@ -206,6 +206,33 @@ pub extern "C" fn coarse_paint_row(
         pieces: went.pieces,
     };
     put_step(Ok(done), painted)
+}
+
+/// A row's steps from where it stands to its end, or up to the first that is refused, on the row's own words: the stored words and the canvas are of that row
+/// alone, the tables of attributes whole. painted: as `coarse_paint_row`.
+#[unsafe(no_mangle)]
+#[tactic(auto, using(crate::proofs::Unheld::own_unheld))]
+pub extern "C" fn coarse_paint_own_row(
+    state: &StateWords,
+    stored: &Stored<'_>,
+    canvas: &mut Canvas<'_>,
+    list: &mut [u32],
+    painted: &mut PaintedWords,
+) -> u32
+    ensures same { SameCanvas canvas.old canvas.new }
+    ensures row { answer result (canvas_out canvas.new list.new painted.new) ≡ own_row_on state.now stored.now canvas.old list.old painted.old }
+{
+    let Some(screen) = screen_of(state, true) else {
+        return refuse_own(
+            state,
+            stored,
+            canvas.depth.words.len(),
+            canvas.depth.minima.len(),
+            canvas.painting.len(),
+        );
+    };
+    let done = paint_own_row(screen, stored, canvas, list);
+    put_step(done, painted)
 }
 
 /// The runs of the tiles first to end whose buckets hold 0, two words each in list; count: how many.

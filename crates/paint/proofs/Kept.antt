@@ -16,7 +16,8 @@ use Rattle.screen.specs.Depths.{Depths, depths}
 use Rattle.paint.specs.Painting.{RowLent, StepOut, attrs-at, next-step, next-minima, settled, painted-row, out, refused, left}
 use Rattle.paint.specs.Judging.{wide, runs_number, write_number}
 use Rattle.paint.specs.Stepping.{Attributes, part, depth-part, own, in_place, number, row_step, stepped}
-use Rattle.paint.specs.Running.{goes_on, ended, one_more, run, most, standing, call_step, row-painted}
+use Rattle.paint.specs.Running.{goes_on, ended, one_more, run, most, standing, own-step, call_step, row-painted}
+use Rattle.paint.specs.OwnRow.{own-number, own-run, own-row-painted}
 use Rattle.paint.specs.DirectRuns.{Wrote, or-runs, unset-of, visible-of, write-of, write-in-place}
 
 abbrev pub Refused : {A : Type 0} → Answer A → Type 0
@@ -188,3 +189,16 @@ pub row-kept : (s : Screen) (r : ℕ) (a : Attributes) (l : RowLent) → ((row-p
     → AsLent (row-painted s r a l) l.depth l.painting l.list
 unfolding row-painted
 row-kept s r a l = run-kept (call_step s r a l.state l.render l.fills) l.depth l.painting l.list (step-kept s r a l) most
+
+pub own-kept : (s : Screen) (a : Attributes) (l : RowLent) → ((own-row-painted s a l).answer.number ≡ Done → ⊥)
+    → AsLent (own-row-painted s a l) l.depth l.painting l.list
+unfolding own-row-painted painted-row
+own-kept s a l = by (eqb (own-number s a l) Done)
+  where
+    by : (b : Bool) → ((cond b (own-run s a l) (out (refused (own-number s a l)) l.depth l.painting l.list)).answer.number ≡ Done → ⊥)
+        → AsLent (cond b (own-run s a l) (out (refused (own-number s a l)) l.depth l.painting l.list)) l.depth l.painting l.list
+    by true q =
+        run-kept (own-step (bucket-tiles s.width) (attrs-at a.paints s.paint_attrs a.layers s.layer_attrs) l.state l.render l.fills) l.depth l.painting l.list
+        (row_kept (next-step (bucket-tiles s.width) (attrs-at a.paints s.paint_attrs a.layers s.layer_attrs) l)
+        (next-minima (attrs-at a.paints s.paint_attrs a.layers s.layer_attrs) l) l.depth l.painting l.list) most q
+    by false q = (refl, refl, refl)

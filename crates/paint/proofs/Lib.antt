@@ -31,3 +31,4 @@ pub mod DepthFills
 pub mod Leading
 pub mod InOrder
 pub mod RowTurns
+pub mod OwnRow

@@ -18,3 +18,4 @@ pub mod StoredCmds
 pub mod DepthFills
 pub mod InOrder
 pub mod RowTurns
+pub mod OwnRow

@@ -4,6 +4,7 @@ ghost use Rattle.sizes.specs.Refusals.{answer_number};
 ghost use Rattle.rules.specs.Answers.{Done, Open};
 ghost use Rattle.paint.specs.Judging.{depth-long, minima-long, depths-long, arenas-long, tables-long, judged, of_row, begin_number, paints-on, step_number, runs_number, write_number, hidden_number, skip_number};
 ghost use Rattle.paint.specs.InOrder.{rows_number};
+ghost use Rattle.paint.specs.OwnRow.{own-arenas-long, own-tables-long, own_number};
 ghost use Rattle.paint.specs.StoredCmds.{stored_words, stored_number, progress_number};
 
 use crate::canvas::stored::Stored;
@@ -135,6 +136,45 @@ pub fn judge_step(
     let arenas = is_arenas(screen, stored, depth, minima);
     let tables = is_tables(screen, stored, painting);
     judge_row(screen, row, arenas, tables)?;
+    judge_begun(screen)
+}
+
+// One row's commands and depth fills, depth words and minima are lent exactly.
+fn is_own_arenas(screen: Screen, stored: &Stored<'_>, depth: usize, minima: usize) -> bool
+    ensures { result ≡ own-arenas-long screen (length stored.now.render_cmds.now) (length stored.now.depth_cmds.now) depth minima }
+{
+    let b = screen.buckets();
+    stored.render_cmds.len() == 4 * screen.c as usize
+        && stored.depth_cmds.len() == 2 * screen.d as usize
+        && (depth == b && minima == minima_room(b))
+}
+
+// Its record, its painting words and the tables are.
+fn is_own_tables(stored: &Stored<'_>, painting: usize) -> bool
+    ensures { result ≡ own-tables-long (length stored.now.rows.now) painting (length stored.now.paint_attrs.now) (length stored.now.layer_attrs.now) }
+{
+    stored.rows.len() == ROW
+        && painting == 2
+        && stored.paint_attrs.len() == PAINT_TABLE
+        && stored.layer_attrs.len() == LAYER_TABLE
+}
+
+/// Before a row is painted on its own words: 2, 1, 4, then 13 as before a step.
+#[tactic(auto, unfolding(crate::specs::OwnRow::own_number))]
+pub fn judge_own(
+    screen: Screen,
+    stored: &Stored<'_>,
+    depth: usize,
+    minima: usize,
+    painting: usize,
+) -> Result<(), Refusal>
+    ensures { answer_number result ≡ own_number screen
+        (own-arenas-long screen (length stored.now.render_cmds.now) (length stored.now.depth_cmds.now) depth minima)
+        (own-tables-long (length stored.now.rows.now) painting (length stored.now.paint_attrs.now) (length stored.now.layer_attrs.now)) }
+{
+    let arenas = is_own_arenas(screen, stored, depth, minima);
+    let tables = is_own_tables(stored, painting);
+    judge(screen, arenas, tables)?;
     judge_begun(screen)
 }
 

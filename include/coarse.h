@@ -319,6 +319,11 @@ uint32_t coarse_sizes(coarse_rect viewport, coarse_setup setup, coarse_lengths *
  * lie past a row's last bucket. */
 uint32_t coarse_reset(coarse_state *state, coarse_rect viewport, coarse_setup setup, coarse_tables *tables);
 
+/* The same for a screen that a reset and done calls made: a fresh screen of its own viewport and setup, every word as coarse_reset leaves it
+ * there. Only what its steps and painting wrote is cleared, so it takes time by that and by the rows, and not by C and D. On other words
+ * it clears what the state and the rows' records count. */
+uint32_t coarse_reset_used(coarse_state *state, coarse_tables *tables);
+
 /* A recording, as the little-endian words of its file, of a coarse_edition, bucketed from a fresh screen of its own viewport in a setup. The
  * tables have the lengths that coarse_sizes gives for that. The file's viewport and boxes are in pixels, its segments in tiles, all of the
  * scene. An edition that is neither 1 nor 2 is answer 3 before all else. */

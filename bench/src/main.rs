@@ -10,7 +10,7 @@ mod widths;
 use measured::{
     original_build, original_line, original_paint, original_recording, original_reset, port_build,
     port_by_rows, port_by_steps, port_line, port_list, port_own_rows, port_paint, port_recording,
-    port_reset,
+    port_reset, port_reset_used,
 };
 use oracle::original::Original;
 use oracle::painting::Piece;
@@ -49,8 +49,17 @@ fn race(it: &scenes::Scene, rounds: usize) {
     let steps = steps(&it.draft);
     let mut port = Port::new(&it.draft, it.setup());
     let fills_alone = is_fills_in_order(&steps, it.draft.draws.len());
-    let [mut reset, mut build, mut list, mut paint, mut by_rows, mut own_rows, mut by_steps, mut line] =
-        [(); 8].map(|()| Race::new());
+    let [
+        mut reset,
+        mut used,
+        mut build,
+        mut list,
+        mut paint,
+        mut by_rows,
+        mut own_rows,
+        mut by_steps,
+        mut line,
+    ] = [(); 9].map(|()| Race::new());
     for _ in 0..rounds {
         if fills_alone {
             port.reset();
@@ -58,6 +67,9 @@ fn race(it: &scenes::Scene, rounds: usize) {
         }
         reset.original(|| original_reset(&mut original));
         reset.port(|| port_reset(&mut port));
+        port.build(&steps);
+        port.paint(read);
+        used.port(|| port_reset_used(&mut port));
         build.original(|| original_build(&mut original, &steps));
         build.port(|| port_build(&mut port, &steps));
         paint.original(|| original_paint(&mut original));
@@ -71,6 +83,7 @@ fn race(it: &scenes::Scene, rounds: usize) {
         }
     }
     reset.line(it.name, "reset");
+    used.against(&reset).line(it.name, "reset used");
     build.line(it.name, "build");
     if fills_alone {
         list.against(&build).line(it.name, "list");

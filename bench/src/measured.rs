@@ -18,6 +18,11 @@ pub(crate) fn port_reset(port: &mut Port) {
 }
 
 #[inline(never)]
+pub(crate) fn port_reset_used(port: &mut Port) {
+    port.reset_used();
+}
+
+#[inline(never)]
 pub(crate) fn original_build(original: &mut Original, steps: &[Step]) {
     original.build(steps);
 }

@@ -52,6 +52,10 @@ impl Port {
         self.bucketer.reset(self.viewport).expect("a reset");
     }
 
+    pub(crate) fn reset_used(&mut self) {
+        self.bucketer.reset_used();
+    }
+
     /// False where the file is too long to be a recording.
     pub(crate) fn record(&mut self, file: &[u32]) -> bool {
         self.bucketer.bucket_commands(Edition::One, file).is_ok()

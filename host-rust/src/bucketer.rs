@@ -288,6 +288,22 @@ impl CommandBucketer {
         Ok(())
     }
 
+    /// Rule 1, for the next picture of the same viewport: a fresh screen in the same setup, as [`reset`](Self::reset) makes it. Only what was drawn and painted is
+    /// cleared, so it takes time by that and by the rows, and not by how much they have room for.
+    ///
+    /// ```
+    /// use coarse::{CommandBucketer, Rect, Setup};
+    ///
+    /// let mut screen = CommandBucketer::from_wh(512, 4, Setup::new(64, 64))?;
+    /// screen.reset_used();
+    /// assert_eq!(screen.rows().count(), 1);
+    /// # Ok::<(), coarse::Answer>(())
+    /// ```
+    pub fn reset_used(&mut self) {
+        let answer = unsafe { sys::coarse_reset_used(&mut self.state, &mut self.lent) };
+        debug_assert_eq!(answer, 0, "a screen of done calls");
+    }
+
     fn take(&mut self, tables: Tables) {
         self.tables = tables;
         (self.lent, self.stored, self.brush.words) = self.tables.lent();

@@ -369,6 +369,8 @@ extern "C" {
         tables: *mut TableWords,
     ) -> u32;
 
+    pub fn coarse_reset_used(state: *mut StateWords, tables: *mut TableWords) -> u32;
+
     pub fn coarse_bucket_recording(
         state: *mut StateWords,
         edition: u32,

@@ -26,6 +26,7 @@ use Rattle.screen.specs.declared.Screen.{Screen}
 use Rattle.screen.specs.declared.lent.Lengths.{Lengths}
 use Rattle.screen.specs.Judging as judging
 use Rattle.screen.specs.Judging.{judged, good-tables, judged_reset}
+use Rattle.reuse.specs.Used.{judged_used, used_reset}
 use Rattle.screen.specs.Tables.{lengths, ScreenLent, reset_to}
 use Rattle.screen.specs.Depths.{Depths}
 use Rattle.inputs.specs.declared.Draw.{Draw}
@@ -303,6 +304,10 @@ arenas-early f l = go (good_viewport f.viewport) (good-arenas f (judging.arenas 
 pub reset-early : (f : Frame) (l : ScreenLent) → before_4 (arenas_number f (judging.arenas (lengths l.tables))) ≡ before_4 (reset_to f l).number
 unfolding reset_to
 reset-early f l = arenas-early f (lengths l.tables) ∙ ap before_4 (sym (settle-number (judged_reset f (lengths l.tables)) _ _))
+
+pub used-early : (l : ScreenLent) → before_4 (judged_used l.screen (lengths l.tables)) ≡ before_4 (used_reset l).number
+unfolding used_reset
+used-early l = ap before_4 (sym (settle-number (judged_used l.screen (lengths l.tables)) _ _))
 
 records-late : (r : Recording) → Late (records.judged r)
 records-late r = first-late ((not (good-records r), BadRecord) ∷ (not (good-order r), BadOrder) ∷ []) (cons (omega arith) (cons (omega arith) nil))

@@ -11,6 +11,7 @@ use Rattle.row.specs.Words.{Words}
 use Rattle.screen.specs.declared.Screen.{Screen}
 use Rattle.screen.specs.Judging.{judged, arenas}
 use Rattle.screen.specs.Tables.{Tables, lengths, screen_lent, reset_to}
+use Rattle.reuse.specs.Used.{judged_used, used_reset}
 use Rattle.screen.specs.Depths.{Depths}
 use Rattle.walk.specs.Recorded.{recorded}
 use Rattle.inputs.specs.declared.Draw.{Draw}
@@ -33,10 +34,10 @@ use Rattle.paint.specs.OwnRow.{own-number, own-row-painted}
 use Rattle.host.specs.State.{screen_of, refused_at}
 use Rattle.host.proofs.Words.{refused-on}
 use Rattle.host.specs.Border.{arenas_number, file_number}
-use Rattle.host.specs.Building.{tables-left, reset_in, recording_in, fill-left, fill_call, push-left, push_call, pop-left, pop_call, filter-left, filter_call}
+use Rattle.host.specs.Building.{tables-left, reset_in, used_call, recording_in, fill-left, fill_call, push-left, push_call, pop-left, pop_call, filter-left, filter_call}
 use Rattle.host.specs.Results.{skip-left}
 use Rattle.host.specs.Painting.{begin-left, begin_call, step_left, step_call, row_call, own_row_call, runs-left, unset_call, visible_call, write-left, write_call, hidden_call, skip_call}
-use Rattle.host.proofs.Early.{fill-early, push-early, filter-early, pop-early, begin-early, step-is-early, row-is-early, own-is-early, unset-early, visible-early, write-early, hidden-early, skip-early, reset-early, recorded-is-early}
+use Rattle.host.proofs.Early.{fill-early, push-early, filter-early, pop-early, begin-early, step-is-early, row-is-early, own-is-early, unset-early, visible-early, write-early, hidden-early, skip-early, reset-early, used-early, recorded-is-early}
 
 module _ (st : List ℕ) (n : ℕ) where
   pub reset_unheld : (v : Rect) (q : Setup) (t : Tables) → None ≡ screen_of true st
@@ -46,6 +47,12 @@ module _ (st : List ℕ) (n : ℕ) where
       refused-on (screen_of true st) st (st, t) (λ (s : Screen). tables-left (reset_to (frame q (box_of v)) (screen_lent s t)))
       (λ (s : Screen). arenas_number (frame q (box_of v)) (arenas (lengths t))) n h e
       (λ (s : Screen). reset-early (frame q (box_of v)) (screen_lent s t))
+
+  pub used_unheld : (t : Tables) → None ≡ screen_of true st → n ≡ refused_at st (λ (s : Screen). judged_used s (lengths t)) → answer n (st, t) ≡ used_call st t
+  unfolding used_call
+  used_unheld t h e =
+      refused-on (screen_of true st) st (st, t) (λ (s : Screen). tables-left (used_reset (screen_lent s t))) (λ (s : Screen). judged_used s (lengths t)) n h e
+      (λ (s : Screen). used-early (screen_lent s t))
 
   pub recording_unheld : (file : File) (q : Setup) (t : Tables) → None ≡ screen_of true st
       → n ≡ refused_at st (λ (s : Screen). file_number file q (arenas (lengths t))) → answer n (st, t) ≡ recording_in file q st t

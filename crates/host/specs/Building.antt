@@ -12,6 +12,7 @@ use Rattle.rect.specs.declared.Rect.{Rect}
 use Rattle.rect.specs.Rects.{box_of}
 use Rattle.row.specs.Words.{Words}
 use Rattle.screen.specs.Tables.{Tables, ScreenLent, screen_lent, reset_to}
+use Rattle.reuse.specs.Used.{used_reset}
 use Rattle.walk.specs.Recorded.{recorded}
 use Rattle.inputs.specs.declared.Draw.{Draw}
 use Rattle.fill.specs.Fills as fills
@@ -40,6 +41,10 @@ reset_in v q st t = on true st (st, t) (λ s. tables-left (reset_to (frame q (bo
 
 unfoldable pub reset_call : Rect → SetupWords → List ℕ → Tables → Answer (List ℕ × Tables)
 reset_call v w st t = granted (asked_setup w) number_of (st, t) (λ q. reset_in v q st t)
+
+-- a reset of what is used, to the screen's own frame
+unfoldable pub used_call : List ℕ → Tables → Answer (List ℕ × Tables)
+used_call st t = on true st (st, t) (λ s. tables-left (used_reset (screen_lent s t)))
 
 -- a recording, likewise: 3 for a number that says no edition before all, then 3 for the file's form
 unfoldable pub recording_in : File → Setup → List ℕ → Tables → Answer (List ℕ × Tables)

@@ -6,6 +6,9 @@ ghost use Rattle.rules.specs.Boxes.{good_viewport};
 ghost use Rattle.rect.specs.Rects.{box_of};
 ghost use Rattle.screen.specs.declared.Screen.{Screen as Numbers};
 ghost use Rattle.screen.specs.Screens.{setup-of, frame, frame-of};
+ghost use Rattle.screen.specs.Tables.{lengths};
+ghost use Rattle.screen.specs.Lent.{tables_in};
+ghost use Rattle.reuse.specs.Used.{judged_used};
 ghost use Rattle.paint.specs.Judging.{begin_number, runs_number, write_number, hidden_number, skip_number};
 ghost use Rattle.file.specs.Held.{file_of};
 ghost use Rattle.host.specs.State.{refused_at};
@@ -21,6 +24,7 @@ use paint::canvas::judge::{
 };
 use rect::Rect;
 use row::Rows;
+use reuse::judge_used;
 use screen::{Lent, Screen, Setup, fresh, is_good_rooms, judge_screen};
 use sizes::answers::Refusal;
 
@@ -60,6 +64,14 @@ pub fn refuse_reset(state: &StateWords, viewport: Rect, setup: Setup, lent: &Len
     ensures { result ≡ refused_at (words_in state.now) (λ (s : Numbers). arenas_number (frame setup viewport) (arenas-in lent.now)) }
 {
     before_4(judge_arenas(viewport, setup, lent))
+}
+
+/// The number of a reset of what is used: 2 or 1 as it would answer, else 4.
+#[tactic(auto, unfolding(crate::specs::State::refused_at))]
+pub fn refuse_used(state: &StateWords, lent: &Lent<'_>) -> u32
+    ensures { result ≡ refused_at (words_in state.now) (λ (s : Numbers). judged_used s (lengths (tables_in lent.now))) }
+{
+    before_4(judge_used(screen_at(state), lent.lengths()))
 }
 
 // The file's form, then the reset to its viewport.

@@ -9,9 +9,9 @@ ghost use Rattle.host.specs.Held.{words_in, rect_of, draw_in, props_of};
 ghost use Rattle.host.specs.Lent.{pop_in, FillKeeps, PushKeeps, PopKeeps, FilterKeeps};
 ghost use Rattle.host.specs.Called.{fill_on, fill_out, push_on, push_out, filter_on, filter_out};
 ghost use Rattle.host.specs.OneLook.{FillSure};
-ghost use Rattle.host.specs.Building.{tables-left, reset_call, recording_call, pop_call, picture};
+ghost use Rattle.host.specs.Building.{tables-left, reset_call, used_call, recording_call, pop_call, picture};
 
-use crate::border::{refuse_build, refuse_recording, refuse_reset, refuse_setup};
+use crate::border::{refuse_build, refuse_recording, refuse_reset, refuse_setup, refuse_used};
 use crate::editions::read_file;
 use crate::state::{
     Corners, SetupWords, StateWords, box_of, leave, leave_fill, put_screen, read_setup, screen_at,
@@ -26,6 +26,7 @@ use layers::{FilterFill, filter_fill, push_layer};
 use pop::pop_layer;
 use row::Rows;
 use screen::layers::{Clip, LayerProps, Layers};
+use reuse::reset_used;
 use screen::{Lent, Screen, reset};
 use sizes::answers::Refusal;
 use walk::bucket_recording;
@@ -112,6 +113,20 @@ pub extern "C" fn coarse_reset(
     };
     let done = reset(viewport, asked, tables);
     put_reset(state, screen, done)
+}
+
+/// Rule 1, for a screen that a reset and done calls made: its own viewport and setup anew, with only what is used cleared.
+#[unsafe(no_mangle)]
+#[tactic(auto, using(crate::proofs::Unheld::used_unheld))]
+pub extern "C" fn coarse_reset_used(state: &mut StateWords, tables: &mut Lent<'_>) -> u32
+    ensures same { SameLent tables.old tables.new }
+    ensures reset { answer result (words_in state.new, tables_in tables.new) ≡ used_call (words_in state.old) (tables_in tables.old) }
+{
+    let Some(mut screen) = screen_of(state, true) else {
+        return refuse_used(state, tables);
+    };
+    let done = reset_used(&mut screen, tables);
+    leave(state, screen, done)
 }
 
 /// Rule 2: the words of a recording file of an edition, 1 or 2, in a setup. Another number is refused by 3; then come 3 for the file's form, and 2 or 4 for

@@ -7,6 +7,7 @@ pub mod Alike
 pub mod Planned
 pub mod Steps
 pub mod Reset
+pub mod Used
 pub mod Layers
 pub mod Pops
 pub mod Pop

@@ -102,8 +102,8 @@ fn repeat(minima: &mut [u32], room: usize)
     }
 }
 
-// The words of rows of so many buckets become 0, and each row's minima are made afresh of them.
-fn blank_rows(words: &mut [u32], minima: &mut [u32], rows: usize, buckets: usize)
+/// The words of rows of so many buckets become 0, and each row's minima are made afresh of them.
+pub fn blank_rows(words: &mut [u32], minima: &mut [u32], rows: usize, buckets: usize)
     requires few { (rows ≤ most-rows) × (buckets ≤ 64) }
     requires words { length words.old ≡ rows * buckets }
     requires minima { length minima.old ≡ rows * minima-room buckets }

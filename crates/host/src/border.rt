@@ -23,8 +23,8 @@ use paint::canvas::judge::{
     judge_begin, judge_hidden, judge_own, judge_runs, judge_skip, judge_step, judge_write,
 };
 use rect::Rect;
-use row::Rows;
 use reuse::judge_used;
+use row::Rows;
 use screen::{Lent, Screen, Setup, fresh, is_good_rooms, judge_screen};
 use sizes::answers::Refusal;
 

@@ -1,6 +1,7 @@
 pub mod Opacity
 pub mod Given
 pub mod Calls
+pub mod Clips
 pub mod Draws
 pub mod Filters
 pub mod Lists

@@ -69,5 +69,5 @@ pub fn walk_layer(
     let first = record.start as usize;
     let end = record.end as usize;
     walk_nodes(depth - 1, screen, file, first, end, lent)?;
-    pop_at(screen, file, lent)
+    pop_at(screen, file, record, lent)
 }

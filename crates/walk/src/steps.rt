@@ -1,6 +1,6 @@
 //! The building steps of a recording, called from its records: the fills of a run of draws, a push, a pop, a filter layer. Parts: callers have read the
 //! form and judged the records. Paints and segments are parts of the file's words, handed on. Each step refuses as the call that it makes.
-ghost use Rattle.std.specs.Prelude.{◌≡◌, ◌≤◌, length};
+ghost use Rattle.std.specs.Prelude.{ℕ, List, true, ◌≡◌, ◌≤◌, length};
 ghost use Rattle.sizes.specs.Refusals.{answer_number};
 ghost use Rattle.rules.specs.Answers.{answer};
 ghost use Rattle.rules.specs.Inputs.{Props};
@@ -12,7 +12,11 @@ ghost use Rattle.inputs.specs.Inputs.{filter-of};
 ghost use Rattle.file.specs.Records.{layer-of};
 ghost use Rattle.file.specs.Held.{held, FitsIn};
 ghost use Rattle.layers.specs.Filter.{given, given_of};
-ghost use Rattle.walk.specs.Ready.{JudgedIn};
+ghost use Rattle.walk.specs.Ready.{JudgedIn, IsLayer};
+ghost use Rattle.rules.specs.Recording as rules;
+ghost use Rattle.rules.specs.Recording.{good-records, good-order};
+ghost use Rattle.segments.specs.Segs.{segs-of};
+ghost use Rattle.pop.specs.Named.{IsKnown};
 ghost use Rattle.walk.specs.Reading.{props_in};
 ghost use Rattle.walk.specs.Steps.{filter_in, call_at, filter_step, draws-walked};
 
@@ -21,7 +25,8 @@ use file::{Layer, Recording};
 use fill::list::{Draws, fill_known};
 use inputs::Filter;
 use layers::{FilterFill, filter_fill, push_layer};
-use pop::pop_layer;
+use pop::judge::Known;
+use pop::pop_known;
 use row::Rows;
 use screen::layers::{LayerProps, Layers};
 use screen::{Lent, Screen};
@@ -97,9 +102,28 @@ pub fn push_at(screen: &mut Screen, props: LayerProps, lent: &mut Lent<'_>) -> R
     push_layer(screen, &mut rows, &mut layers, props)
 }
 
-/// A pop, lent the file's segments for the layer's clip.
-pub fn pop_at(screen: &mut Screen, file: &Recording<'_>, lent: &mut Lent<'_>) -> Result<(), Refusal>
-    requires { FitsIn file.now }
+// The segments of a layer's clip, which a judged recording has in order; none without a clip.
+fn clip_segments(layer: Layer) -> Known
+    ensures { (r : rules.Recording) (ws : List ℕ) → good-records r ≡ true → good-order r ≡ true → IsLayer r layer → segs-of ws ≡ r.segments → IsKnown ws result }
+{
+    if layer.flag != 1 {
+        return Known { start: 0, end: 0 };
+    }
+    Known {
+        start: layer.clip.start as usize,
+        end: layer.clip.end as usize,
+    }
+}
+
+/// A pop, lent the file's segments for the clip of the layer, which it has in order: where that is what was pushed, it is not judged again.
+pub fn pop_at(
+    screen: &mut Screen,
+    file: &Recording<'_>,
+    layer: Layer,
+    lent: &mut Lent<'_>,
+) -> Result<(), Refusal>
+    requires ready { JudgedIn file.now }
+    requires layer { IsLayer (held file.now) layer }
     ensures same { SameLent lent.old lent.new }
     ensures popped { answer (answer_number result) (whole screen.new lent.new)
         ≡ call_at (a-pop (held file.now).segments) (whole screen.old lent.old) }
@@ -113,12 +137,13 @@ pub fn pop_at(screen: &mut Screen, file: &Recording<'_>, lent: &mut Lent<'_>) ->
         table: lent.layers,
         opacities: lent.opacities,
     };
-    pop_layer(
+    pop_known(
         screen,
         &mut rows,
         &mut layers,
         lent.layer_attrs,
         file.segments(),
+        clip_segments(layer),
     )
 }
 
@@ -155,7 +180,8 @@ pub fn walk_filter(
     layer: Layer,
     lent: &mut Lent<'_>,
 ) -> Result<(), Refusal>
-    requires { FitsIn file.now }
+    requires ready { JudgedIn file.now }
+    requires layer { IsLayer (held file.now) layer }
     ensures same { SameLent lent.old lent.new }
     ensures walked { answer (answer_number result) (whole screen.new lent.new)
         ≡ walk-filter ScreenLent call_at (held file.now) (layer-of layer) (whole screen.old lent.old) }
@@ -166,5 +192,5 @@ pub fn walk_filter(
     }
     push_at(screen, props, lent)?;
     fill_filter(screen, file, layer, lent)?;
-    pop_at(screen, file, lent)
+    pop_at(screen, file, layer, lent)
 }

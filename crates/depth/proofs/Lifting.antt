@@ -134,11 +134,6 @@ own-stays (suc k) ws a b e g h =
     ∙ own-stays k r (a - size k) (b - size k) w.right-long (omega arith) (omega arith)
     ∙ sym x))))
 
--- .. at its place
-pub own-at : (k : ℕ) (ws : List ℕ) (a b at : ℕ) → length ws ≡ half k → a < size k → b < size k → at ≡ leaf-place k a
-    → get_or (lifted k ws b) at 0 ≡ get_or ws at 0
-own-at k ws a b at e g h q = rw q (own-stays k ws a b e g h)
-
 -- none above the whole group
 pub above-none : (k j : ℕ) (ws : List ℕ) (b : ℕ) → k ≤ j → lifted-above k j ws b ≡ ws
 unfolding lifted-above

@@ -79,7 +79,7 @@ fn place_of(room: usize, bucket: usize) -> usize
     2 * bucket - bucket.count_ones() as usize + (room.count_ones() as usize - 1)
 }
 
-// The group above the one at `at`, which is the number-th of size / 2 buckets and whose minimum is given, is worked out again: where it stands, and its minimum.
+// The group above the one at `at`, the number-th of size / 2 buckets, whose minimum is given, is worked out again: where it stands, and its minimum.
 #[inline(always)]
 fn raise(minima: &mut [u32], at: usize, number: usize, size: usize, least: u32) -> (usize, u32)
     requires { CanRaise (length minima.old) at number size }

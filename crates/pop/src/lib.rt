@@ -146,7 +146,8 @@ fn pop_told(
     Ok(())
 }
 
-/// `pop_layer` where the segments of a range of the list are known to be good and in order: they are not judged again where they are the clip's.
+/// `pop_layer`, refused as it is, where a range of the list's segments is known to be good and in order: if it is the clip's own, these are not judged again,
+/// unless a row may be full.
 #[inline(never)]
 pub fn pop_known(
     screen: &mut Screen,

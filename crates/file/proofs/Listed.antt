@@ -1,5 +1,5 @@
 -- A file's segment section as a list of its own, and its lists' order.
-use Rattle.std.proofs.Common.{ℕ, zero, suc, ◌+◌, ◌-◌, ◌*◌, ◌/◌, ◌≤◌, ◌<◌, add-zero, add_assoc, mul-zero, arith, ◌≡◌, refl, sym, ap, ◌∙◌, Bool, true, false, not, cond, List, [], ◌∷◌, length, get_or}
+use Rattle.std.proofs.Common.{ℕ, zero, suc, ◌+◌, ◌-◌, ◌*◌, ◌/◌, ◌≤◌, ◌<◌, add-zero, add_assoc, mul-zero, arith, ◌≡◌, refl, ap, ◌∙◌, Bool, true, false, not, cond, List, [], ◌∷◌, length, get_or}
 use Rattle.std.proofs.Common.{take, drop, length-take, length-drop, get_or-take, get_or-drop, leb, eqb, leb-true, eqb-true}
 use borrow.Author.Tests.{eqb-false}
 use Rattle.std.specs.List.{list_all, range_with_len}

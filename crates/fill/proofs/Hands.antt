@@ -1,10 +1,10 @@
 -- What the one pass holds is the tally so far, and its number that of the list and its rows. Assumes nothing.
-use Rattle.std.proofs.Common.{◌≡◌, refl, sym, ap, ◌∙◌, Bool, true, false, ◌&&◌, ◌||◌, cond, List, [], ◌∷◌, ◌++◌, Option, None, Some, ℕ, zero, suc, ◌+◌, ◌-◌, ◌*◌, ◌≤◌, ◌<◌, arith, leb, ltb, eqb, length}
-use Rattle.std.proofs.Common.{eqb-true, eq-eqb, ne_eqb, lt-ltb, le-leb}
+use Rattle.std.proofs.Common.{◌≡◌, refl, sym, ap, ◌∙◌, Bool, true, false, ◌&&◌, ◌||◌, cond, List, [], ◌∷◌, ◌++◌, Option, None, Some, ℕ, ◌+◌, ◌-◌, ◌*◌, ◌≤◌, ◌<◌, arith, eqb, length}
+use Rattle.std.proofs.Common.{eqb-true, eq-eqb, ne_eqb}
 use Rattle.std.proofs.lemmas.Bool.Decides.{nat_tests}
 use borrow.Author.Tests.{eqb-false}
 use Rattle.rules.specs.Spans.{Span}
-use Rattle.rules.specs.Segments.{Segment, good-segment, follows, ordered-after, ordered, judge-segments, Cut, cut_in}
+use Rattle.rules.specs.Segments.{Segment, good-segment, follows, judge-segments, Cut, cut_in}
 use Rattle.row.specs.Counts.{Counts, counts}
 use Rattle.row.specs.Building.{good_row}
 use Rattle.segments.specs.Segs.{seg-at, segs, origin, bounds}

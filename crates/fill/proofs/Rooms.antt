@@ -8,9 +8,9 @@ use Rattle.segments.specs.Segs.{seg-at, segs}
 use Rattle.segments.proofs.Laws.{judged, good-facts, segs-first}
 use Rattle.fill.specs.declared.rows.FillJob.{FillJob}
 use Rattle.fill.specs.Tallies.{Rowed}
-use Rattle.fill.specs.Sure.{Roomed, RoomAt, number_in}
+use Rattle.fill.specs.Sure.{RoomAt, number_in}
 use Rattle.fill.proofs.Runs.{good-each}
-use Rattle.fill.proofs.Sure.{split_off, split_one, Walking, set_out, turns-over, all-sure, goes_on}
+use Rattle.fill.proofs.Sure.{split_off, Walking, set_out, turns-over, all-sure, goes_on}
 
 -- room for more is room for fewer that may be split
 fewer : (j : FillJob) (rows : List ℕ) (r m n k : ℕ) → k ≤ n → RoomAt j rows r m n → RoomAt j rows r m k

@@ -1,4 +1,4 @@
-//! Many fills, one after another (rules 3 to 7): a range of a list of draws, lent as words. `fill_list` is a public call; `fill_each` is also the walk's.
+//! Many fills, one after another (rules 3 to 7): a range of a list of draws, lent as words. `fill_list` is a public call; `fill_known` is the walk's.
 ghost use Rattle.std.specs.Prelude.{◌≡◌, ◌-◌, ◌*◌, ◌≤◌, length};
 ghost use Rattle.sizes.specs.Editions.{draw-size};
 ghost use Rattle.row.specs.Rows.{SameRows};

@@ -1,7 +1,6 @@
 -- The tests in the rules' order; the list is judged in one pass together with the rows that it comes to.
-use Rattle.std.proofs.Common.{◌≡◌, sym, ◌∙◌, Bool, ℕ}
+use Rattle.std.proofs.Common.{◌≡◌, ◌∙◌, Bool, ℕ}
 use Rattle.std.proofs.lemmas.Result.{err_from_is_err_and}
-use Rattle.sizes.proofs.Refusals.{not_done}
 use Rattle.row.specs.Rows.{all-held}
 use Rattle.fill.specs.Fills.{fill_lent}
 use Rattle.fill.proofs.Inputs.{draw-facts, fill-told}

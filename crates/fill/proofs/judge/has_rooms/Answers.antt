@@ -1,5 +1,4 @@
 -- Where a run ends there is room for all of it.
-use Rattle.std.proofs.Common.{◌∙◌}
 use Rattle.fill.proofs.Rooms.{starts, stays, turns, all-roomy}
 use Rattle.fill.proofs.judge.has_rooms.Goals as goal
 use Rattle.fill.proofs.judge.has_rooms.Goals.{then-here-row+else-not-has_room_for, else-here-row}

@@ -1,6 +1,5 @@
 -- One segment is all there is to draw.
 use Rattle.std.proofs.Common.{rules}
-use Rattle.row.proofs.RowsLaws.{rows-counted}
 use Rattle.fill.proofs.RowsLaws.{alone-asks, alone-room, alone-done, long_after}
 use Rattle.fill.proofs.rows.fill_alone.Goals as goal
 

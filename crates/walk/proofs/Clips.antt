@@ -54,5 +54,5 @@ module _ (r : Recording) (good : good-records r ≡ true) (order : good-order r 
       let g : good-range y.clip.start y.clip.end (length ws / 5) ≡ true = rw (n, le-leb y.clip.start y.clip.end z.0, le-leb y.clip.end (length r.segments) z.1) refl in
       let s : every good-segment (segs-of ws) ≡ true = rw k (record-facts r good).segments in
       let o : ordered (slice y.clip.start y.clip.end (segs-of ws)) ≡ true =
-          rw k (sym (ap (λ t. cond t (ordered (slice y.clip.start y.clip.end r.segments)) true) (eq-eqb y.flag 1 p)) ∙ clip-order q) in
+      rw k (sym (ap (λ t. cond t (ordered (slice y.clip.start y.clip.end r.segments)) true) (eq-eqb y.flag 1 p)) ∙ clip-order q) in
       eqb-true (judge-segments false (segs ws y.clip.start (y.clip.end - y.clip.start))) 0 (range-judged ws y.clip.start y.clip.end g s ∙ o)

@@ -17,3 +17,4 @@ pub mod ManyRows
 pub mod TileLists
 pub mod Listed
 pub mod ListNumbers
+pub mod OwnRows

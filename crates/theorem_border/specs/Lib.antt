@@ -13,3 +13,4 @@ pub mod Computing
 pub mod FillLists
 pub mod ManyRows
 pub mod TileLists
+pub mod OwnRows

@@ -28,6 +28,7 @@ use Rattle.paint.specs.Painting as paint
 use Rattle.paint.specs.Beginning.{canvas, beginning}
 use Rattle.paint.specs.Stepping.{Attributes, stepped}
 use Rattle.paint.specs.Running.{row-painted}
+use Rattle.paint.specs.OwnRow.{own-row-painted}
 use Rattle.paint.specs.DirectRuns.{unset-of, visible-of, write-of, hidden-of-row, skip-of-row}
 use Rattle.paint.specs.StoredCmds.{lengths-of-row, command-of-row, depth-of-row, progress-of-row}
 use Rattle.host.specs.declared.state.SetupWords.{SetupWords}
@@ -39,7 +40,7 @@ use Rattle.host.specs.Asked.{FileWords}
 use Rattle.host.specs.State.{screen-at, before_4}
 use Rattle.host.specs.Reasons.{asked, why_call}
 use Rattle.host.specs.Building.{reset_call, recording_call, fill_call, push_call, pop_call, filter_call}
-use Rattle.host.specs.Painting.{begin_call, step_call, row_call, unset_call, visible_call, write_call, hidden_call, skip_call}
+use Rattle.host.specs.Painting.{begin_call, step_call, row_call, own_row_call, unset_call, visible_call, write_call, hidden_call, skip_call}
 use Rattle.host.specs.Spans.{runs_of, spans_call}
 use Rattle.host.specs.Reading.{lengths_call, cmd_call, depth_call, progress_call}
 use Rattle.theorem_border.specs.Hosted.{Asks, Says}
@@ -103,6 +104,11 @@ abbrev pub RowKeeps : Type 0
 RowKeeps =
     (r : ℕ) (a : Attributes) (st : List ℕ) (l : paint.RowLent) (res : List ℕ)
     → Keeps st (row-painted (screen-at st) r a l).answer.number (row_call r a st l res).number
+
+abbrev pub OwnRowKeeps : Type 0
+OwnRowKeeps =
+    (a : Attributes) (st : List ℕ) (l : paint.RowLent) (res : List ℕ)
+    → Keeps st (own-row-painted (screen-at st) a l).answer.number (own_row_call a st l res).number
 
 abbrev pub UnsetKeeps : Type 0
 UnsetKeeps =

@@ -23,7 +23,7 @@ use Rattle.host.specs.Reasons.{why_call}
 use Rattle.host.specs.TileList.{tile_list_call}
 use Rattle.host.specs.Figured.{figures_call}
 use Rattle.host.specs.Building.{reset_call, fill_call, push_call, pop_call, filter_call}
-use Rattle.host.specs.Painting.{begin_call, step_call, row_call, unset_call, visible_call, write_call, hidden_call, skip_call, split_call}
+use Rattle.host.specs.Painting.{begin_call, step_call, row_call, own_row_call, unset_call, visible_call, write_call, hidden_call, skip_call, split_call}
 use Rattle.host.specs.Spans.{spans_call}
 use Rattle.host.specs.Reading.{lengths_call, cmd_call, depth_call, progress_call}
 
@@ -68,6 +68,11 @@ abbrev pub RowRefused : Type 0
 RowRefused =
     (r : ℕ) (a : Attributes) (st : List ℕ) (l : paint.RowLent) (res : List ℕ) → Refused (row_call r a st l res)
     → (row_call r a st l res).value ≡ (l.depth, l.painting, l.list, res)
+
+abbrev pub OwnRowRefused : Type 0
+OwnRowRefused =
+    (a : Attributes) (st : List ℕ) (l : paint.RowLent) (res : List ℕ) → Refused (own_row_call a st l res)
+    → (own_row_call a st l res).value ≡ (l.depth, l.painting, l.list, res)
 
 -- the list and the count
 abbrev pub UnsetRefused : Type 0

@@ -6,12 +6,13 @@ ghost use Rattle.std.specs.Prelude.{List};
 ghost use Rattle.rules.specs.Plans.{Frame, Step};
 ghost use Rattle.theorem_border.specs.Hosted.{AloneHosted, Host, Hosted};
 ghost use Rattle.theorem_border.specs.Border.{Picture, Clear, Finishes, RecordingAccepted, RecordingRefused, RecordingEarly, ResetAsks};
-ghost use Rattle.theorem_border.specs.Refused.{BeginRefused, CompactRefused, FillRefused, FilterRefused, PopRefused, PushRefused, ResetRefused, RowRefused, LengthsRefused, CmdRefused, DepthRefused, ProgressRefused, SizesRefused, SkipRefused, SpansRefused, SplitRefused, StepRefused, UnsetRefused, VisibleRefused, WhyRefused, WriteRefused, HiddenRefused, ListTileRefused, FiguresRefused, ToTwoRefused, ToOneRefused};
-ghost use Rattle.theorem_border.specs.Numbers.{BeginKeeps, CompactKeeps, FillKeeps, FilterKeeps, PopKeeps, PushKeeps, RecordingKeeps, ResetKeeps, RowKeeps, SkipKeeps, SpansKeeps, StepKeeps, UnsetKeeps, VisibleKeeps, WhyKeeps, FiguresKeeps, WriteKeeps, HiddenKeeps, LengthsKeeps, CmdKeeps, DepthKeeps, ProgressKeeps};
+ghost use Rattle.theorem_border.specs.Refused.{BeginRefused, CompactRefused, FillRefused, FilterRefused, PopRefused, PushRefused, ResetRefused, RowRefused, OwnRowRefused, LengthsRefused, CmdRefused, DepthRefused, ProgressRefused, SizesRefused, SkipRefused, SpansRefused, SplitRefused, StepRefused, UnsetRefused, VisibleRefused, WhyRefused, WriteRefused, HiddenRefused, ListTileRefused, FiguresRefused, ToTwoRefused, ToOneRefused};
+ghost use Rattle.theorem_border.specs.Numbers.{BeginKeeps, CompactKeeps, FillKeeps, FilterKeeps, PopKeeps, PushKeeps, RecordingKeeps, ResetKeeps, RowKeeps, OwnRowKeeps, SkipKeeps, SpansKeeps, StepKeeps, UnsetKeeps, VisibleKeeps, WhyKeeps, FiguresKeeps, WriteKeeps, HiddenKeeps, LengthsKeeps, CmdKeeps, DepthKeeps, ProgressKeeps};
 ghost use Rattle.theorem_border.specs.Summed.{HostedSummed, HostedHidden};
 ghost use Rattle.theorem_border.specs.Words.{ScreenReadBack, SizesFit, WordsWrittenBack};
 ghost use Rattle.theorem_border.specs.FillLists.{FillsHosted};
 ghost use Rattle.theorem_border.specs.ManyRows.{RowsHosted};
+ghost use Rattle.theorem_border.specs.OwnRows.{OwnRowHosted};
 ghost use Rattle.theorem_border.specs.TileLists.{ListReceived, ListRoom, ListNumbers};
 ghost use Rattle.theorem_border.specs.Held.{HostedReached};
 ghost use Rattle.theorem_border.specs.Reading.{AloneHostStands, HostedStands, LengthsRead, CmdsRead, NoCmdRead, DepthsRead, NoDepthRead, ProgressRead};
@@ -79,6 +80,7 @@ pub fn refusals_at_border()
     ensures compact_row { CompactRefused }
     ensures paint_step { StepRefused }
     ensures paint_row { RowRefused }
+    ensures paint_own_row { OwnRowRefused }
     ensures unset_runs { UnsetRefused }
     ensures visible_runs { VisibleRefused }
     ensures visible_spans { SpansRefused }
@@ -112,6 +114,7 @@ pub fn numbers_at_border()
     ensures compact_row { CompactKeeps }
     ensures paint_step { StepKeeps }
     ensures paint_row { RowKeeps }
+    ensures paint_own_row { OwnRowKeeps }
     ensures unset_runs { UnsetKeeps }
     ensures visible_runs { VisibleKeeps }
     ensures visible_spans { SpansKeeps }
@@ -133,6 +136,7 @@ pub fn words_at_border()
     ensures alone { AloneHosted }
     ensures fills { FillsHosted }
     ensures rows { RowsHosted }
+    ensures own_row { OwnRowHosted }
     ensures sizes { SizesFit }
 {}
 

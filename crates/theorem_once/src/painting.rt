@@ -6,8 +6,8 @@ use crate::Twice;
 use depth::Depth;
 use paint::rows::Stopped;
 use paint::{
-    Canvas, RowRange, Stepped, Stored, begin_painting, can_skip, is_hidden, paint_row, paint_rows,
-    paint_step, unset_runs, unset_runs_and_write, visible_runs,
+    Canvas, RowRange, Stepped, Stored, begin_painting, can_skip, is_hidden, paint_own_row,
+    paint_row, paint_rows, paint_step, unset_runs, unset_runs_and_write, visible_runs,
 };
 use screen::Screen;
 use sizes::answers::Refusal;
@@ -68,6 +68,21 @@ pub fn row_twice(
     (
         paint_row(screen, row, &a.stored, &mut a.canvas, a.list),
         paint_row(screen, row, &b.stored, &mut b.canvas, b.list),
+    )
+}
+
+/// Two calls of `paint_own_row`.
+pub fn own_row_twice(
+    a: &mut PaintLent<'_>,
+    b: &mut PaintLent<'_>,
+    screen: Screen,
+) -> Twice<Result<Stepped, Refusal>>
+    ensures { paint-words a.old ≡ paint-words b.old
+        → (result.0 ≡ result.1) × (paint-words a.new ≡ paint-words b.new) }
+{
+    (
+        paint_own_row(screen, &a.stored, &mut a.canvas, a.list),
+        paint_own_row(screen, &b.stored, &mut b.canvas, b.list),
     )
 }
 

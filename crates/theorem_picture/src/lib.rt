@@ -5,6 +5,7 @@
 ghost use Rattle.std.specs.Prelude.{List};
 ghost use Rattle.rules.specs.Plans.{Frame, Step};
 ghost use Rattle.screen.specs.Tables.{ScreenLent};
+ghost use Rattle.paint.specs.OwnRow.{OwnIsRow, Beside};
 ghost use Rattle.rules_picture.specs.Colours as colours;
 ghost use Rattle.rules_picture.specs.StoredColours.{SameStored, WordNewest};
 ghost use Rattle.rules_picture.specs.Turns as rules;
@@ -60,10 +61,12 @@ pub fn refused_calls_change_nothing()
     ensures compacts { CompactKept }
 {}
 
-/// Painting a row leaves every other row as it was.
+/// Painting a row leaves every other row as it was, and is painting its own words alone.
 pub fn rows_are_apart()
     ensures steps { StepApart }
     ensures rows { RowApart }
+    ensures own { OwnIsRow }
+    ensures beside { Beside }
 {}
 
 /// Whatever its steps, a screen keeps its frame, and no row of it gives more than 65,536 pieces.

@@ -19,6 +19,7 @@ use Rattle.depth.specs.SpanLists as spans
 use Rattle.paint.specs.Beginning.{canvas, beginning}
 use Rattle.paint.specs.Stepping.{stepped}
 use Rattle.paint.specs.Running.{row-painted}
+use Rattle.paint.specs.OwnRow.{own-row-painted}
 use Rattle.paint.specs.DirectRuns.{unset-of, visible-of, write-of, hidden-of-row, skip-of-row}
 use Rattle.compact.specs.Call.{stored, compacting}
 use Rattle.tally.specs.Listed.{figured}
@@ -30,7 +31,7 @@ use Rattle.host.specs.Border.{unasked_number}
 use Rattle.host.specs.Reasons.{reason-words, reason-size, asked, why-left, why_in, why_asked, why_call}
 use Rattle.host.specs.Results.{skip-left}
 use Rattle.host.specs.Building.{tables-left, reset_in, reset_call, recording_in, recording_asked, recording_call, fill-left, fill_call, push-left, push_call, pop-left, pop_call, filter-left, filter_call}
-use Rattle.host.specs.Painting.{begin-left, begin_call, step_left, step_call, row_call, runs-left, unset_call, visible_call, write-left, write_call, hidden_call, skip_call}
+use Rattle.host.specs.Painting.{begin-left, begin_call, step_left, step_call, row_call, own_row_call, runs-left, unset_call, visible_call, write-left, write_call, hidden_call, skip_call}
 use Rattle.host.specs.Spans.{runs_of, spans-left, spans_call}
 use Rattle.theorem_border.proofs.Numbers.{kept-on, kept_in}
 use Rattle.theorem_border.proofs.Reading.{lengths-keeps, cmd-keeps, depth-keeps, progress-keeps}
@@ -95,6 +96,10 @@ returns-clause-paint_step c = λ r a st l res long. kept-on (eqb (length res) 2)
 pub returns-clause-paint_row : goal.returns-clause-paint_row
 unfolding row_call
 returns-clause-paint_row c = λ r a st l res long. kept-on (eqb (length res) 2) st (l.depth, l.painting, l.list, res) (λ (s : Screen). step_left res (row-painted s r a l)) long
+
+pub returns-clause-paint_own_row : goal.returns-clause-paint_own_row
+unfolding own_row_call
+returns-clause-paint_own_row c = λ a st l res long. kept-on (eqb (length res) 2) st (l.depth, l.painting, l.list, res) (λ (s : Screen). step_left res (own-row-painted s a l)) long
 
 pub returns-clause-unset_runs : goal.returns-clause-unset_runs
 unfolding unset_call

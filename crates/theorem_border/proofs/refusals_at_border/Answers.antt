@@ -1,7 +1,7 @@
 use Rattle.host.proofs.Refused.{reset-refused, fill-refused, push-refused, pop-refused, filter-refused, begin-refused}
 use Rattle.host.proofs.Compacted.{compact-refused}
 use Rattle.host.proofs.Figured.{figures-refused}
-use Rattle.host.proofs.Kept.{step-refused, row-refused, unset-refused, visible-refused, spans-refused, write-refused, hidden-refused, skip-refused, split-refused}
+use Rattle.host.proofs.Kept.{step-refused, row-refused, own-row-refused, unset-refused, visible-refused, spans-refused, write-refused, hidden-refused, skip-refused, split-refused}
 use Rattle.host.proofs.Sized.{size-refused}
 use Rattle.theorem_border.proofs.Why.{why-refused}
 use Rattle.theorem_border.proofs.Reading.{lengths-refused, cmd-refused, depth-refused, progress-refused}
@@ -35,6 +35,9 @@ returns-clause-paint_step c = step-refused
 
 pub returns-clause-paint_row : goal.returns-clause-paint_row
 returns-clause-paint_row c = row-refused
+
+pub returns-clause-paint_own_row : goal.returns-clause-paint_own_row
+returns-clause-paint_own_row c = own-row-refused
 
 pub returns-clause-unset_runs : goal.returns-clause-unset_runs
 returns-clause-unset_runs c = unset-refused

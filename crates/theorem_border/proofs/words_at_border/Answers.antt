@@ -2,6 +2,7 @@ use Rattle.host.proofs.Words.{read_back, written_back}
 use Rattle.theorem_border.proofs.Holds.{holds, alone-hosted}
 use Rattle.theorem_border.proofs.FillLists.{fills-hosted}
 use Rattle.theorem_border.proofs.ManyRows.{rows-hosted}
+use Rattle.theorem_border.proofs.OwnRows.{own-row-hosted}
 use Rattle.theorem_border.proofs.Sized.{sizes-fit}
 use Rattle.theorem_border.proofs.words_at_border.Goals as goal
 
@@ -25,3 +26,6 @@ returns-clause-fills c = λ t f xs h ps ss ws a b n r e. fills-hosted ps ss ws a
 
 pub returns-clause-rows : goal.returns-clause-rows
 returns-clause-rows c = λ t f xs h r list ends k. rows-hosted r list ends k
+
+pub returns-clause-own_row : goal.returns-clause-own_row
+returns-clause-own_row c = own-row-hosted

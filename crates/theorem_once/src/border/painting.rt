@@ -5,8 +5,9 @@ ghost use Rattle.theorem_once.specs.Border.{begin-words, paint-words, paint-left
 
 use crate::Twice;
 use host::painting::{
-    coarse_begin_painting, coarse_can_skip, coarse_is_hidden, coarse_paint_row, coarse_paint_step,
-    coarse_split_opaque_span, coarse_unset_runs, coarse_unset_runs_and_write, coarse_visible_runs,
+    coarse_begin_painting, coarse_can_skip, coarse_is_hidden, coarse_paint_own_row,
+    coarse_paint_row, coarse_paint_step, coarse_split_opaque_span, coarse_unset_runs,
+    coarse_unset_runs_and_write, coarse_visible_runs,
 };
 use host::results::{PaintedWords, SplitWords};
 use host::rows::{PaintedRows, coarse_paint_rows};
@@ -85,6 +86,29 @@ pub fn row_twice(a: &mut PaintHost<'_>, b: &mut PaintHost<'_>, row: usize) -> Tw
             &b.stored,
             &mut b.canvas,
             row,
+            b.list,
+            &mut b.painted,
+        ),
+    )
+}
+
+/// Two calls of `coarse_paint_own_row`.
+pub fn own_row_twice(a: &mut PaintHost<'_>, b: &mut PaintHost<'_>) -> Twice<u32>
+    ensures { paint-words a.old ≡ paint-words b.old
+        → (result.0 ≡ result.1) × (paint-left a.new ≡ paint-left b.new) }
+{
+    (
+        coarse_paint_own_row(
+            &a.state,
+            &a.stored,
+            &mut a.canvas,
+            a.list,
+            &mut a.painted,
+        ),
+        coarse_paint_own_row(
+            &b.state,
+            &b.stored,
+            &mut b.canvas,
             b.list,
             &mut b.painted,
         ),

@@ -8,7 +8,7 @@ use Rattle.rect.specs.declared.Rect.{Rect}
 use Rattle.rect.specs.Rects.{box_of}
 use Rattle.row.specs.Words.{Words}
 use Rattle.screen.specs.declared.Screen.{Screen}
-use Rattle.screen.specs.Screens.{fresh-screen}
+use Rattle.screen.specs.Screens.{frame-of, fresh-screen}
 use Rattle.screen.specs.Judging.{judged_reset}
 use Rattle.screen.specs.Tables.{Tables, screen_lent, lengths, zeros, cleared, reset_to}
 use Rattle.screen.specs.Depths.{Depths, blank}
@@ -28,7 +28,8 @@ use Rattle.paint.specs.Beginning.{canvas, begun, beginning}
 use Rattle.host.specs.declared.state.SetupWords.{SetupWords}
 use Rattle.host.specs.State.{screen_of}
 use Rattle.host.specs.Asked.{asked_setup, granted}
-use Rattle.host.specs.Building.{tables-left, reset_in, reset_call, fill-left, fill_call, push-left, push_call, pop-left, pop_call, filter-left, filter_call}
+use Rattle.reuse.specs.Used.{used-cleared, judged_used, used_reset}
+use Rattle.host.specs.Building.{tables-left, reset_in, reset_call, used_call, fill-left, fill_call, push-left, push_call, pop-left, pop_call, filter-left, filter_call}
 use Rattle.host.specs.Painting.{begin-left, begin_call}
 use Rattle.host.proofs.Words.{written_back}
 use Rattle.host.proofs.Kept.{at-screen}
@@ -49,6 +50,12 @@ reset-in-refused v q st t =
 pub reset-refused : (v : Rect) (w : SetupWords) (st : List ℕ) (t : Tables) → Refused (reset_call v w st t) → (reset_call v w st t).value ≡ (st, t)
 unfolding reset_call
 reset-refused v w st t = asked-kept (asked_setup w) _ (st, t) (λ (q : Setup). reset_in v q st t) (λ q. reset-in-refused v q st t)
+
+pub used-refused : (st : List ℕ) (t : Tables) → Refused (used_call st t) → (used_call st t).value ≡ (st, t)
+unfolding used_call used_reset
+used-refused st t =
+    at-screen true st (st, t) (λ (s : Screen). tables-left (used_reset (screen_lent s t)))
+    (λ s e r. rw (unsettled (judged_used s (lengths t)) (screen_lent s t) (screen_lent (fresh-screen (frame-of s)) (used-cleared s t)) r, written_back true st s e))
 
 pub fill-refused : (ps ss : List ℕ) (d : Draw) (st : List ℕ) (w : Words) (pas : List ℕ) → Refused (fill_call ps ss d st w pas) → (fill_call ps ss d st w pas).value ≡ (st, w, pas)
 unfolding fill_call

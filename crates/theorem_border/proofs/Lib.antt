@@ -18,3 +18,4 @@ pub mod TileLists
 pub mod Listed
 pub mod ListNumbers
 pub mod OwnRows
+pub mod UsedAgain

@@ -37,7 +37,8 @@ use Rattle.host.specs.declared.state.SetupWords.{SetupWords}
 use Rattle.host.specs.Asked.{FileWords, asked_setup, told_file}
 use Rattle.host.proofs.Words.{read_back, written_back}
 use Rattle.host.specs.Border.{unasked, unasked_number}
-use Rattle.host.specs.Building.{tables-left, reset_in, recording_in, fill-left, fill_call, props, push-left, push_call, pop-left, pop_call, filter-in, picture, filter-left, filter_call}
+use Rattle.reuse.specs.Used.{used_reset}
+use Rattle.host.specs.Building.{tables-left, reset_in, used_call, recording_in, fill-left, fill_call, props, push-left, push_call, pop-left, pop_call, filter-in, picture, filter-left, filter_call}
 use Rattle.host.specs.Compacted.{compact-left, compact_call}
 use Rattle.host.specs.Results.{skip-left}
 use Rattle.host.specs.Painting.{begin-left, begin_call, step_left, step_call, row_call, write_call, hidden_call, skip_call}
@@ -50,7 +51,7 @@ use Rattle.theorem_picture.specs.Calls as calls
 use Rattle.theorem_picture.specs.Reached as reached
 use Rattle.theorem_picture.specs.Rows as rows
 use Rattle.theorem_border.specs.Held.{host-of}
-use Rattle.theorem_border.specs.Hosted.{Host, host, Asks, Says, with_rows, with-painting, reset-at, recording-at, fill-at, push_at, pop-at, filter-at, begin-at, Turn, Call, one-step, whole_row, turn_in, paint-out, paint-at, write-at, compact-at}
+use Rattle.theorem_border.specs.Hosted.{Host, host, Asks, Says, with_rows, with-painting, reset-at, used-at, recording-at, fill-at, push_at, pop-at, filter-at, begin-at, Turn, Call, one-step, whole_row, turn_in, paint-out, paint-at, write-at, compact-at}
 
 abbrev pub hosted : Answer ScreenLent → Answer Host
 hosted a = answer a.number (host-of a.value)
@@ -239,6 +240,10 @@ module _ (l : ScreenLent) where
       (host a.value.0 (with_rows t a.value.1 t.layers t.opacities a.value.2 t.layer-attrs a.value.3)))
       (on-done (screen-words l.screen, rows_words t, t.paint-attrs, t.filter-paints)
       (λ (s : Screen). filter-left (filtered (given (filter-in dest x y (picture flag m)) n q) (filter.filter_lent s (rows_words t) t.paint-attrs t.filter-paints))) (leb flag 1) l.screen e)
+
+  pub used-on : used-at (host-of l) ≡ hosted (used_reset l)
+  unfolding used-at used_call
+  used-on = ap holding (on-screen (screen-words l.screen, l.tables) (λ (s : Screen). tables-left (used_reset (screen_lent s l.tables))) l.screen)
 
   pub begin-on : begin-at (host-of l) ≡ hosted (reached.begin-at l)
   unfolding begin-at begin_call reached.begin-at

@@ -25,7 +25,7 @@ use Rattle.rules_picture.specs.Recorded.{history, Readable, said}
 use Rattle.theorem_picture.specs.Calls.{fill-said, pop-said, filter-said}
 use Rattle.host.specs.declared.state.SetupWords.{SetupWords}
 use Rattle.host.specs.Asked.{FileWords, asked_setup, told_file}
-use Rattle.host.specs.Building.{reset_call, recording_call, fill_call, said-props, props, push_call, pop_call, filter-in, picture, filter_call}
+use Rattle.host.specs.Building.{reset_call, used_call, recording_call, fill_call, said-props, props, push_call, pop_call, filter-in, picture, filter_call}
 use Rattle.host.specs.Painting.{begin_call, step_call, row_call, write_call}
 use Rattle.host.specs.Compacted.{compact_call}
 
@@ -57,6 +57,10 @@ Says f file = Ok file ≡ told_file f
 -- `coarse_reset`
 unfoldable pub reset-at : Rect → SetupWords → Host → Answer Host
 reset-at v w h = let a = reset_call v w h.state h.tables in answer a.number (host a.value.0 a.value.1)
+
+-- `coarse_reset_used`
+unfoldable pub used-at : Host → Answer Host
+used-at h = let a = used_call h.state h.tables in answer a.number (host a.value.0 a.value.1)
 
 -- `coarse_bucket_recording`: any number as the edition, any words
 unfoldable pub recording-at : FileWords → SetupWords → Host → Answer Host

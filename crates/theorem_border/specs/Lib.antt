@@ -14,3 +14,4 @@ pub mod FillLists
 pub mod ManyRows
 pub mod TileLists
 pub mod OwnRows
+pub mod UsedAgain

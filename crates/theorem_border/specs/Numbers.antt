@@ -39,7 +39,8 @@ use Rattle.host.specs.Figured.{listed-in, figures_call}
 use Rattle.host.specs.Asked.{FileWords}
 use Rattle.host.specs.State.{screen-at, before_4}
 use Rattle.host.specs.Reasons.{asked, why_call}
-use Rattle.host.specs.Building.{reset_call, recording_call, fill_call, push_call, pop_call, filter_call}
+use Rattle.reuse.specs.Used.{used_reset}
+use Rattle.host.specs.Building.{reset_call, used_call, recording_call, fill_call, push_call, pop_call, filter_call}
 use Rattle.host.specs.Painting.{begin_call, step_call, row_call, own_row_call, unset_call, visible_call, write_call, hidden_call, skip_call}
 use Rattle.host.specs.Spans.{runs_of, spans_call}
 use Rattle.host.specs.Reading.{lengths_call, cmd_call, depth_call, progress_call}
@@ -54,6 +55,9 @@ abbrev pub ResetKeeps : Type 0
 ResetKeeps =
     (v : Rect) (w : SetupWords) (q : Setup) (st : List ℕ) (t : Tables) → Asks w q
     → Keeps st (reset_to (frame q (box_of v)) (screen_lent (screen-at st) t)).number (reset_call v w st t).number
+
+abbrev pub UsedKeeps : Type 0
+UsedKeeps = (st : List ℕ) (t : Tables) → Keeps st (used_reset (screen_lent (screen-at st) t)).number (used_call st t).number
 
 abbrev pub RecordingKeeps : Type 0
 RecordingKeeps =

@@ -22,7 +22,7 @@ use Rattle.host.specs.Compacted.{compact_call}
 use Rattle.host.specs.Reasons.{why_call}
 use Rattle.host.specs.TileList.{tile_list_call}
 use Rattle.host.specs.Figured.{figures_call}
-use Rattle.host.specs.Building.{reset_call, fill_call, push_call, pop_call, filter_call}
+use Rattle.host.specs.Building.{reset_call, used_call, fill_call, push_call, pop_call, filter_call}
 use Rattle.host.specs.Painting.{begin_call, step_call, row_call, own_row_call, unset_call, visible_call, write_call, hidden_call, skip_call, split_call}
 use Rattle.host.specs.Spans.{spans_call}
 use Rattle.host.specs.Reading.{lengths_call, cmd_call, depth_call, progress_call}
@@ -30,6 +30,9 @@ use Rattle.host.specs.Reading.{lengths_call, cmd_call, depth_call, progress_call
 -- state and all tables
 abbrev pub ResetRefused : Type 0
 ResetRefused = (v : Rect) (w : SetupWords) (st : List ℕ) (t : Tables) → Refused (reset_call v w st t) → (reset_call v w st t).value ≡ (st, t)
+
+abbrev pub UsedRefused : Type 0
+UsedRefused = (st : List ℕ) (t : Tables) → Refused (used_call st t) → (used_call st t).value ≡ (st, t)
 
 -- state, rows, and the tables that the step writes
 abbrev pub FillRefused : Type 0

@@ -6,13 +6,14 @@ ghost use Rattle.std.specs.Prelude.{List};
 ghost use Rattle.rules.specs.Plans.{Frame, Step};
 ghost use Rattle.theorem_border.specs.Hosted.{AloneHosted, Host, Hosted};
 ghost use Rattle.theorem_border.specs.Border.{Picture, Clear, Finishes, RecordingAccepted, RecordingRefused, RecordingEarly, ResetAsks};
-ghost use Rattle.theorem_border.specs.Refused.{BeginRefused, CompactRefused, FillRefused, FilterRefused, PopRefused, PushRefused, ResetRefused, RowRefused, OwnRowRefused, LengthsRefused, CmdRefused, DepthRefused, ProgressRefused, SizesRefused, SkipRefused, SpansRefused, SplitRefused, StepRefused, UnsetRefused, VisibleRefused, WhyRefused, WriteRefused, HiddenRefused, ListTileRefused, FiguresRefused, ToTwoRefused, ToOneRefused};
-ghost use Rattle.theorem_border.specs.Numbers.{BeginKeeps, CompactKeeps, FillKeeps, FilterKeeps, PopKeeps, PushKeeps, RecordingKeeps, ResetKeeps, RowKeeps, OwnRowKeeps, SkipKeeps, SpansKeeps, StepKeeps, UnsetKeeps, VisibleKeeps, WhyKeeps, FiguresKeeps, WriteKeeps, HiddenKeeps, LengthsKeeps, CmdKeeps, DepthKeeps, ProgressKeeps};
+ghost use Rattle.theorem_border.specs.Refused.{BeginRefused, CompactRefused, FillRefused, FilterRefused, PopRefused, PushRefused, ResetRefused, RowRefused, OwnRowRefused, LengthsRefused, CmdRefused, DepthRefused, ProgressRefused, SizesRefused, SkipRefused, SpansRefused, SplitRefused, StepRefused, UnsetRefused, UsedRefused, VisibleRefused, WhyRefused, WriteRefused, HiddenRefused, ListTileRefused, FiguresRefused, ToTwoRefused, ToOneRefused};
+ghost use Rattle.theorem_border.specs.Numbers.{BeginKeeps, CompactKeeps, FillKeeps, FilterKeeps, PopKeeps, PushKeeps, RecordingKeeps, ResetKeeps, RowKeeps, OwnRowKeeps, SkipKeeps, SpansKeeps, StepKeeps, UnsetKeeps, UsedKeeps, VisibleKeeps, WhyKeeps, FiguresKeeps, WriteKeeps, HiddenKeeps, LengthsKeeps, CmdKeeps, DepthKeeps, ProgressKeeps};
 ghost use Rattle.theorem_border.specs.Summed.{HostedSummed, HostedHidden};
 ghost use Rattle.theorem_border.specs.Words.{ScreenReadBack, SizesFit, WordsWrittenBack};
 ghost use Rattle.theorem_border.specs.FillLists.{FillsHosted};
 ghost use Rattle.theorem_border.specs.ManyRows.{RowsHosted};
 ghost use Rattle.theorem_border.specs.OwnRows.{OwnRowHosted};
+ghost use Rattle.theorem_border.specs.UsedAgain.{UsedHosted};
 ghost use Rattle.theorem_border.specs.TileLists.{ListReceived, ListRoom, ListNumbers};
 ghost use Rattle.theorem_border.specs.Held.{HostedReached};
 ghost use Rattle.theorem_border.specs.Reading.{AloneHostStands, HostedStands, LengthsRead, CmdsRead, NoCmdRead, DepthsRead, NoDepthRead, ProgressRead};
@@ -72,6 +73,7 @@ pub fn lines_stay_at_border()
 /// A refused call leaves everything that it was lent as it was: one clause a `coarse_` call.
 pub fn refusals_at_border()
     ensures reset { ResetRefused }
+    ensures reset_used { UsedRefused }
     ensures fill { FillRefused }
     ensures push_layer { PushRefused }
     ensures pop_layer { PopRefused }
@@ -103,6 +105,7 @@ pub fn refusals_at_border()
 /// A call answers its own 1, 2 and 3 also where the border refuses what the host gives.
 pub fn numbers_at_border()
     ensures reset { ResetKeeps }
+    ensures reset_used { UsedKeeps }
     ensures bucket_recording { RecordingKeeps }
     ensures why { WhyKeeps }
     ensures figures { FiguresKeeps }
@@ -136,6 +139,7 @@ pub fn words_at_border()
     ensures alone { AloneHosted }
     ensures fills { FillsHosted }
     ensures rows { RowsHosted }
+    ensures reset_used { UsedHosted }
     ensures own_row { OwnRowHosted }
     ensures sizes { SizesFit }
 {}

@@ -1,6 +1,6 @@
 //! Each building call, and the call that gives a row room back.
 ghost use Rattle.std.specs.Prelude.{◌≡◌};
-ghost use Rattle.screen.specs.Lent.{tables_in};
+ghost use Rattle.screen.specs.Lent.{tables_in, whole};
 ghost use Rattle.theorem_once.specs.Lent.{fill-words, list-words, push-words, pop-words, filter-words, compact-words};
 
 use crate::Twice;
@@ -12,6 +12,7 @@ use layers::filter::{FilterFill, filter_fill};
 use layers::push::push_layer;
 use pop::pop_layer;
 use rect::Rect;
+use reuse::reset_used;
 use row::Rows;
 use screen::layers::{LayerProps, Layers};
 use screen::{Lent, Screen, Setup, reset};
@@ -28,6 +29,27 @@ pub fn reset_twice(
         → (result.0 ≡ result.1) × (tables_in a.new ≡ tables_in b.new) }
 {
     (reset(viewport, setup, a), reset(viewport, setup, b))
+}
+
+/// What a reset of what is used reads and writes.
+#[derive(Drop)]
+pub struct UsedLent<'a> {
+    pub screen: Screen,
+    pub tables: Lent<'a>,
+}
+
+/// Two calls of `reset_used`.
+pub fn reset_used_twice(
+    a: &mut UsedLent<'_>,
+    b: &mut UsedLent<'_>,
+) -> Twice<Result<(), Refusal>>
+    ensures { whole a.old.screen a.old.tables ≡ whole b.old.screen b.old.tables
+        → (result.0 ≡ result.1) × (whole a.new.screen a.new.tables ≡ whole b.new.screen b.new.tables) }
+{
+    (
+        reset_used(&mut a.screen, &mut a.tables),
+        reset_used(&mut b.screen, &mut b.tables),
+    )
 }
 
 /// What a fill reads and writes.

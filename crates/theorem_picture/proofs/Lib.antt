@@ -7,6 +7,7 @@ pub mod Summed
 pub mod FillLists
 pub mod Answers
 pub mod Turns
+pub mod Used
 pub mod Picture
 pub mod Finishes
 pub mod Skip

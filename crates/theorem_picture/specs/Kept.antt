@@ -2,16 +2,18 @@
 use Rattle.std.specs.Prelude.{ℕ, ◌≡◌, List}
 use Rattle.rules.specs.Answers.{Answer, Done}
 use Rattle.rules.specs.Spans.{Span}
-use Rattle.rules.specs.Plans.{Frame}
+use Rattle.rules.specs.Plans.{Frame, Step}
 use Rattle.screen.specs.declared.Screen.{Screen}
 use Rattle.screen.specs.Depths.{Depths}
 use Rattle.screen.specs.Tables.{ScreenLent, reset_to}
+use Rattle.reuse.specs.Used.{used_reset}
 use Rattle.paint.specs.Painting.{RowLent}
 use Rattle.paint.specs.Beginning.{Canvas, beginning}
 use Rattle.paint.specs.Stepping.{Attributes, stepped}
 use Rattle.paint.specs.Running.{row-painted}
 use Rattle.paint.specs.DirectRuns.{unset-of, visible-of, write-of}
 use Rattle.compact.specs.Call.{Stored, compacting}
+use Rattle.theorem_picture.specs.Reached.{Reached}
 
 abbrev pub Refused : {A : Type 0} → Answer A → Type 0
 Refused a = a.number ≡ Done → ⊥
@@ -19,6 +21,14 @@ Refused a = a.number ≡ Done → ⊥
 -- `reset`: the screen's numbers and all ten tables
 abbrev pub ResetKept : Type 0
 ResetKept = (f : Frame) (l : ScreenLent) → Refused (reset_to f l) → (reset_to f l).value ≡ l
+
+-- `reset_used`, likewise; ..
+abbrev pub UsedKept : Type 0
+UsedKept = (l : ScreenLent) → Refused (used_reset l) → (used_reset l).value ≡ l
+
+-- .. and whatever calls the words have come from, it is a reset to the screen's frame.
+abbrev pub UsedResets : Type 0
+UsedResets = (f : Frame) (xs : List Step) (l : ScreenLent) → Reached f xs l → used_reset l ≡ reset_to f l
 
 -- `begin_painting`: the screen, the depth words with their minima, and the painting words
 abbrev pub BeginKept : Type 0

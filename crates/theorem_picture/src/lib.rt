@@ -21,7 +21,7 @@ ghost use Rattle.theorem_picture.specs.Standing.{AloneStands};
 ghost use Rattle.theorem_picture.specs.Stored.{CanvasStored, StandsStored};
 ghost use Rattle.theorem_picture.specs.Summed.{ReachedHidden, ReachedSummed};
 ghost use Rattle.theorem_picture.specs.Said.{CallsSaid, FillsReached, PropertiesGood, PushReached, RefusedKept, ShiftsFree, StepReached};
-ghost use Rattle.theorem_picture.specs.Kept.{BeginKept, CompactKept, ResetKept, RowKept, StepKept, UnsetKept, VisibleKept, WriteKept};
+ghost use Rattle.theorem_picture.specs.Kept.{BeginKept, CompactKept, ResetKept, RowKept, StepKept, UnsetKept, UsedKept, UsedResets, VisibleKept, WriteKept};
 ghost use Rattle.theorem_picture.specs.Apart.{RowApart, StepApart};
 ghost use Rattle.theorem_picture.specs.Bounded.{FrameKept, RowsFew};
 ghost use Rattle.theorem_picture.specs.Refined.{FilePlays, ResetRefined, RowsRefined, StepRefined, StepsAgree, TouchedOwn, WalksAgree, WholeKept};
@@ -52,6 +52,7 @@ pub fn reached_words_are_the_rules_screen()
 /// What is refused alters nothing that it was lent: a reset and the calls of painting. Of the building calls the theorem above says so.
 pub fn refused_calls_change_nothing()
     ensures resets { ResetKept }
+    ensures used { UsedKept }
     ensures begins { BeginKept }
     ensures steps { StepKept }
     ensures rows { RowKept }

@@ -30,7 +30,8 @@ use Rattle.host.specs.Asked.{asked_setup, told_file}
 use Rattle.host.specs.Border.{unasked_number}
 use Rattle.host.specs.Reasons.{reason-words, reason-size, asked, why-left, why_in, why_asked, why_call}
 use Rattle.host.specs.Results.{skip-left}
-use Rattle.host.specs.Building.{tables-left, reset_in, reset_call, recording_in, recording_asked, recording_call, fill-left, fill_call, push-left, push_call, pop-left, pop_call, filter-left, filter_call}
+use Rattle.reuse.specs.Used.{used_reset}
+use Rattle.host.specs.Building.{tables-left, reset_in, reset_call, used_call, recording_in, recording_asked, recording_call, fill-left, fill_call, push-left, push_call, pop-left, pop_call, filter-left, filter_call}
 use Rattle.host.specs.Painting.{begin-left, begin_call, step_left, step_call, row_call, own_row_call, runs-left, unset_call, visible_call, write-left, write_call, hidden_call, skip_call}
 use Rattle.host.specs.Spans.{runs_of, spans-left, spans_call}
 use Rattle.theorem_border.proofs.Numbers.{kept-on, kept_in}
@@ -80,6 +81,10 @@ returns-clause-pop_layer c = λ ss st l long. kept-on true st (st, l) (λ (s : S
 pub returns-clause-filter_fill : goal.returns-clause-filter_fill
 unfolding filter_call
 returns-clause-filter_fill c = λ flag g st w pas fps long. kept-on (leb flag 1) st (st, w, pas, fps) (λ (s : Screen). filter-left (filtered g (filter.filter_lent s w pas fps))) long
+
+pub returns-clause-reset_used : goal.returns-clause-reset_used
+unfolding used_call
+returns-clause-reset_used c = λ st t long. kept-on true st (st, t) (λ (s : Screen). tables-left (used_reset (screen_lent s t))) long
 
 pub returns-clause-begin_painting : goal.returns-clause-begin_painting
 unfolding begin_call

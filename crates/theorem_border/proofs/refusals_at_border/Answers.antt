@@ -1,4 +1,4 @@
-use Rattle.host.proofs.Refused.{reset-refused, fill-refused, push-refused, pop-refused, filter-refused, begin-refused}
+use Rattle.host.proofs.Refused.{reset-refused, used-refused, fill-refused, push-refused, pop-refused, filter-refused, begin-refused}
 use Rattle.host.proofs.Compacted.{compact-refused}
 use Rattle.host.proofs.Figured.{figures-refused}
 use Rattle.host.proofs.Kept.{step-refused, row-refused, own-row-refused, unset-refused, visible-refused, spans-refused, write-refused, hidden-refused, skip-refused, split-refused}
@@ -23,6 +23,9 @@ returns-clause-pop_layer c = pop-refused
 
 pub returns-clause-filter_fill : goal.returns-clause-filter_fill
 returns-clause-filter_fill c = filter-refused
+
+pub returns-clause-reset_used : goal.returns-clause-reset_used
+returns-clause-reset_used c = used-refused
 
 pub returns-clause-begin_painting : goal.returns-clause-begin_painting
 returns-clause-begin_painting c = begin-refused

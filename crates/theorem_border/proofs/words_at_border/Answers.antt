@@ -4,6 +4,7 @@ use Rattle.theorem_border.proofs.FillLists.{fills-hosted}
 use Rattle.theorem_border.proofs.ManyRows.{rows-hosted}
 use Rattle.theorem_border.proofs.OwnRows.{own-row-hosted}
 use Rattle.theorem_border.proofs.Sized.{sizes-fit}
+use Rattle.theorem_border.proofs.UsedAgain.{used-hosted}
 use Rattle.theorem_border.proofs.words_at_border.Goals as goal
 
 pub returns-clause-screen_read : goal.returns-clause-screen_read
@@ -26,6 +27,9 @@ returns-clause-fills c = λ t f xs h ps ss ws a b n r e. fills-hosted ps ss ws a
 
 pub returns-clause-rows : goal.returns-clause-rows
 returns-clause-rows c = λ t f xs h r list ends k. rows-hosted r list ends k
+
+pub returns-clause-reset_used : goal.returns-clause-reset_used
+returns-clause-reset_used c = used-hosted
 
 pub returns-clause-own_row : goal.returns-clause-own_row
 returns-clause-own_row c = own-row-hosted

@@ -7,7 +7,9 @@ ghost use Rattle.theorem_once.specs.Border.{screen-words, recording-words, figur
 
 use crate::Twice;
 use fill::list::Draws;
-use host::build::{DrawWords, coarse_bucket_recording, coarse_fill, coarse_reset};
+use host::build::{
+    DrawWords, coarse_bucket_recording, coarse_fill, coarse_reset, coarse_reset_used,
+};
 use host::compacting::coarse_compact_row;
 use host::figures::coarse_figures;
 use host::layer::{
@@ -35,6 +37,22 @@ pub fn reset_twice(
     (
         coarse_reset(a_state, viewport, setup, a_tables),
         coarse_reset(b_state, viewport, setup, b_tables),
+    )
+}
+
+/// Two calls of `coarse_reset_used`.
+pub fn reset_used_twice(
+    a_state: &mut StateWords,
+    a_tables: &mut Lent<'_>,
+    b_state: &mut StateWords,
+    b_tables: &mut Lent<'_>,
+) -> Twice<u32>
+    ensures { screen-words a_state.old a_tables.old ≡ screen-words b_state.old b_tables.old
+        → (result.0 ≡ result.1) × (screen-words a_state.new a_tables.new ≡ screen-words b_state.new b_tables.new) }
+{
+    (
+        coarse_reset_used(a_state, a_tables),
+        coarse_reset_used(b_state, b_tables),
     )
 }
 

@@ -1,8 +1,9 @@
 -- A present clip's segments, of a recording whose records are good and whose lists are in order.
-use Rattle.std.proofs.Common.{ℕ, ◌-◌, ◌/◌, ◌≤◌, ◌<◌, ◌≡◌, refl, sym, ap, ◌∙◌, arith, true, false, ◌&&◌, cond, List, [], length, get_or, leb, eqb, leb-true, eqb-true, le-leb, eq-eqb}
+use Rattle.std.proofs.Common.{ℕ, ◌-◌, ◌/◌, ◌≤◌, ◌<◌, ◌≡◌, refl, sym, ap, ◌∙◌, true, false, ◌&&◌, cond, List, [], length, get_or, leb, eqb, leb-true, eqb-true, le-leb, eq-eqb}
 use Rattle.rules.specs.Lists.{slice, every}
+use Rattle.rules.specs.Boxes.{good-box}
 use Rattle.rules.specs.Spans.{good-range}
-use Rattle.rules.specs.Inputs.{Draw, draw-segments, good-handle, good-filter, good-panel, good-box, good-thread}
+use Rattle.rules.specs.Inputs.{Draw, draw-segments, good-handle, good-filter, good-panel, good-thread}
 use Rattle.rules.specs.Blends.{good-blend}
 use Rattle.rules.specs.Segments.{good-segment, ordered, judge-segments}
 use Rattle.rules.specs.Recording.{Recording, LayerRec, good-records, good-order, good-layer-rec, good-clip-order, good-clip-rec, zero-clip, zero-filter, layer-rec}
@@ -12,6 +13,11 @@ use Rattle.segments.proofs.Laws.{segs-count}
 use Rattle.file.proofs.Laws.{record-facts, good-layer-at}
 use Rattle.file.proofs.Counted.{every-getD}
 use Rattle.file.proofs.Listed.{range-judged}
+
+-- no segments
+pub none-known : (ws : List ℕ) → judge-segments false (segs ws 0 0) ≡ 0
+unfolding judge-segments segs ordered
+none-known ws = refl
 
 -- the range of a present clip
 module _ (r : Recording) (y : LayerRec) (e : good-layer-rec r y ≡ true) (p : y.flag ≡ 1) where

@@ -20,4 +20,4 @@ pub record JudgedIn (r : Recording) : Type 0 where
 
 -- one of the recording's layers
 abbrev pub IsLayer : rule.Recording → Layer → Type 0
-IsLayer r l = (i : ℕ) × ((i < length r.layers) × ((d : rule.LayerRec) → layer-of l ≡ get_or r.layers i d))
+IsLayer r l = (i : ℕ) × (i < length r.layers) × ((d : rule.LayerRec) → layer-of l ≡ get_or r.layers i d)

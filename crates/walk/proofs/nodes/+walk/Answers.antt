@@ -19,6 +19,12 @@ walk_layer-returns-then-record-ne0-clause-walked t c =
     ∙ as-filter _ (layer-of c.layer-record.result) _ (omega arith) _
     ∙ names-one (held c.args.file.now) _ _ _ (c.layer-record.ensures _) c.if-layer-eq0.false
 
+pub walk_layer-walk_filter-requires-clause-layer : goal.walk_layer-walk_filter-requires-clause-layer
+walk_layer-walk_filter-requires-clause-layer t c = (c.args.layer - 1, omega arith, c.layer-record.ensures)
+
+pub walk_layer-pop_at-requires-clause-layer : goal.walk_layer-pop_at-requires-clause-layer
+walk_layer-pop_at-requires-clause-layer t c = (c.args.layer - 1, omega arith, c.layer-record.ensures)
+
 pub walk_layer-returns-in_err-push_at-clause-walked : goal.walk_layer-returns-in_err-push_at-clause-walked
 walk_layer-returns-in_err-push_at-clause-walked t c =
     let p = err_from_is_err_and c.from_residual.result c.from_residual.ensures.1 in

@@ -84,10 +84,3 @@ module _ (w : StateWords) where
   pub stands : leb w.painting 1 ≡ true → leb w.width 2 ≡ true → Some s ≡ screen_of true (words_in w)
   unfolding screen_of
   stands b m = rw (b, m)
-
--- a fill's look is sure of what has not changed
-pub sure-still : (w w' : StateWords) (t t' : Lent) (ps ss : List ℕ) → fill_out w' t' ≡ fill_out w t → FillSure w t ps ss → FillSure w' t' ps ss
-sure-still w w' t t' ps ss e h =
-    subst
-    (λ (x : List ℕ × Words × List ℕ). (first-of-lent (fill_lent (screen-at x.0) x.1 x.2) ps ss ≡ 0) × (Some (screen-at x.0) ≡ screen_of true x.0))
-    (sym e) h

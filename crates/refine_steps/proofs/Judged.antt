@@ -34,7 +34,7 @@ module _ (s : rule.Screen Row) (h : Sound s) where
   clip-is-good v [] g a = same-itself (whole v)
   clip-is-good v (l ∷ ls) g a = screens.clip-good v l.bounds (length ls) (clip-good v g (l ∷ ls) a)
 
-  screen-good : (b : Bool) → good_screen (screen-of s.state b) ≡ true
+  pub screen-good : (b : Bool) → good_screen (screen-of s.state b) ≡ true
   unfolding good_screen
   screen-good b =
       let f1 = ltb 1024 (length s.state.attrs.paints) in

@@ -39,18 +39,6 @@ module _ (size each k : ℕ) where
   part-cleared : (n : ℕ) (ws : List ℕ) → size ≤ length ws → length (first-cleared 0 n (take size ws)) ≡ size
   part-cleared n ws h = long-cleared 0 n (take size ws) ∙ length-take-le size ws h
 
-  -- as many words as before
-  pub rows-long : (n : ℕ) (rs ws : List ℕ) → n * size ≤ length ws → length (rows-cleared size each k n rs ws) ≡ length ws
-  unfolding rows-cleared
-  rows-long zero rs ws h = refl
-  rows-long (suc n) rs ws h =
-      let s = one_more n size in
-      let d = length-drop size ws in
-      let p = part-cleared (each * get_or rs k 0) ws (omega arith) in
-      let i = rows-long n (drop row-size rs) (drop size ws) (omega arith) in
-      length-append (first-cleared 0 (each * get_or rs k 0) (take size ws)) (rows-cleared size each k n (drop row-size rs) (drop size ws))
-      ∙ omega arith
-
   -- row r's part cleared too
   pub next-cleared : (r : ℕ) (rs ws ys : List ℕ) → suc r * size ≤ length ws
       → ys ≡ first-cleared 0 (each * get_or rs (r * row-size + k) 0) (mid_of (r * size) size (rows-cleared size each k r rs ws))

@@ -62,6 +62,11 @@ pub fn refused_calls_change_nothing()
     ensures compacts { CompactKept }
 {}
 
+/// On the words of every screen that calls have reached, a reset of what is used leaves what a reset to the screen's frame leaves.
+pub fn used_screens_are_reset()
+    ensures { UsedResets }
+{}
+
 /// Painting a row leaves every other row as it was, and is painting its own words alone.
 pub fn rows_are_apart()
     ensures steps { StepApart }

@@ -9,6 +9,7 @@ use Rattle.rect.specs.Rects.{box_of}
 use Rattle.row.specs.Words.{Words}
 use Rattle.screen.specs.Depths.{Depths}
 use Rattle.screen.specs.declared.Screen.{Screen}
+use Rattle.reuse.specs.Used.{used_reset}
 use Rattle.screen.specs.Tables.{Tables, ScreenLent, screen_lent, reset_to}
 use Rattle.walk.specs.Recorded.{recorded}
 use Rattle.inputs.specs.declared.Draw.{Draw}
@@ -23,7 +24,7 @@ use Rattle.layers.specs.Filter as filter
 use Rattle.layers.specs.Filter.{FilterGiven, filtered}
 use Rattle.paint.specs.Beginning.{canvas, beginning}
 use Rattle.host.specs.State.{screen-words, screen_of, at_held}
-use Rattle.host.specs.Building.{tables-left, reset_in, recording_in, fill-left, fill_call, push-left, push_call, pop-left, pop_call, filter-left, filter_call}
+use Rattle.host.specs.Building.{tables-left, reset_in, used_call, recording_in, fill-left, fill_call, push-left, push_call, pop-left, pop_call, filter-left, filter_call}
 use Rattle.host.specs.Painting.{begin-left, begin_call}
 
 -- a reset's answer, as words
@@ -39,6 +40,11 @@ module _ (st st' : List ℕ) (s s' : Screen) (r n : ℕ) (h : Some s ≡ screen_
   unfolding recording_in
   recording_built file q t t' e =
       rw (rn, sw) (ap tables-left e ∙ ap (λ (x : Option Screen). at_held x st (st, t) (λ (s : Screen). tables-left (recorded file q (screen_lent s t)))) h)
+
+  pub used_built : (t t' : Tables) → answer n (screen_lent s' t') ≡ used_reset (screen_lent s t) → answer r (st', t') ≡ used_call st t
+  unfolding used_call
+  used_built t t' e =
+      rw (rn, sw) (ap tables-left e ∙ ap (λ (x : Option Screen). at_held x st (st, t) (λ (s : Screen). tables-left (used_reset (screen_lent s t)))) h)
 
   pub fill_built : (ps ss : List ℕ) (d : Draw) (w w' : Words) (pas pas' : List ℕ) → answer n (fills.fill_lent s' w' pas') ≡ filled (fills.fill_lent s w pas) ps ss d
       → answer r (st', w', pas') ≡ fill_call ps ss d st w pas

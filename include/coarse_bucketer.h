@@ -117,6 +117,11 @@ static inline uint32_t coarse_bucketer_reset(coarse_bucketer *b, coarse_rect v) 
     return coarse_reset(&b->state, v, b->setup, &b->tables);
 }
 
+/* Rule 1, for the next picture of the same viewport: as coarse_bucketer_reset, by clearing only what was drawn and painted. */
+static inline uint32_t coarse_bucketer_reset_used(coarse_bucketer *b) {
+    return coarse_reset_used(&b->state, &b->tables);
+}
+
 /* A screen of a viewport, in pixels of the scene, in a setup, as (coarse_setup){64, 64, COARSE_EXACT, COARSE_128}: its mode reads
  * every viewport, of a reset and of a recording, and its width is that of every screen. Refused, there is nothing to free. */
 static inline uint32_t coarse_bucketer_new(coarse_bucketer *b, coarse_rect viewport, coarse_setup setup) {

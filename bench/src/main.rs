@@ -49,17 +49,8 @@ fn race(it: &scenes::Scene, rounds: usize) {
     let steps = steps(&it.draft);
     let mut port = Port::new(&it.draft, it.setup());
     let fills_alone = is_fills_in_order(&steps, it.draft.draws.len());
-    let [
-        mut reset,
-        mut used,
-        mut build,
-        mut list,
-        mut paint,
-        mut by_rows,
-        mut own_rows,
-        mut by_steps,
-        mut line,
-    ] = [(); 9].map(|()| Race::new());
+    let [mut reset, mut used, mut build, mut list, mut paint, mut by_rows, mut own_rows, mut by_steps, mut line] =
+        [(); 9].map(|()| Race::new());
     for _ in 0..rounds {
         if fills_alone {
             port.reset();

@@ -1339,6 +1339,46 @@ fn nested() -> CommandBucketer {
     bucketer
 }
 
+/// A reset of what is used leaves every word as a reset does, whatever was drawn, painted and compacted before it, and with layers open.
+#[test]
+fn used_screens_are_reset() {
+    let viewport = Rect::new(0, 0, 512, 8);
+    let used = |mut bucketer: CommandBucketer| {
+        let mut whole = bucketer.clone();
+        assert_eq!(whole.reset(viewport), Ok(()));
+        bucketer.reset_used();
+        assert_eq!(bucketer.state(), whole.state());
+        assert_eq!(
+            format!("{:?}", bucketer.parts().1),
+            format!("{:?}", whole.parts().1)
+        );
+        bucketer
+    };
+    let fresh = used(CommandBucketer::from_wh(512, 8, Setup::new(64, 64)).unwrap());
+    let mut again = used(used(nested()));
+    assert_eq!(again.state(), fresh.state());
+    let mut half = nested();
+    half.paint_step(0).unwrap();
+    half.paint_row(1).unwrap();
+    used(half);
+    let mut compact = nested();
+    fill_row_0(&mut compact, true).unwrap();
+    compact.compact_row(0).unwrap();
+    used(compact);
+    let mut open = nested();
+    for opacity in [0.5, f32::NAN] {
+        let layer = LayerProps {
+            opacity,
+            ..LayerProps::default()
+        };
+        open.push_layer(&layer).unwrap();
+    }
+    used(open);
+    fill_row_0(&mut again, false).unwrap();
+    assert_eq!(stored_in_row_0(&again), 1);
+    used(again);
+}
+
 /// Lists of fills are single fills, up to the first that is refused: at the first, a middle and the last, and none.
 #[test]
 fn a_list_is_its_fills() {

@@ -1673,6 +1673,46 @@ static void rows_by_own_words(void) {
     coarse_bucketer_free(&single), coarse_bucketer_free(&b);
 }
 
+/* A reset of what is used leaves what a reset leaves, whatever was drawn, painted and compacted; refused, 2, 1 or 4, it changes nothing. */
+static void used_again(void) {
+    coarse_rect view = {0, 0, 512, 8};
+    coarse_bucketer b;
+    const coarse_piece *pieces = NULL;
+    size_t n = 0;
+    uint32_t i, fresh, before;
+    expect("a screen", COARSE_DONE, coarse_bucketer_new(&b, view, (coarse_setup){8, 8, COARSE_EXACT, COARSE_128}));
+    fresh = sum(&b);
+    expect("used by nothing", COARSE_DONE, coarse_bucketer_reset_used(&b));
+    expect("it is fresh", fresh, sum(&b));
+    for (i = 0; i < 3; i++) {
+        expect("a fill", COARSE_DONE, fill_row(&b, 2, 1));
+        layer_of(&b, 0, 1);
+        expect("a fill that hides it", COARSE_DONE, fill_row(&b, 0, 0));
+        expect("painting", COARSE_DONE, coarse_bucketer_begin_painting(&b));
+        expect("a row", COARSE_DONE, coarse_bucketer_paint_row(&b, 0, &pieces, &n));
+        if (i == 1)
+            expect("compacted", COARSE_DONE, coarse_bucketer_compact_row(&b, 0));
+        expect("used", COARSE_DONE, coarse_bucketer_reset_used(&b));
+        expect("it is fresh again", fresh, sum(&b));
+    }
+    expect("a fill", COARSE_DONE, fill_row(&b, 2, 1));
+    before = sum(&b);
+    b.tables.rows_len--;
+    expect("a record short", COARSE_BAD_RECORD, coarse_bucketer_reset_used(&b));
+    b.tables.minima_len--;
+    expect("1 before 4", COARSE_BAD_ARENA, coarse_bucketer_reset_used(&b));
+    b.state.viewport.x1++;
+    expect("2 before 1", COARSE_BAD_VIEWPORT, coarse_bucketer_reset_used(&b));
+    b.state.viewport.x1--, b.tables.minima_len++, b.tables.rows_len++;
+    b.state.painting = 2;
+    expect("no screen", COARSE_BAD_RECORD, coarse_bucketer_reset_used(&b));
+    b.state.painting = 0, b.state.next_draw_id = 0;
+    expect("no id", COARSE_BAD_RECORD, coarse_bucketer_reset_used(&b));
+    b.state.next_draw_id = 2;
+    expect("nothing has changed", before, sum(&b));
+    coarse_bucketer_free(&b);
+}
+
 int main(void) {
     rows_by_own_words();
     rows_by_one_call();
@@ -1697,6 +1737,7 @@ int main(void) {
     refused_figures();
     stored_commands();
     compacted_rows();
+    used_again();
     all_attributes();
     words_of_numbers();
     default_blend();

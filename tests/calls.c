@@ -232,6 +232,8 @@ static uint32_t call_sizes(void) {
 
 static uint32_t call_reset(void) { return coarse_reset(SCREEN_STATE, viewport, setup, &lent.tables); }
 
+static uint32_t call_reset_used(void) { return coarse_reset_used(SCREEN_STATE, &lent.tables); }
+
 static uint32_t call_recording(void) { return coarse_bucket_recording(SCREEN_STATE, edition, file, words, setup, &lent.tables); }
 
 static uint32_t call_why(void) {
@@ -429,6 +431,7 @@ static struct {
 } calls[] = {
     {"coarse_sizes", ready_none, call_sizes, RESULTS, 3, 0, 0},
     {"coarse_reset", ready_reset, call_reset, SCREEN, 6, 0, 0},
+    {"coarse_reset_used", ready_none, call_reset_used, SCREEN, 1, 0, 0},
     {"coarse_bucket_recording", ready_file, call_recording, SCREEN, 3, 0, 0},
     {"coarse_why", ready_file, call_why, SCREEN | RESULTS, 3, 0, 0},
     {"coarse_figures", ready_file, call_figures, SCREEN | RESULTS, 3, 0, 0},

@@ -39,10 +39,7 @@ pub struct UsedLent<'a> {
 }
 
 /// Two calls of `reset_used`.
-pub fn reset_used_twice(
-    a: &mut UsedLent<'_>,
-    b: &mut UsedLent<'_>,
-) -> Twice<Result<(), Refusal>>
+pub fn reset_used_twice(a: &mut UsedLent<'_>, b: &mut UsedLent<'_>) -> Twice<Result<(), Refusal>>
     ensures { whole a.old.screen a.old.tables ≡ whole b.old.screen b.old.tables
         → (result.0 ≡ result.1) × (whole a.new.screen a.new.tables ≡ whole b.new.screen b.new.tables) }
 {

@@ -98,20 +98,8 @@ pub fn own_row_twice(a: &mut PaintHost<'_>, b: &mut PaintHost<'_>) -> Twice<u32>
         → (result.0 ≡ result.1) × (paint-left a.new ≡ paint-left b.new) }
 {
     (
-        coarse_paint_own_row(
-            &a.state,
-            &a.stored,
-            &mut a.canvas,
-            a.list,
-            &mut a.painted,
-        ),
-        coarse_paint_own_row(
-            &b.state,
-            &b.stored,
-            &mut b.canvas,
-            b.list,
-            &mut b.painted,
-        ),
+        coarse_paint_own_row(&a.state, &a.stored, &mut a.canvas, a.list, &mut a.painted),
+        coarse_paint_own_row(&b.state, &b.stored, &mut b.canvas, b.list, &mut b.painted),
     )
 }
 
